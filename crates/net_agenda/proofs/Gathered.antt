@@ -6,15 +6,14 @@ use Rattle.std.specs.BTreeMap.{get}
 use Rattle.std.proofs.lemmas.Bool.{cases_Bool, eq-eqb, eqb-true, and_parts, false≢true, or_right}
 use Rattle.std.proofs.lemmas.Bool.Decides.{nat_tests}
 use Rattle.std.proofs.lemmas.List.Elements.{filter-append, filter_map-append}
-use Rattle.std.proofs.lemmas.List.{map-append}
-use Rattle.std.proofs.Math.Seq.{take-suc}
+use Rattle.std.proofs.lemmas.List.{map-append, take_more}
 use Rattle.radio_packet.specs.declared.arrival.Arrival.{Arrival}
 use Rattle.radio_packet.specs.declared.sent.Sent.{Sent}
 use Rattle.radio_packet.specs.declared.copy.RadioCopy.{RadioCopy}
 use Rattle.radio_packet.specs.declared.fate.Fate.{Fate}
 use Rattle.radio_medium.specs.Medium.{copy_of}
 use Rattle.window_laws.specs.Agenda.{Item, Wake, Packet, comes_at, is_wake_of, moment_of, mote_of, packets}
-use Rattle.window_laws.proofs.Agenda.{packets_append, packets_map}
+use Rattle.window_laws.proofs.Agenda.{packets_append, packets_map, same_place}
 use Rattle.window_laws.proofs.Lists.{is_filled, filter_filter, filter_stronger, filter_none, filter_not, every_weaker, every_passes, filled_any}
 use Rattle.net_agenda.specs.Buckets.{arrival_of, Due, nothing_due, is_wake, due_all, gathered, due_of, is_here, with_copy, with_wake, without_wake, is_none_left, Buckets, Holds, IsReady, items_in}
 use Rattle.net_agenda.specs.declared.bucket.Bucket.{Bucket}
@@ -62,14 +61,11 @@ due_same t m items x e = ap gathered (filter-append (comes_at t m) items (x ∷ 
     none : comes_at t m x ≡ false → filter (comes_at t m) (x ∷ []) ≡ []
     none e = rw e refl
 
-here : (u k t m : ℕ) → is_here u k t m ≡ true → (u ≡ t) × (k ≡ m)
-here u k t m e = let h = and_parts (eqb u t) (eqb k m) e in (eqb-true u t h.0, eqb-true k m h.1)
-
 pub due_copy : (items : List Item) (c : RadioCopy) (t m : ℕ)
     → due_of t m (items ++ Packet c ∷ []) ≡ (if is_here c.at c.to t m then Some (with_copy (arrival_of c) (unwrap_or (due_of c.at c.to items) nothing_due)) else due_of t m items)
 due_copy items c t m =
     elim (cases_Bool (is_here c.at c.to t m)) [
-      | inl e ↦ (let h = here c.at c.to t m e in
+      | inl e ↦ (let h = same_place c.at c.to t m e in
           rw e (due_more t m items (Packet c) e ∙ (copy_more (filter (comes_at t m) items) c
           ∙ ap (λ o. Some (with_copy (arrival_of c) (unwrap_or o nothing_due))) (ap (λ u. due_of u m items) (sym h.0) ∙ ap (λ k. due_of c.at k items) (sym h.1)))))
       | inr e ↦ rw e (due_same t m items (Packet c) e)
@@ -79,7 +75,7 @@ pub due_wake : (items : List Item) (u k t m : ℕ)
     → due_of t m (items ++ Wake u k ∷ []) ≡ (if is_here u k t m then Some (with_wake (unwrap_or (due_of u k items) nothing_due)) else due_of t m items)
 due_wake items u k t m =
     elim (cases_Bool (is_here u k t m)) [
-      | inl e ↦ (let h = here u k t m e in
+      | inl e ↦ (let h = same_place u k t m e in
           rw e (due_more t m items (Wake u k) e ∙ (wake_more (filter (comes_at t m) items) u k
           ∙ ap (λ o. Some (with_wake (unwrap_or o nothing_due))) (ap (λ a. due_of a m items) (sym h.0) ∙ ap (λ b. due_of u b items) (sym h.1)))))
       | inr e ↦ rw e (due_same t m items (Wake u k) e)
@@ -124,13 +120,13 @@ gathered_packets (x ∷ xs) = of_copies (packets (x ∷ xs)) ∙ refl
     of_copies (c ∷ cs) = ap Some (two _ _ _ _ (no_wake (c ∷ cs)) (ap (map arrival_of) (packets_map (c ∷ cs))))
 
 pub due_at_mote : (t k : ℕ) (items : List Item) → AllByRecursion (λ item. mote_of item ≡ k) (filter (comes_at t k) items)
-due_at_mote t k items = every_weaker _ _ (λ item h. eqb-true (mote_of item) k (and_parts (eqb (moment_of item) t) (eqb (mote_of item) k) h).1) _ (every_passes (comes_at t k) items)
+due_at_mote t k items = every_weaker _ _ (λ item h. (same_place (moment_of item) (mote_of item) t k h).1) _ (every_passes (comes_at t k) items)
 
 pub due_unwoken : (items : List Item) (u k : ℕ) → filter (is_wake_of k) items ≡ Wake u k ∷ [] → (t m : ℕ)
     → due_of t m (filter (λ item. not (is_wake_of k item)) items) ≡ (if is_here u k t m then without_wake (due_of u k items) else due_of t m items)
 due_unwoken items u k one t m =
     elim (cases_Bool (is_here u k t m)) [
-      | inl e ↦ (let h = here u k t m e in
+      | inl e ↦ (let h = same_place u k t m e in
           rw e (ap gathered (filter_filter (comes_at t m) (λ item. not (is_wake_of k item)) items)
           ∙ (ap (λ a. gathered (filter (λ item. not (is_wake_of k item)) (filter (comes_at a m) items))) (sym h.0)
           ∙ (ap (λ b. gathered (filter (λ item. not (is_wake_of k item)) (filter (comes_at u b) items))) (sym h.1)
@@ -165,14 +161,14 @@ due_asleep items k t m =
 pub due_both : (t m : ℕ) (xs ys : List Item) (x : Item) → due_of t m xs ≡ due_of t m ys → due_of t m (xs ++ x ∷ []) ≡ due_of t m (ys ++ x ∷ [])
 due_both t m xs ys (Packet c) same =
     due_copy xs c t m ∙ (elim (cases_Bool (is_here c.at c.to t m)) [
-      | inl e ↦ (let h = here c.at c.to t m e in
+      | inl e ↦ (let h = same_place c.at c.to t m e in
           let at : due_of c.at c.to xs ≡ due_of c.at c.to ys = ap (λ u. due_of u c.to xs) h.0 ∙ (ap (λ k. due_of t k xs) h.1 ∙ (same ∙ (ap (λ k. due_of t k ys) (sym h.1) ∙ ap (λ u. due_of u c.to ys) (sym h.0)))) in
           rw e (ap (λ o. Some (with_copy (arrival_of c) (unwrap_or o nothing_due))) at))
       | inr e ↦ rw e same
     ] ∙ sym (due_copy ys c t m))
 due_both t m xs ys (Wake u k) same =
     due_wake xs u k t m ∙ (elim (cases_Bool (is_here u k t m)) [
-      | inl e ↦ (let h = here u k t m e in
+      | inl e ↦ (let h = same_place u k t m e in
           let at : due_of u k xs ≡ due_of u k ys = ap (λ a. due_of a k xs) h.0 ∙ (ap (λ b. due_of t b xs) h.1 ∙ (same ∙ (ap (λ b. due_of t b ys) (sym h.1) ∙ ap (λ a. due_of a k ys) (sym h.0)))) in
           rw e (ap (λ o. Some (with_wake (unwrap_or o nothing_due))) at))
       | inr e ↦ rw e same
@@ -246,16 +242,9 @@ zero_from (suc n) h = absurd (false≢true (h (omega arith)))
 
 pub more_copies : (items : List Item) (cs : List RadioCopy) (i : ℕ) (d : RadioCopy) → i < length cs
     → (items ++ map Packet (take i cs)) ++ Packet (get_or cs i d) ∷ [] ≡ items ++ map Packet (take (i + 1) cs)
-more_copies items cs i d h =
-    append_assoc items (map Packet (take i cs)) (Packet (get_or cs i d) ∷ [])
-    ∙ ap (λ l. items ++ l) (sym (ap (map Packet) (ap (λ n. take n cs) (add-one i) ∙ take-suc cs i d h) ∙ map-append Packet (take i cs) (get_or cs i d ∷ [])))
+more_copies items cs i d h = let more = take_more cs i d h in rw more (simp (map-append, append_assoc))
 
 -- the copies of one fate more
 pub more_fates : (items : List Item) (sent : Sent) (fs : List Fate) (i : ℕ) (d : Fate) → i < length fs
     → (items ++ map Packet (filter_map (copy_of sent) (take i fs))) ++ map Packet (filter_map (copy_of sent) (get_or fs i d ∷ [])) ≡ items ++ map Packet (filter_map (copy_of sent) (take (i + 1) fs))
-more_fates items sent fs i d h =
-    let h' = copy_of sent in
-    append_assoc items (map Packet (filter_map h' (take i fs))) (map Packet (filter_map h' (get_or fs i d ∷ [])))
-    ∙ ap (λ l. items ++ l) (sym (
-    ap (λ l. map Packet (filter_map h' l)) (ap (λ n. take n fs) (add-one i) ∙ take-suc fs i d h)
-    ∙ (ap (map Packet) (filter_map-append h' (take i fs) (get_or fs i d ∷ [])) ∙ map-append Packet (filter_map h' (take i fs)) (filter_map h' (get_or fs i d ∷ [])))))
+more_fates items sent fs i d h = let more = take_more fs i d h in rw more (simp (filter_map-append, map-append, append_assoc))

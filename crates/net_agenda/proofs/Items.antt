@@ -11,13 +11,12 @@ use Rattle.std.specs.declared.cmp.Ordering.TheVariants.{Less}
 use Rattle.std.proofs.lemmas.Bool.{cases_Bool, eq-eqb, eqb-true, and_parts, false≢true, lt-ltb}
 use Rattle.std.proofs.lemmas.Bool.Decides.{nat_tests}
 use Rattle.std.proofs.lemmas.List.Elements.{filter-append}
-use Rattle.std.proofs.lemmas.List.Filters.{length-filter_both}
 use Rattle.std.proofs.lemmas.List.Sorted.{IsPermutation-refl, IsPermutation-sym, IsPermutation-trans}
 use Rattle.std.proofs.lemmas.List.Sorted.{IsPermutation-append, IsPermutation-filter_both}
 use Rattle.std.proofs.lemmas.Map.Keys.{sorted_head, sorted_tail}
 use Rattle.window_laws.specs.Agenda.{Item, Wake, Packet, comes_at, moment_of, mote_of, packets}
-use Rattle.window_laws.proofs.Agenda.{packets_filter}
-use Rattle.window_laws.proofs.Lists.{every_passes}
+use Rattle.window_laws.proofs.Agenda.{packets_filter, same_place}
+use Rattle.window_laws.proofs.Lists.{every_passes, no_more}
 use Rattle.net_agenda.specs.declared.bucket.Bucket.{Bucket}
 use Rattle.net_agenda.specs.declared.bucket.PendingEvent.{PendingEvent}
 use Rattle.net_agenda.specs.Buckets.{arrival_of, Due, nothing_due, is_wake, due_all, gathered, due_of, is_here}
@@ -79,14 +78,14 @@ put_back t m (Wake u k ∷ xs) h = put_back t m xs h.1
 put_back t m (Packet c ∷ xs) h = ap (λ l. copy_at t m (arrival_of c) ∷ l) (put_back t m xs h.1) ∙ ap (λ x. x ∷ packets xs) same
   where
     same : copy_at t m (arrival_of c) ≡ c
-    same = let there = and_parts (eqb c.at t) (eqb c.to m) h.0 in
-        ap (λ x. copy_at x m (arrival_of c)) (sym (eqb-true c.at t there.0)) ∙ ap (λ x. copy_at c.at x (arrival_of c)) (sym (eqb-true c.to m there.1))
+    same = let there = same_place c.at c.to t m h.0 in
+        ap (λ x. copy_at x m (arrival_of c)) (sym there.0) ∙ ap (λ x. copy_at c.at x (arrival_of c)) (sym there.1)
 
 wakes_are : (t m : ℕ) (xs : List Item) → AllByRecursion (λ item. comes_at t m item ≡ true) xs → filter is_wake xs ≡ replicate (length (filter is_wake xs)) (Wake t m)
 wakes_are t m [] h = refl
 wakes_are t m (Wake u k ∷ xs) h =
-    let there = and_parts (eqb u t) (eqb k m) h.0 in
-    ap (λ l. Wake u k ∷ l) (wakes_are t m xs h.1) ∙ (ap (λ x. Wake x k ∷ replicate (length (filter is_wake xs)) (Wake t m)) (eqb-true u t there.0) ∙ ap (λ x. Wake t x ∷ replicate (length (filter is_wake xs)) (Wake t m)) (eqb-true k m there.1))
+    let there = same_place u k t m h.0 in
+    ap (λ l. Wake u k ∷ l) (wakes_are t m xs h.1) ∙ (ap (λ x. Wake x k ∷ replicate (length (filter is_wake xs)) (Wake t m)) there.0 ∙ ap (λ x. Wake t x ∷ replicate (length (filter is_wake xs)) (Wake t m)) there.1)
 wakes_are t m (Packet c ∷ xs) h = wakes_are t m xs h.1
 
 not_wakes : (xs : List Item) → filter (λ item. not (is_wake item)) xs ≡ map Packet (packets xs)
@@ -133,9 +132,6 @@ none_same (y ∷ ys) same =
 
 rest_same : (t m : ℕ) (xs ys : List Item) → IsSame xs ys → IsSame (filter (λ item. not (comes_at t m item)) xs) (filter (λ item. not (comes_at t m item)) ys)
 rest_same t m xs ys same u k = due_taken xs t m u k ∙ (elim (cases_Bool (is_here t m u k)) [ inl e ↦ rw e refl | inr e ↦ rw e (same u k) ] ∙ sym (due_taken ys t m u k))
-
-no_more : (p : Item → Bool) (xs : List Item) → length (filter p xs) ≤ length xs
-no_more p xs = let both = length-filter_both p (λ x. not (p x)) (λ x. refl) xs in omega arith
 
 pub same_permute : (n : ℕ) (xs ys : List Item) → length xs ≤ n → IsSame xs ys → IsPermutation xs ys × IsPermutation (packets xs) (packets ys)
 same_permute n [] ys h same = let e = none_same ys same in (subst (IsPermutation []) e (IsPermutation-refl []), subst (λ l. IsPermutation [] (packets l)) e (IsPermutation-refl []))

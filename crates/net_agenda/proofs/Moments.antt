@@ -1,4 +1,5 @@
 -- A bucket changed at one moment, and the agenda that the buckets hold then.
+use mathlib.Core.Bool.{and-false, and-true}
 use Rattle.std.proofs.Common.{◌≡◌, ℕ, Bool, true, false, cond, not, ◌&&◌, ◌||◌, ltb, eqb, if◌then◌else◌, List, [], ◌∷◌}
 use Rattle.std.proofs.Common.{◌++◌, map, refl, sym, ap, ◌∙◌, subst, inl, inr, arith, ◌<◌, ◌≤◌, Option, Some, None}
 use Rattle.std.proofs.Common.{IsSome, unwrap_or}
@@ -11,6 +12,8 @@ use Rattle.std.proofs.lemmas.Bool.Decides.{nat_tests}
 use Rattle.std.proofs.lemmas.List.{map-append}
 use Rattle.radio_packet.specs.declared.arrival.Arrival.{Arrival}
 use Rattle.window_laws.specs.Agenda.{Item, Wake, IsLeast, comes_at, is_wake_of, moment_of, mote_of, packets}
+use Rattle.window_laws.proofs.Agenda.{same_place}
+use Rattle.window_laws.proofs.Ahead.{past_from}
 use Rattle.window_laws.proofs.Lists.{any_every}
 use Rattle.net_agenda.specs.declared.bucket.Bucket.{Bucket}
 use Rattle.net_agenda.specs.declared.bucket.PendingEvent.{PendingEvent}
@@ -71,16 +74,8 @@ is_wake_here : (t k : ℕ) (c : PendingEvent) → is_wake_of k (item_at t c) ≡
 is_wake_here t k c = of (packet_in c) refl
   where
     of : (p : Option Arrival) → packet_in c ≡ p → is_wake_of k (item_at t c) ≡ is_wake_for k c
-    of None e = rw e (and_true (eqb (goes_to c) k))
-      where
-        and_true : (b : Bool) → b ≡ (b && true)
-        and_true true = refl
-        and_true false = refl
-    of (Some a) e = rw e (and_false (eqb (goes_to c) k))
-      where
-        and_false : (b : Bool) → false ≡ (b && false)
-        and_false true = refl
-        and_false false = refl
+    of None e = rw e (sym (and-true (eqb (goes_to c) k)))
+    of (Some a) e = rw e (sym (and-false (eqb (goes_to c) k)))
 
 asleep_at : (t k : ℕ) (cs : List PendingEvent) → map (item_at t) (filter (λ c. not (is_wake_for k c)) cs) ≡ filter (λ item. not (is_wake_of k item)) (map (item_at t) cs)
 asleep_at t k [] = refl
@@ -181,10 +176,7 @@ none_taken old t k items holds none = record {
 }
   where
     gone : (u m : ℕ) → is_here t k u m ≡ true → due_of u m items ≡ None
-    gone u m e = let same : t ≡ u = place t k u m e in sym (subst (λ a. None ≡ due_of a m items) same (due_absent old t m items holds none))
-      where
-        place : (t k u m : ℕ) → (eqb t u && eqb k m) ≡ true → t ≡ u
-        place t k u m e = grind (arith, nat_tests)
+    gone u m e = let same = (same_place t k u m e).0 in sym (subst (λ a. None ≡ due_of a m items) same (due_absent old t m items holds none))
 
 copies_same : (t k : ℕ) (xs ys : List Item) → due_of t k xs ≡ due_of t k ys → map arrival_of (packets (filter (comes_at t k) xs)) ≡ map arrival_of (packets (filter (comes_at t k) ys))
 copies_same t k xs ys e =
@@ -222,14 +214,11 @@ none_unwoken old t k items holds none one = record {
   due = λ u m.
       elim (cases_Bool (is_here t k u m)) [
         | inl e ↦ (let out = rw e at (due_unwoken items t k one u m) in
-            ap (λ a. due_of a m (items_at old a)) (sym (place t k u m e)) ∙ (ap (λ o. due_of t m (items_in t o)) none ∙ (ap without_wake (due_absent old t k items holds none) ∙ sym out)))
+            ap (λ a. due_of a m (items_at old a)) (sym (same_place t k u m e).0) ∙ (ap (λ o. due_of t m (items_in t o)) none ∙ (ap without_wake (due_absent old t k items holds none) ∙ sym out)))
         | inr e ↦ (let out = rw e at (due_unwoken items t k one u m) in holds.due u m ∙ sym out)
       ];
   ready = holds.ready;
 }
-  where
-    place : (t k u m : ℕ) → (eqb t u && eqb k m) ≡ true → t ≡ u
-    place t k u m e = grind (arith, nat_tests)
 
 -- the first pending event
 
@@ -245,9 +234,6 @@ least_of buckets t m b items holds found first low = record {
   is_first = from_due (λ u k. (ltb t u || (eqb u t && not (ltb k m))) ≡ true) items (λ u k h. of u k (get nat_cmp buckets u) refl (any_same u k _ items (holds.due u k) ∙ h));
 }
   where
-    later : (t u k m : ℕ) → t < u → (ltb t u || (eqb u t && not (ltb k m))) ≡ true
-    later t u k m h = grind (arith, nat_tests)
-
     same : (t u k m : ℕ) → t ≡ u → m ≤ k → (ltb t u || (eqb u t && not (ltb k m))) ≡ true
     same t u k m e h = grind (arith, nat_tests)
 
@@ -260,7 +246,7 @@ least_of buckets t m b items holds found first low = record {
           | inl f ↦ (let g : Some b ≡ Some d = sym found ∙ (ap (get nat_cmp buckets) f ∙ e) in let is : b ≡ d = cc in
               let any : list_any (is_for k) b.coming.items ≡ true = ap (λ x. list_any (is_for k) x.coming.items) is ∙ (sym (any_at u k d.coming.items) ∙ h) in
               same t u k m f (any_every (m ≤ k) (is_for k) (λ (c : PendingEvent). m ≤ (goes_to c)) (λ c j n. (let q = eqb-true (goes_to c) k j in omega arith)) b.coming.items any (first_low b m (holds.ready t b found) first).low))
-          | inr (inl f) ↦ later t u k m f
+          | inr (inl f) ↦ past_from t m u k f
           | inr (inr f) ↦ absurd (omega arith)
         ]
 

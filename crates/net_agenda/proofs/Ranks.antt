@@ -5,12 +5,13 @@ use Rattle.std.specs.Map.{lookup}
 use Rattle.std.specs.BTreeMap.{get, is_at}
 use Rattle.std.specs.Ordering.{nat_cmp}
 use Rattle.std.proofs.Math.Nat.{mul-le-mul_right}
-use Rattle.std.proofs.lemmas.Bool.{and_parts, eqb-true, eq-eqb}
+use Rattle.std.proofs.lemmas.Bool.{eq-eqb}
 use Rattle.std.proofs.lemmas.Bool.Decides.{nat_tests}
 use Rattle.net_agenda.specs.declared.bucket.Bucket.{Bucket}
 use Rattle.window_laws.specs.Agenda.{Item, moment_of, mote_of, comes_at, is_from}
 use Rattle.net_agenda.specs.Buckets.{Buckets, Holds, first_key, first_of, first_mote}
-use Rattle.window_laws.proofs.Lists.{any_every}
+use Rattle.window_laws.proofs.Agenda.{due_has}
+use Rattle.window_laws.proofs.Lists.{every_weaker}
 use Rattle.net_agenda.proofs.Keys.{same_number}
 use Rattle.net_agenda.proofs.Moments.{there_of}
 
@@ -60,10 +61,6 @@ left_falls motes end t m items old new buckets e inside low ahead holds f = subs
     of None f = let g = top in omega arith
     of (Some key) f =
         let later : t * motes + m < key.0 * motes + key.1 =
-        any_every _ (comes_at key.0 key.1) _ (λ item d h. let parts = and_parts (eqb (moment_of item) key.0) (eqb (mote_of item) key.1) d in
-        let u = eqb-true (moment_of item) key.0 parts.0 in
-        let k = eqb-true (mote_of item) key.1 parts.1 in
-        subst (λ x. t * motes + m < x * motes + key.1) u (subst (λ y. t * motes + m < moment_of item * motes + y) k
-        (later_place motes t m (moment_of item) (mote_of item) h inside)))
-        items (first_due buckets items key.0 key.1 holds (sym f)) ahead in
+        due_has (λ u k. t * motes + m < u * motes + k) key.0 key.1 items (first_due buckets items key.0 key.1 holds (sym f))
+        (every_weaker _ _ (λ item h. later_place motes t m (moment_of item) (mote_of item) h inside) items ahead) in
         let g = top in omega arith

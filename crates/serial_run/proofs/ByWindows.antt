@@ -3,7 +3,7 @@ use Rattle.std.proofs.Common.{◌≡◌, ℕ, ◌+◌, ◌<◌, ◌≤◌, Bool,
 use Rattle.std.proofs.Common.{subst, inl, inr, arith}
 use Rattle.std.specs.List.{filter, AllByRecursion}
 use Rattle.std.specs.List.Sorted.{IsPermutation}
-use Rattle.std.proofs.lemmas.Bool.{cases_Bool, cases_eq, eq-eqb, ne_eqb}
+use Rattle.std.proofs.lemmas.Bool.{cases_Bool, eq-eqb, ne_eqb}
 use Rattle.std.proofs.lemmas.List.Sorted.{IsPermutation-sym, IsPermutation-trans}
 use Rattle.trace_lines.specs.declared.line.Line.{Line}
 use Rattle.radio_packet.specs.declared.sent.Sent.{Sent}
@@ -16,6 +16,7 @@ use Rattle.window_laws.specs.Windows.{as_log}
 use Rattle.window_laws.proofs.Commute.{log_is_in_order, run_is_there, windows_report}
 use Rattle.window_laws.proofs.Lists.{every_weaker}
 use Rattle.window_laws.proofs.Order.{sorted_permutes}
+use Rattle.window_laws.proofs.Puts.{put_each}
 use Rattle.net_agenda.specs.NetSystem.{system_of}
 use Rattle.mote_net.specs.Report.{Packet, ReportModel}
 use Rattle.serial_run.specs.NetRun.{packet_with_fates, report_at}
@@ -63,11 +64,9 @@ numbers_rise next (x ∷ xs) h = (later, numbers_rise (put next x.sender (next x
     own = let e = eq-eqb x.sender x.sender refl in rw e at (h x.sender)
 
     on : (mote : ℕ) → AreNumberedFrom (put next x.sender (next x.sender + 1) mote) (sent_by mote xs)
-    on mote = elim (cases_eq mote x.sender) [
-      | inl e ↦ (let f = eq-eqb mote x.sender e in
-          rw f (subst (λ m. AreNumberedFrom (next x.sender + 1) (sent_by m xs)) (sym e) (number_rest (next x.sender) x (sent_by x.sender xs) own)))
-      | inr ne ↦ (let f = ne_eqb mote x.sender ne in let g = ne_eqb x.sender mote (λ e. ne (sym e)) in let k = rw g at (h mote) in rw f k)
-    ]
+    on =
+        put_each (λ mote k. AreNumberedFrom k (sent_by mote xs)) next x.sender (next x.sender + 1) (number_rest (next x.sender) x (sent_by x.sender xs) own)
+        (λ mote ne. let g = ne_eqb x.sender mote (λ e. ne (sym e)) in let k = rw g at (h mote) in k)
 
     later : AllByRecursion (λ (y : Sent). x.sender ≡ y.sender → x.number < y.number) xs
     later =

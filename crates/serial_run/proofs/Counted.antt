@@ -109,13 +109,7 @@ module _ (radio : Radio) (end : ℕ) where
 
   log_tells : (log : List Sent) → length (filter (is_after end) (flat_map (copies radio) log)) ≡ length (filter (is_late end) (flat_map (λ packet. packet.fates) (map (packet_with_fates radio) log)))
   log_tells [] = refl
-  log_tells (sent ∷ log) =
-      ap length (filter-append (is_after end) (copies radio sent) (flat_map (copies radio) log))
-      ∙ (length-append (filter (is_after end) (copies radio sent)) (filter (is_after end) (flat_map (copies radio) log))
-      ∙ (ap (λ k. k + length (filter (is_after end) (flat_map (copies radio) log))) (packet_tells sent)
-      ∙ (ap (λ k. length (filter (is_late end) (fates radio sent)) + k) (log_tells log)
-      ∙ (sym (length-append (filter (is_late end) (fates radio sent)) (filter (is_late end) (flat_map (λ packet. packet.fates) (map (packet_with_fates radio) log))))
-      ∙ ap length (sym (filter-append (is_late end) (fates radio sent) (flat_map (λ packet. packet.fates) (map (packet_with_fates radio) log))))))))
+  log_tells (sent ∷ log) = simp (filter-append, length-append) (rw (packet_tells sent, log_tells log) refl)
 
 pub fates_tell_left : FatesTellLeft
 fates_tell_left n r report =

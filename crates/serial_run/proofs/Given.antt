@@ -3,7 +3,7 @@ use Rattle.std.proofs.Common.{◌≡◌, ℕ, ◌<◌, ◌≤◌, true, false, n
 use Rattle.std.proofs.Common.{refl, sym, ap, ◌∙◌, subst, inl, inr, arith}
 use Rattle.std.specs.Prelude.{IsPermutation}
 use Rattle.std.specs.List.{filter, flat_map, AllByRecursion}
-use Rattle.std.proofs.lemmas.Bool.{cases_Bool, and_parts, eqb-true}
+use Rattle.std.proofs.lemmas.Bool.{cases_Bool}
 use Rattle.std.proofs.lemmas.Bool.Decides.{nat_tests}
 use Rattle.std.proofs.lemmas.List.Elements.{filter-append, All-from_recursion, recursion_from_All}
 use Rattle.std.proofs.lemmas.List.Sorted.{IsPermutation-refl, IsPermutation-sym, IsPermutation-trans}
@@ -14,7 +14,7 @@ use Rattle.mote_net.specs.Net.{NetModel}
 use Rattle.window_laws.specs.System.{System}
 use Rattle.window_laws.specs.Agenda.{Item, Wake, Packet, moment_of, comes_at, is_left, packets, up_to}
 use Rattle.window_laws.specs.Order.{in_order}
-use Rattle.window_laws.proofs.Agenda.{packets_wakes}
+use Rattle.window_laws.proofs.Agenda.{packets_wakes, same_place}
 use Rattle.window_laws.proofs.Order.{sorted_permutes}
 use Rattle.net_agenda.specs.NetSystem.{system_of}
 use Rattle.window_laws.specs.NetStep.{NetState, Run, Done, Turn, boot, turn_at}
@@ -102,9 +102,6 @@ pub copies_are_given : CopiesAreGiven
 unfolding system_of
 copies_are_given n r report = given_run (system_of n) n.end report.run [] (boots n)
 
-due_in_time : (t m at to : ℕ) → (eqb at t && eqb to m) ≡ true → (at ≡ t) × (to ≡ m)
-due_in_time t m at to e = let parts = and_parts (eqb at t) (eqb to m) e in (eqb-true at t parts.0, eqb-true to m parts.1)
-
 abbrev IsInTime : (t m : ℕ) → RadioCopy → Type 0
 IsInTime t m copy = (copy.at ≡ t) × (copy.to ≡ m)
 
@@ -115,7 +112,7 @@ in_time t m (Wake u k ∷ items) =
     elim (cases_Bool (comes_at t m (Wake u k))) [ inl e ↦ rw e ih | inr e ↦ rw e ih ]
 in_time t m (Packet c ∷ items) =
     let ih = in_time t m items in
-    elim (cases_Bool (comes_at t m (Packet c))) [ inl e ↦ rw e (due_in_time t m c.at c.to e, ih) | inr e ↦ rw e ih ]
+    elim (cases_Bool (comes_at t m (Packet c))) [ inl e ↦ rw e (same_place c.at c.to t m e, ih) | inr e ↦ rw e ih ]
 
 run_in_time : {S L : Type 0} {system : System S L} {end : ℕ} {net last : NetState S L} (run : Run system end net last) → AllByRecursion IsGivenInTime (turns run)
 run_in_time (Done h) = tt

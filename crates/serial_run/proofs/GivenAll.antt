@@ -11,16 +11,15 @@ use Rattle.window_laws.specs.Order.{in_order}
 use Rattle.net_agenda.specs.NetSystem.{system_of}
 use Rattle.window_laws.specs.NetStep.{NetState, Run, Done, Turn, turn_at}
 use Rattle.serial_run.specs.Counted.{turns, is_for, IsGivenAll, TurnsAreGivenAll}
-use Rattle.window_laws.proofs.Lists.{any_every, every_weaker}
+use Rattle.window_laws.proofs.Agenda.{due_has}
+use Rattle.window_laws.proofs.Lists.{every_weaker}
+use Rattle.window_laws.proofs.Serial.{all_from}
 use Rattle.window_laws.proofs.Ahead.{turn_ahead}
 use Rattle.window_laws.proofs.Agenda.{packets_filter}
 use Rattle.net_agenda.proofs.Systems.{system_is}
 use Rattle.serial_run.proofs.Counted.{HasAll, more, packets-turn, log-turn, all_turn, all_boot}
 
 -- (t, m), (u, k), (v, j) and (at, to) are moments and motes
-due_from : (t m u k at to : ℕ) → (eqb at u && eqb to k) ≡ true → (ltb t at || (eqb at t && not (ltb to m))) ≡ true → (ltb t u || (eqb u t && not (ltb k m))) ≡ true
-due_from t m u k at to e h = grind (arith, nat_tests)
-
 still_from : (t m u k v j : ℕ) → (ltb t u || (eqb u t && not (ltb k m))) ≡ true → (ltb u v || (eqb v u && not (ltb j (suc k)))) ≡ true → (ltb t v || (eqb v t && not (ltb j m))) ≡ true
 still_from t m u k v j e h = grind (arith, nat_tests)
 
@@ -29,9 +28,6 @@ not_for t m at to h = grind (arith, nat_tests)
 
 not_both : (u k v j at to : ℕ) → (ltb u v || (eqb v u && not (ltb j (suc k)))) ≡ true → (eqb at u && eqb to k) ≡ true → (eqb at v && eqb to j) ≡ false
 not_both u k v j at to h e = grind (arith, nat_tests)
-
-from_first : (k : ℕ) → (ltb 0 0 || (eqb 0 0 && not (ltb k 0))) ≡ true
-from_first k = grind (arith, nat_tests)
 
 pub second_none : {X : Type 0} (xs ys : List X) → xs ++ ys ≡ [] → ys ≡ []
 second_none [] ys e = e
@@ -44,11 +40,11 @@ none_for t m (Wake u k ∷ items) h = none_for t m items h.1
 none_for t m (Packet c ∷ items) h = let f : is_for t m c ≡ false = not_for t m c.at c.to h.0 in rw f (none_for t m items h.1)
 
 first_from : (t m u k : ℕ) (agenda : List Item) → IsLeast u k agenda → AllByRecursion (λ item. is_from t m item ≡ true) agenda → is_from t m (Wake u k) ≡ true
-first_from t m u k agenda least from = any_every _ (comes_at u k) _ (λ item e h. due_from t m u k (moment_of item) (mote_of item) e h) agenda least.is_there from
+first_from t m u k agenda least from = due_has (λ v j. is_from t m (Wake v j) ≡ true) u k agenda least.is_there from
 
 boot_from : (ks : List ℕ) → AllByRecursion (λ item. is_from 0 0 item ≡ true) (map (λ mote. Wake 0 mote) ks)
 boot_from [] = tt
-boot_from (k ∷ ks) = (from_first k, boot_from ks)
+boot_from (k ∷ ks) = (all_from 0 k, boot_from ks)
 
 module _ {S L : Type 0} (system : System S L) (fine : RunsForward system) where
   -- all pending events are at this moment and mote, or later

@@ -1,6 +1,5 @@
 -- Each mote's trace goes with the mote, turn by turn.
-use Rattle.std.proofs.Common.{ℕ, inl, inr}
-use Rattle.std.proofs.lemmas.Bool.{cases_eq, eq-eqb, ne_eqb}
+use Rattle.std.proofs.Common.{ℕ, List, ◌++◌}
 use Rattle.trace_lines.specs.declared.line.Line.{Line}
 use Rattle.kernel_laws.specs.Going.{GoesWith}
 use Rattle.kernel_laws.proofs.Motes.{in_order}
@@ -8,7 +7,8 @@ use Rattle.mote_laws.proofs.Turns.{turn_keeps, new_goes}
 use Rattle.mote_node.specs.Node.{Node}
 use Rattle.mote_net.specs.Net.{NetModel}
 use Rattle.net_agenda.specs.NetSystem.{system_of, mote_at}
-use Rattle.window_laws.specs.NetStep.{NetState, Run, Done, Turn, boot, turn_at}
+use Rattle.window_laws.specs.NetStep.{NetState, Run, Done, Turn, boot, turned_at, turn_at}
+use Rattle.window_laws.proofs.Puts.{put_both}
 use Rattle.serial_run.specs.Laws.{TracesHandOn}
 
 module _ (n : NetModel) where
@@ -17,11 +17,8 @@ module _ (n : NetModel) where
 
   turn_goes : (t m : ℕ) (net : NetState Node Line) → AllGo net → AllGo (turn_at (system_of n) t m net)
   unfolding system_of
-  turn_goes t m net go k =
-      elim (cases_eq k m) [
-        | inl e ↦ (let f = eq-eqb k m e in rw f (turn_keeps (net.traces m) t _ (net.states m) (go m)))
-        | inr ne ↦ (let f = ne_eqb k m ne in rw f (go k))
-      ]
+  turn_goes t m net go =
+      put_both (λ k (lines : List Line) (x : Node). GoesWith lines x.mote) net.traces net.states m (net.traces m ++ (turned_at (system_of n) t m net).lines) (turned_at (system_of n) t m net).state (turn_keeps (net.traces m) t _ (net.states m) (go m)) (λ k ne. go k)
 
   run_goes : {net last : NetState Node Line} → Run (system_of n) n.end net last → AllGo net → AllGo last
   run_goes (Done h) go = go

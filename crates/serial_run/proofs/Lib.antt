@@ -8,7 +8,6 @@ pub mod OneWake
 pub mod OnTime
 pub mod Reached
 pub mod Reports
-pub mod SentOut
 pub mod Stamped
 pub mod Stamps
 pub mod Steps

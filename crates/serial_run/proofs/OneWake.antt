@@ -3,19 +3,15 @@ use Rattle.std.proofs.Common.{◌≡◌, ℕ, ◌≤◌, Bool, true, false, cond
 use Rattle.std.specs.List.{filter, flat_map, AllByRecursion}
 use Rattle.std.proofs.lemmas.Bool.{cases_eq, and_parts}
 use Rattle.std.proofs.lemmas.List.Elements.{filter-append}
-use Rattle.std.proofs.lemmas.List.Filters.{length-filter_both}
 use Rattle.radio_packet.specs.declared.copy.RadioCopy.{RadioCopy}
 use Rattle.window_laws.specs.Agenda.{Item, Wake, Packet, comes_at, is_left, is_wake_of, wake_items}
 use Rattle.window_laws.specs.NetStep.{NetState, Run, Done, Turn, boot, turned_at, sends_of}
 use Rattle.window_laws.specs.System.{System}
-use Rattle.window_laws.proofs.Agenda.{first_wakes, no_wake_in_packets, other_wake}
-use Rattle.window_laws.proofs.Lists.{filter_both, filter_filter, filter_never, filter_stronger, every_weaker}
+use Rattle.window_laws.proofs.Agenda.{first_wakes, wakes_other, wakes_own}
+use Rattle.window_laws.proofs.Lists.{filter_both, filter_filter, filter_never, filter_stronger, every_weaker, no_more}
 use Rattle.net_agenda.specs.NetSystem.{system_of}
 use Rattle.net_agenda.specs.Items.{is_wake_at, WakesDiffer}
 use Rattle.serial_run.specs.Laws.{agendas, OneWake, AlwaysOneWake, WakesAlwaysDiffer}
-
-no_more : {X : Type 0} (p : X → Bool) (xs : List X) → length (filter p xs) ≤ length xs
-no_more p xs = let both = length-filter_both p (λ x. not (p x)) (λ x. refl) xs in omega arith
 
 at_most_one : (m : ℕ) (wake : Option ℕ) → length (wake_items m wake) ≤ 1
 at_most_one m None = omega arith
@@ -33,29 +29,13 @@ differ items one t m =
     of_mote (Wake u k) e = (and_parts (eqb u t) (eqb k m) ((and_parts (eqb u t && eqb k m) true e).0)).1
     of_mote (Packet c) e = (and_parts (comes_at t m (Packet c)) false e).1
 
--- a turn takes the mote's wake out
-none_left : (t m : ℕ) (items : List Item) → filter (is_wake_of m) (filter (is_left t m) items) ≡ []
-none_left t m items = filter_both (is_wake_of m) (is_left t m) (λ x. false) (λ x. never (comes_at t m x) (is_wake_of m x)) items ∙ filter_never items
-  where
-    never : (d w : Bool) → false ≡ (not (d || w) && w)
-    never true w = refl
-    never false true = refl
-    never false false = refl
-
 turned : (t m : ℕ) (wake : Option ℕ) (cs : List RadioCopy) (items : List Item) → OneWake items → OneWake (filter (is_left t m) items ++ (wake_items m wake ++ map Packet cs))
 turned t m wake cs items one k =
-    let parts = ap length (filter-append (is_wake_of k) (filter (is_left t m) items) (wake_items m wake ++ map Packet cs)) ∙ length-append (filter (is_wake_of k) (filter (is_left t m) items)) (filter (is_wake_of k) (wake_items m wake ++ map Packet cs)) in
-    let new = ap length (filter-append (is_wake_of k) (wake_items m wake) (map Packet cs) ∙ (ap (λ l. filter (is_wake_of k) (wake_items m wake) ++ l) (no_wake_in_packets k cs) ∙ append-nil _)) in
     elim (cases_eq k m) [
-      | inl e ↦ (let none = ap length (ap (λ j. filter (is_wake_of j) (filter (is_left t m) items)) e ∙ none_left t m items) in
-          let less = no_more (is_wake_of k) (wake_items m wake) in
-          let own = at_most_one m wake in
+      | inl e ↦ (let own = ap length (ap (λ j. filter (is_wake_of j) (filter (is_left t m) items ++ (wake_items m wake ++ map Packet cs))) e ∙ wakes_own t m wake cs items) in
+          let less = at_most_one m wake in
           omega arith)
-      | inr ne ↦ (let other = ap length (other_wake k m wake ne) in
-          let same = ap length (filter_filter (is_wake_of k) (is_left t m) items) in
-          let less = no_more (is_left t m) (filter (is_wake_of k) items) in
-          let h = one k in
-          omega arith)
+      | inr ne ↦ (let same = ap length (wakes_other t m wake cs items k ne) in let h = one k in omega arith)
     ]
 
 module _ {S L : Type 0} (system : System S L) (end : ℕ) where

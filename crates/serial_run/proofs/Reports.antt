@@ -35,19 +35,12 @@ family {X} {Y} g f xs h = ap (map g) (sym (take-length xs)) ∙ upto xs h (lengt
         ∙ (ap (λ l. l ++ g (get_or (x ∷ xs) n x) ∷ []) (upto (x ∷ xs) h n b)
         ∙ (ap (λ y. map f (up_to n) ++ y ∷ []) (h n a x) ∙ sym (map-append f (up_to n) (n ∷ [])))))
 
-abbrev told_of : List (List Line) → List Packet → ℕ → ReportModel
-told_of traces log left = record { traces = traces; log = log; left = left }
-
 pub report_is : (n : NetModel) (engine : Engine) (report : Report) → IsWhole n engine → (at : HasEnded n engine)
     → report.traces ≡ engine.traces → report.medium ≡ engine.log → report.left ≡ length (packets at.last.agenda) → IsReportOf n (report_of report)
 report_is n engine report whole at traces log left = record {
   last = at.last;
   run = at.run;
-  told =
-      ap (λ (v : Vec (Vec Line Global) Global). told_of (map lines_in v.items) (map line_model report.medium.items) report.left) traces
-      ∙ (ap (λ l. told_of l (map line_model report.medium.items) report.left) all
-      ∙ (ap (λ l. told_of (map at.last.traces (up_to (length n.motes))) l report.left) (ap (λ v. map line_model v.items) log ∙ at.stands.log)
-      ∙ ap (told_of (map at.last.traces (up_to (length n.motes))) (map (packet_with_fates n.radio) at.last.log)) left));
+  told = rw (traces, log, left, all, at.stands.log) refl;
 }
   where
     all : map lines_in engine.traces.items ≡ map at.last.traces (up_to (length n.motes))

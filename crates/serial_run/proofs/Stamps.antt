@@ -1,5 +1,5 @@
 -- The traces of a net never go back in moment, and the packets of each mote are numbered in order.
-use Rattle.std.proofs.Common.{◌≡◌, ℕ, ◌+◌, ◌≤◌, true, false, not, ◌&&◌, ◌||◌, ltb, eqb, List, [], ◌∷◌, ◌++◌, length}
+use Rattle.std.proofs.Common.{◌≡◌, ℕ, ◌+◌, ◌<◌, ◌≤◌, true, false, not, ◌&&◌, ◌||◌, ltb, eqb, List, [], ◌∷◌, ◌++◌, length}
 use Rattle.std.proofs.Common.{map, Option, Some, None, refl, sym, ap, ◌∙◌, subst, inl, inr, arith, zero-le, append-nil}
 use Rattle.std.specs.List.{All, filter, flat_map, range_with_len, AllByRecursion}
 use Rattle.std.proofs.lemmas.Bool.{cases_eq, eq-eqb, ne_eqb}
@@ -26,15 +26,10 @@ use Rattle.mote_net.specs.Report.{ReportModel, Packet as OfReport}
 use Rattle.serial_run.specs.NetRun.{packet_with_fates}
 use Rattle.window_laws.specs.NetStep.{NetState, Run, Done, Turn, boot, put, stamped, turned_at, turn_at}
 use Rattle.serial_run.specs.Stamps.{TracesNeverGoBack, sent_by, LogCountsUp}
-use Rattle.window_laws.proofs.Lists.{every_append, every_filter, every_map, every_weaker, any_every}
-
--- a first item's moment
-
-later_or_now : (t m u k : ℕ) → (ltb t u || (eqb u t && not (ltb k m))) ≡ true → t ≤ u
-later_or_now t m u k h = grind (arith, nat_tests)
-
-due_now : (t m u k : ℕ) → (eqb u t && eqb k m) ≡ true → u ≡ t
-due_now t m u k e = grind (arith, nat_tests)
+use Rattle.window_laws.proofs.Agenda.{due_has}
+use Rattle.window_laws.proofs.Ahead.{no_sooner, turn_every}
+use Rattle.window_laws.proofs.Lists.{every_filter, every_weaker}
+use Rattle.window_laws.proofs.Puts.{put_each, put_other, put_same}
 
 -- no trace has a line beyond this moment, no event is pending before it, and the lines so far never go back
 record Rises (at : ℕ) (net : NetState Node Line) : Type 0 where
@@ -60,39 +55,29 @@ module _ (n : NetModel) where
 
   agenda_later : (t m : ℕ) (net : NetState Node Line) → AllByRecursion (λ item. is_from t m item ≡ true) net.agenda → AllByRecursion (λ item. t ≤ moment_of item) (turn_at (system_of n) t m net).agenda
   agenda_later t m net first =
-      every_append _ (filter (is_left t m) net.agenda) _
-      (every_filter _ _ (is_left t m) (λ item h e. later_or_now t m (moment_of item) (mote_of item) h) net.agenda first)
-      (every_append _ (wake_items m (next t m net).wake) _ (new_wake (next t m net).wake (wake_is_later t m net)) (every_map _ Packet _ (each (next t m net).sends)))
-    where
-      new_wake : (wake : Option ℕ) → IsLater t wake → AllByRecursion (λ (item : Item). t ≤ moment_of item) (wake_items m wake)
-      new_wake None h = tt
-      new_wake (Some u) h = (omega arith, tt)
-
-      each : (sends : List Sent) → AllByRecursion (λ copy. t ≤ copy.at) (flat_map (system_of n).copies (map (stamped t m) sends))
-      each [] = tt
-      each (s ∷ sends) = every_append _ ((system_of n).copies (stamped t m s)) _ (copies_are_later (stamped t m s)) (each sends)
+      turn_every (system_of n) (λ item. t ≤ moment_of item) t m net
+      (every_filter _ _ (is_left t m) (λ item h e. no_sooner t m (moment_of item) (mote_of item) h) net.agenda first)
+      (λ u e. let later : t < u = subst (IsLater t) e (wake_is_later t m net) in omega arith)
+      (λ s. copies_are_later (stamped t m s))
 
   turn_rises : (at t m : ℕ) (net : NetState Node Line) → IsLeast t m net.agenda → Rises at net → Rises t (turn_at (system_of n) t m net)
   turn_rises at t m net least r = record { agenda = agenda_later t m net least.is_first; lines = λ k. (at_mote k).0; rise = λ k. (at_mote k).1 }
     where
-      no_sooner : at ≤ t
-      no_sooner = any_every (at ≤ t) (comes_at t m) (λ item. at ≤ moment_of item) (λ item e h. let q = due_now t m (moment_of item) (mote_of item) e in omega arith) net.agenda least.is_there r.agenda
+      rises : at ≤ t
+      rises = due_has (λ u k. at ≤ u) t m net.agenda least.is_there r.agenda
 
       before : (k : ℕ) → All (λ l. l.at ≤ t) (net.traces k)
-      before k = All-weaker (λ l. l.at ≤ at) (λ l. l.at ≤ t) (λ l h. let le = no_sooner in omega arith) (net.traces k) (r.lines k)
+      before k = All-weaker (λ l. l.at ≤ at) (λ l. l.at ≤ t) (λ l h. let le = rises in omega arith) (net.traces k) (r.lines k)
 
       more : List Line
       more = (next t m net).lines
 
       at_mote : (k : ℕ) → All (λ l. l.at ≤ t) ((turn_at (system_of n) t m net).traces k) × NeverGoBack ((turn_at (system_of n) t m net).traces k)
-      at_mote k = elim (cases_eq k m) [
-        | inl e ↦ (let f = eq-eqb k m e in
-            rw f (
-              All-append (λ l. l.at ≤ t) (net.traces m) more (before m) (All-weaker (λ l. l.at ≡ t) (λ l. l.at ≤ t) (λ l q. omega arith) more (lines_bear t m net)),
-              rises_joined (λ l. l.at) t (net.traces m) more (r.rise m) (before m) (rises_level (λ l. l.at) t more (lines_bear t m net)) (All-weaker (λ l. l.at ≡ t) (λ l. t ≤ l.at) (λ l q. omega arith) more (lines_bear t m net)),
-            ))
-        | inr ne ↦ (let f = ne_eqb k m ne in rw f (before k, r.rise k))
-      ]
+      at_mote =
+          put_each (λ k (l : List Line). All (λ (x : Line). x.at ≤ t) l × NeverGoBack l) net.traces m (net.traces m ++ more) (
+            All-append (λ l. l.at ≤ t) (net.traces m) more (before m) (All-weaker (λ l. l.at ≡ t) (λ l. l.at ≤ t) (λ l q. omega arith) more (lines_bear t m net)),
+            rises_joined (λ l. l.at) t (net.traces m) more (r.rise m) (before m) (rises_level (λ l. l.at) t more (lines_bear t m net)) (All-weaker (λ l. l.at ≡ t) (λ l. t ≤ l.at) (λ l q. omega arith) more (lines_bear t m net)),
+          ) (λ k ne. (before k, r.rise k))
 
   run_rises : {net last : NetState Node Line} → Run (system_of n) n.end net last → (at : ℕ) → Rises at net → (k : ℕ) → NeverGoBack (last.traces k)
   run_rises (Done h) at r = r.rise
@@ -135,12 +120,6 @@ same_numbers t m (s ∷ sends) = ap (λ l. s.number ∷ l) (same_numbers t m sen
 
 stamped_numbered : (t m first : ℕ) (sends : List Sent) → AreNumberedFrom first sends → AreNumberedFrom first (map (stamped t m) sends)
 stamped_numbered t m first sends h = same_numbers t m sends ∙ (h ∙ ap (range_with_len first) (sym (length-map sends (stamped t m))))
-
-put_same : {X : Type 0} (parts : ℕ → X) (m : ℕ) (x : X) → put parts m x m ≡ x
-put_same parts m x = let f : eqb m m ≡ true = eq-eqb m m refl in rw f refl
-
-put_other : {X : Type 0} (parts : ℕ → X) (m : ℕ) (x : X) (k : ℕ) → (k ≡ m → ⊥) → put parts m x k ≡ parts k
-put_other parts m x k ne = let f : eqb k m ≡ false = ne_eqb k m ne in rw f refl
 
 abbrev sent_of : Node → ℕ
 sent_of node = node.mote.state.sent

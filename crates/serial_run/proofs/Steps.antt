@@ -2,10 +2,9 @@
 use Rattle.std.proofs.Common.{◌≡◌, ℕ, ◌<◌, Bool, true, false, not, ◌&&◌, ◌||◌, List, ◌++◌, length, map, get_or, set}
 use Rattle.std.proofs.Common.{refl, sym, ap, ◌∙◌, subst, inl, inr, arith, append_assoc, Option, Some, None, option_map}
 use Rattle.std.proofs.Common.{get_or-set_same, get_or-set_other}
-use Rattle.std.specs.Prelude.{Vec}
+use Rattle.std.specs.Prelude.{IfSome, Vec}
 use Rattle.std.specs.declared.alloc.Global.{Global}
 use Rattle.std.specs.List.{filter, flat_map}
-use Rattle.std.proofs.lemmas.Bool.{cases_eq, eq-eqb, ne_eqb}
 use Rattle.std.proofs.lemmas.List.{map-append}
 use Rattle.program_tree.specs.Code.{Tree}
 use Rattle.radio_packet.specs.declared.arrival.Arrival.{Arrival}
@@ -15,6 +14,8 @@ use Rattle.mote_node.specs.declared.mote.Mote.{Mote}
 use Rattle.mote_node.specs.declared.mote.TurnOut.{TurnOut}
 use Rattle.mote_node.specs.Node.{Node}
 use Rattle.mote_node.specs.Public.{node_in, turn_given, wake_in}
+use Rattle.kernel_laws.specs.Stamps.{PacketsBear}
+use Rattle.mote_laws.proofs.Stamps.{turns_stamp}
 use Rattle.mote_node.specs.Turn as node
 use Rattle.mote_node.specs.Turn.{turn_of}
 use Rattle.mote_node.specs.Wake.{wake_of}
@@ -30,7 +31,10 @@ use Rattle.window_laws.specs.NetStep.{NetState, stamped, turn_at}
 use Rattle.serial_run.specs.Stands.{StandsAt, KeepsWakes, OneTakesTurn}
 use Rattle.net_agenda.specs.Traces.{AddsLines}
 use Rattle.window_laws.proofs.Lists.{filter_filter, filter_both}
+use Rattle.window_laws.proofs.Puts.{put_each}
+use Rattle.serial_run.specs.OnTime.{CanTurn}
 use Rattle.serial_run.proofs.Kept.{wake_later}
+use Rattle.serial_run.proofs.Stamped.{stamped_is}
 
 -- the outcome of a turn, and the state to which it led
 record Tells (o : Option Node) (out : TurnOut) (t : node.TurnGiven) : Type 0 where
@@ -49,6 +53,14 @@ tells (Some x) out t e =
       wake = ap (λ (u : node.TurnGiven). u.wake) f;
     }
 
+-- a mote's packets have the moment of the turn, and its number
+pub turn_stamps : (t m : ℕ) (packets : List Arrival) (before after : Option Node) (out : TurnOut) → CanTurn t before → IfSome before (λ n. n.mote.state.mote ≡ m)
+    → option_map (turn_given out) after ≡ option_map (turn_of t packets) before → PacketsBear t m out.sends.items
+turn_stamps t m packets None after out can number e = absurd can
+turn_stamps t m packets (Some n) after out can number e =
+    subst (PacketsBear t m) (sym (tells after out (turn_of t packets n) e).sends)
+    (subst (λ k. PacketsBear t k (turn_of t packets n).sends) number (turns_stamp t packets n).packets)
+
 neither : (a b : Bool) → not (a || b) ≡ (not a && not b)
 neither true b = refl
 neither false b = refl
@@ -61,42 +73,33 @@ module _ (n : NetModel) (t m : ℕ) (state : NetState Node Line) where
   abbrev pub agenda_after : Option ℕ → List Sent → List Item
   agenda_after wake sends =
       (filter (λ item. not (is_wake_of m item)) (filter (λ item. not (comes_at t m item)) state.agenda) ++ wake_items m wake)
-      ++ map Packet (flat_map (copies n.radio) (map (stamped t m) sends))
+      ++ map Packet (flat_map (copies n.radio) sends)
 
   pub stands_turn : (old new : Engine) (tree : Tree) (packets : List Arrival) (out : TurnOut)
       → m < length n.motes → length old.motes.items ≡ length n.motes → length old.traces.items ≡ length n.motes → StandsAt n old state
       → tree ≡ tree_at n m → packets ≡ arrivals_at t m state.agenda
-      → OneTakesTurn tree t packets m old.motes.items new.motes.items out
+      → OneTakesTurn tree t packets m old.motes.items new.motes.items out → PacketsBear t m out.sends.items
       → AddsLines m out.lines.items old.traces.items new.traces.items
       → Holds new.agenda.buckets (agenda_after out.wake out.sends.items)
-      → map line_model new.log.items ≡ map line_model old.log.items ++ map (packet_with_fates n.radio) (map (stamped t m) out.sends.items)
+      → map line_model new.log.items ≡ map line_model old.log.items ++ map (packet_with_fates n.radio) out.sends.items
       → StandsAt n new (turn_at (system_of n) t m state)
   unfolding system_of
-  stands_turn old new tree packets out there motes traces at tree_is packets_are takes adds agenda log = record {
-    nodes = λ k h d.
-        elim (cases_eq k m) [
-          | inl e ↦ (let f = eq-eqb k m e in
-              rw f (ap (λ l. node_in (tree_at n k) (get_or l k d)) takes.put
-              ∙ (ap (λ j. node_in (tree_at n j) (get_or (set old.motes.items m takes.after) j d)) e
-              ∙ (ap (node_in (tree_at n m)) (get_or-set_same old.motes.items m takes.after d inside) ∙ is.node))))
-          | inr ne ↦ (let f = ne_eqb k m ne in
-              rw f (ap (λ l. node_in (tree_at n k) (get_or l k d)) takes.put
-              ∙ (ap (node_in (tree_at n k)) (get_or-set_other old.motes.items m k takes.after d ne) ∙ at.nodes k h d)))
-        ];
-    traces = λ k h d.
-        elim (cases_eq k m) [
-          | inl e ↦ (let f = eq-eqb k m e in
-              rw f (ap (λ l. (get_or l k d).items) adds.put
-              ∙ (ap (λ j. (get_or (set old.traces.items m adds.after) j d).items) e
-              ∙ (ap (λ (v : Vec Line Global). v.items) (get_or-set_same old.traces.items m adds.after d traced)
-              ∙ (adds.added d ∙ (ap (λ l. l ++ out.lines.items) (at.traces m there d) ∙ ap (λ l. state.traces m ++ l) is.lines))))))
-          | inr ne ↦ (let f = ne_eqb k m ne in
-              rw f (ap (λ l. (get_or l k d).items) adds.put
-              ∙ (ap (λ (v : Vec Line Global). v.items) (get_or-set_other old.traces.items m k adds.after d ne) ∙ at.traces k h d)))
-        ];
+  stands_turn old new tree packets out there motes traces at tree_is packets_are takes bear adds agenda log = record {
+    nodes =
+        put_each (λ k (x : Node). k < length n.motes → (d : Mote) → node_in (tree_at n k) (get_or new.motes.items k d) ≡ Some x) state.states m turned.node
+        (λ h d. ap (λ l. node_in (tree_at n m) (get_or l m d)) takes.put ∙ (ap (node_in (tree_at n m)) (get_or-set_same old.motes.items m takes.after d inside) ∙ is.node))
+        (λ k ne h d. ap (λ l. node_in (tree_at n k) (get_or l k d)) takes.put
+        ∙ (ap (node_in (tree_at n k)) (get_or-set_other old.motes.items m k takes.after d ne) ∙ at.nodes k h d));
+    traces =
+        put_each (λ k (x : List Line). k < length n.motes → (d : Vec Line Global) → (get_or new.traces.items k d).items ≡ x) state.traces m (state.traces m ++ turned.lines)
+        (λ h d. ap (λ l. (get_or l m d).items) adds.put
+        ∙ (ap (λ (v : Vec Line Global). v.items) (get_or-set_same old.traces.items m adds.after d traced)
+        ∙ (adds.added d ∙ (ap (λ l. l ++ out.lines.items) (at.traces m there d) ∙ ap (λ l. state.traces m ++ l) is.lines))))
+        (λ k ne h d. ap (λ l. (get_or l k d).items) adds.put
+        ∙ (ap (λ (v : Vec Line Global). v.items) (get_or-set_other old.traces.items m k adds.after d ne) ∙ at.traces k h d));
     log =
-        log ∙ (ap (λ l. l ++ map (packet_with_fates n.radio) (map (stamped t m) out.sends.items)) at.log
-        ∙ (ap (λ l. map (packet_with_fates n.radio) state.log ++ map (packet_with_fates n.radio) (map (stamped t m) l)) is.sends
+        log ∙ (ap (λ l. l ++ map (packet_with_fates n.radio) out.sends.items) at.log
+        ∙ (ap (λ l. map (packet_with_fates n.radio) state.log ++ map (packet_with_fates n.radio) l) sent
         ∙ sym (map-append (packet_with_fates n.radio) state.log (map (stamped t m) turned.sends))));
     agenda = subst (λ l. Holds new.agenda.buckets l) same agenda;
   }
@@ -114,13 +117,16 @@ module _ (n : NetModel) (t m : ℕ) (state : NetState Node Line) where
           ∙ (ap (λ x. option_map (turn_of t packets) (node_in x (get_or old.motes.items m takes.after))) tree_is
           ∙ (ap (option_map (turn_of t packets)) (at.nodes m there takes.after) ∙ ap (λ p. Some (turn_of t p (state.states m))) packets_are))))
 
+      sent : out.sends.items ≡ map (stamped t m) turned.sends
+      sent = sym (stamped_is t m out.sends.items bear) ∙ ap (map (stamped t m)) is.sends
+
       same : agenda_after out.wake out.sends.items ≡ filter (is_left t m) state.agenda ++ (wake_items m turned.wake ++ map Packet (flat_map (copies n.radio) (map (stamped t m) turned.sends)))
       same =
           append_assoc _ (wake_items m out.wake) _
-          ∙ (ap (λ l. l ++ (wake_items m out.wake ++ map Packet (flat_map (copies n.radio) (map (stamped t m) out.sends.items))))
+          ∙ (ap (λ l. l ++ (wake_items m out.wake ++ map Packet (flat_map (copies n.radio) out.sends.items)))
           (filter_both (λ item. not (is_wake_of m item)) (λ item. not (comes_at t m item)) (is_left t m) (λ item. neither (comes_at t m item) (is_wake_of m item)) state.agenda)
-          ∙ (ap (λ w. filter (is_left t m) state.agenda ++ (wake_items m w ++ map Packet (flat_map (copies n.radio) (map (stamped t m) out.sends.items)))) is.wake
-          ∙ ap (λ l. filter (is_left t m) state.agenda ++ (wake_items m turned.wake ++ map Packet (flat_map (copies n.radio) (map (stamped t m) l)))) is.sends))
+          ∙ (ap (λ w. filter (is_left t m) state.agenda ++ (wake_items m w ++ map Packet (flat_map (copies n.radio) out.sends.items))) is.wake
+          ∙ ap (λ l. filter (is_left t m) state.agenda ++ (wake_items m turned.wake ++ map Packet (flat_map (copies n.radio) l))) sent))
 
   -- the mote's wake, if it isn't due with the turn
   pub wake_to_drop : (wake other : Option ℕ) (engine : Engine) → m < length n.motes → StandsAt n engine state → KeepsWakes n state

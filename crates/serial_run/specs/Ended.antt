@@ -1,5 +1,5 @@
 -- How far a run has come.
-use Rattle.std.specs.Prelude.{ℕ}
+use Rattle.std.specs.Prelude.{◌≡◌, ℕ}
 use Rattle.trace_lines.specs.declared.line.Line.{Line}
 use Rattle.mote_node.specs.Node.{Node}
 use Rattle.mote_net.specs.Net.{NetModel}
@@ -9,12 +9,17 @@ use Rattle.window_laws.specs.NetStep.{NetState, Run, boot}
 use Rattle.serial_run.specs.OnTime.{IsOnTime}
 use Rattle.serial_run.specs.Stands.{StandsAt, KeepsWakes}
 
+-- each mote has its number
+abbrev pub AreNumbered : NetState Node Line → Type 0
+AreNumbered net = (k : ℕ) → (net.states k).mote.state.mote ≡ k
+
 -- The engine's state is one to which a prefix of the run leads: each run that continues from there is the rest of a run
 -- from boot.
 pub record HasReached (n : NetModel) (engine : Engine) : Type 0 where
   pub state : NetState Node Line
   pub stands : StandsAt n engine state
   pub kept : KeepsWakes n state
+  pub numbered : AreNumbered state
   pub at : ℕ
   pub on_time : IsOnTime at state
   pub led : (last : NetState Node Line) → Run (system_of n) n.end state last

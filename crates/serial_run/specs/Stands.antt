@@ -1,6 +1,6 @@
 -- The state of a run of the engine.
 use Rattle.std.specs.Prelude.{ℕ, ◌≡◌, ◌<◌, ◌++◌, List, length, map, Vec, Option, Some, option_map}
-use Rattle.std.specs.Prelude.{slice_index_or, slice_set}
+use Rattle.std.specs.Prelude.{slice_index_or, slice_set, IfSome}
 use Rattle.std.specs.List.{filter, AllByRecursion}
 use Rattle.std.specs.declared.alloc.Global.{Global}
 use Rattle.radio_packet.specs.declared.arrival.Arrival.{Arrival}
@@ -53,6 +53,10 @@ TurnLeads n moment mote old new = (state : NetState Node Line) → StandsAt n ol
 -- one of the motes has not failed, and its last turn was before this moment
 abbrev pub CanTurnAt : code.Tree → (moment : ℕ) → List Mote → (mote : ℕ) → Type 0
 CanTurnAt tree moment motes k = (d : Mote) → CanTurn moment (node_in tree (slice_index_or motes k d))
+
+-- one of the motes has its number
+abbrev pub HasNumberAt : code.Tree → List Mote → (mote : ℕ) → Type 0
+HasNumberAt tree motes k = (d : Mote) → IfSome (node_in tree (slice_index_or motes k d)) (λ n. n.mote.state.mote ≡ k)
 
 -- when one of the motes wakes next
 abbrev pub IsWakeAt : List Mote → (mote : ℕ) → Option ℕ → Type 0

@@ -4,11 +4,12 @@ ghost use Rattle.std.specs.Prelude.{◌≡◌, ◌<◌, ◌≤◌, ◌^◌, leng
 ghost use Rattle.program_tree.specs.Program.{tree_of};
 ghost use Rattle.mote_node.specs.Public.{turn_out_of};
 ghost use Rattle.trace_lines.specs.declared.line.Line.{Line};
+ghost use Rattle.kernel_laws.specs.Stamps.{PacketsBear};
 ghost use Rattle.mote_net.specs.Meaning.{net_of};
 ghost use Rattle.net_agenda.specs.Buckets.{wake_but_at};
 ghost use Rattle.net_agenda.specs.NetSystem.{system_of, tree_at};
 ghost use Rattle.window_laws.specs.NetStep.{boot};
-ghost use Rattle.serial_run.specs.Stands.{StandsAt, IsWhole, TurnLeads, CanTurnAt, IsWakeAt, OneTakesTurn};
+ghost use Rattle.serial_run.specs.Stands.{StandsAt, IsWhole, TurnLeads, CanTurnAt, HasNumberAt, IsWakeAt, OneTakesTurn};
 
 use crate::sends::send_all;
 use mote_net::{LogLine, Net};
@@ -48,7 +49,7 @@ fn wake_but_at(moment: u64, wake: Option<u64>) -> Option<u64>
 }
 
 /// The turn of one of the motes, which has not failed, and whose last turn was before this moment. Returns when it
-/// wakes next.
+/// wakes next. The packets that it sends have the moment and the number of the mote.
 fn turn_mote(
     motes: &mut Vec<Mote>,
     program: &Program,
@@ -60,8 +61,10 @@ fn turn_mote(
     requires mote_exists { number < length motes.old.items }
     requires moment_bounded { moment ≤ 2 ^ 40 }
     requires ready { CanTurnAt (tree_of program.now) moment motes.old.items number }
+    requires numbered { HasNumberAt (tree_of program.now) motes.old.items number }
     ensures one_takes_turn { IfOk result (λ wake. OneTakesTurn
         (tree_of program.now) moment packets.now number motes.old.items motes.new.items (turn_out_of out.new wake)) }
+    ensures stamped { OnOk result (PacketsBear moment number out.new.sends.items) }
 {
     match motes[usize::from(number)].turn_into(program, moment, packets, out) {
         Ok(wake) => Ok(wake),
@@ -113,6 +116,7 @@ impl Engine {
         requires moment_bounded { moment ≤ 2 ^ 40 }
         requires is_whole { IsWhole (net_of net.now) self.old }
         requires ready { CanTurnAt (tree_at (net_of net.now) number) moment self.old.motes.items number }
+        requires numbered { HasNumberAt (tree_at (net_of net.now) number) self.old.motes.items number }
         ensures stands { OnOk result (TurnLeads (net_of net.now) moment number self.old self.new) }
         ensures is_whole { OnOk result (IsWhole (net_of net.now) self.new) }
     {
@@ -130,8 +134,6 @@ impl Engine {
         self.agenda.move_wake(wake, next, number)?;
         send_all(
             net.medium(),
-            moment,
-            number,
             &self.out.sends,
             &mut self.agenda,
             &mut self.log,

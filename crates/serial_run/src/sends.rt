@@ -1,13 +1,12 @@
 //! Packets that are sent: their copies are on their way, and the medium logs their fates.
 
-ghost use Rattle.std.specs.Prelude.{◌≡◌, ◌<◌, ◌≤◌, ◌^◌, [], ◌∷◌, ◌++◌, length, map, OnOk};
-ghost use Rattle.std.specs.List.{flat_map};
+ghost use Rattle.std.specs.Prelude.{◌≡◌, ◌<◌, ◌≤◌, ◌^◌, ◌++◌, length, map, OnOk};
+ghost use Rattle.std.specs.List.{flat_map, AllByRecursion};
 ghost use Rattle.radio_medium.specs.Medium.{copies};
 ghost use Rattle.window_laws.specs.Agenda.{Packet};
 ghost use Rattle.net_agenda.specs.Changes.{Adds};
 ghost use Rattle.mote_net.specs.Report.{line_model};
 ghost use Rattle.serial_run.specs.NetRun.{packet_with_fates};
-ghost use Rattle.window_laws.specs.NetStep.{stamped};
 
 use mote_net::LogLine;
 use net_agenda::Agenda;
@@ -15,53 +14,27 @@ use radio_medium::Medium;
 use radio_packet::Sent;
 use std::alloc::AllocError;
 
-/// Sends one packet.
-fn send(
-    medium: &Medium,
-    sent: &Sent,
-    agenda: &mut Agenda,
-    log: &mut Vec<LogLine>,
-) -> Result<(), AllocError>
-    requires sender { sent.now.sender < length medium.now.places }
-    requires moment { sent.now.at ≤ 2 ^ 40 }
-    ensures agenda { OnOk result (Adds agenda.old.buckets agenda.new.buckets
-        (map Packet (copies medium.now sent.now))) }
-    ensures log { OnOk result (map line_model log.new.items ≡ map line_model log.old.items
-        ++ packet_with_fates medium.now sent.now ∷ []) }
-{
-    let fates = medium.fates(sent)?;
-    agenda.put_fates(sent, &fates)?;
-    log.push(LogLine { sent: *sent, fates })?;
-    Ok(())
-}
-
 /// Sends the packets of a mote's turn.
 ///
 /// # Errors
 /// `AllocError` if an allocation fails. Some of the packets may have been sent then.
 pub fn send_all(
     medium: &Medium,
-    moment: u64,
-    mote: u16,
     sends: &[Sent],
     agenda: &mut Agenda,
     log: &mut Vec<LogLine>,
 ) -> Result<(), AllocError>
-    requires sender { mote < length medium.now.places }
-    requires moment { moment ≤ 2 ^ 40 }
+    requires sendable { AllByRecursion
+        (λ sent. (sent.sender < length medium.now.places) × (sent.at ≤ 2 ^ 40)) sends.now }
     ensures agenda { OnOk result (Adds agenda.old.buckets agenda.new.buckets
-        (map Packet (flat_map (copies medium.now) (map (stamped moment mote) sends.now)))) }
+        (map Packet (flat_map (copies medium.now) sends.now))) }
     ensures log { OnOk result (map line_model log.new.items ≡ map line_model log.old.items
-        ++ map (packet_with_fates medium.now) (map (stamped moment mote) sends.now)) }
+        ++ map (packet_with_fates medium.now) sends.now) }
 {
     for sent in sends {
-        let stamped = Sent {
-            at: moment,
-            sender: mote,
-            number: sent.number,
-            value: sent.value,
-        };
-        send(medium, &stamped, agenda, log)?;
+        let fates = medium.fates(sent)?;
+        agenda.put_fates(sent, &fates)?;
+        log.push(LogLine { sent: *sent, fates })?;
     }
     Ok(())
 }

@@ -1,17 +1,27 @@
 -- The list of an agenda, and the parts of it that pass tests.
-use Rattle.std.proofs.Common.{◌≡◌, ℕ, zero, suc, ◌<◌, ◌⊎◌, Bool, true, false, cond, ◌||◌, ltb, eqb, List, [], ◌∷◌, ◌++◌, map, refl, sym, ap, ◌∙◌, inl, inr, arith, zero-le, Option, Some, None}
+use Rattle.std.proofs.Common.{◌≡◌, ℕ, zero, suc, ◌<◌, ◌⊎◌, Bool, true, false, cond, not, ◌&&◌, ◌||◌, ltb, eqb, List, [], ◌∷◌, ◌++◌, map, refl, sym, ap, ap₂, ◌∙◌, subst, append-nil, inl, inr, arith, zero-le, Option, Some, None}
 use Rattle.std.specs.List.{filter, list_any, AllByRecursion}
-use Rattle.std.proofs.lemmas.Bool.{cases_Bool, cases_order, lt-ltb, le-ltb, eq-eqb, ne_eqb}
+use Rattle.std.proofs.lemmas.Bool.{and_parts, cases_Bool, cases_order, lt-ltb, le-ltb, eq-eqb, eqb-true, false≢true, ne_eqb, or_right}
 use Rattle.std.proofs.lemmas.List.{map-append}
 use Rattle.std.proofs.lemmas.List.Elements.{filter-append}
 use Rattle.radio_packet.specs.declared.copy.RadioCopy.{RadioCopy}
-use Rattle.window_laws.specs.Agenda.{Item, Wake, Packet, comes_at, is_wake_of, packets, wake_items, up_to}
+use Rattle.window_laws.specs.Agenda.{Item, Wake, Packet, moment_of, mote_of, comes_at, is_wake_of, is_left, packets, wake_items, up_to}
 use Rattle.window_laws.specs.Windows.{wakes_at}
-use Rattle.window_laws.proofs.Lists.{is_filled, every_append, every_weaker}
+use Rattle.window_laws.proofs.Lists.{any_every, is_filled, every_append, every_weaker, filter_both, filter_never, filter_stronger}
 
-or_true : (b : Bool) → (b || true) ≡ true
-or_true true = refl
-or_true false = refl
+-- the same moment and the same mote
+pub same_place : (u k t m : ℕ) → (eqb u t && eqb k m) ≡ true → (u ≡ t) × (k ≡ m)
+same_place u k t m e = let both = and_parts (eqb u t) (eqb k m) e in (eqb-true u t both.0, eqb-true k m both.1)
+
+-- a property of the moment and the mote of all events is one of those of an event that is due
+pub due_has : (P : ℕ → ℕ → Type 0) (t m : ℕ) (items : List Item) → list_any (comes_at t m) items ≡ true
+    → AllByRecursion (λ item. P (moment_of item) (mote_of item)) items → P t m
+due_has P t m items there all = any_every (P t m) (comes_at t m) (λ item. P (moment_of item) (mote_of item)) at items there all
+  where
+    at : (item : Item) → comes_at t m item ≡ true → P (moment_of item) (mote_of item) → P t m
+    at item e h =
+        let same = same_place (moment_of item) (mote_of item) t m e in
+        subst (λ u. P u m) same.0 (subst (P (moment_of item)) same.1 h)
 
 pub any_own : (t m : ℕ) (wake : Option ℕ) → list_any {X = Item} (comes_at t m) (wake_items m wake) ≡ wakes_at t wake
 any_own t m None = refl
@@ -47,7 +57,7 @@ any_due t m (Wake u k ∷ items) =
 any_due t m (Packet c ∷ items) =
     let ih = any_due t m items in
     elim (cases_Bool (eqb c.at t)) [
-      | inl e ↦ elim (cases_Bool (eqb c.to m)) [ inl f ↦ rw (e, f) (sym (or_true _)) | inr f ↦ rw (e, f) ih ]
+      | inl e ↦ elim (cases_Bool (eqb c.to m)) [ inl f ↦ rw (e, f) (sym (or_right _ true refl)) | inr f ↦ rw (e, f) ih ]
       | inr e ↦ rw e ih
     ]
 
@@ -62,6 +72,37 @@ own_wake m (Some u) = let f : eqb m m ≡ true = eq-eqb m m refl in rw f refl
 pub other_wake : (k m : ℕ) (wake : Option ℕ) → (k ≡ m → ⊥) → filter {X = Item} (is_wake_of k) (wake_items m wake) ≡ []
 other_wake k m None ne = refl
 other_wake k m (Some u) ne = let f : eqb m k ≡ false = ne_eqb m k (λ e. ne (sym e)) in rw f refl
+
+-- a turn takes the mote's wake out, and gives it the next; the others stay
+never_both : (a b : Bool) → false ≡ (not (a || b) && b)
+never_both true b = refl
+never_both false true = refl
+never_both false false = refl
+
+wake_not_left : (t m k : ℕ) → (k ≡ m → ⊥) → (item : Item) → is_wake_of k item ≡ true → is_left t m item ≡ true
+wake_not_left t m k ne (Wake u j) h =
+    let f : eqb j m ≡ false = ne_eqb j m (λ e. ne (sym (eqb-true j k h) ∙ e)) in
+    elim (cases_Bool (eqb u t)) [ inl g ↦ rw (g, f) refl | inr g ↦ rw (g, f) refl ]
+wake_not_left t m k ne (Packet c) h = absurd (false≢true h)
+
+module _ (t m : ℕ) (wake : Option ℕ) (cs : List RadioCopy) (items : List Item) where
+  abbrev after : List Item
+  after = filter (is_left t m) items ++ (wake_items m wake ++ map Packet cs)
+
+  wakes_after : (k : ℕ) → filter (is_wake_of k) after ≡ filter (is_wake_of k) (filter (is_left t m) items) ++ filter (is_wake_of k) (wake_items m wake)
+  wakes_after k =
+      filter-append (is_wake_of k) (filter (is_left t m) items) _
+      ∙ ap (λ l. filter (is_wake_of k) (filter (is_left t m) items) ++ l)
+      (filter-append (is_wake_of k) (wake_items m wake) (map Packet cs) ∙ (ap (λ l. filter (is_wake_of k) (wake_items m wake) ++ l) (no_wake_in_packets k cs) ∙ append-nil _))
+
+  pub wakes_own : filter (is_wake_of m) after ≡ wake_items m wake
+  wakes_own =
+      wakes_after m
+      ∙ ap₂ (λ a b. a ++ b) (filter_both (is_wake_of m) (is_left t m) (λ x. false) (λ x. never_both (comes_at t m x) (is_wake_of m x)) items ∙ filter_never items) (own_wake m wake)
+
+  pub wakes_other : (k : ℕ) → (k ≡ m → ⊥) → filter (is_wake_of k) after ≡ filter (is_wake_of k) items
+  wakes_other k ne =
+      wakes_after k ∙ (ap₂ (λ a b. a ++ b) (filter_stronger (is_wake_of k) (is_left t m) (wake_not_left t m k ne) items) (other_wake k m wake ne) ∙ append-nil _)
 
 -- before the first turns: each mote has its wake, and there is no copy
 pub first_wakes : (n k : ℕ) → filter {X = Item} (is_wake_of k) (map (λ mote. Wake 0 mote) (up_to n)) ≡ wake_items k (cond (ltb k n) (Some 0) None)
@@ -92,9 +133,6 @@ pub packets_wakes : (ks : List ℕ) → packets (map (λ mote. Wake 0 mote) ks) 
 packets_wakes [] = refl
 packets_wakes (k ∷ ks) = packets_wakes ks
 
-below_next : (n : ℕ) → n < suc n
-below_next n = omega arith
-
 pub below_all : (n : ℕ) → AllByRecursion (λ k. k < n) (up_to n)
 below_all zero = tt
-below_all (suc n) = every_append _ (up_to n) (n ∷ []) (every_weaker _ _ (λ k h. omega arith) (up_to n) (below_all n)) (below_next n, tt)
+below_all (suc n) = every_append _ (up_to n) (n ∷ []) (every_weaker _ _ (λ k h. omega arith) (up_to n) (below_all n)) (omega arith, tt)

@@ -1,7 +1,7 @@
 -- A mote alone in a window follows the history.
 use Rattle.std.proofs.Common.{◌≡◌, ℕ, suc, zero, ◌+◌, ◌-◌, ◌<◌, ◌≤◌, ◌⊎◌, Bool, true, false, cond, not, ◌&&◌, ◌||◌, ltb, eqb, List, [], ◌∷◌, ◌++◌, map, refl, sym, ap, ◌∙◌, subst, inl, inr, arith, Option, Some, None, append-nil, zero-le}
 use Rattle.std.specs.List.{filter, flat_map, list_any, AllByRecursion}
-use Rattle.std.proofs.lemmas.Bool.{cases_eq, cases_Bool, cases_lt, or_parts, false≢true, eq-eqb, ne_eqb, eqb-false, cases_order, lt-ltb, le-ltb, ltb-true}
+use Rattle.std.proofs.lemmas.Bool.{cases_eq, cases_Bool, cases_lt, or_from, or_parts, false≢true, eq-eqb, ne_eqb, eqb-false, cases_order, lt-ltb, le-ltb, ltb-true}
 use Rattle.std.proofs.lemmas.Bool.Decides.{nat_tests}
 use Rattle.std.proofs.lemmas.List.Elements.{filter-append}
 use Rattle.std.proofs.lemmas.List.Concat.{flat_map-append}
@@ -32,9 +32,6 @@ filled_in_order xs = filled_sorted (λ copy. copy.sender) (λ copy. copy.number)
 
 pub filled_given : (p : RadioCopy → Bool) (xs : List RadioCopy) → is_filled (in_order (filter p xs)) ≡ list_any p xs
 filled_given p xs = filled_in_order (filter p xs) ∙ filled_any p xs
-
-or_both : (a b : Bool) → a ≡ false → b ≡ false → (a || b) ≡ false
-or_both a b e f = rw (e, f) refl
 
 any_none : {X : Type 0} (p : X → Bool) (xs : List X) → AllByRecursion (λ x. p x ≡ false) xs → list_any p xs ≡ false
 any_none p [] h = refl
@@ -78,14 +75,14 @@ other_at t u c ne e = grind (arith, nat_tests)
 not_at : (t c : ℕ) → false ≡ (not (eqb c t) && eqb c t)
 not_at t c = grind (arith, nat_tests)
 
-at_soon : (number t a c : ℕ) → (eqb a number && (not (ltb c t) && ltb c (suc t))) ≡ true → c ≡ t
+pub at_soon : (number t a c : ℕ) → (eqb a number && (not (ltb c t) && ltb c (suc t))) ≡ true → c ≡ t
 at_soon number t a c h = grind (arith, nat_tests)
 
 no_wake : (t : ℕ) (wake : Option ℕ) → NoneBefore (suc t) wake → wakes_at t wake ≡ false
 no_wake t None h = refl
 no_wake t (Some wake) h = ne_eqb wake t (λ e. absurd (omega arith))
 
-wakes_sooner : (t u : ℕ) (wake : Option ℕ) → t ≤ u → NoneBefore u wake → NoneBefore t wake
+pub wakes_sooner : (t u : ℕ) (wake : Option ℕ) → t ≤ u → NoneBefore u wake → NoneBefore t wake
 wakes_sooner t u None h k = tt
 wakes_sooner t u (Some wake) h k = omega arith
 
@@ -245,11 +242,7 @@ module _ {S L : Type 0} (system : System S L) (fine : RunsForward system) where
         ∙ ap is_filled (in_order_same (filter (is_at u) given) [] (λ s.
         holds u s
         ∙ ((filter_both (is_at u) (is_within number t bound) (λ c. false) (λ c. early_within number t u bound c.to c.at h) (copies_by system (history system from) s)
-        ∙ nothing (copies_by system (history system from) s)))))
-      where
-        nothing : (xs : List RadioCopy) → filter (λ c. false) xs ≡ []
-        nothing [] = refl
-        nothing (x ∷ xs) = nothing xs
+        ∙ filter_never (copies_by system (history system from) s)))))
 
     pub alone : (given : List RadioCopy) (mote last : LoneMote S L) → Alone system number bound given mote last → (t j : ℕ) → t ≡ from + j → t ≤ bound → Holds t given → mote ≡ history system t number
         → last ≡ history system bound number
@@ -269,7 +262,7 @@ module _ {S L : Type 0} (system : System S L) (fine : RunsForward system) where
         first : t ≤ u
         first = elim (cases_lt u t) [
           | inl k ↦ (let a : wakes_at u mote.wake ≡ false = ap (λ m. wakes_at u m.wake) is ∙ no_early_wake t u _ k (wakes_from t number) in
-              let b = early_none t u given holds k in absurd (false≢true (sym (or_both _ _ a b) ∙ called)))
+              let b = early_none t u given holds k in absurd (false≢true (sym (or_from _ _ a b) ∙ called)))
           | inr k ↦ k
         ]
 

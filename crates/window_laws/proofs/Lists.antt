@@ -1,7 +1,8 @@
 -- Filters of lists, and facts of each element.
-use Rattle.std.proofs.Common.{◌≡◌, ℕ, suc, ◌<◌, arith, length, get_or, Bool, true, false, cond, not, ◌&&◌, List, [], ◌∷◌, ◌++◌, map, refl, sym, ap, ◌∙◌, ⊎_elim, inl, inr}
+use Rattle.std.proofs.Common.{◌≡◌, ℕ, suc, ◌<◌, ◌≤◌, arith, length, get_or, Bool, true, false, cond, not, ◌&&◌, List, [], ◌∷◌, ◌++◌, map, refl, sym, ap, ◌∙◌, ⊎_elim, inl, inr}
 use Rattle.std.specs.List.{filter, flat_map, list_any, AllByRecursion}
 use Rattle.std.proofs.lemmas.Bool.{cases_Bool, false_from_ne_true, false≢true}
+use Rattle.std.proofs.lemmas.List.Filters.{length-filter_both}
 
 abbrev pub is_filled : {X : Type 0} → List X → Bool
 is_filled [] = false
@@ -44,6 +45,9 @@ module _ {X : Type 0} where
   pub filter_never : (xs : List X) → filter (λ x. false) xs ≡ []
   filter_never [] = refl
   filter_never (x ∷ xs) = filter_never xs
+
+  pub no_more : (p : X → Bool) (xs : List X) → length (filter p xs) ≤ length xs
+  no_more p xs = let both = length-filter_both p (λ x. not (p x)) (λ x. refl) xs in omega arith
 
   pub filter_every : (p : X → Bool) (xs : List X) → AllByRecursion (λ x. p x ≡ true) xs → filter p xs ≡ xs
   filter_every p [] h = refl

@@ -1,5 +1,5 @@
 -- The copies that all workers and inboxes hold together at the start of a window, in any mixture of the senders.
-use Rattle.std.proofs.Common.{◌+◌, zero, false, ◌<◌, ◌≡◌, ℕ, suc, ◌≤◌, true, not, ◌&&◌, ltb, eqb, List, ◌++◌, refl, sym, ap, ap₂, ◌∙◌, subst, Option, Some, None, arith}
+use Rattle.std.proofs.Common.{◌+◌, zero, false, ◌<◌, ◌≡◌, ℕ, suc, ◌≤◌, true, not, ◌&&◌, ltb, eqb, List, ◌++◌, refl, sym, ap, ap₂, ◌∙◌, subst, arith}
 use Rattle.std.specs.List.{filter, AllByRecursion}
 use Rattle.std.proofs.lemmas.Bool.{le-ltb}
 use Rattle.std.proofs.lemmas.Bool.Decides.{nat_tests}
@@ -8,6 +8,7 @@ use Rattle.window_laws.specs.System.{System}
 use Rattle.radio_packet.specs.declared.copy.RadioCopy.{RadioCopy}
 use Rattle.window_laws.specs.Pending.{comes_from, IsPending}
 use Rattle.window_laws.specs.Windows.{IsQuiet, Rests, Windows, Window, NoneBefore, LoneMote, is_at, is_within, is_from_sender, copies_by, IsGiven, IsLeft}
+use Rattle.window_laws.proofs.Alone.{wakes_sooner}
 use Rattle.window_laws.proofs.Lists.{filter_filter, filter_stronger, filter_every, filter_none, every_weaker}
 
 for_comes : (number from bound a c : ℕ) → (eqb a number && (not (ltb c from) && ltb c bound)) ≡ true → not (ltb c from) ≡ true
@@ -44,10 +45,6 @@ module _ {S L : Type 0} (system : System S L) (motes : ℕ → LoneMote S L) (re
 not_for : (number t a c : ℕ) → suc t ≤ c → (eqb a number && (not (ltb c t) && ltb c (suc t))) ≡ false
 not_for number t a c h = grind (arith, nat_tests)
 
-sooner : (t u : ℕ) (wake : Option ℕ) → t ≤ u → NoneBefore u wake → NoneBefore t wake
-sooner t u None h k = tt
-sooner t u (Some wake) h k = omega arith
-
 -- a stretch of any length in which no mote has a turn is covered by windows, too
 pub gap : {S L : Type 0} (system : System S L) → 0 < system.lookahead → (end to i from : ℕ) → from + i ≡ to → (motes last : ℕ → LoneMote S L) (rest : List RadioCopy)
     → IsPending system from motes rest → ((k : ℕ) → k < system.motes → NoneBefore to (motes k).wake) → AllByRecursion (λ copy. to ≤ copy.at) rest
@@ -72,7 +69,7 @@ gap system look end to (suc i) from e motes last rest held wakes later after =
 
     quiet : (k : ℕ) → k < system.motes → IsQuiet (suc from) (motes k).wake (filter (is_within k from (suc from)) rest)
     quiet k h = record {
-      no_wake = sooner (suc from) to _ soon (wakes k h);
+      no_wake = wakes_sooner (suc from) to _ soon (wakes k h);
       no_copies = subst (AllByRecursion (λ copy. suc from ≤ copy.at)) (sym (filter_none (is_within k from (suc from)) rest (every_weaker _ _ (λ c g. not_for k from c.to c.at (omega arith)) rest later))) tt;
     }
 

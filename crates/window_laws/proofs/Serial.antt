@@ -1,7 +1,7 @@
 -- The serial run follows the history.
 use Rattle.std.proofs.Common.{◌≡◌, ℕ, suc, zero, ◌+◌, ◌<◌, ◌≤◌, ◌⊎◌, Bool, true, false, cond, not, ◌&&◌, ◌||◌, ltb, eqb, List, [], ◌∷◌, ◌++◌, map, refl, sym, ap, ap₂, ◌∙◌, subst, inl, inr, arith, Option, Some, None, append-nil, zero-le}
 use Rattle.std.specs.List.{filter, flat_map, list_any, AllByRecursion}
-use Rattle.std.proofs.lemmas.Bool.{cases_Bool, cases_lt, false≢true, eq-eqb, ne_eqb, eqb-true, cases_eq, cases_order, lt-ltb, le-ltb, ltb-true}
+use Rattle.std.proofs.lemmas.Bool.{cases_Bool, cases_lt, eq-eqb, ne_eqb, cases_eq, cases_order, lt-ltb, le-ltb, ltb-true}
 use Rattle.std.proofs.lemmas.Bool.Decides.{nat_tests}
 use Rattle.std.proofs.lemmas.List.Elements.{filter-append, filter_agree}
 use Rattle.std.proofs.lemmas.List.Concat.{flat_map-append}
@@ -10,15 +10,16 @@ use Rattle.radio_packet.specs.declared.copy.RadioCopy.{RadioCopy}
 use Rattle.window_laws.specs.System.{Turned, System}
 use Rattle.window_laws.specs.Forward.{RunsForward, IsLater}
 use Rattle.window_laws.specs.Agenda.{Item, Wake, Packet, comes_at, is_left, is_wake_of, is_from, moment_of, mote_of, packets, wake_items, up_to}
-use Rattle.window_laws.specs.NetStep.{NetState, Run, Done, Turn, put, after_turn, turn_at, boot, stamped, sends_of}
+use Rattle.window_laws.specs.NetStep.{NetState, Run, Done, Turn, after_turn, turn_at, boot, stamped, sends_of}
 use Rattle.window_laws.specs.Order.{in_order}
 use Rattle.window_laws.specs.Windows.{LoneMote, first_mote, after_lone_turn, wakes_at, is_within, is_from_sender, is_sent_by, sends_by, copies_by}
-use Rattle.window_laws.proofs.Lists.{filter_none, filter_every, filter_both, filter_filter, filter_stronger, every_map, every_weaker, every_filter, every_append, every_not_any, filter_never, is_filled}
+use Rattle.window_laws.proofs.Lists.{filter_none, filter_every, filter_both, filter_filter, filter_stronger, every_map, every_weaker, every_filter, every_append, every_not_any, is_filled}
 use Rattle.window_laws.proofs.Order.{in_order_same, IsRising, rising_append}
 use Rattle.window_laws.proofs.History.{given_at, is_busy, history, history_busy, history_idle, copies_of_turn, unseen}
 use Rattle.window_laws.proofs.Alone.{filled_in_order, from_given}
 use Rattle.window_laws.proofs.Ahead.{on_from, past_from, left_not_due}
-use Rattle.window_laws.proofs.Agenda.{packets_filter, packets_append, packets_map, packets_wake, any_due, any_own, no_wake_in_packets, own_wake, other_wake, first_wakes, packets_wakes, below_all}
+use Rattle.window_laws.proofs.Puts.{put_each}
+use Rattle.window_laws.proofs.Agenda.{packets_filter, packets_append, packets_map, packets_wake, any_due, any_own, wakes_own, wakes_other, first_wakes, packets_wakes, below_all}
 
 -- tests over plain numbers: t and m are the place, u and k an item's moment and mote
 due_is_from : (t m u k : ℕ) → (eqb u t && eqb k m) ≡ true → (ltb t u || (eqb u t && not (ltb k m))) ≡ true
@@ -42,17 +43,8 @@ moment_over t n u k h e = grind (arith, nat_tests)
 moment_back : (t n u k : ℕ) → (ltb (suc t) u || (eqb u (suc t) && not (ltb k 0))) ≡ true → (ltb t u || (eqb u t && not (ltb k n))) ≡ true
 moment_back t n u k h = grind (arith, nat_tests)
 
-all_from : (u k : ℕ) → (ltb 0 u || (eqb u 0 && not (ltb k 0))) ≡ true
+pub all_from : (u k : ℕ) → (ltb 0 u || (eqb u 0 && not (ltb k 0))) ≡ true
 all_from u k = grind (arith, nat_tests)
-
-never_both : (a b : Bool) → false ≡ (not (a || b) && b)
-never_both true b = refl
-never_both false true = refl
-never_both false false = refl
-
-never_packet : (a : Bool) → false ≡ (a && false)
-never_packet true = refl
-never_packet false = refl
 
 past_before : (t m a b : ℕ) → (a < t) ⊎ ((a ≡ t) × (b < m)) → (ltb a t || (eqb a t && not (ltb m b))) ≡ true
 past_before t m a b h = grind (arith, nat_tests)
@@ -198,16 +190,6 @@ module _ {S L : Type 0} (system : System S L) (fine : RunsForward system) where
       (λ u k. moment_back t system.motes u k)
       (past_over t system.motes)
 
-  wake_not_left : (t m k : ℕ) → (k ≡ m → ⊥) → (item : Item) → is_wake_of k item ≡ true → is_left t m item ≡ true
-  wake_not_left t m k ne (Wake u j) h =
-      let f : eqb j m ≡ false = ne_eqb j m (λ e. ne (sym (eqb-true j k h) ∙ e)) in
-      elim (cases_Bool (eqb u t)) [ inl g ↦ rw (g, f) refl | inr g ↦ rw (g, f) refl ]
-  wake_not_left t m k ne (Packet c) h = absurd (false≢true h)
-
-  left_no_wake : (t m : ℕ) (item : Item) → false ≡ (is_left t m item && is_wake_of m item)
-  left_no_wake t m (Wake u j) = never_both (eqb u t && eqb j m) (eqb j m)
-  left_no_wake t m (Packet c) = never_packet _
-
   module _ (t m : ℕ) (net : NetState S L) (inside : m < system.motes) (meets : Meets t m net) (turned : Turned S L)
       (own : history system (suc t) m ≡ after_lone_turn t m (history system t m) turned) (later : IsLater t turned.wake) where
     abbrev after : NetState S L
@@ -229,42 +211,22 @@ module _ {S L : Type 0} (system : System S L) (fine : RunsForward system) where
     at_or_not : (P : ℕ → Type 0) (k : ℕ) → P m → ((k ≡ m → ⊥) → P k) → P k
     at_or_not P k h g = elim (cases_eq k m) [ inl e ↦ subst P (sym e) h | inr ne ↦ g ne ]
 
-    put_same : {X : Type 0} (parts : ℕ → X) (part : X) → put parts m part m ≡ part
-    put_same parts part = let e : eqb m m ≡ true = eq-eqb m m refl in rw e refl
-
-    put_other : {X : Type 0} (parts : ℕ → X) (part : X) (k : ℕ) → (k ≡ m → ⊥) → put parts m part k ≡ parts k
-    put_other parts part k ne = let e : eqb k m ≡ false = ne_eqb k m ne in rw e refl
-
     states_then : (k : ℕ) → k < system.motes → after.states k ≡ (mix t (suc m) k).state
-    states_then k h =
-        at_or_not (λ k. k < system.motes → after.states k ≡ (mix t (suc m) k).state) k
-        (λ h. put_same net.states turned.state ∙ ap (λ x. x.state) (sym mixed))
-        (λ ne h. put_other net.states turned.state k ne ∙ (meets.states k h ∙ ap (λ x. x.state) (sym (mix_next t m k ne))))
-        h
+    states_then =
+        put_each (λ k x. k < system.motes → x ≡ (mix t (suc m) k).state) net.states m turned.state (λ h. ap (λ x. x.state) (sym mixed))
+        (λ k ne h. meets.states k h ∙ ap (λ x. x.state) (sym (mix_next t m k ne)))
 
     traces_then : (k : ℕ) → k < system.motes → after.traces k ≡ (mix t (suc m) k).lines
-    traces_then k h =
-        at_or_not (λ k. k < system.motes → after.traces k ≡ (mix t (suc m) k).lines) k
-        (λ h. put_same net.traces _ ∙ (ap (λ l. l ++ turned.lines) (meets.traces m h ∙ ap (λ x. x.lines) old) ∙ ap (λ x. x.lines) (sym mixed)))
-        (λ ne h. put_other net.traces _ k ne ∙ (meets.traces k h ∙ ap (λ x. x.lines) (sym (mix_next t m k ne))))
-        h
-
-    wakes_split : (k : ℕ) → filter (is_wake_of k) after.agenda ≡ filter (is_wake_of k) (filter (is_left t m) net.agenda) ++ filter (is_wake_of k) (wake_items m turned.wake)
-    wakes_split k =
-        filter-append (is_wake_of k) (filter (is_left t m) net.agenda) _
-        ∙ ap (λ l. filter (is_wake_of k) (filter (is_left t m) net.agenda) ++ l)
-        (filter-append (is_wake_of k) (wake_items m turned.wake) (map Packet new)
-        ∙ (ap (λ l. filter (is_wake_of k) (wake_items m turned.wake) ++ l) (no_wake_in_packets k new) ∙ append-nil _))
+    traces_then =
+        put_each (λ k x. k < system.motes → x ≡ (mix t (suc m) k).lines) net.traces m (net.traces m ++ turned.lines)
+        (λ h. ap (λ l. l ++ turned.lines) (meets.traces m h ∙ ap (λ x. x.lines) old) ∙ ap (λ x. x.lines) (sym mixed))
+        (λ k ne h. meets.traces k h ∙ ap (λ x. x.lines) (sym (mix_next t m k ne)))
 
     wakes_then : (k : ℕ) → k < system.motes → filter (is_wake_of k) after.agenda ≡ wake_items k (mix t (suc m) k).wake
     wakes_then k h =
         at_or_not (λ k. k < system.motes → filter (is_wake_of k) after.agenda ≡ wake_items k (mix t (suc m) k).wake) k
-        (λ h. wakes_split m
-        ∙ (ap₂ (λ a b. a ++ b) (filter_both (is_wake_of m) (is_left t m) (λ x. false) (left_no_wake t m) net.agenda ∙ filter_never net.agenda) (own_wake m turned.wake)
-        ∙ ap (λ x. wake_items m x.wake) (sym mixed)))
-        (λ ne h. wakes_split k
-        ∙ (ap₂ (λ a b. a ++ b) (filter_stronger (is_wake_of k) (is_left t m) (wake_not_left t m k ne) net.agenda) (other_wake k m turned.wake ne)
-        ∙ (append-nil _ ∙ (meets.wakes k h ∙ ap (λ x. wake_items k x.wake) (sym (mix_next t m k ne))))))
+        (λ h. wakes_own t m turned.wake new net.agenda ∙ ap (λ x. wake_items m x.wake) (sym mixed))
+        (λ ne h. wakes_other t m turned.wake new net.agenda k ne ∙ (meets.wakes k h ∙ ap (λ x. wake_items k x.wake) (sym (mix_next t m k ne))))
         h
 
     new_copies : AllByRecursion (λ copy. (copy.sender ≡ m) × (copy.to < system.motes) × (t + system.lookahead ≤ copy.at)) new

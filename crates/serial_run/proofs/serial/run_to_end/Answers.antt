@@ -8,7 +8,7 @@ use Rattle.window_laws.proofs.Ahead.{turn_ahead}
 use Rattle.net_agenda.proofs.Ranks.{left_falls}
 use Rattle.net_agenda.proofs.Systems.{system_is}
 use Rattle.serial_run.proofs.OnTime.{least_can_turn}
-use Rattle.serial_run.proofs.Reached.{reached_first, reached_next, inside_least, ended_past, ended_empty}
+use Rattle.serial_run.proofs.Reached.{reached_first, reached_next, inside_least, numbered_at, ended_past, ended_empty}
 use Rattle.serial_run.proofs.serial.run_to_end.Goals as goal
 
 pub turns-init : goal.turns-init
@@ -27,6 +27,12 @@ turn-requires-clause-ready c =
     let m = c.in-Some.number in
     let least = c.in-Some.ensures.least at.state.agenda at.stands.agenda in
     least_can_turn n at.at t m c.turns.engine at.state at.stands at.on_time least (inside_least n t m at.state at.kept least)
+
+pub turn-requires-clause-numbered : goal.turn-requires-clause-numbered
+turn-requires-clause-numbered c =
+    let at = c.turns.invariant.reached in
+    let least = c.in-Some.ensures.least at.state.agenda at.stands.agenda in
+    numbered_at (net_of c.args.net.now) c.turns.engine c.in-Some.number at (inside_least (net_of c.args.net.now) c.in-Some.moment c.in-Some.number at.state at.kept least)
 
 pub turns-smaller : goal.turns-smaller
 unfolding system_of
