@@ -45,7 +45,7 @@ use Rattle.process_kernel.specs.Polls.{walk_polls, polls_of, polls_due_of, poll_
 use Rattle.process_kernel.specs.Delivery.{give_of, visit_of, walk_broadcast, deliver_to, deliver_of}
 use Rattle.process_kernel.specs.Run.{left_of, deliver_front, kernel_of}
 use Rattle.process_kernel.specs.Boot.{starts_of, boot_of}
-use Rattle.report_laws.specs.Names.{HasProcess, HasTarget}
+use Rattle.trace_printer.specs.Named.{HasProcess, HasTarget}
 use Rattle.report_laws.proofs.Blocks.{FitsCode}
 use Rattle.report_laws.proofs.Threads.{FitsOp, FitsStep, fresh_fits, advanced_fits}
 use Rattle.report_laws.proofs.States.{FitsMember, FitsRest, FitsPosted, HasOwner, HasReceiver, IsWhole, Is, Lead, Nothing, bind, goes, either, writes, halts, spends, is_state, is_exiting, is_needing, is_polled, is_put, is_fresh, codes_in, enlists, leaves, timer_fits, is_set, is_reset, is_restarted, is_stopped, is_fired, is_purged, posts, sends, each_get}

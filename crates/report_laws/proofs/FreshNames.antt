@@ -16,7 +16,7 @@ use Rattle.program_tree.specs.Tree.{an_event, a_semaphore, a_process, a_variable
 use Rattle.program_tree.specs.declared.error.ReadErrorKind.TheVariants.{NameTwice}
 use Rattle.program_tree.proofs.NameLaws.{bytes_same}
 use Rattle.mote_program.proofs.OwnTokens.{AreLexedNames, names_lexed}
-use Rattle.report_laws.proofs.ProgramNames.{AreApart, HasNames, IsName}
+use Rattle.trace_printer.proofs.ProgramNames.{AreApart, HasDistinctNames, IsName}
 
 -- ---- a name that isn't among some
 
@@ -181,7 +181,7 @@ from_semaphores p = program_marks (record p { events = [] }) []
 abbrev from_processes : ProgramShape → List Mark
 from_processes p = program_marks (record p { events = []; semaphores = [] }) []
 
-shape_names : (p : ProgramShape) → IsProgram p (tokens (program_marks p [])) → AreLexedNames (tokens (program_marks p [])) → HasNames (tree_of_shape p)
+shape_names : (p : ProgramShape) → IsProgram p (tokens (program_marks p [])) → AreLexedNames (tokens (program_marks p [])) → HasDistinctNames (tree_of_shape p)
 shape_names p program lexed =
     let events = events_new nothing_yet p.events (from_semaphores p) (new_from p [] (program_marks p []) program refl) in
     let line = semaphores_new _ p.semaphores (from_processes p) events.1 in
@@ -194,9 +194,9 @@ shape_names p program lexed =
       processes_apart = fresh_apart [] (p.first.0 ∷ named_of p.others) (tt, processes_new _ p.others _ line.1.1);
     }
 
-pub text_names : (text : List ℕ) (tree : Tree) → IsTreeOf text tree → HasNames tree
+pub text_names : (text : List ℕ) (tree : Tree) → IsTreeOf text tree → HasDistinctNames tree
 text_names text tree h =
     let s = h.spelled in
     let program : IsProgram s.shape (tokens (program_marks s.shape [])) = subst (IsProgram s.shape) (sym s.program.spelled) s.program in
     let lexed : AreLexedNames (tokens (program_marks s.shape [])) = subst AreLexedNames (sym s.program.spelled) (names_lexed text h.tokens h.lines h.lexed) in
-    subst HasNames (sym s.numbered) (shape_names s.shape program lexed)
+    subst HasDistinctNames (sym s.numbered) (shape_names s.shape program lexed)

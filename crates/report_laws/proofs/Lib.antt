@@ -3,7 +3,6 @@ pub mod Calls
 pub mod Declared
 pub mod FreshNames
 pub mod Nets
-pub mod ProgramNames
 pub mod States
 pub mod Texts
 pub mod Threads

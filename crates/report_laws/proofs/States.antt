@@ -28,18 +28,15 @@ use Rattle.process_kernel.specs.Posts.{post_of, poll_of, send_of}
 use Rattle.process_kernel.specs.TimerOperations.{has_timer, is_callback, owner_of, timer_is_set, set_of, reset_of, restart_of, stop_of}
 use Rattle.process_kernel.specs.Writes.{with_line, write_of, halted_of, spend_of}
 use Rattle.process_kernel.specs.Etimer.{fired_of, purge_of}
-use Rattle.report_laws.specs.Names.{HasProcess, HasTarget, HasEvent, NamesOnly}
+use Rattle.trace_printer.specs.Named.{HasProcess, HasTarget, HasEvent, HasNames}
+use Rattle.window_laws.proofs.Lists.{every_append, every_filter}
 use Rattle.report_laws.proofs.Blocks.{FitsCode}
 use Rattle.report_laws.proofs.Threads.{FitsPlace, fresh_fits}
 
 -- ---- lists
 
-pub each_append : {X : Type 0} (P : X → Type 0) (xs ys : List X) → Each P xs → Each P ys → Each P (xs ++ ys)
-each_append P [] ys h i = i
-each_append P (x ∷ xs) ys h i = (h.0, each_append P xs ys h.1 i)
-
 pub each_push : {X : Type 0} (P : X → Type 0) (xs : List X) (x : X) → Each P xs → P x → Each P (xs ++ x ∷ [])
-each_push P xs x h i = each_append P xs (x ∷ []) h (i, tt)
+each_push P xs x h i = every_append P xs (x ∷ []) h (i, tt)
 
 pub each_set : {X : Type 0} (P : X → Type 0) (xs : List X) (i : ℕ) (x : X) → Each P xs → P x → Each P (slice_set xs i x)
 each_set P [] i x h p = tt
@@ -62,14 +59,6 @@ each_got P (x ∷ xs) (suc i) h = each_got P xs i h.1
 
 pub each_get : {X : Type 0} (P : X → Type 0) (xs : List X) (i : ℕ) (x : X) → Each P xs → slice_get xs i ≡ Some x → P x
 each_get P xs i x h e = subst (OfSome P) e (each_got P xs i h)
-
-pub each_filter : {X : Type 0} (P : X → Type 0) (test : X → Bool) (xs : List X) → Each P xs → Each P (filter test xs)
-each_filter P test [] h = tt
-each_filter {X} P test (x ∷ xs) h = chosen (test x) (each_filter P test xs h.1)
-  where
-    chosen : (b : Bool) → Each P (filter test xs) → Each P (cond b (x ∷ filter test xs) (filter test xs))
-    chosen true i = (h.0, i)
-    chosen false i = i
 
 pub each_replicate : {X : Type 0} (P : X → Type 0) (n : ℕ) (x : X) → P x → Each P (replicate n x)
 each_replicate P zero x h = tt
@@ -113,7 +102,7 @@ abbrev pub FitsTimer : Tree → Timer → Type 0
 FitsTimer t x = HasOwner t x.owner
 
 abbrev pub FitsLine : Tree → Line → Type 0
-FitsLine t l = NamesOnly t l.what
+FitsLine t l = HasNames t l.what
 
 -- the state names only processes and events of this program
 pub record Sound (t : Tree) (v : Seen) : Type 0 where
@@ -172,7 +161,7 @@ module _ (t : Tree) (whole : IsWhole t) where
 
   -- lines
 
-  pub is_line : (s : State) (w : What) → Is s → NamesOnly t w → Is (with_line s w)
+  pub is_line : (s : State) (w : What) → Is s → HasNames t w → Is (with_line s w)
   is_line s w h n = record {
     program = h.program;
     events = h.events;
@@ -182,7 +171,7 @@ module _ (t : Tree) (whole : IsWhole t) where
     lines = each_push (FitsLine t) s.lines _ h.lines n;
   }
 
-  pub writes : (s : State) (w : What) → Is s → NamesOnly t w → Lead (Unit {0}) Nothing (write_of s w)
+  pub writes : (s : State) (w : What) → Is s → HasNames t w → Lead (Unit {0}) Nothing (write_of s w)
   unfolding write_of
   writes s w h n = goes Nothing tt _ (is_line s w h n) tt
 
@@ -252,7 +241,7 @@ module _ (t : Tree) (whole : IsWhole t) where
   pub leaves : (s : State) (p : Proc) → Is s → HasProcess t p → Lead (Unit {0}) Nothing (leave_of s p)
   unfolding leave_of unlisted_of with_exiting
   leaves s p h n =
-      writes _ (what.Leave p) (is_with_members (with_exiting s p false) (filter (λ m. not (is_same m.process p)) s.members) s.started h (each_filter (FitsMember t) _ s.members h.members)) n
+      writes _ (what.Leave p) (is_with_members (with_exiting s p false) (filter (λ m. not (is_same m.process p)) s.members) s.started h (every_filter (FitsMember t) (FitsMember t) _ (λ x k e. k) s.members h.members)) n
 
   pub numbered_each : (k : ℕ) (ms : List Member) → Each (FitsMember t) ms → Each (FitsMember t) (numbered_from k ms)
   numbered_each k [] h = tt

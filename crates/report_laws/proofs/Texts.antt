@@ -17,7 +17,7 @@ use Rattle.net_scenario.specs.Net.{mote_of_table}
 use Rattle.net_scenario.specs.Programs.{ProgramText, AllRead}
 use Rattle.net_scenario.specs.Reading.{TellsNet}
 use Rattle.trace_printer.specs.Named.{NamesDiffer}
-use Rattle.report_laws.proofs.ProgramNames.{HasNames, names_differ}
+use Rattle.trace_printer.proofs.ProgramNames.{names_differ}
 use Rattle.report_laws.specs.Laws.{TextsDeclare, NamesOfTextsDiffer, ComparingBytesIsComparingRuns}
 use Rattle.report_laws.specs.Laws.{ScenariosAreComparable, SameBytesOfScenarios}
 use Rattle.report_laws.proofs.FreshNames.{text_names}

@@ -21,7 +21,7 @@ use Rattle.protothread.specs.Value.{value, holds}
 use Rattle.protothread.specs.Remainder.{Place, ended, at, within, before, settled, spawner_place, Remainder, thread_block, whole_of, fresh_of}
 use Rattle.protothread.specs.Step.{Reached, goes_on, operates, answers, deed_of, performed, spawner_reached, reached, Advanced, continued, passed, advanced_of}
 use Rattle.protothread.proofs.Units.{called, follows, stepped}
-use Rattle.report_laws.specs.Names.{HasProcess, HasTarget, HasEvent}
+use Rattle.trace_printer.specs.Named.{HasProcess, HasTarget, HasEvent}
 use Rattle.report_laws.proofs.Blocks.{FitsCast, FitsSent, FitsAction, FitsStatement, AllFit, FitsCode, listed_fit, joined_fit, other_fit, chosen_fit}
 
 abbrev pub FitsPlace : Tree → Place → Type 0

@@ -28,7 +28,8 @@ use Rattle.mote_node.specs.Arrivals.{received_line, lost_line, collision_line, h
 use Rattle.mote_node.specs.Turn.{most_runs, boot_due, is_some_due, poll_due, follow, runs_of, work_of, mote_turn, net_turn, turn_of}
 use Rattle.report_laws.proofs.Blocks.{FitsCode}
 use Rattle.report_laws.proofs.Threads.{fresh_fits}
-use Rattle.report_laws.proofs.States.{Sound, Seen, seen, FitsRest, FitsTimer, FitsLine, IsWhole, Is, Lead, Nothing, numbered_each, each_append, each_replicate}
+use Rattle.window_laws.proofs.Lists.{every_append}
+use Rattle.report_laws.proofs.States.{Sound, Seen, seen, FitsRest, FitsTimer, FitsLine, IsWhole, Is, Lead, Nothing, numbered_each, each_replicate}
 use Rattle.report_laws.proofs.Calls.{calls_led, kernel_led, boot_led}
 
 -- the mote names only processes and events of this program, and so do these lines
@@ -94,7 +95,7 @@ module _ (t : Tree) (whole : IsWhole t) where
   polled_goes u p h = subst (λ (v : Seen). Sound t (record v { lines = u.lines })) (sym (polled_same u.mote.state p)) h
 
   notes_go : (u : Underway) (more : List Line) → Stays u → Each (FitsLine t) more → Stays (with_lines u more)
-  notes_go u more h l = with_lines_sound t u.mote u.lines (u.lines ++ more) h (each_append (FitsLine t) u.lines more h.lines l)
+  notes_go u more h l = with_lines_sound t u.mote u.lines (u.lines ++ more) h (every_append (FitsLine t) u.lines more h.lines l)
 
   collisions_fit : (moment : ℕ) (packets : List Arrival) → Each (FitsLine t) (map (collision_line moment) packets)
   collisions_fit moment [] = tt

@@ -7,9 +7,8 @@ use Rattle.mote_net.specs.Net.{MoteSetup, NetModel}
 use Rattle.mote_net.specs.Report.{ReportModel}
 use Rattle.net_scenario.specs.Reading.{TellsNet}
 use Rattle.serial_run.specs.NetRun.{IsReportOf}
-use Rattle.trace_printer.specs.Named.{NetNamesDiffer}
+use Rattle.trace_printer.specs.Named.{AreNamed, Is64Report, NetNamesDiffer}
 use Rattle.trace_printer.specs.ReportText.{report_text}
-use Rattle.report_laws.specs.Names.{NameOnly, Is64Report}
 
 -- each program of the net declares what it names, and each declaration has its parts, as in the tree of any text
 abbrev pub ProgramsDeclare : NetModel → Type 0
@@ -26,7 +25,7 @@ NamesOfTextsDiffer = (text : List ℕ) (net : NetModel) → TellsNet text net �
 -- each process and event in each line of a run has its name
 abbrev pub RunsNameOnly : Type 0
 RunsNameOnly = (net : NetModel) → ProgramsDeclare net → (r : ReportModel) → IsReportOf net r
-    → NameOnly net.motes r.traces
+    → AreNamed net.motes r.traces
 
 -- a report of a run of this net, in numbers of 64 bits
 pub record IsRunOf (net : NetModel) (r : ReportModel) : Type 0 where

@@ -2,6 +2,7 @@ pub mod Crossing
 pub mod Digits
 pub mod NamedCases
 pub mod Pieces
+pub mod ProgramNames
 pub mod Puts
 pub mod ReportParts
 pub mod Rounds

@@ -18,8 +18,8 @@ use Rattle.trace_lines.specs.declared.line.What.TheVariants.{Send, Recv, Lost, D
 use Rattle.mote_net.specs.Net.{MoteSetup, NetModel}
 use Rattle.mote_net.specs.Report.{Packet, ReportModel}
 use Rattle.trace_printer.specs.Laws.{NoTextBeginsAnother, TextDeterminesReport}
-use Rattle.trace_printer.specs.Named.{AreNamed, HasNames, HasProcess, Is64, Is64Fate, Is64Packet, IsNamed, IsNamedLine}
-use Rattle.trace_printer.specs.Named.{IsTime64, IsWord, NamesDiffer, NetNamesDiffer}
+use Rattle.trace_printer.specs.Named.{AreNamed, HasNames, HasProcess, Is64, Is64Fate, Is64Line, Is64Packet, Is64What}
+use Rattle.trace_printer.specs.Named.{IsNamed, IsTime64, IsWord, NamesDiffer, NetNamesDiffer}
 use Rattle.trace_printer.specs.ReportText.{left_text, line_text, medium_text, motes_text, packet_text, report_text}
 use Rattle.trace_printer.specs.Words.{arrival_word, fate_word, line_of, process_word, words_of}
 use Rattle.trace_printer.proofs.Separated.{Begins, after_first, each_append, items_same, line_begins, lines_same}
@@ -45,69 +45,80 @@ process_is_word t names p h = names.target_is_word (One p) h
 abbrev keyword_number : List (List ℕ) → ℕ
 keyword_number words = 256 * get_or (word_at 0 words) 0 0 + get_or (word_at 0 words) 1 0
 
-what_same : (t : Tree) → NamesDiffer t → (a b : What) → HasNames t a → HasNames t b → words_of t a ≡ words_of t b → a ≡ b
-what_same t n (Start p) (Start q) ha hb e = ap (λ (p : Proc). Start p) (process_same t n p q ha hb (ap (word_at 1) e))
-what_same t n (Leave p) (Leave q) ha hb e = ap (λ (p : Proc). Leave p) (process_same t n p q ha hb (ap (word_at 1) e))
+-- with names, in numbers of 64 bits
+abbrev IsNamedWhat : Tree → What → Type 0
+IsNamedWhat t w = HasNames t w × Is64What w
+
+what_same : (t : Tree) → NamesDiffer t → (a b : What) → IsNamedWhat t a → IsNamedWhat t b → words_of t a ≡ words_of t b → a ≡ b
+what_same t n (Start p) (Start q) ha hb e = ap (λ (p : Proc). Start p) (process_same t n p q ha.0 hb.0 (ap (word_at 1) e))
+what_same t n (Leave p) (Leave q) ha hb e = ap (λ (p : Proc). Leave p) (process_same t n p q ha.0 hb.0 (ap (word_at 1) e))
 what_same t n (Post s to v w) (Post s2 to2 v2 w2) ha hb e =
-    let one : s ≡ s2 = number_same s s2 ha.0 hb.0 (ap (word_at 1) e) in
-    let two : to ≡ to2 = n.targets_differ to to2 ha.1 hb.1 (ap (word_at 2) e) in
-    let three : v ≡ v2 = n.events_differ v v2 ha.2 hb.2 (ap (word_at 3) e) in
-    let four : w ≡ w2 = number_same w w2 ha.3 hb.3 (ap (word_at 4) e) in
+    let one : s ≡ s2 = number_same s s2 ha.1.0 hb.1.0 (ap (word_at 1) e) in
+    let two : to ≡ to2 = n.targets_differ to to2 ha.0.0 hb.0.0 (ap (word_at 2) e) in
+    let three : v ≡ v2 = n.events_differ v v2 ha.0.1 hb.0.1 (ap (word_at 3) e) in
+    let four : w ≡ w2 = number_same w w2 ha.1.1 hb.1.1 (ap (word_at 4) e) in
     ap₂ (λ (s : ℕ) (to : Target). Post s to v w) one two ∙ ap₂ (λ (v w : ℕ). Post s2 to2 v w) three four
 what_same t n (Full to v w) (Full to2 v2 w2) ha hb e =
-    let one : to ≡ to2 = n.targets_differ to to2 ha.0 hb.0 (ap (word_at 1) e) in
-    let two : v ≡ v2 = n.events_differ v v2 ha.1 hb.1 (ap (word_at 2) e) in
-    let three : w ≡ w2 = number_same w w2 ha.2 hb.2 (ap (word_at 3) e) in
+    let one : to ≡ to2 = n.targets_differ to to2 ha.0.0 hb.0.0 (ap (word_at 1) e) in
+    let two : v ≡ v2 = n.events_differ v v2 ha.0.1 hb.0.1 (ap (word_at 2) e) in
+    let three : w ≡ w2 = number_same w w2 ha.1 hb.1 (ap (word_at 3) e) in
     ap (λ (to : Target). Full to v w) one ∙ ap₂ (λ (v w : ℕ). Full to2 v w) two three
 what_same t n (Take s p) (Take s2 q) ha hb e =
-    ap₂ (λ (s : ℕ) (p : Proc). Take s p) (number_same s s2 ha.0 hb.0 (ap (word_at 1) e)) (process_same t n p q ha.1 hb.1 (ap (word_at 2) e))
+    ap₂ (λ (s : ℕ) (p : Proc). Take s p) (number_same s s2 ha.1 hb.1 (ap (word_at 1) e)) (process_same t n p q ha.0 hb.0 (ap (word_at 2) e))
 what_same t n (Drop s p) (Drop s2 q) ha hb e =
-    ap₂ (λ (s : ℕ) (p : Proc). Drop s p) (number_same s s2 ha.0 hb.0 (ap (word_at 1) e)) (process_same t n p q ha.1 hb.1 (ap (word_at 2) e))
+    ap₂ (λ (s : ℕ) (p : Proc). Drop s p) (number_same s s2 ha.1 hb.1 (ap (word_at 1) e)) (process_same t n p q ha.0 hb.0 (ap (word_at 2) e))
 what_same t n (Print p v) (Print q v2) ha hb e =
     ap₂ (λ (p : Proc) (v : ℕ). Print p v) (process_same t n p q ha.0 hb.0 (ap (word_at 1) e)) (number_same v v2 ha.1 hb.1 (ap (word_at 2) e))
-what_same t n (Busy p) (Busy q) ha hb e = ap (λ (p : Proc). Busy p) (process_same t n p q ha hb (ap (word_at 1) e))
+what_same t n (Busy p) (Busy q) ha hb e = ap (λ (p : Proc). Busy p) (process_same t n p q ha.0 hb.0 (ap (word_at 1) e))
 what_same t n Halt Halt ha hb e = refl
 what_same t n (Send k v) (Send k2 v2) ha hb e =
-    ap₂ (λ (k v : ℕ). Send k v) (number_same k k2 ha.0 hb.0 (ap (word_at 1) e)) (number_same v v2 ha.1 hb.1 (ap (word_at 2) e))
+    ap₂ (λ (k v : ℕ). Send k v) (number_same k k2 ha.1.0 hb.1.0 (ap (word_at 1) e)) (number_same v v2 ha.1.1 hb.1.1 (ap (word_at 2) e))
 what_same t n (Recv f k v) (Recv f2 k2 v2) ha hb e =
-    ap (λ (f : ℕ). Recv f k v) (number_same f f2 ha.0 hb.0 (ap (word_at 1) e))
-    ∙ ap₂ (λ (k v : ℕ). Recv f2 k v) (number_same k k2 ha.1 hb.1 (ap (word_at 2) e)) (number_same v v2 ha.2 hb.2 (ap (word_at 3) e))
+    ap (λ (f : ℕ). Recv f k v) (number_same f f2 ha.1.0 hb.1.0 (ap (word_at 1) e))
+    ∙ ap₂ (λ (k v : ℕ). Recv f2 k v) (number_same k k2 ha.1.1 hb.1.1 (ap (word_at 2) e)) (number_same v v2 ha.1.2 hb.1.2 (ap (word_at 3) e))
 what_same t n (Lost f k) (Lost f2 k2) ha hb e =
-    ap₂ (λ (f k : ℕ). Lost f k) (number_same f f2 ha.0 hb.0 (ap (word_at 1) e)) (number_same k k2 ha.1 hb.1 (ap (word_at 2) e))
+    ap₂ (λ (f k : ℕ). Lost f k) (number_same f f2 ha.1.0 hb.1.0 (ap (word_at 1) e)) (number_same k k2 ha.1.1 hb.1.1 (ap (word_at 2) e))
 what_same t n (Deaf f k) (Deaf f2 k2) ha hb e =
-    ap₂ (λ (f k : ℕ). Deaf f k) (number_same f f2 ha.0 hb.0 (ap (word_at 1) e)) (number_same k k2 ha.1 hb.1 (ap (word_at 2) e))
+    ap₂ (λ (f k : ℕ). Deaf f k) (number_same f f2 ha.1.0 hb.1.0 (ap (word_at 1) e)) (number_same k k2 ha.1.1 hb.1.1 (ap (word_at 2) e))
 what_same t n (Collide f k) (Collide f2 k2) ha hb e =
-    ap₂ (λ (f k : ℕ). Collide f k) (number_same f f2 ha.0 hb.0 (ap (word_at 1) e)) (number_same k k2 ha.1 hb.1 (ap (word_at 2) e))
+    ap₂ (λ (f k : ℕ). Collide f k) (number_same f f2 ha.1.0 hb.1.0 (ap (word_at 1) e)) (number_same k k2 ha.1.1 hb.1.1 (ap (word_at 2) e))
 what_same t n a b ha hb e =
     absurd (true≢false (sym (eq-eqb (keyword_number (words_of t a)) (keyword_number (words_of t b)) (ap keyword_number e))))
 
-what_is_words : (t : Tree) → NamesDiffer t → (a : What) → HasNames t a → Each IsWord (words_of t a)
-what_is_words t n (Start p) h = (word_by_test (codes "start") refl, (process_is_word t n p h, tt))
-what_is_words t n (Leave p) h = (word_by_test (codes "leave") refl, (process_is_word t n p h, tt))
-what_is_words t n (Post s to v w) h = (word_by_test (codes "post") refl, (number_is_word s h.0, (n.target_is_word to h.1, (n.event_is_word v h.2, (number_is_word w h.3, tt)))))
-what_is_words t n (Full to v w) h = (word_by_test (codes "full") refl, (n.target_is_word to h.0, (n.event_is_word v h.1, (number_is_word w h.2, tt))))
-what_is_words t n (Take s p) h = (word_by_test (codes "take") refl, (number_is_word s h.0, (process_is_word t n p h.1, tt)))
-what_is_words t n (Drop s p) h = (word_by_test (codes "drop") refl, (number_is_word s h.0, (process_is_word t n p h.1, tt)))
+what_is_words : (t : Tree) → NamesDiffer t → (a : What) → IsNamedWhat t a → Each IsWord (words_of t a)
+what_is_words t n (Start p) h = (word_by_test (codes "start") refl, (process_is_word t n p h.0, tt))
+what_is_words t n (Leave p) h = (word_by_test (codes "leave") refl, (process_is_word t n p h.0, tt))
+what_is_words t n (Post s to v w) h = (word_by_test (codes "post") refl, (number_is_word s h.1.0, (n.target_is_word to h.0.0, (n.event_is_word v h.0.1, (number_is_word w h.1.1, tt)))))
+what_is_words t n (Full to v w) h = (word_by_test (codes "full") refl, (n.target_is_word to h.0.0, (n.event_is_word v h.0.1, (number_is_word w h.1, tt))))
+what_is_words t n (Take s p) h = (word_by_test (codes "take") refl, (number_is_word s h.1, (process_is_word t n p h.0, tt)))
+what_is_words t n (Drop s p) h = (word_by_test (codes "drop") refl, (number_is_word s h.1, (process_is_word t n p h.0, tt)))
 what_is_words t n (Print p v) h = (word_by_test (codes "print") refl, (process_is_word t n p h.0, (number_is_word v h.1, tt)))
-what_is_words t n (Busy p) h = (word_by_test (codes "busy") refl, (process_is_word t n p h, tt))
+what_is_words t n (Busy p) h = (word_by_test (codes "busy") refl, (process_is_word t n p h.0, tt))
 what_is_words t n Halt h = (word_by_test (codes "halt") refl, tt)
-what_is_words t n (Send k v) h = (word_by_test (codes "send") refl, (number_is_word k h.0, (number_is_word v h.1, tt)))
-what_is_words t n (Recv f k v) h = (word_by_test (codes "recv") refl, (number_is_word f h.0, (number_is_word k h.1, (number_is_word v h.2, tt))))
-what_is_words t n (Lost f k) h = (word_by_test (codes "lost") refl, (number_is_word f h.0, (number_is_word k h.1, tt)))
-what_is_words t n (Deaf f k) h = (word_by_test (codes "deaf") refl, (number_is_word f h.0, (number_is_word k h.1, tt)))
-what_is_words t n (Collide f k) h = (word_by_test (codes "collide") refl, (number_is_word f h.0, (number_is_word k h.1, tt)))
+what_is_words t n (Send k v) h = (word_by_test (codes "send") refl, (number_is_word k h.1.0, (number_is_word v h.1.1, tt)))
+what_is_words t n (Recv f k v) h = (word_by_test (codes "recv") refl, (number_is_word f h.1.0, (number_is_word k h.1.1, (number_is_word v h.1.2, tt))))
+what_is_words t n (Lost f k) h = (word_by_test (codes "lost") refl, (number_is_word f h.1.0, (number_is_word k h.1.1, tt)))
+what_is_words t n (Deaf f k) h = (word_by_test (codes "deaf") refl, (number_is_word f h.1.0, (number_is_word k h.1.1, tt)))
+what_is_words t n (Collide f k) h = (word_by_test (codes "collide") refl, (number_is_word f h.1.0, (number_is_word k h.1.1, tt)))
 
 -- ---- the lines of a trace
 
+abbrev IsNamedLine : Tree → Line → Type 0
+IsNamedLine t l = HasNames t l.what × Is64Line l
+
+are_named_lines : (t : Tree) (ls : List Line) → Each (λ (l : Line). HasNames t l.what) ls → Each Is64Line ls → Each (IsNamedLine t) ls
+are_named_lines t [] h b = tt
+are_named_lines t (l ∷ ls) h b = ((h.0, b.0), are_named_lines t ls h.1 b.1)
+
 line_first : (t : Tree) (a : Line) (r : List ℕ) → IsNamedLine t a → Begins (λ b. b ≤ 57) (line_text t a ++ r)
-line_first t a r h = line_begins (λ b. b ≤ 57) (decimal a.at) (words_of t a.what) r (number_first a.at (after_first (words_of t a.what) r) h.0)
+line_first t a r h = line_begins (λ b. b ≤ 57) (decimal a.at) (words_of t a.what) r (number_first a.at (after_first (words_of t a.what) r) h.1.0)
 
 line_same : (t : Tree) → NamesDiffer t → (a b : Line) (x y : List ℕ) → IsNamedLine t a → IsNamedLine t b → line_text t a ++ x ≡ line_text t b ++ y → (a ≡ b) × (x ≡ y)
 line_same t n a b x y ha hb e =
-    let parts = lines_same (decimal a.at) (decimal b.at) (words_of t a.what) (words_of t b.what) x y (number_is_word a.at ha.0) (number_is_word b.at hb.0)
-    (what_is_words t n a.what ha.1) (what_is_words t n b.what hb.1) e in
+    let parts = lines_same (decimal a.at) (decimal b.at) (words_of t a.what) (words_of t b.what) x y (number_is_word a.at ha.1.0) (number_is_word b.at hb.1.0)
+    (what_is_words t n a.what (ha.0, ha.1.1)) (what_is_words t n b.what (hb.0, hb.1.1)) e in
     let make : ℕ → What → Line = λ at what. record { at = at; what = what } in
-    (ap₂ make (number_same a.at b.at ha.0 hb.0 parts.0) (what_same t n a.what b.what ha.1 hb.1 parts.1), parts.2)
+    (ap₂ make (number_same a.at b.at ha.1.0 hb.1.0 parts.0) (what_same t n a.what b.what (ha.0, ha.1.1) (hb.0, hb.1.1) parts.1), parts.2)
 
 -- ---- the packets of the log
 
@@ -188,22 +199,23 @@ motes_first k (m ∷ ms) [] x h = h
 motes_first k (m ∷ ms) (t ∷ ts) x h = omega arith
 
 motes_same : (k : ℕ) (ms : List MoteSetup) (ts us : List (List Line)) (x y : List ℕ) → Each (λ (m : MoteSetup). NamesDiffer m.tree) ms → AreNamed ms ts → AreNamed ms us
-    → Begins (λ b. 57 < b) x → Begins (λ b. 57 < b) y → motes_text k ms ts ++ x ≡ motes_text k ms us ++ y → (ts ≡ us) × (x ≡ y)
-motes_same k [] [] [] x y names ht hu bx by e = (refl, e)
-motes_same k [] [] (u ∷ us) x y names ht hu bx by e = absurd hu
-motes_same k [] (t ∷ ts) us x y names ht hu bx by e = absurd ht
-motes_same k (m ∷ ms) [] us x y names ht hu bx by e = absurd ht
-motes_same k (m ∷ ms) (t ∷ ts) [] x y names ht hu bx by e = absurd hu
-motes_same k (m ∷ ms) (t ∷ ts) (u ∷ us) x y names ht hu bx by e =
+    → Each (Each Is64Line) ts → Each (Each Is64Line) us → Begins (λ b. 57 < b) x → Begins (λ b. 57 < b) y → motes_text k ms ts ++ x ≡ motes_text k ms us ++ y → (ts ≡ us) × (x ≡ y)
+motes_same k [] [] [] x y names ht hu nt nu bx by e = (refl, e)
+motes_same k [] [] (u ∷ us) x y names ht hu nt nu bx by e = absurd hu
+motes_same k [] (t ∷ ts) us x y names ht hu nt nu bx by e = absurd ht
+motes_same k (m ∷ ms) [] us x y names ht hu nt nu bx by e = absurd ht
+motes_same k (m ∷ ms) (t ∷ ts) [] x y names ht hu nt nu bx by e = absurd hu
+motes_same k (m ∷ ms) (t ∷ ts) (u ∷ us) x y names ht hu nt nu bx by e =
     let rest_t = motes_text (k + 1) ms ts in
     let rest_u = motes_text (k + 1) ms us in
     let lines_t = flat_map (line_text m.tree) t in
     let lines_u = flat_map (line_text m.tree) u in
     let after_head = append_cancel_left (mote_head k m) (lines_t ++ (rest_t ++ x)) (lines_u ++ (rest_u ++ y))
     (sym (regroup (mote_head k m) lines_t rest_t x) ∙ (e ∙ regroup (mote_head k m) lines_u rest_u y)) in
-    let here = items_same (line_text m.tree) (IsNamedLine m.tree) (line_first m.tree) (line_same m.tree names.0) t u (rest_t ++ x) (rest_u ++ y) ht.0 hu.0
+    let here = items_same (line_text m.tree) (IsNamedLine m.tree) (line_first m.tree) (line_same m.tree names.0) t u (rest_t ++ x) (rest_u ++ y)
+    (are_named_lines m.tree t ht.0 nt.0) (are_named_lines m.tree u hu.0 nu.0)
     (motes_first (k + 1) ms ts x bx) (motes_first (k + 1) ms us y by) after_head in
-    let more = motes_same (k + 1) ms ts us x y names.1 ht.1 hu.1 bx by here.1 in
+    let more = motes_same (k + 1) ms ts us x y names.1 ht.1 hu.1 nt.1 nu.1 bx by here.1 in
     (ap₂ (λ (l : List Line) (ls : List (List Line)). l ∷ ls) here.0 more.0, more.1)
 
 medium_same : (log more : List Packet) (left rest : ℕ) (x y : List ℕ) → Each Is64Packet log → Each Is64Packet more → Is64 left → Is64 rest
@@ -225,9 +237,9 @@ texts_same net names a b ha hb x y e =
     let letter : 57 < 109 = omega arith in
     let end_a = medium_text a.log ++ left_text a.left in
     let end_b = medium_text b.log ++ left_text b.left in
-    let motes = motes_same 0 net.motes a.traces b.traces (end_a ++ x) (end_b ++ y) names ha.traces hb.traces letter letter
+    let motes = motes_same 0 net.motes a.traces b.traces (end_a ++ x) (end_b ++ y) names ha.names hb.names ha.numbers.traces hb.numbers.traces letter letter
     (sym (append_assoc (motes_text 0 net.motes a.traces) end_a x) ∙ (e ∙ append_assoc (motes_text 0 net.motes b.traces) end_b y)) in
-    let medium = medium_same a.log b.log a.left b.left x y ha.log hb.log ha.left hb.left motes.1 in
+    let medium = medium_same a.log b.log a.left b.left x y ha.numbers.log hb.numbers.log ha.numbers.left hb.numbers.left motes.1 in
     let make : List (List Line) → List Packet → ℕ → ReportModel = λ traces log left. record { traces = traces; log = log; left = left } in
     (ap (λ (t : List (List Line)). make t a.log a.left) motes.0 ∙ ap₂ (λ (l : List Packet) (n : ℕ). make b.traces l n) medium.0 medium.1, medium.2)
 

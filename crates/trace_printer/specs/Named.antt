@@ -11,7 +11,7 @@ use Rattle.program_tree.specs.declared.event.Target.TheVariants.{One, All}
 use Rattle.radio_packet.specs.declared.fate.Fate.{Fate}
 use Rattle.trace_lines.specs.declared.line.Line.{Line}
 use Rattle.trace_lines.specs.declared.line.What.{What}
-use Rattle.trace_lines.specs.declared.line.What.TheVariants.{Start, Leave, Post, Full, Take, Drop, Print, Busy, Halt}
+use Rattle.trace_lines.specs.declared.line.What.TheVariants.{Start, Leave, Post, Full, Take, Drop, Print, Busy}
 use Rattle.trace_lines.specs.declared.line.What.TheVariants.{Send, Recv, Lost, Deaf, Collide}
 use Rattle.mote_net.specs.Net.{MoteSetup, NetModel}
 use Rattle.mote_net.specs.Report.{Packet, ReportModel}
@@ -51,25 +51,34 @@ pub record NamesDiffer (t : Tree) : Type 0 where
   pub targets_differ : (a b : Target) → HasTarget t a → HasTarget t b → target_word t a ≡ target_word t b → a ≡ b
   pub events_differ : (d e : ℕ) → HasEvent t d → HasEvent t e → event_word t d ≡ event_word t e → d ≡ e
 
--- what happened names only processes and events that there are, in numbers of 64 bits
+-- what happened names only processes and events that there are
 abbrev pub HasNames : Tree → What → Type 0
 HasNames t (Start p) = HasProcess t p
 HasNames t (Leave p) = HasProcess t p
-HasNames t (Post serial to e w) = Is64 serial × HasTarget t to × HasEvent t e × Is64 w
-HasNames t (Full to e w) = HasTarget t to × HasEvent t e × Is64 w
-HasNames t (Take serial p) = Is64 serial × HasProcess t p
-HasNames t (Drop serial p) = Is64 serial × HasProcess t p
-HasNames t (Print p v) = HasProcess t p × Is64 v
+HasNames t (Post serial to e w) = HasTarget t to × HasEvent t e
+HasNames t (Full to e w) = HasTarget t to × HasEvent t e
+HasNames t (Take serial p) = HasProcess t p
+HasNames t (Drop serial p) = HasProcess t p
+HasNames t (Print p v) = HasProcess t p
 HasNames t (Busy p) = HasProcess t p
-HasNames t Halt = Unit {0}
-HasNames t (Send number v) = Is64 number × Is64 v
-HasNames t (Recv from number v) = Is64 from × Is64 number × Is64 v
-HasNames t (Lost from number) = Is64 from × Is64 number
-HasNames t (Deaf from number) = Is64 from × Is64 number
-HasNames t (Collide from number) = Is64 from × Is64 number
+HasNames t w = Unit {0}
 
-abbrev pub IsNamedLine : Tree → Line → Type 0
-IsNamedLine t l = Is64 l.at × HasNames t l.what
+-- in numbers of 64 bits
+abbrev pub Is64What : What → Type 0
+Is64What (Post serial to e w) = Is64 serial × Is64 w
+Is64What (Full to e w) = Is64 w
+Is64What (Take serial p) = Is64 serial
+Is64What (Drop serial p) = Is64 serial
+Is64What (Print p v) = Is64 v
+Is64What (Send number v) = Is64 number × Is64 v
+Is64What (Recv from number v) = Is64 from × Is64 number × Is64 v
+Is64What (Lost from number) = Is64 from × Is64 number
+Is64What (Deaf from number) = Is64 from × Is64 number
+Is64What (Collide from number) = Is64 from × Is64 number
+Is64What w = Unit {0}
+
+abbrev pub Is64Line : Line → Type 0
+Is64Line l = Is64 l.at × Is64What l.what
 
 abbrev pub Is64Fate : Fate → Type 0
 Is64Fate f = Is64 f.to × IsTime64 f.at
@@ -77,18 +86,23 @@ Is64Fate f = Is64 f.to × IsTime64 f.at
 abbrev pub Is64Packet : Packet → Type 0
 Is64Packet p = Is64 p.sent.at × Is64 p.sent.sender × Is64 p.sent.number × Is64 p.sent.value × Each Is64Fate p.fates
 
--- one trace for each mote, whose lines have names in the mote's program
+-- one trace for each mote, whose lines name only what the mote's program has
 abbrev pub AreNamed : List MoteSetup → List (List Line) → Type 0
 AreNamed [] [] = Unit {0}
 AreNamed [] (t ∷ ts) = ⊥
 AreNamed (m ∷ ms) [] = ⊥
-AreNamed (m ∷ ms) (t ∷ ts) = Each (IsNamedLine m.tree) t × AreNamed ms ts
+AreNamed (m ∷ ms) (t ∷ ts) = Each (λ (l : Line). HasNames m.tree l.what) t × AreNamed ms ts
+
+-- a report whose numbers have 64 bits, as those of each value of the type `Report` have
+pub record Is64Report (r : ReportModel) : Type 0 where
+  pub traces : Each (Each Is64Line) r.traces
+  pub log : Each Is64Packet r.log
+  pub left : Is64 r.left
 
 -- a report of a net in which each process and event has a name, in numbers of 64 bits
 pub record IsNamed (net : NetModel) (r : ReportModel) : Type 0 where
-  pub traces : AreNamed net.motes r.traces
-  pub log : Each Is64Packet r.log
-  pub left : Is64 r.left
+  pub names : AreNamed net.motes r.traces
+  pub numbers : Is64Report r
 
 -- in each program of the net
 abbrev pub NetNamesDiffer : NetModel → Type 0

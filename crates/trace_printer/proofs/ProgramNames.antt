@@ -26,7 +26,7 @@ IsName x = (list_all is_word_byte x ≡ true) × (word_token x ≡ token.Name x)
 abbrev pub AreApart : List (List ℕ) → Type 0
 AreApart names = (i j : ℕ) (x : List ℕ) → slice_get names i ≡ Some x → slice_get names j ≡ Some x → i ≡ j
 
-pub record HasNames (t : Tree) : Type 0 where
+pub record HasDistinctNames (t : Tree) : Type 0 where
   pub events : Each IsName t.events
   pub processes : Each IsName t.processes
   pub events_apart : AreApart t.events
@@ -109,7 +109,7 @@ at_no_keyword names i w h n keyword e =
 firsts_differ : (u v : List ℕ) → eqb (get_or u 0 0) (get_or v 0 0) ≡ false → u ≡ v → ⊥
 firsts_differ u v differ e = numbers_differ (get_or u 0 0) (get_or v 0 0) differ (ap (λ (l : List ℕ). get_or l 0 0) e)
 
-module _ (t : Tree) (names : HasNames t) where
+module _ (t : Tree) (names : HasDistinctNames t) where
   own_not : (p : ℕ) (w : List ℕ) → HasProcess t (Own p) → is_name (word_token w) ≡ false → process_word t (Own p) ≡ w → ⊥
   own_not p w h keyword e = at_no_keyword t.processes p w h names.processes keyword e
 
@@ -218,7 +218,7 @@ declared_event_word t e h =
       reaches e h,
     ) refl
 
-module _ (t : Tree) (names : HasNames t) where
+module _ (t : Tree) (names : HasDistinctNames t) where
   event_is_word : (e : ℕ) → HasEvent t e → IsWord (event_word t e)
   event_is_word e (inl (s, is)) = subst (λ (e : ℕ). IsWord (event_word t e)) (sym is) (subst IsWord (sym (system_event_word t s)) (system_is_word s))
   event_is_word e (inr h) = subst IsWord (sym (declared_event_word t e h.0)) (at_word t.events (e - 0x8b) (omega (arith, h.0, h.1)) names.events)
@@ -239,7 +239,7 @@ module _ (t : Tree) (names : HasNames t) where
       (sym (declared_event_word t d h.0) ∙ (same ∙ declared_event_word t e k.0)) in
       omega (arith, h.0, k.0, places)
 
-pub names_differ : (t : Tree) → HasNames t → NamesDiffer t
+pub names_differ : (t : Tree) → HasDistinctNames t → NamesDiffer t
 names_differ t names = record {
   target_is_word = target_is_word t names;
   event_is_word = event_is_word t names;
