@@ -90,7 +90,10 @@ LACKS = [
     ({SCENARIO[SCENARIO.index('[[mote]]'):]: ''},
      '.. has no table `[[mote]]`. Each mote is one. Add at the end of the text:', '[[mote]]',
      '`y`: a whole number, -30,000 to 30,000'),
-    ({SCENARIO: ''}, '.. has no key `version`. Add:', 'version = 1',
+    ({'version = 1\n': '', 'per = 100': 'per = 100\ncollide = false'},
+     '.. has no key `version`. Add above the first table (line 2):', 'version = 2',
+     'Allowed here: the key `version`: a whole number, 1 to 2'),
+    ({SCENARIO: ''}, '.. has no key `version`. Add:', 'version = 2',
      'Hint: The text has no key and no table. examples/print_then_yield.toml is a small scenario'),
     ({'[medium]': '[medum]'}, '.., line 3:', '[medum]', 'Hint: It has `medum`: did you mean `medium`?'),
 ]

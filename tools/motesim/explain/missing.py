@@ -21,8 +21,16 @@ def head_of(name: str) -> str:
     return WRITTEN[name][0] if name in ('medium', 'programs', 'mote') else name
 
 
+def is_older(tables: dict[str, Any]) -> bool:
+    """True if a scenario without a version has the keys of version 1: its `medium` lacks `collide`."""
+    medium = tables.get('medium')
+    return isinstance(medium, dict) and 'collide' not in medium and 'queue' not in tables
+
+
 def written(name: str, tables: dict[str, Any]) -> list[str]:
     """The form of a missing key or table in a scenario that has these tables."""
+    if name == 'version' and not is_older(tables):
+        return ['version = 2']
     programs = tables.get('programs')
     program = next(iter(programs), 'p') if isinstance(programs, dict) else 'p'
     lines = [line % program if '%s' in line else line for line in WRITTEN[name]]
