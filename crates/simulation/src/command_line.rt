@@ -3,8 +3,6 @@ ghost use Rattle.std.specs.Prelude.{◌≡◌, codes, Some, None, option_map, fa
 ghost use Rattle.clap.specs.Words.{app_of, found_of, kind_of, new_rule, rows_of, rule_of};
 ghost use Rattle.simulation.specs.Words.{AskedIn, AsksFor, Choices, FaultOf, IsMotesim, choice_rule, cut_of, sync_of};
 ghost use Rattle.simulation.specs.Words.{texts_of, workers_rule};
-ghost use Rattle.simulation.specs.declared.options.CutKind.TheVariants as kind;
-ghost use Rattle.window_workers.specs.declared.sync.SyncKind.TheVariants as wait;
 
 use crate::options::{CutKind, Options};
 use clap::{Arg, ArgMatches, Command, Error};
@@ -32,17 +30,6 @@ fn cut_named(name: &str) -> CutKind
     }
 }
 
-/// The name of this cut.
-fn name_of_cut(cut: CutKind) -> &'static str
-    ensures block { cut ≡ kind.Block → result.now ≡ codes "block" }
-    ensures stripe { cut ≡ kind.Stripe → result.now ≡ codes "stripe" }
-{
-    match cut {
-        CutKind::Block => "block",
-        CutKind::Stripe => "stripe",
-    }
-}
-
 /// The names of the kinds of synchronization.
 static SYNCS: [&str; 2] = ["joins", "marks"];
 
@@ -53,17 +40,6 @@ fn sync_named(name: &str) -> SyncKind
     match name {
         "marks" => SyncKind::Marks,
         _ => SyncKind::Joins,
-    }
-}
-
-/// The name of this kind of synchronization.
-fn name_of_sync(sync: SyncKind) -> &'static str
-    ensures joins { sync ≡ wait.Joins → result.now ≡ codes "joins" }
-    ensures marks { sync ≡ wait.Marks → result.now ≡ codes "marks" }
-{
-    match sync {
-        SyncKind::Joins => "joins",
-        SyncKind::Marks => "marks",
     }
 }
 
@@ -118,7 +94,7 @@ fn cut_arg<'a>(alloc: Global) -> Arg<'a>
         .long("cut")
         .value_name("CUT")
         .value_parser(CUTS.as_slice())
-        .default_value(name_of_cut(Options::default().cut))
+        .default_value("block")
         .help(
             "How the motes are cut among the workers: in blocks of motes that follow one another, or dealt in turn",
         )
@@ -133,7 +109,7 @@ fn sync_arg<'a>(alloc: Global) -> Arg<'a>
         .long("sync")
         .value_name("SYNC")
         .value_parser(SYNCS.as_slice())
-        .default_value(name_of_sync(Options::default().sync))
+        .default_value("joins")
         .help(
             "How workers wait for one another: their threads are joined after each window, \
              or each has one thread for the whole run and waits for marks of the others",
