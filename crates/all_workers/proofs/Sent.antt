@@ -36,4 +36,4 @@ leaves_sent n of workers worker outgoing cut out = every_weaker _ _ one outgoing
     one : (c : RadioCopy) → IsOutgoing n of worker c → Leaves of workers worker c
     one c g =
         let h : c.to < length of = subst (λ l. c.to < l) (sym cut.len) g.there in
-        record { reaches = record { there = h; its_worker = there_at of c.to workers h cut.there }; other = g.to }
+        record { there = h; its_worker = there_at of c.to workers h cut.there; other = g.to }

@@ -15,7 +15,7 @@ use Rattle.copy_inbox.specs.Handles.{InboxId, TakerView, SenderView, after_pushi
 use Rattle.copy_exchange.specs.declared.endpoint.Endpoint.{Endpoint}
 use Rattle.copy_exchange.specs.Takers.{copies_in, IsOrderly}
 use Rattle.worker_cut.specs.Crossed.{is_to}
-use Rattle.copy_exchange.specs.Endpoints.{IsEndpoint, IsOnInboxes, IsSenderOn, Leaves, Reaches, Stays, Delivers, PushesOut, sender_to, delivered, pushed_by, pushed_list, pushed_to, identity_of}
+use Rattle.copy_exchange.specs.Endpoints.{IsEndpoint, IsOnInboxes, IsSenderOn, Leaves, Stays, Delivers, sender_to, delivered, pushed_by, pushed_list, pushed_to, identity_of}
 use Rattle.worker_cut.proofs.Owners.{own_is}
 use Rattle.copy_exchange.proofs.Parts.{copies_in-append}
 
@@ -31,10 +31,10 @@ module _ (inboxes : List InboxId) (of : List ℕ) (c : Endpoint) (copy : RadioCo
   to_is = at_to ∙ ap (λ k. slice_index of k) at_mote
 
   pub to_inside : to < length inboxes
-  to_inside = let e = to_is in let h = leaves.reaches.its_worker in omega arith
+  to_inside = let e = to_is in let h = leaves.its_worker in omega arith
 
   to_other : (to == c.worker) ≡ false
-  to_other = ap (λ k. k == c.worker) to_is ∙ (sym (own_is of copy.to c.worker leaves.reaches.there) ∙ leaves.other)
+  to_other = ap (λ k. k == c.worker) to_is ∙ (sym (own_is of copy.to c.worker leaves.there) ∙ leaves.other)
 
   -- there is such a sender
   pub never_none : (s : Option SenderView) → s ≡ get_or c.senders.items to s → s ≡ None → ⊥
@@ -171,40 +171,3 @@ pub endpoint_again : (inboxes : List InboxId) (of : List ℕ) (a b : Endpoint) (
 endpoint_again inboxes of a b copies h d s =
     let P : TakerView → Type 0 = λ t. IsOrderly t.state in
     record { on_inboxes = s; orderly = subst P (sym d.taker) h.orderly }
-
--- ---- the copies for other workers
-pub pushes_none : (of : List ℕ) (c : Endpoint) → PushesOut of c c []
-pushes_none of c = record {
-  stays = record { worker = refl; inbox = refl; marked = refl; made = refl; gathered = refl; identities = refl };
-  taker = refl;
-  pushes = λ v other. sym (append-nil (pushed_to c v));
-}
-
--- a copy for one of its own motes isn't pushed
-pub pushes_own : (of : List ℕ) (workers : ℕ) (c : Endpoint) (copy : RadioCopy) → Reaches of workers copy → slice_index of copy.to ≡ c.worker → PushesOut of c c (copy ∷ [])
-pushes_own of workers c copy reaches own = record {
-  stays = record { worker = refl; inbox = refl; marked = refl; made = refl; gathered = refl; identities = refl };
-  taker = refl;
-  pushes = λ v other.
-      let e : is_to of v copy ≡ false = own_is of copy.to v reaches.there ∙ (ap (λ k. k == v) own ∙ turned v c.worker other) in
-      sym (append-nil (pushed_to c v)) ∙ ap (λ (b : Bool). pushed_to c v ++ map Packet (cond b (copy ∷ []) [])) (sym e);
-}
-  where
-    turned : (v w : ℕ) → (v == w) ≡ false → (w == v) ≡ false
-    turned v w e = ⊎_elim (λ (q : (eqb v w ≡ true) × (v ≡ w)). absurd (let t = q.0 in cc)) (λ (q : (eqb v w ≡ false) × (v ≢ w)). ne_eqb w v (λ h. q.1 (sym h))) (eqb_tells v w)
-
-pub leaves_other : (of : List ℕ) (workers worker : ℕ) (copy : RadioCopy) → Reaches of workers copy → slice_index of copy.to ≢ worker → Leaves of workers worker copy
-leaves_other of workers worker copy reaches other = record {
-  reaches = reaches;
-  other = own_is of copy.to worker reaches.there ∙ ne_eqb (slice_index of copy.to) worker other;
-}
-
-pub pushes_delivered : (of : List ℕ) (a b : Endpoint) (copies : List RadioCopy) → Delivers of a b copies → PushesOut of a b copies
-pushes_delivered of a b copies d = record { stays = d.stays; taker = d.taker; pushes = λ v other. d.pushes v }
-
-pub pushes_more : (of : List ℕ) (a b c : Endpoint) (xs ys : List RadioCopy) → PushesOut of a b xs → PushesOut of b c ys → PushesOut of a c (xs ++ ys)
-pushes_more of a b c xs ys h k = record {
-  stays = stays_on a b c h.stays k.stays;
-  taker = k.taker ∙ h.taker;
-  pushes = λ v other. k.pushes v (ap (λ w. v == w) h.stays.worker ∙ other) ∙ (ap (λ l. l ++ map Packet (filter (is_to of v) ys)) (h.pushes v other) ∙ packets_on of v (pushed_to a v) xs ys);
-}

@@ -5,20 +5,20 @@ use Rattle.worker_cut.specs.Crossed.{is_to}
 use Rattle.copy_inbox.specs.declared.items.Carried.TheVariants.{Packet, Mark}
 use Rattle.copy_inbox.specs.Handles.{InboxId, TakerView}
 use Rattle.copy_exchange.specs.declared.endpoint.Endpoint.{Endpoint}
-use Rattle.copy_exchange.specs.Endpoints.{IsOnInboxes, Stays, PushesOut, PushesMarks, pushed_to, identity_of}
+use Rattle.copy_exchange.specs.Endpoints.{IsOnInboxes, Stays, Delivers, PushesMarks, pushed_to, identity_of}
 use Rattle.copy_exchange.proofs.Delivered.{stays_on}
 use Rattle.copy_exchange.proofs.Marked.{on_inboxes_stays}
 use Rattle.copy_exchange.specs.Delivers.{PushesWindow}
 use Rattle.copy_exchange.specs.Expected.{TakesExpected, position}
 
 -- first the copies, and then the mark
-pub pushes_window : (of : List ℕ) (workers window : ℕ) (a b c : Endpoint) (copies : List RadioCopy) → PushesOut of a b copies → PushesMarks workers window b c → PushesWindow of workers window a c copies
+pub pushes_window : (of : List ℕ) (workers window : ℕ) (a b c : Endpoint) (copies : List RadioCopy) → Delivers of a b copies → PushesMarks workers window b c → PushesWindow of workers window a c copies
 pushes_window of workers window a b c copies out marks = record {
   stays = stays_on a b c out.stays marks.stays;
   taker = marks.taker ∙ out.taker;
   pushes = λ v lt other.
       marks.pushes v lt (ap (λ w. v == w) out.stays.worker ∙ other)
-      ∙ (ap (λ l. l ++ Mark window ∷ []) (out.pushes v other) ∙ append_assoc (pushed_to a v) (map Packet (filter (is_to of v) copies)) (Mark window ∷ []));
+      ∙ (ap (λ l. l ++ Mark window ∷ []) (out.pushes v) ∙ append_assoc (pushed_to a v) (map Packet (filter (is_to of v) copies)) (Mark window ∷ []));
 }
 
 -- taking items changes the identity of no sender

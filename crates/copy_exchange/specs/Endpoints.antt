@@ -96,14 +96,10 @@ pub record Collects (old new : Endpoint) (copies : List RadioCopy) : Type 0 wher
   pub all : IsCollected new
   pub delivers_none : (v : ℕ) → delivered new v ≡ delivered old v
 
--- the copy is for a mote of one of these workers
-pub record Reaches (of : List ℕ) (workers : ℕ) (copy : RadioCopy) : Type 0 where
-  pub there : copy.to < length of
-  pub its_worker : slice_index of copy.to < workers
-
 -- the copy is for a mote of another of these workers
 pub record Leaves (of : List ℕ) (workers worker : ℕ) (copy : RadioCopy) : Type 0 where
-  pub reaches : Reaches of workers copy
+  pub there : copy.to < length of
+  pub its_worker : slice_index of copy.to < workers
   pub other : is_to of worker copy ≡ false
 
 -- it delivered these copies, each to the worker of its receiver, in order
@@ -112,13 +108,6 @@ pub record Delivers (of : List ℕ) (old new : Endpoint) (copies : List RadioCop
   pub taker : new.taker ≡ old.taker
   pub adds : (v : ℕ) → delivered new v ≡ delivered old v ++ filter (is_to of v) copies
   pub pushes : (v : ℕ) → pushed_to new v ≡ pushed_to old v ++ map Packet (filter (is_to of v) copies)
-
--- of these copies it pushed those for motes of other workers, each to the worker of its receiver, in order
-pub record PushesOut (of : List ℕ) (old new : Endpoint) (copies : List RadioCopy) : Type 0 where
-  pub stays : Stays old new
-  pub taker : new.taker ≡ old.taker
-  pub pushes : (v : ℕ) → (v == old.worker) ≡ false
-      → pushed_to new v ≡ pushed_to old v ++ map Packet (filter (is_to of v) copies)
 
 -- it pushed the mark of this window to each other worker, and nothing else
 pub record PushesMarks (workers window : ℕ) (old new : Endpoint) : Type 0 where

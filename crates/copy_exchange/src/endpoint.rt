@@ -2,8 +2,8 @@
 
 ghost use Rattle.std.specs.Prelude.{[], ◌∷◌, ◌<◌, true, length, IfOk, IfSome, OnOk, OnErr, ◌≡◌};
 ghost use Rattle.std.specs.List.{AllByRecursion as Each};
-ghost use Rattle.copy_exchange.specs.Endpoints.{IsEndpoint, IsOnInboxes, HasMarks, Collects, Delivers, Leaves, Reaches};
-ghost use Rattle.copy_exchange.specs.Endpoints.{PushesOut, PushesMarks, sender_to};
+ghost use Rattle.copy_exchange.specs.Endpoints.{IsEndpoint, IsOnInboxes, HasMarks, Collects, Delivers, Leaves};
+ghost use Rattle.copy_exchange.specs.Endpoints.{PushesMarks, sender_to};
 ghost use Rattle.copy_exchange.specs.Inboxes.{IsPlain};
 ghost use Rattle.copy_exchange.specs.Steps.{MarksOne};
 
@@ -75,59 +75,17 @@ impl Endpoint {
         rt: &R,
         inboxes: &[Inbox],
         of: &[u16],
-        copies: Vec<RadioCopy>,
-    ) -> Result<(), InboxError>
-        requires endpoint { IsEndpoint inboxes.now self.old }
-        requires leaves { Each (Leaves of.now (length inboxes.now) self.old.worker) copies.items }
-        ensures delivers { OnOk result (Delivers of.now self.old self.new copies.items) }
-        ensures endpoint { OnOk result (IsEndpoint inboxes.now self.new) }
-    {
-        for copy in &copies {
-            self.deliver_one(rt, inboxes, of, *copy)?;
-        }
-        Ok(())
-    }
-
-    /// Pushes those of the copies that are for motes of other workers, each to that worker, in order; `of` is the
-    /// worker of each mote.
-    ///
-    /// # Errors
-    /// [`InboxError::Memory`] if a push fails. The copies pushed before it stay.
-    pub fn push_copies<R: Wait>(
-        &mut self,
-        rt: &R,
-        inboxes: &[Inbox],
-        of: &[u16],
         copies: &[RadioCopy],
     ) -> Result<(), InboxError>
         requires on_inboxes { IsOnInboxes inboxes.now self.old }
-        requires reaches { Each (Reaches of.now (length inboxes.now)) copies.now }
-        ensures pushes { OnOk result (PushesOut of.now self.old self.new copies.now) }
+        requires leaves { Each (Leaves of.now (length inboxes.now) self.old.worker) copies.now }
+        ensures delivers { OnOk result (Delivers of.now self.old self.new copies.now) }
         ensures on_inboxes { OnOk result (IsOnInboxes inboxes.now self.new) }
     {
         for copy in copies {
-            self.push_out(rt, inboxes, of, *copy)?;
+            self.deliver_one(rt, inboxes, of, *copy)?;
         }
         Ok(())
-    }
-
-    // Pushes one copy, if it is for a mote of another worker.
-    fn push_out<R: Wait>(
-        &mut self,
-        rt: &R,
-        inboxes: &[Inbox],
-        of: &[u16],
-        copy: RadioCopy,
-    ) -> Result<(), InboxError>
-        requires on_inboxes { IsOnInboxes inboxes.now self.old }
-        requires reaches { Reaches of.now (length inboxes.now) copy }
-        ensures pushes { OnOk result (PushesOut of.now self.old self.new (copy ∷ [])) }
-        ensures on_inboxes { OnOk result (IsOnInboxes inboxes.now self.new) }
-    {
-        if of[usize::from(copy.to)] == self.worker {
-            return Ok(());
-        }
-        self.deliver_one(rt, inboxes, of, copy)
     }
 
     /// Pushes the mark of a window to each other worker. The inboxes have marks.

@@ -2,7 +2,7 @@
 
 ghost use Rattle.std.specs.Prelude.{◌≡◌, true, [], length, IfErr, IfOk, OnOk};
 ghost use Rattle.std.specs.List.{AllByRecursion as Each};
-ghost use Rattle.copy_exchange.specs.Endpoints.{HasMarks, IsOnInboxes, Reaches};
+ghost use Rattle.copy_exchange.specs.Endpoints.{HasMarks, IsOnInboxes, Leaves};
 ghost use Rattle.copy_exchange.specs.Delivers.{PushesWindow};
 ghost use Rattle.copy_exchange.specs.declared.take.MarkError.TheVariants.{Stopped, Unexpected};
 ghost use Rattle.copy_exchange.specs.Expected.{TakesExpected, TakesUnexpected, position_of};
@@ -63,13 +63,13 @@ impl MarkEndpoint {
     ) -> Result<(), InboxError>
         requires on_inboxes { IsOnInboxes inboxes.now self.old.base }
         requires marked { HasMarks self.old.base }
-        requires reaches { Each (Reaches of.now (length inboxes.now)) copies.now }
+        requires leaves { Each (Leaves of.now (length inboxes.now) self.old.base.worker) copies.now }
         ensures pushes { OnOk result
             (PushesWindow of.now (length inboxes.now) window self.old.base self.new.base copies.now) }
         ensures on_inboxes { OnOk result (IsOnInboxes inboxes.now self.new.base) }
         ensures counts { OnOk result (self.new.marks ≡ self.old.marks) }
     {
-        self.base.push_copies(rt, inboxes, of, copies)?;
+        self.base.deliver(rt, inboxes, of, copies)?;
         self.base.push_marks(rt, inboxes, window)
     }
 

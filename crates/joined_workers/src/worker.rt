@@ -99,7 +99,7 @@ fn run_worker<R: Wait + RandomSource + AllocGlobal, G: Gate>(
     };
     let outgoing = share.run_window(rt, window.net, window.of, arrived, window.until, gate)?;
     let first_out = first_of(&outgoing);
-    let Ok(()) = endpoint.deliver(rt, window.inboxes, window.of, outgoing) else {
+    let Ok(()) = endpoint.deliver(rt, window.inboxes, window.of, &outgoing) else {
         return Err(Refused::Memory);
     };
     Ok(Worker {

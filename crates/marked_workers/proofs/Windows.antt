@@ -15,7 +15,7 @@ use Rattle.copy_inbox.specs.declared.rule.TakerState.{TakerState}
 use Rattle.copy_inbox.specs.Items.{copies_of, part, OfMade}
 use Rattle.copy_inbox.specs.Handles.{InboxId, TakerView, after_taking}
 use Rattle.copy_inbox.proofs.Parts.{part-append, part-else}
-use Rattle.copy_exchange.specs.Endpoints.{IsOnInboxes, Reaches, Stays, pushed_list, pushed_to}
+use Rattle.copy_exchange.specs.Endpoints.{IsOnInboxes, Stays, pushed_list, pushed_to}
 use Rattle.copy_exchange.proofs.Delivered.{stays_on}
 use Rattle.copy_exchange.proofs.Marked.{marks_stay, stays_same}
 use Rattle.copy_exchange.specs.declared.endpoint.Endpoint.{Endpoint}
@@ -26,7 +26,6 @@ use Rattle.copy_exchange.proofs.MarksDelivered.{takes_stays, takes_on_inboxes}
 use Rattle.worker_window.specs.Share.{Keeps}
 use Rattle.worker_window.specs.Window.{CanRun, IsOutgoing, RunsWindow}
 use Rattle.all_workers.specs.Workers.{IsCut}
-use Rattle.all_workers.proofs.Sent.{leaves_sent}
 use Rattle.all_workers.specs.declared.worker.Worker.{Worker}
 use Rattle.marked_workers.specs.declared.worker.MarkWorker.{MarkWorker}
 use Rattle.marked_workers.specs.Bounds.{bound, windows_of, AreWindows}
@@ -35,10 +34,6 @@ use Rattle.marked_workers.specs.Thread.{IsFirst, IsStarted, IsSame, SendsWindow,
 use Rattle.marked_workers.specs.Thread.{WorkerRunsAllWindows}
 use Rattle.marked_workers.proofs.Bounds.{are_windows, begins_before, no_wider}
 use Rattle.marked_workers.proofs.Promise.{promise_first, promise_next}
-
--- outgoing copies are for motes of the workers
-pub reaches_sent : (n : NetModel) (of : List ℕ) (workers worker : ℕ) (outgoing : List RadioCopy) → IsCut (length n.motes) workers of → Each (IsOutgoing n of worker) outgoing → Each (Reaches of workers) outgoing
-reaches_sent n of workers worker outgoing cut out = every_weaker _ _ (λ c h. h.reaches) outgoing (leaves_sent n of workers worker outgoing cut out)
 
 -- items of senders that were made have no part of another
 none_of_others : (made : ℕ) (xs : List Item) → Each (λ (x : Item). x.sender < made) xs → OfMade made xs
@@ -108,6 +103,9 @@ module _ (n : NetModel) (of : List ℕ) (width k until : ℕ) (inboxes : List In
     order = up;
     expected = tt;
   }
+
+  pub same : old.share.worker ≡ old.endpoint.base.worker
+  same = stands.promise.keeps.is_worker ∙ sym stands.stays.worker
 
   -- and then it has run one more
   module _ (short : width ≤ (system_of n).lookahead) (between new : MarkWorker) (sends : SendsWindow n of (length inboxes) k until old between) (on_inboxes : IsOnInboxes inboxes between.endpoint.base) (takes : TakesWindow of k until between new) where

@@ -54,6 +54,7 @@ fn send_window<R: Wait + RandomSource + AllocGlobal, G: Gate>(
     requires until_bounded { until ≤ 2 ^ 40 }
     requires cut { IsCut (length (net_of run.now.net.now).motes) (length run.now.inboxes.now) run.now.of.now }
     requires ready { CanRun (net_of run.now.net.now) run.now.of.now until worker.old.share [] }
+    requires same { worker.old.share.worker ≡ worker.old.endpoint.base.worker }
     requires on_inboxes { IsOnInboxes run.now.inboxes.now worker.old.endpoint.base }
     requires marked { HasMarks worker.old.endpoint.base }
     ensures sends { OnOk result (SendsWindow (net_of run.now.net.now) run.now.of.now (length run.now.inboxes.now)

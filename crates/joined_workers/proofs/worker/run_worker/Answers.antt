@@ -3,6 +3,7 @@ use Rattle.std.specs.List.{AllByRecursion as Each}
 use Rattle.radio_packet.specs.declared.copy.RadioCopy.{RadioCopy}
 use Rattle.mote_net.specs.Meaning.{net_of}
 use Rattle.copy_exchange.specs.Takers.{taken_by, gathered_by}
+use Rattle.copy_exchange.proofs.Delivered.{endpoint_again}
 use Rattle.worker_cut.specs.Crossed.{is_own}
 use Rattle.worker_window.specs.Window.{RunsWindow, IsOutgoing}
 use Rattle.all_workers.proofs.Sent.{leaves_sent}
@@ -20,8 +21,9 @@ run_window-requires-clause-to_own g c =
 
 pub deliver-requires-clause-leaves : goal.deliver-requires-clause-leaves
 deliver-requires-clause-leaves g c =
-    leaves_sent (net_of c.args.window.now.net.now) c.args.window.now.of.now (length c.args.window.now.inboxes.now) c.collect.new.self.worker c.in_ok-outgoing.outgoing.items c.requires.ready.cut
-    (subst (λ w. Each (IsOutgoing (net_of c.args.window.now.net.now) c.args.window.now.of.now w) c.in_ok-outgoing.outgoing.items) (c.requires.ready.same ∙ sym c.in-Ok.ensures.collects.stays.worker) c.in_ok-outgoing.ensures.out)
+    rw c.deref-2.ensures.value
+    (leaves_sent (net_of c.args.window.now.net.now) c.args.window.now.of.now (length c.args.window.now.inboxes.now) c.collect.new.self.worker c.in_ok-outgoing.outgoing.items c.requires.ready.cut
+    (subst (λ w. Each (IsOutgoing (net_of c.args.window.now.net.now) c.args.window.now.of.now w) c.in_ok-outgoing.outgoing.items) (c.requires.ready.same ∙ sym c.in-Ok.ensures.collects.stays.worker) c.in_ok-outgoing.ensures.out))
 
 pub returns-clause-runs : goal.returns-clause-runs
 returns-clause-runs g c = record {
@@ -29,8 +31,8 @@ returns-clause-runs g c = record {
   outgoing = c.in_ok-outgoing.outgoing.items;
   between = c.collect.new.self;
   collects = c.in-Ok.ensures.collects;
-  delivers = c.in-Ok-deliver.ensures.delivers;
-  endpoint = c.in-Ok-deliver.ensures.endpoint;
+  delivers = rw c.deref-2.ensures.value at c.in-Ok-deliver.ensures.delivers;
+  endpoint = endpoint_again c.args.window.now.inboxes.now c.args.window.now.of.now c.collect.new.self c.deliver.new.self c.deref-2.result.now c.in-Ok.ensures.endpoint c.in-Ok-deliver.ensures.delivers c.in-Ok-deliver.ensures.on_inboxes;
   runs = λ from motes keeps le short later.
       subst (λ t. RunsWindow (net_of c.args.window.now.net.now) c.args.window.now.of.now c.args.worker.endpoint.worker from c.args.window.now.until motes t c.run_window.new.self c.in_ok-outgoing.outgoing.items)
       (sym (ap taken_by c.in-Ok-deliver.ensures.delivers.taker ∙ c.in-Ok.ensures.collects.adds))

@@ -1,8 +1,18 @@
-use Rattle.std.proofs.Common.{subst, append-nil, List}
+use Rattle.std.proofs.Common.{subst, append-nil, List, length}
+use Rattle.std.specs.List.{AllByRecursion as Each}
 use Rattle.radio_packet.specs.declared.copy.RadioCopy.{RadioCopy}
 use Rattle.mote_net.specs.Meaning.{net_of}
-use Rattle.worker_window.specs.Window.{RunsWindow}
+use Rattle.worker_window.specs.Window.{IsOutgoing, RunsWindow}
+use Rattle.all_workers.proofs.Sent.{leaves_sent}
 use Rattle.marked_workers.proofs.thread.send_window.Goals as goal
+
+pub deliver_window-requires-clause-leaves : goal.deliver_window-requires-clause-leaves
+deliver_window-requires-clause-leaves g c =
+    let n = net_of c.args.run.now.net.now in
+    let of = c.args.run.now.of.now in
+    rw c.deref.ensures.value
+    (leaves_sent n of (length c.args.run.now.inboxes.now) c.args.worker.now.endpoint.base.worker c.in_ok-outgoing.outgoing.items c.requires.cut
+    (subst (λ w. Each (IsOutgoing n of w) c.in_ok-outgoing.outgoing.items) c.requires.same c.in_ok-outgoing.ensures.out))
 
 pub returns-clause-sends : goal.returns-clause-sends
 returns-clause-sends g c =

@@ -1,31 +1,24 @@
-use Rattle.std.proofs.Common.{ℕ, ◌<◌, List, ◌≡◌, length, get_or, take, subst, sym, ap, ◌∙◌, arith}
+use Rattle.std.proofs.Common.{ℕ, List, ◌≡◌, length, get_or, take, subst, sym, ap, ◌∙◌, arith}
 use Rattle.std.proofs.Math.Seq.{take-length}
 use Rattle.std.proofs.lemmas.List.{take_more}
 use Rattle.radio_packet.specs.declared.copy.RadioCopy.{RadioCopy}
 use Rattle.copy_exchange.specs.Endpoints.{Delivers, Leaves}
-use Rattle.copy_exchange.proofs.Delivered.{delivers_none, delivers_more, endpoint_again}
+use Rattle.copy_exchange.proofs.Delivered.{delivers_none, delivers_more}
 use Rattle.copy_exchange.proofs.Lists.{each_at}
 use Rattle.copy_exchange.proofs.endpoint.Endpoint.deliver.Goals as goal
 
 pub deliver_one-requires-clause-leaves : goal.deliver_one-requires-clause-leaves
 deliver_one-requires-clause-leaves g c =
-    let copies : List RadioCopy = c.args.copies.items in
-    let index : ℕ = c.loop-copy.copy-index in
     let none : RadioCopy = record { at = 0; to = 0; sender = 0; number = 0; value = 0 } in
-    let value = c.deref-copy-items.ensures.value in
-    let less = c.loop-copy-test.true in
-    let inside : index < length copies = subst (λ (l : List RadioCopy). index < length l) value less in
-    let leaves = each_at (Leaves c.args.of.now (length c.args.inboxes.now) c.args.self.now.worker) copies index none c.requires.leaves inside in
-    let P : ℕ → List RadioCopy → Type 0 = λ worker l. Leaves c.args.of.now (length c.args.inboxes.now) worker (get_or l index none) in
-    let there = subst (λ (l : List RadioCopy). P c.args.self.now.worker l) (sym value) leaves in
-    subst (λ (worker : ℕ). P worker c.deref-copy-items.result.now) (sym c.loop-copy.invariant.delivers.stays.worker) there
+    let leaves = each_at (Leaves c.args.of.now (length c.args.inboxes.now) c.args.self.now.worker) c.args.copies.now c.loop-copy.copy-index none c.requires.leaves c.loop-copy-test.true in
+    subst (λ (worker : ℕ). Leaves c.args.of.now (length c.args.inboxes.now) worker (get_or c.args.copies.now c.loop-copy.copy-index none)) (sym c.loop-copy.invariant.delivers.stays.worker) leaves
 
 pub loop-copy-init : goal.loop-copy-init
-loop-copy-init g c = record { on_inboxes = c.requires.endpoint.on_inboxes; delivers = delivers_none c.args.of.now c.args.self.now }
+loop-copy-init g c = record { on_inboxes = c.requires.on_inboxes; delivers = delivers_none c.args.of.now c.args.self.now }
 
 pub loop-copy-preserved : goal.loop-copy-preserved
 loop-copy-preserved g c =
-    let copies : List RadioCopy = c.deref-copy-items.result.now in
+    let copies : List RadioCopy = c.args.copies.now in
     let index : ℕ = c.loop-copy.copy-index in
     let none : RadioCopy = record { at = 0; to = 0; sender = 0; number = 0; value = 0 } in
     let told = c.in_ok-deliver_one.ensures in
@@ -37,16 +30,10 @@ loop-copy-preserved g c =
 
 pub returns-clause-delivers : goal.returns-clause-delivers
 returns-clause-delivers g c =
-    let copies : List RadioCopy = c.deref-copy-items.result.now in
+    let copies : List RadioCopy = c.args.copies.now in
     let index : ℕ = c.loop-copy.copy-index in
     let over = c.loop-copy-test.false in
     let most = c.loop-copy.auto.copy-index-end in
     let e : index ≡ length copies = omega arith in
-    let all : take index copies ≡ c.args.copies.items = ap (λ k. take k copies) e ∙ (take-length copies ∙ c.deref-copy-items.ensures.value) in
+    let all : take index copies ≡ copies = ap (λ k. take k copies) e ∙ take-length copies in
     subst (λ (l : List RadioCopy). Delivers c.args.of.now c.args.self.now c.loop-copy.self l) all c.loop-copy.invariant.delivers
-
-pub returns-clause-endpoint : goal.returns-clause-endpoint
-returns-clause-endpoint g c =
-    let copies : List RadioCopy = c.deref-copy-items.result.now in
-    let index : ℕ = c.loop-copy.copy-index in
-    endpoint_again c.args.inboxes.now c.args.of.now c.args.self.now c.loop-copy.self (take index copies) c.requires.endpoint c.loop-copy.invariant.delivers c.loop-copy.invariant.on_inboxes

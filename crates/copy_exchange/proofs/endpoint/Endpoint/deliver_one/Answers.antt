@@ -30,11 +30,11 @@ returns-clause-on_inboxes g c =
     let inside = to_inside c.args.inboxes.now c.args.of.now c.args.self.now c.args.copy c.from-to.result c.from.result c.requires.on_inboxes c.requires.leaves c.from.ensures c.from-to.ensures in
     let is = to_is c.args.inboxes.now c.args.of.now c.args.self.now c.args.copy c.from-to.result c.from.result c.requires.on_inboxes c.requires.leaves c.from.ensures c.from-to.ensures in
     let t = told g c in
-    endpoint_with c.args.inboxes.now c.args.of.now c.args.self.now c.args.copy c.from-to.result c.requires.on_inboxes inside c.requires.leaves.reaches.there is c.in-Some.sender c.push_copy.new.sender t.1 c.push_copy.ensures.inbox t.0
+    endpoint_with c.args.inboxes.now c.args.of.now c.args.self.now c.args.copy c.from-to.result c.requires.on_inboxes inside c.requires.leaves.there is c.in-Some.sender c.push_copy.new.sender t.1 c.push_copy.ensures.inbox t.0
 
 pub returns-clause-delivers : goal.returns-clause-delivers
 returns-clause-delivers g c =
     let inside = to_inside c.args.inboxes.now c.args.of.now c.args.self.now c.args.copy c.from-to.result c.from.result c.requires.on_inboxes c.requires.leaves c.from.ensures c.from-to.ensures in
     let is = to_is c.args.inboxes.now c.args.of.now c.args.self.now c.args.copy c.from-to.result c.from.result c.requires.on_inboxes c.requires.leaves c.from.ensures c.from-to.ensures in
     let t = told g c in
-    delivers_with c.args.inboxes.now c.args.of.now c.args.self.now c.args.copy c.from-to.result c.requires.on_inboxes inside c.requires.leaves.reaches.there is c.in-Some.sender c.push_copy.new.sender t.1 c.push_copy.ensures.inbox t.0
+    delivers_with c.args.inboxes.now c.args.of.now c.args.self.now c.args.copy c.from-to.result c.requires.on_inboxes inside c.requires.leaves.there is c.in-Some.sender c.push_copy.new.sender t.1 c.push_copy.ensures.inbox t.0
