@@ -1,5 +1,6 @@
 pub mod Held
 pub mod Start
+pub mod Threads
 pub mod WindowLength
 pub mod Worker
 pub mod Workers

@@ -1,5 +1,11 @@
 -- The length of a window, and its end.
-use Rattle.std.specs.Prelude.{ℕ, ◌+◌, min, nat_lt, ◌&&◌, if◌then◌else◌}
+use Rattle.std.specs.Prelude.{ℕ, ◌≡◌, ◌+◌, min, nat_lt, ◌&&◌, if◌then◌else◌, length, None}
+use Rattle.radio_medium.specs.Medium.{medium_fault}
+use Rattle.mote_net.specs.Net.{NetModel}
+
+-- the medium of a net is sound: it has no fault, and a place for each mote
+abbrev pub IsSound : NetModel → Type 0
+IsSound n = (medium_fault n.radio ≡ None) × (length n.radio.places ≡ length n.motes)
 
 -- a window lasts as long as the lookahead, or less if that is asked for
 abbrev pub length_of_window : (lookahead longest : ℕ) → ℕ

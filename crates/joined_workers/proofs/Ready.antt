@@ -1,5 +1,5 @@
 -- Workers between two windows are ready to run once their endpoints are made.
-use Rattle.std.proofs.Common.{◌≡◌, ℕ, suc, ◌<◌, ◌≤◌, ◌^◌, true, false, List, [], ◌∷◌, ◌++◌, length, map, get_or, refl}
+use Rattle.std.proofs.Common.{◌≡◌, ℕ, suc, ◌<◌, ◌≤◌, ◌^◌, true, false, List, [], ◌∷◌, ◌++◌, length, get_or, refl}
 use Rattle.std.proofs.Common.{sym, ap, ◌∙◌, subst, arith, Option, Some, None}
 use Rattle.std.specs.List.{filter, zip, slice_get, range_with_len, AllZip, AllByRecursion as Each}
 use Rattle.std.proofs.lemmas.List.Elements.{filter-append}
@@ -20,6 +20,7 @@ use Rattle.worker_cut.specs.Crossed.{is_own, IsExpected}
 use Rattle.all_workers.specs.declared.workers.Workers.{Workers}
 use Rattle.all_workers.specs.Workers.{IsAt, IsWorkerAt}
 use Rattle.all_workers.specs.Worker.{make_worker}
+use Rattle.all_workers.specs.Threads.{AllMade}
 use Rattle.joined_workers.specs.Worker.{IsReady}
 use Rattle.all_workers.specs.Workers.{IsNotBefore}
 use Rattle.all_workers.proofs.Lookups.{there, inside, read, beside, as_long, each_at, each_zipped, same_found}
@@ -62,10 +63,9 @@ module _ (n : NetModel) (of : List ℕ) (from : ℕ) (motes : Motes) (first : Op
   pub arrived_come : Each (IsExpected of v from) arrived
   arrived_come = every_weaker _ _ (λ c g. record { to = g.0.0; sender = g.0.1; later = g.1 }) _ (every_both (λ (c : RadioCopy). (is_own of v c.to ≡ true) × (is_own of v c.sender ≡ false)) (λ (c : RadioCopy). from ≤ c.at) arrived all_foreign all_later)
 
-module _ (n : NetModel) (of : List ℕ) (from until : ℕ) (old : Workers) (at : IsAt n of from old) (up : from ≤ until) (early : until ≤ 2 ^ 40) (plain : Each IsPlain old.takers.items)
-    (endpoints : List Endpoint) (together : Together old.inboxes.items endpoints) (starts : AllZip StartsAs old.takers.items endpoints) where
-  one_ready : (v : ℕ) (s : Share) (c : Endpoint) → slice_get old.shares.items v ≡ Some s → slice_get endpoints v ≡ Some c → IsReady n of old.inboxes.items until (make_worker (s, c))
-  one_ready v s c e f =
+module _ (n : NetModel) (of : List ℕ) (from until : ℕ) (old : Workers) (at : IsAt n of from old) (up : from ≤ until) (early : until ≤ 2 ^ 40) (plain : Each IsPlain old.takers.items) where
+  one_ready : (endpoints : List Endpoint) → Together old.inboxes.items endpoints → AllZip StartsAs old.takers.items endpoints → (v : ℕ) (s : Share) (c : Endpoint) → slice_get old.shares.items v ≡ Some s → slice_get endpoints v ≡ Some c → IsReady n of old.inboxes.items until (make_worker (s, c))
+  one_ready endpoints together starts v s c e f =
       let h : v < length old.inboxes.items = subst (λ l. v < l) at.shares (inside old.shares.items v s e) in
       let t = there old.takers.items v (subst (λ l. v < l) (sym (as_long _ old.inboxes.items old.takers.items at.settled)) h) in
       let b = beside StartsAs old.takers.items endpoints starts v t.0 t.1 in
@@ -93,5 +93,7 @@ module _ (n : NetModel) (of : List ℕ) (from until : ℕ) (old : Workers) (at :
             (subst (λ l. Each (λ (x : RadioCopy). is_own of v x.to ≡ true) l) (sym (ap copies_gathered set.same_gathered)) own);
       }
 
-  pub ready : Each (IsReady n of old.inboxes.items until) (map make_worker (zip old.shares.items endpoints))
-  ready = each_zipped (IsReady n of old.inboxes.items until) make_worker old.shares.items endpoints one_ready
+  pub ready : AllMade old.inboxes.items old.takers.items old.shares.items (IsReady n of old.inboxes.items until)
+  ready workers made =
+      subst (Each (IsReady n of old.inboxes.items until)) (sym made.are)
+      (each_zipped (IsReady n of old.inboxes.items until) make_worker old.shares.items made.endpoints (one_ready made.endpoints made.together made.starts))

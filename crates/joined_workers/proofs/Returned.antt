@@ -1,6 +1,6 @@
 -- The endpoints of workers that ran, at the end of a window.
 use Rattle.std.proofs.Common.{◌≡◌, ◌⊎◌, ℕ, ◌==◌, true, false, List, [], ◌∷◌, length, map, sym, ap, ◌∙◌, arith, inl}
-use Rattle.std.proofs.Common.{inr}
+use Rattle.std.proofs.Common.{inr, subst}
 use Rattle.std.specs.Prelude.{slice_index}
 use Rattle.std.specs.List.{filter, zip, AllZip, AllByRecursion as Each}
 use Rattle.std.proofs.lemmas.Bool.{cases_Bool, eqb-true, eq-eqb, false≢true}
@@ -9,7 +9,7 @@ use Rattle.mote_net.specs.Net.{NetModel}
 use Rattle.window_laws.proofs.Lists.{filter_none, every_weaker}
 use Rattle.copy_inbox.specs.Handles.{InboxId, TakerView}
 use Rattle.copy_exchange.specs.declared.endpoint.Endpoint.{Endpoint}
-use Rattle.copy_exchange.specs.Endpoints.{Together, StartsAs, Returns, AllReturn}
+use Rattle.copy_exchange.specs.Endpoints.{StartsAs, Returns, AllReturn}
 use Rattle.window_laws.specs.Windows.{is_from_sender}
 use Rattle.copy_exchange.proofs.Windows.{returns_from}
 use Rattle.worker_window.specs.declared.share.Share.{Share}
@@ -18,6 +18,7 @@ use Rattle.worker_window.specs.Window.{IsOutgoing}
 use Rattle.all_workers.specs.declared.workers.Workers.{Workers}
 use Rattle.all_workers.specs.declared.worker.Worker.{Worker}
 use Rattle.all_workers.specs.Workers.{IsAt}
+use Rattle.all_workers.specs.Threads.{AreMade, HaveWorked}
 use Rattle.all_workers.specs.Worker.{make_worker}
 use Rattle.joined_workers.specs.Worker.{RunsWorker}
 use Rattle.all_workers.proofs.Lookups.{read, as_long}
@@ -54,16 +55,21 @@ module _ (n : NetModel) (of : List ℕ) (until : ℕ) (inboxes : List InboxId) w
   all_back (t ∷ ts) (s ∷ ss) (c ∷ cs) [] starts long ran = absurd ran
   all_back (t ∷ ts) (s ∷ ss) (c ∷ cs) (d ∷ ds) starts long ran = (one_back t s c d starts.0 ran.0, all_back ts ss cs ds starts.1 (omega arith) ran.1)
 
-module _ (n : NetModel) (of : List ℕ) (from until : ℕ) (old : Workers) (at : IsAt n of from old) (endpoints : List Endpoint) (done : List Worker)
-    (together : Together old.inboxes.items endpoints) (starts : AllZip StartsAs old.takers.items endpoints)
-    (ran : AllZip (RunsWorker n of old.inboxes.items until) (map make_worker (zip old.shares.items endpoints)) done) where
-  endpoints_long : length endpoints ≡ length old.shares.items
-  endpoints_long = as_long _ old.takers.items endpoints starts ∙ (as_long _ old.inboxes.items old.takers.items at.settled ∙ sym at.shares)
+module _ (n : NetModel) (of : List ℕ) (from until : ℕ) (old : Workers) (at : IsAt n of from old) (done : List Worker)
+    (worked : HaveWorked old.inboxes.items old.takers.items old.shares.items (RunsWorker n of old.inboxes.items until) done) where
+  abbrev made : AreMade old.inboxes.items old.takers.items old.shares.items worked.first
+  made = worked.are_made
+
+  endpoints_long : length made.endpoints ≡ length old.shares.items
+  endpoints_long = as_long _ old.takers.items made.endpoints made.starts ∙ (as_long _ old.inboxes.items old.takers.items at.settled ∙ sym at.shares)
+
+  pub ran : AllZip (RunsWorker n of old.inboxes.items until) (map make_worker (zip old.shares.items made.endpoints)) done
+  ran = subst (λ l. AllZip (RunsWorker n of old.inboxes.items until) l done) made.are worked.ran
 
   pub returned : AllReturn old.inboxes.items (map (λ (worker : Worker). worker.endpoint) done)
   returned = record {
-    before = endpoints;
-    together = together;
+    before = made.endpoints;
+    together = made.together;
     worker_of = slice_index of;
-    each = all_back n of until old.inboxes.items old.takers.items old.shares.items endpoints done starts endpoints_long ran;
+    each = all_back n of until old.inboxes.items old.takers.items old.shares.items made.endpoints done made.starts endpoints_long ran;
   }

@@ -9,10 +9,10 @@ ghost use Rattle.std.specs.List.{AllByRecursion as Each};
 ghost use Rattle.copy_exchange.specs.Inboxes.{IsPlain};
 ghost use Rattle.all_workers.specs.Workers.{IsAt};
 ghost use Rattle.joined_workers.specs.Run.{BeginsAt, GroupRunsToEnd};
-ghost use Rattle.all_workers.specs.WindowLength.{length_of_window};
+ghost use Rattle.all_workers.specs.WindowLength.{IsSound, length_of_window};
 
 use crate::next::next_moment;
-use crate::window::run_group_window;
+use crate::window::run_window;
 use all_workers::{Workers, lookahead_of, window_end, window_length};
 use fork_join::Refused;
 use mote_net::Net;
@@ -63,6 +63,7 @@ where
     ensures windows { let n = net_of net.now in
         IfOk result (GroupRunsToEnd n of.now (length_of_window (system_of n).lookahead longest) group) }
     ensures failed { IfErr result (λ e. is_own e ≡ true) }
+    ensures sound { IsSound (net_of net.now) }
 {
     let end = net.end();
     let width = window_length(lookahead_of(net), longest);
@@ -70,7 +71,7 @@ where
     let mut from = window_start(&group, end);
     'windows: while from <= end {
         let until = window_end(from, width, end);
-        group = run_group_window(rt, alloc, net, of, until, gate, group)?;
+        group = run_window(rt, alloc, net, of, until, gate, group)?;
         from = window_start(&group, end);
     }
     Ok(group)

@@ -11,7 +11,9 @@ returns-clause-value c =
     let n = net_of c.args.net.now in
     c.lookahead.ensures.value ∙ (ap (λ (r : Radio). lookahead r c.end.result) c.medium.ensures.value ∙ ap (lookahead n.radio) c.end.ensures.value)
 
+pub returns-clause-sound : goal.returns-clause-sound
+returns-clause-sound c =
+    (ap medium_fault (sym c.medium.ensures.value) ∙ c.lookahead.ensures.no_fault, ap (λ (r : Radio). length r.places) (sym c.medium.ensures.value) ∙ c.medium.ensures.placed)
+
 pub returns-clause-forward : goal.returns-clause-forward
-returns-clause-forward c =
-    let n = net_of c.args.net.now in
-    system_is n (ap medium_fault (sym c.medium.ensures.value) ∙ c.lookahead.ensures.no_fault) (ap (λ (r : Radio). length r.places) (sym c.medium.ensures.value) ∙ c.medium.ensures.placed)
+returns-clause-forward c = let sound = returns-clause-sound c in system_is (net_of c.args.net.now) sound.0 sound.1

@@ -5,6 +5,7 @@ use Rattle.all_workers.specs.declared.workers.Workers.{Workers}
 use Rattle.joined_workers.specs.Laws.{GroupRunsUntil}
 use Rattle.joined_workers.specs.Run.{BeginsAt, GroupRunsNext}
 use Rattle.all_workers.specs.WindowLength.{end_of_window, length_of_window}
+use Rattle.joined_workers.proofs.Moved.{moved}
 use Rattle.joined_workers.proofs.Runs.{begins_later, short_enough, stands_there}
 use Rattle.joined_workers.proofs.run.run_by_joins.Goals as goal
 
@@ -22,8 +23,8 @@ pub windows-smaller : goal.windows-smaller
 windows-smaller g c =
     let up = c.window_end-until.ensures.later in
     let short = short_enough c.windows.from c.window_length-width.result c.lookahead_of.result _ c.window_end-until.result c.window_end-until.ensures.short c.window_length-width.ensures.within c.lookahead_of.ensures.value in
-    let moved = c.in_ok-group.ensures.moves c.lookahead_of.ensures.forward c.windows.from c.windows.invariant.at up short in
-    let on = begins_later (net_of c.args.net.now) c.args.of.now c.window_end-until.result c.end-end.result c.in_ok-group.group _ moved c.window_end-until.ensures.within c.window_start-from-in-windows.ensures.value in
+    let then = moved (net_of c.args.net.now) c.lookahead_of.ensures.forward c.args.of.now c.windows.from c.window_end-until.result c.windows.group c.in_ok-group.group c.windows.invariant.at up short c.in_ok-group.ensures.runs in
+    let on = begins_later (net_of c.args.net.now) c.args.of.now c.window_end-until.result c.end-end.result c.in_ok-group.group _ then c.window_end-until.ensures.within c.window_start-from-in-windows.ensures.value in
     let there = c.windows-test.true in
     omega arith
 
@@ -31,7 +32,7 @@ pub windows-preserved : goal.windows-preserved
 windows-preserved g c =
     let up = c.window_end-until.ensures.later in
     let short = short_enough c.windows.from c.window_length-width.result c.lookahead_of.result _ c.window_end-until.result c.window_end-until.ensures.short c.window_length-width.ensures.within c.lookahead_of.ensures.value in
-    let moved = c.in_ok-group.ensures.moves c.lookahead_of.ensures.forward c.windows.from c.windows.invariant.at up short in
+    let then = moved (net_of c.args.net.now) c.lookahead_of.ensures.forward c.args.of.now c.windows.from c.window_end-until.result c.windows.group c.in_ok-group.group c.windows.invariant.at up short c.in_ok-group.ensures.runs in
     let n = net_of c.args.net.now in
     let width = length_of_window (system_of n).lookahead c.args.longest in
     let is : c.window_end-until.result ≡ end_of_window n.end width c.windows.from =
@@ -46,10 +47,10 @@ windows-preserved g c =
       runs = subst (λ (until : ℕ). GroupRunsUntil n c.args.of.now until c.windows.group c.in_ok-group.group) is c.in_ok-group.ensures.runs;
     } in
     record {
-      at = stands_there (net_of c.args.net.now) c.args.of.now c.window_end-until.result c.end-end.result c.in_ok-group.group _ moved c.window_end-until.ensures.within c.window_start-from-in-windows.ensures.value c.lookahead_of.ensures.forward;
+      at = stands_there (net_of c.args.net.now) c.args.of.now c.window_end-until.result c.end-end.result c.in_ok-group.group _ then c.window_end-until.ensures.within c.window_start-from-in-windows.ensures.value c.lookahead_of.ensures.forward;
       plain = c.in_ok-group.ensures.plain;
       early = c.window_start-from-in-windows.ensures.within;
-      inboxes = c.in_ok-group.ensures.inboxes ∙ c.windows.invariant.inboxes;
+      inboxes = c.in_ok-group.ensures.runs.inboxes ∙ c.windows.invariant.inboxes;
       windows = (suc c.windows.invariant.windows.0, (c.windows.group, c.windows.invariant.windows.1, next));
       begins = subst (λ (e : ℕ). BeginsAt e c.in_ok-group.group c.window_start-from-in-windows.result) c.end-end.ensures.value c.window_start-from-in-windows.ensures.value;
     }
