@@ -1,5 +1,6 @@
 -- The results of the workers at the end.
-use Rattle.std.specs.Prelude.{ℕ, ◌≡◌, ◌<◌, Bool, List, length, map, slice_index, slice_index_or, Vec, IsPermutation}
+use Rattle.std.specs.Prelude.{ℕ, suc, ◌≡◌, ◌<◌, Bool, List, length, map, slice_index, slice_index_or, Vec}
+use Rattle.std.specs.Prelude.{IsPermutation}
 use Rattle.std.specs.List.{flat_map}
 use Rattle.std.specs.List.Sorted.{IsSortedBy}
 use Rattle.std.specs.declared.alloc.Global.{Global}
@@ -13,9 +14,17 @@ use Rattle.worker_window.specs.declared.share.Ended.{Ended}
 use Rattle.worker_window.specs.Share.{Motes, Keeps}
 use Rattle.worker_window.specs.Ended.{TellsAtEnd}
 use Rattle.worker_window.specs.Log.{packets_in}
+use Rattle.all_workers.specs.declared.workers.Workers.{Workers}
+use Rattle.all_workers.specs.WindowLength.{IsSound}
+use Rattle.all_workers.specs.Workers.{IsAt}
 use Rattle.mote_net.specs.declared.report.LogLine.{LogLine}
 use Rattle.mote_net.specs.Report.{Packet}
 use Rattle.serial_run.specs.NetRun.{packet_with_fates}
+
+-- the workers of a net at its end
+pub record AreAtEnd (n : NetModel) (of : List ℕ) (group : Workers) : Type 0 where
+  pub sound : IsSound n
+  pub at : IsAt n of (suc n.end) group
 
 -- a share that is taken apart yields its contents
 abbrev pub TellsWhatItKept : Share → Ended → Type 0

@@ -1,9 +1,10 @@
 //! The run of a net by workers: each has a new thread for each window, or one thread for the whole run.
 
-ghost use Rattle.std.specs.Prelude.{◌≡◌, suc, length, map, vec_len, All, None, IfOk, IfErr};
+ghost use Rattle.std.specs.Prelude.{◌≡◌, length, map, vec_len, All, None, IfOk, IfErr};
 ghost use Rattle.std.specs.List.{AllByRecursion as Each, zip};
 ghost use Rattle.kernel_laws.specs.Going.{IsInOrder};
 ghost use Rattle.mote_net.specs.Meaning.{net_of};
+ghost use Rattle.mote_net.specs.Net.{NetModel};
 ghost use Rattle.copy_inbox.specs.Gathered.{Whole, known_of};
 ghost use Rattle.copy_exchange.specs.Inboxes.{IsFresh, IsSettled};
 ghost use Rattle.all_workers.specs.Workers.{IsAt};
@@ -11,6 +12,7 @@ ghost use Rattle.all_workers.specs.Start.{AreReady};
 ghost use Rattle.mote_net.specs.Report.{report_of};
 ghost use Rattle.window_workers.specs.Crossed.{AllCrossed};
 ghost use Rattle.window_workers.specs.Fits.{cut_fault, IsAnswerTo};
+ghost use Rattle.window_workers.specs.Over.{AreAtEnd};
 ghost use Rattle.serial_run.specs.NetRun.{IsReportOf};
 ghost use Rattle.window_workers.specs.Sync.{IsFor};
 ghost use Rattle.window_workers.specs.declared.sync.SyncKind.TheVariants.{Marks};
@@ -39,20 +41,18 @@ use worker_window::Gate;
 fn make_report<R: Threads + Wait + Sync>(
     rt: &R,
     alloc: Global,
-    net: &Net,
     of: &[u16],
     group: Workers,
 ) -> Result<(Report, Vec<(Inbox, Taker)>), RunError>
-    requires at_end { let n = net_of net.now in IsAt n of.now (suc n.end) group }
-    ensures report { IfOk result (λ r. IsReportOf (net_of net.now) (report_of r.0)) }
+    requires at_end { (n : NetModel) × AreAtEnd n of.now group }
+    ensures report { IfOk result (λ r. (n : NetModel) → AreAtEnd n of.now group → IsReportOf n (report_of r.0)) }
     ensures inboxes { IfOk result (λ r. map (λ pair. pair.0) r.1.items ≡ group.inboxes.items) }
     ensures pairs { IfOk result (λ r. r.1.items ≡ zip group.inboxes.items group.takers.items) }
     ensures settled { IfOk result (λ r. Each (λ pair. IsSettled pair.0 pair.1) r.1.items) }
-    ensures crossed { IfOk result (λ r. AllCrossed (net_of net.now) of.now (report_of r.0) r.1.items) }
+    ensures crossed { IfOk result
+        (λ r. (n : NetModel) → AreAtEnd n of.now group → AllCrossed n of.now (report_of r.0) r.1.items) }
     ensures err { IfErr result (IsAnswerTo None) }
 {
-    // Called only for its clause `no_fault`, which the proof needs.
-    let _ahead = net.medium().lookahead(net.end());
     let Workers {
         shares,
         inboxes,
@@ -91,7 +91,7 @@ where
     requires ready { AreReady (net_of net.now) of.now group }
     requires at { IsAt (net_of net.now) of.now 0 group }
     requires kind { Each (IsFor sync) group.takers.items }
-    ensures at { let n = net_of net.now in IfOk result (λ done. IsAt n of.now (suc n.end) done) }
+    ensures at_end { IfOk result (AreAtEnd (net_of net.now) of.now) }
     ensures inboxes { IfOk result (λ done. done.inboxes.items ≡ group.inboxes.items) }
     ensures all_taken { IfOk result (λ done. sync ≡ Marks
         → Each (λ taker. Whole taker.state.gathered taker.state.taken) done.takers.items) }
@@ -105,6 +105,42 @@ where
         Ok(group) => Ok(group),
         Err(refused) => Err(of_refused(refused)),
     }
+}
+
+/// As [`run_inboxes`], if the cut fits.
+fn run_fitting<R, G>(
+    rt: &R,
+    alloc: Global,
+    net: &Net,
+    cut: &Cut,
+    sync: SyncKind,
+    gate: &G,
+    pairs: Vec<(Inbox, Taker)>,
+) -> Result<(Report, Vec<(Inbox, Taker)>), RunError>
+where
+    R: Threads + Wait + RandomSource + AllocGlobal + Sync,
+    G: Gate + Sync,
+    requires fits { cut_fault (length (net_of net.now).motes) (length pairs.items) cut.now.of.items ≡ None }
+    requires fresh { Each (λ pair. IsFresh pair.0 pair.1) pairs.items }
+    requires kind { Each (λ pair. IsFor sync pair.1) pairs.items }
+    ensures report { IfOk result (λ r. IsReportOf (net_of net.now) (report_of r.0)) }
+    ensures traces { IfOk result (λ r. (vec_len r.0.traces ≡ length (net_of net.now).motes)
+        × All (λ trace. IsInOrder trace.items) r.0.traces.items) }
+    ensures inboxes { IfOk result (λ r. (map (λ pair. pair.0) r.1.items ≡ map (λ pair. pair.0) pairs.items)
+        × Each (λ pair. IsSettled pair.0 pair.1) r.1.items
+        × (sync ≡ Marks → Each (λ pair. known_of pair.1.state.gathered pair.1.state.taken ≡ 0) r.1.items)) }
+    ensures crossed { IfOk result (λ r. AllCrossed (net_of net.now) cut.now.of.items (report_of r.0) r.1.items) }
+    ensures err { IfErr result (IsAnswerTo None) }
+{
+    let of = cut.of.as_slice();
+    let Ok((inboxes, takers)) = split_pairs(alloc, pairs) else {
+        return Err(RunError::Memory);
+    };
+    let Ok(group) = Workers::new(alloc, net, of, inboxes, takers) else {
+        return Err(RunError::Memory);
+    };
+    let group = run_by_kind(rt, alloc, net, of, cut.longest, sync, gate, group)?;
+    make_report(rt, alloc, of, group)
 }
 
 /// The report of a net, by one worker for each inbox: copies from a mote of one worker to a mote of another go through
@@ -146,18 +182,10 @@ where
     ensures fault { let fault = cut_fault (length (net_of net.now).motes) (length pairs.items) cut.now.of.items in
         IfOk result (λ r. fault ≡ None) × IfErr result (IsAnswerTo fault) }
 {
-    let of = cut.of.as_slice();
-    if let Some(fault) = fault_of(net.motes(), pairs.len(), of) {
+    if let Some(fault) = fault_of(net.motes(), pairs.len(), &cut.of) {
         return Err(fault);
     }
-    let Ok((inboxes, takers)) = split_pairs(alloc, pairs) else {
-        return Err(RunError::Memory);
-    };
-    let Ok(group) = Workers::new(alloc, net, of, inboxes, takers) else {
-        return Err(RunError::Memory);
-    };
-    let group = run_by_kind(rt, alloc, net, of, cut.longest, sync, gate, group)?;
-    make_report(rt, alloc, net, of, group)
+    run_fitting(rt, alloc, net, cut, sync, gate, pairs)
 }
 
 /// The report of a net, by this many workers, each in threads of its own: that of the run on one thread, whatever the
@@ -196,6 +224,6 @@ where
     let Ok(pairs) = make_inboxes(alloc, usize::from(workers), sync.has_marks()) else {
         return Err(RunError::Memory);
     };
-    let (report, _pairs) = run_inboxes(rt, alloc, net, cut, sync, gate, pairs)?;
+    let (report, _pairs) = run_fitting(rt, alloc, net, cut, sync, gate, pairs)?;
     Ok(report)
 }

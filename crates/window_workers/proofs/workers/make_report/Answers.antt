@@ -1,8 +1,6 @@
 use Rattle.std.proofs.Common.{◌≡◌, ◌+◌, ◌<◌, length, map, None, sym, ap, ◌∙◌, subst}
 use Rattle.std.specs.List.{sum_by, AllByRecursion as Each}
-use Rattle.mote_net.specs.Meaning.{net_of}
 use Rattle.net_agenda.proofs.Systems.{system_is}
-use Rattle.radio_medium.specs.Medium.{Radio, medium_fault}
 use Rattle.copy_exchange.specs.Takers.{taken_by, gathered_by}
 use Rattle.copy_exchange.specs.Inboxes.{IsSettled}
 use Rattle.worker_window.specs.declared.share.Ended.{Ended}
@@ -19,50 +17,42 @@ pub left_of_all-requires : goal.left_of_all-requires
 left_of_all-requires g c = record {
   settled =
       subst (Each (λ (pair : Pair). IsSettled pair.0 pair.1)) (sym (c.deref-2.ensures.value ∙ c.in-Ok.ensures.pairs))
-      (each_zip IsSettled c.args.group.inboxes.items c.args.group.takers.items c.requires.at_end.settled);
+      (each_zip IsSettled c.args.group.inboxes.items c.args.group.takers.items c.requires.at_end.1.at.settled);
 }
 
 pub joined_traces-requires-clause-workers : goal.joined_traces-requires-clause-workers
 joined_traces-requires-clause-workers g c =
-    let n = net_of c.args.net.now in
-    let fault : medium_fault n.radio ≡ None = ap medium_fault (sym c.medium.ensures.value) ∙ c.lookahead-ahead.ensures.no_fault in
-    let placed : length n.radio.places ≡ length n.motes = ap (λ (r : Radio). length r.places) (sym c.medium.ensures.value) ∙ c.medium.ensures.placed in
+    let n = c.requires.at_end.0 in
+    let end = c.requires.at_end.1 in
     subst (λ k. Each (λ worker. worker < k) c.args.of.now) (sym (as_many c.in_ok-ended.ended.items c.in_ok-medium.rest.items c.in_ok-medium.ensures.traces))
-    (workers_there n (system_is n fault placed) c.args.of.now c.args.group c.requires.at_end c.in_ok-ended.ended.items c.in_ok-ended.ensures.tells_what_it_kept)
+    (workers_there n (system_is n end.sound.0 end.sound.1) c.args.of.now c.args.group end.at c.in_ok-ended.ended.items c.in_ok-ended.ensures.tells_what_it_kept)
 
 pub joined_traces-requires-clause-places : goal.joined_traces-requires-clause-places
 joined_traces-requires-clause-places g c =
-    let n = net_of c.args.net.now in
-    let fault : medium_fault n.radio ≡ None = ap medium_fault (sym c.medium.ensures.value) ∙ c.lookahead-ahead.ensures.no_fault in
-    let placed : length n.radio.places ≡ length n.motes = ap (λ (r : Radio). length r.places) (sym c.medium.ensures.value) ∙ c.medium.ensures.placed in
+    let n = c.requires.at_end.0 in
+    let end = c.requires.at_end.1 in
     places_kept (length c.args.of.now) c.in_ok-ended.ended.items c.in_ok-medium.rest.items c.in_ok-medium.ensures.traces
-    (all_places n (system_is n fault placed) c.args.of.now c.args.group c.requires.at_end c.in_ok-ended.ended.items c.in_ok-ended.ensures.tells_what_it_kept)
+    (all_places n (system_is n end.sound.0 end.sound.1) c.args.of.now c.args.group end.at c.in_ok-ended.ended.items c.in_ok-ended.ensures.tells_what_it_kept)
 
 pub returns-clause-report : goal.returns-clause-report
-returns-clause-report g c =
-    let n = net_of c.args.net.now in
-    let fault : medium_fault n.radio ≡ None = ap medium_fault (sym c.medium.ensures.value) ∙ c.lookahead-ahead.ensures.no_fault in
-    let placed : length n.radio.places ≡ length n.motes = ap (λ (r : Radio). length r.places) (sym c.medium.ensures.value) ∙ c.medium.ensures.placed in
+returns-clause-report g c = λ n end.
     let r : Report = record { traces = c.in_ok-traces.traces; medium = c.in_ok-medium.medium; left = c.in_ok-left.left } in
-    told_is n fault placed c.args.of.now c.args.group c.requires.at_end c.in_ok-ended.ended.items c.in_ok-ended.ensures.tells_what_it_kept r
+    told_is n end.sound.0 end.sound.1 c.args.of.now c.args.group end.at c.in_ok-ended.ended.items c.in_ok-ended.ensures.tells_what_it_kept r
     (traces_kept c.args.of.now c.in_ok-ended.ended.items c.in_ok-medium.rest.items c.in_ok-traces.traces.items c.in_ok-medium.ensures.traces c.in_ok-traces.ensures.are_traces_of)
-    (c.in_ok-medium.ensures.log n (all_fates n (system_is n fault placed) c.args.of.now c.args.group c.requires.at_end c.in_ok-ended.ended.items c.in_ok-ended.ensures.tells_what_it_kept))
+    (c.in_ok-medium.ensures.log n (all_fates n (system_is n end.sound.0 end.sound.1) c.args.of.now c.args.group end.at c.in_ok-ended.ended.items c.in_ok-ended.ensures.tells_what_it_kept))
     (subst (λ l. sum_by (λ (one : Ended). one.left) c.in_ok-ended.ended.items + sum_by (λ (pair : Pair). length (gathered_by pair.1)) l ≡ c.in_ok-left.left + sum_by (λ (pair : Pair). length (taken_by pair.1)) l) (c.deref-2.ensures.value ∙ c.in-Ok.ensures.pairs)
     (subst (λ l. sum_by (λ (one : Ended). one.left) l + sum_by (λ (pair : Pair). length (gathered_by pair.1)) c.deref-2.result.now ≡ c.in_ok-left.left + sum_by (λ (pair : Pair). length (taken_by pair.1)) c.deref-2.result.now) c.deref.ensures.value c.in_ok-left.ensures.balanced))
 
 pub returns-clause-inboxes : goal.returns-clause-inboxes
-returns-clause-inboxes g c = ap (map (λ (pair : Pair). pair.0)) c.in-Ok.ensures.pairs ∙ firsts IsSettled c.args.group.inboxes.items c.args.group.takers.items c.requires.at_end.settled
+returns-clause-inboxes g c = ap (map (λ (pair : Pair). pair.0)) c.in-Ok.ensures.pairs ∙ firsts IsSettled c.args.group.inboxes.items c.args.group.takers.items c.requires.at_end.1.at.settled
 
 pub returns-clause-settled : goal.returns-clause-settled
 returns-clause-settled g c =
     subst (Each (λ (pair : Pair). IsSettled pair.0 pair.1)) (sym c.in-Ok.ensures.pairs)
-    (each_zip IsSettled c.args.group.inboxes.items c.args.group.takers.items c.requires.at_end.settled)
+    (each_zip IsSettled c.args.group.inboxes.items c.args.group.takers.items c.requires.at_end.1.at.settled)
 
 pub returns-clause-crossed : goal.returns-clause-crossed
-returns-clause-crossed g c =
-    let n = net_of c.args.net.now in
-    let fault : medium_fault n.radio ≡ None = ap medium_fault (sym c.medium.ensures.value) ∙ c.lookahead-ahead.ensures.no_fault in
-    let placed : length n.radio.places ≡ length n.motes = ap (λ (r : Radio). length r.places) (sym c.medium.ensures.value) ∙ c.medium.ensures.placed in
+returns-clause-crossed g c = λ n end.
     let r : Report = record { traces = c.in_ok-traces.traces; medium = c.in_ok-medium.medium; left = c.in_ok-left.left } in
     subst (AllCrossed n c.args.of.now (report_of r)) (sym c.in-Ok.ensures.pairs)
-    (all_crossed n fault placed c.args.of.now c.args.group c.requires.at_end c.in_ok-ended.ended.items c.in_ok-ended.ensures.tells_what_it_kept (report_of r) (returns-clause-report g c))
+    (all_crossed n end.sound.0 end.sound.1 c.args.of.now c.args.group end.at c.in_ok-ended.ended.items c.in_ok-ended.ensures.tells_what_it_kept (report_of r) (returns-clause-report g c n end))

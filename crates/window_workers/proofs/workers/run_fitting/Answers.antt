@@ -6,6 +6,7 @@ use Rattle.std.proofs.lemmas.List.{length-map}
 use Rattle.trace_lines.specs.declared.line.Line.{Line}
 use Rattle.kernel_laws.specs.Going.{IsInOrder}
 use Rattle.mote_net.specs.Meaning.{net_of}
+use Rattle.mote_net.specs.Net.{NetModel}
 use Rattle.copy_inbox.specs.Gathered.{known_of}
 use Rattle.copy_inbox.specs.Handles.{InboxId, TakerView}
 use Rattle.copy_exchange.specs.Inboxes.{IsFresh, IsSettled}
@@ -15,6 +16,7 @@ use Rattle.mote_net.specs.declared.report.Report.{Report}
 use Rattle.mote_net.specs.Report.{report_of}
 use Rattle.window_workers.specs.Crossed.{Pair, AllCrossed}
 use Rattle.window_workers.specs.Fits.{cut_fault}
+use Rattle.window_workers.specs.Over.{AreAtEnd}
 use Rattle.serial_run.specs.NetRun.{IsReportOf}
 use Rattle.window_workers.specs.Sync.{IsFor}
 use Rattle.window_workers.specs.declared.sync.SyncKind.TheVariants.{Marks}
@@ -22,21 +24,17 @@ use Rattle.window_workers.proofs.ByWorkers.{one_trace_each, all_hand_on}
 use Rattle.window_workers.proofs.Fitting.{fits_is}
 use Rattle.window_workers.proofs.Marked.{none_known}
 use Rattle.window_workers.proofs.Pairs.{zip_each, seconds_have, if_ok, all_ok}
-use Rattle.window_workers.proofs.workers.run_inboxes.Goals as goal
+use Rattle.window_workers.proofs.workers.run_fitting.Goals as goal
 
 long_as : (v : Vec (Vec Line Global) Global) → vec_len v ≡ length v.items
 long_as v = search rules
 
-pairs_long : (v : Vec Pair Global) → vec_len v ≡ length v.items
-pairs_long v = search rules
-
 -- the cut is one among the workers of these inboxes, of which there are at most 16
-is_cut : (motes there workers : ℕ) (pairs : List Pair) (inboxes : List InboxId) (of : List ℕ) → cut_fault motes workers of ≡ None → motes ≡ there → workers ≡ length pairs → inboxes ≡ map (λ (pair : Pair). pair.0) pairs
-    → (length inboxes ≤ 16) × IsCut there (length inboxes) of
-is_cut motes there workers pairs inboxes of none all each same =
-    let fits : (workers ≤ 16) × IsCut motes workers of = fits_is motes workers of none in
-    let long : workers ≡ length inboxes = each ∙ (sym (length-map pairs (λ (pair : Pair). pair.0)) ∙ ap length (sym same)) in
-    (subst (λ k. k ≤ 16) long fits.0, subst (λ k. IsCut k (length inboxes) of) all (subst (λ k. IsCut motes k of) long fits.1))
+is_cut : (motes : ℕ) (pairs : List Pair) (inboxes : List InboxId) (of : List ℕ) → cut_fault motes (length pairs) of ≡ None → inboxes ≡ map (λ (pair : Pair). pair.0) pairs
+    → (length inboxes ≤ 16) × IsCut motes (length inboxes) of
+is_cut motes pairs inboxes of none same =
+    let long : length pairs ≡ length inboxes = sym (length-map pairs (λ (pair : Pair). pair.0)) ∙ ap length (sym same) in
+    subst (λ k. (k ≤ 16) × IsCut motes k of) long (fits_is motes (length pairs) of none)
 
 are_fresh : (pairs : List Pair) (inboxes : List InboxId) (takers : List TakerView) → inboxes ≡ map (λ (pair : Pair). pair.0) pairs → takers ≡ map (λ (pair : Pair). pair.1) pairs → Each (λ (pair : Pair). IsFresh pair.0 pair.1) pairs
     → AllZip IsFresh inboxes takers
@@ -45,8 +43,8 @@ are_fresh pairs inboxes takers e f fresh =
 
 pub new-requires-clause-cut : goal.new-requires-clause-cut
 new-requires-clause-cut g c =
-    (is_cut c.motes.result (length (net_of c.args.net.now).motes) c.len.result c.args.pairs.items c.in-Ok.inboxes.items c.as_slice-of.result.now
-    (sym c.fault_of.ensures.value ∙ c.in_default.is) c.motes.ensures.value (c.len.ensures ∙ pairs_long c.args.pairs) c.in-Ok.ensures.inboxes).1
+    rw c.as_slice-of.ensures.value
+    (is_cut (length (net_of c.args.net.now).motes) c.args.pairs.items c.in-Ok.inboxes.items c.args.cut.now.of.items c.requires.fits c.in-Ok.ensures.inboxes).1
 
 pub new-requires-clause-fresh : goal.new-requires-clause-fresh
 new-requires-clause-fresh g c = are_fresh c.args.pairs.items c.in-Ok.inboxes.items c.in-Ok.takers.items c.in-Ok.ensures.inboxes c.in-Ok.ensures.takers c.requires.fresh
@@ -59,8 +57,7 @@ run_by_kind-requires-clause-ready g c κs within =
     let inboxes = c.in-Ok-new.ensures.inboxes.0 ∙ c.in-Ok.ensures.inboxes in
     let takers = c.in-Ok-new.ensures.inboxes.1 ∙ c.in-Ok.ensures.takers in
     let fits : (length group.inboxes.items ≤ 16) × IsCut (length n.motes) (length group.inboxes.items) of =
-    is_cut c.motes.result (length n.motes) c.len.result c.args.pairs.items group.inboxes.items of
-    (sym c.fault_of.ensures.value ∙ c.in_default.is) c.motes.ensures.value (c.len.ensures ∙ pairs_long c.args.pairs) inboxes in
+    rw c.as_slice-of.ensures.value (is_cut (length n.motes) c.args.pairs.items group.inboxes.items c.args.cut.now.of.items c.requires.fits inboxes) in
     record {
       few = fits.0;
       cut = fits.1;
@@ -72,17 +69,29 @@ pub run_by_kind-requires-clause-kind : goal.run_by_kind-requires-clause-kind
 run_by_kind-requires-clause-kind g c κs within =
     subst (Each (IsFor c.args.sync)) (sym (c.in-Ok-new.ensures.inboxes.1 ∙ c.in-Ok.ensures.takers)) (seconds_have (IsFor c.args.sync) c.args.pairs.items c.requires.kind)
 
+pub make_report-requires-clause-at_end : goal.make_report-requires-clause-at_end
+make_report-requires-clause-at_end g c κs within = (net_of c.args.net.now, c.in_ok-group.ensures.at_end)
+
+pub returns-clause-report : goal.returns-clause-report
+returns-clause-report g c =
+    let n = net_of c.args.net.now in
+    if_ok (λ (r : Report × Vec Pair Global). (m : NetModel) → AreAtEnd m c.as_slice-of.result.now c.in_ok-group.group → IsReportOf m (report_of r.0))
+    (λ (r : Report × Vec Pair Global). IsReportOf n (report_of r.0)) c.make_report.result (λ r h. h n c.in_ok-group.ensures.at_end) c.make_report.ensures.report
+
 pub returns-clause-traces : goal.returns-clause-traces
 returns-clause-traces g c =
     let n = net_of c.args.net.now in
     if_ok (λ (r : Report × Vec Pair Global). IsReportOf n (report_of r.0))
     (λ (r : Report × Vec Pair Global). (vec_len r.0.traces ≡ length n.motes) × All (λ (v : Vec Line Global). IsInOrder v.items) r.0.traces.items)
-    c.make_report.result (λ r h. (long_as r.0.traces ∙ one_trace_each n r.0 h, all_hand_on n r.0 h)) c.make_report.ensures.report
+    c.make_report.result (λ r h. (long_as r.0.traces ∙ one_trace_each n r.0 h, all_hand_on n r.0 h)) (returns-clause-report g c)
 
 pub returns-clause-crossed : goal.returns-clause-crossed
 returns-clause-crossed g c =
     let n = net_of c.args.net.now in
-    subst (λ l. IfOk c.make_report.result (λ (r : Report × Vec Pair Global). AllCrossed n l (report_of r.0) r.1.items)) c.as_slice-of.ensures.value c.make_report.ensures.crossed
+    let of = c.as_slice-of.result.now in
+    subst (λ l. IfOk c.make_report.result (λ (r : Report × Vec Pair Global). AllCrossed n l (report_of r.0) r.1.items)) c.as_slice-of.ensures.value
+    (if_ok (λ (r : Report × Vec Pair Global). (m : NetModel) → AreAtEnd m of c.in_ok-group.group → AllCrossed m of (report_of r.0) r.1.items)
+    (λ (r : Report × Vec Pair Global). AllCrossed n of (report_of r.0) r.1.items) c.make_report.result (λ r h. h n c.in_ok-group.ensures.at_end) c.make_report.ensures.crossed)
 
 pub returns-clause-inboxes : goal.returns-clause-inboxes
 returns-clause-inboxes g c =
