@@ -1,8 +1,7 @@
 -- Each trace of a run of a net names only processes and events of its mote's program.
-use Rattle.std.proofs.Common.{◌≡◌, ℕ, zero, suc, List, [], ◌∷◌, ◌++◌, length, map, refl, sym, ap, ◌∙◌, subst, inl, inr}
+use Rattle.std.proofs.Common.{◌≡◌, ℕ, zero, suc, List, [], ◌∷◌, ◌++◌, length, map, refl, sym, ap, ◌∙◌, subst}
 use Rattle.std.proofs.lemmas.List.{map-append}
 use Rattle.std.specs.List.{AllByRecursion as Each}
-use Rattle.program_tree.specs.Code.{Tree}
 use Rattle.trace_lines.specs.declared.line.Line.{Line}
 use Rattle.mote_program.specs.Complete.{IsComplete}
 use Rattle.mote_program.specs.Declarations.{IsDeclared}
@@ -17,7 +16,7 @@ use Rattle.net_agenda.specs.NetSystem.{system_of, no_mote, mote_at, tree_at}
 use Rattle.trace_printer.specs.Named.{IsNamed, AreNamed}
 use Rattle.trace_printer.specs.Laws.{TextDeterminesReport, NoTextBeginsAnother}
 use Rattle.trace_printer.specs.ReportText.{report_text}
-use Rattle.report_laws.specs.Laws.{ProgramsDeclare, RunsNameOnly, IsRunOf, AreComparable}
+use Rattle.report_laws.specs.Laws.{ProgramsDeclare, RunsNameOnly, IsRunOf}
 use Rattle.report_laws.specs.Laws.{ComparingBytesIsComparingRuns, NoRunBeginsAnother}
 use Rattle.report_laws.proofs.Declared.{is_whole}
 use Rattle.report_laws.proofs.States.{IsWhole, FitsLine}

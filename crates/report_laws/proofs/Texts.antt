@@ -1,5 +1,5 @@
 -- The programs of a scenario's net declare what they name, and their names differ, since each is the tree of a text.
-use Rattle.std.proofs.Common.{◌≡◌, ℕ, Bool, true, false, cond, List, [], ◌∷◌, map, Option, Some, None, unwrap_or, refl}
+use Rattle.std.proofs.Common.{ℕ, Bool, true, false, cond, List, [], ◌∷◌, map, Some, unwrap_or, refl}
 use Rattle.std.proofs.Common.{sym, subst}
 use Rattle.std.specs.Prelude.{find, codes}
 use Rattle.std.specs.List.{AllByRecursion as Each}

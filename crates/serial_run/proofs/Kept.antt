@@ -1,12 +1,9 @@
 -- An invariant of turns: each mote's own wake is in the agenda, and no event is for a mote that doesn't exist.
-use Rattle.std.proofs.Common.{◌≡◌, ℕ, ◌<◌, true, false, not, ◌&&◌, ◌||◌, eqb, List, [], ◌∷◌, ◌++◌, length, map, refl}
-use Rattle.std.proofs.Common.{sym, ap, ◌∙◌, subst, inl, inr, arith, append-nil, Option, Some, None}
-use Rattle.std.specs.List.{filter, flat_map, AllByRecursion}
-use Rattle.std.proofs.lemmas.Bool.{cases_eq, cases_Bool, eq-eqb, ne_eqb}
-use Rattle.std.proofs.lemmas.Bool.Decides.{nat_tests}
-use Rattle.std.proofs.lemmas.List.Elements.{filter-append}
+use Rattle.std.proofs.Common.{◌≡◌, ℕ, ◌<◌, true, not, eqb, List, length, refl}
+use Rattle.std.proofs.Common.{ap, ◌∙◌, subst, inl, inr, Option, Some, None}
+use Rattle.std.specs.List.{filter, flat_map}
+use Rattle.std.proofs.lemmas.Bool.{cases_Bool, eq-eqb}
 use Rattle.trace_lines.specs.declared.line.Line.{Line}
-use Rattle.radio_packet.specs.declared.sent.Sent.{Sent}
 use Rattle.radio_packet.specs.declared.copy.RadioCopy.{RadioCopy}
 use Rattle.mote_node.specs.Node.{Node}
 use Rattle.mote_node.specs.Turn.{turn_of}
@@ -14,7 +11,7 @@ use Rattle.mote_node.specs.Wake.{wake_of}
 use Rattle.mote_net.specs.Net.{NetModel}
 use Rattle.window_laws.specs.System.{Turned}
 use Rattle.window_laws.specs.Forward.{RunsForward}
-use Rattle.window_laws.specs.Agenda.{Item, Packet, mote_of, comes_at, is_wake_of, is_left, wake_items}
+use Rattle.window_laws.specs.Agenda.{mote_of, comes_at, is_wake_of, is_left, wake_items}
 use Rattle.window_laws.proofs.Agenda.{wakes_other, wakes_own}
 use Rattle.net_agenda.specs.Buckets.{wake_but_at}
 use Rattle.window_laws.specs.NetStep.{NetState, stamped, sends_of, turned_at, turn_at}
@@ -22,7 +19,7 @@ use Rattle.net_agenda.specs.NetSystem.{system_of}
 use Rattle.serial_run.specs.Stands.{KeepsWakes}
 use Rattle.window_laws.proofs.Ahead.{turn_every}
 use Rattle.window_laws.proofs.Puts.{put_each}
-use Rattle.window_laws.proofs.Lists.{filter_filter, every_filter, every_weaker}
+use Rattle.window_laws.proofs.Lists.{every_filter, every_weaker}
 
 pub wake_later : (t m : ℕ) (wake : Option ℕ) → filter (λ item. not (comes_at t m item)) (wake_items m wake) ≡ wake_items m (wake_but_at t wake)
 wake_later t m None = refl

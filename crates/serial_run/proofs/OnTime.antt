@@ -1,12 +1,10 @@
 -- The run of a net gives each mote its turns at rising moments.
-use Rattle.std.proofs.Common.{◌≡◌, ◌⊎◌, ℕ, suc, length, ◌<◌, ◌≤◌, true, false, not, ◌&&◌, ◌||◌, nat_le, ltb, eqb, List}
-use Rattle.std.proofs.Common.{[], ◌∷◌, map, get_or, Option, Some, None, refl, sym, ap, ◌∙◌, subst, inl, inr, arith}
+use Rattle.std.proofs.Common.{◌≡◌, ℕ, suc, length, ◌<◌, ◌≤◌, true, false, not, ◌&&◌, ◌||◌, nat_le, ltb, eqb, List}
+use Rattle.std.proofs.Common.{[], ◌∷◌, get_or, Option, Some, None, refl, sym, ap, ◌∙◌, subst, arith}
 use Rattle.std.proofs.Common.{zero-le}
-use Rattle.std.specs.List.{filter, flat_map, AllByRecursion}
-use Rattle.std.proofs.lemmas.Bool.{cases_eq, eq-eqb, ne_eqb, eqb-true, and_parts}
+use Rattle.std.specs.List.{AllByRecursion}
 use Rattle.std.proofs.lemmas.Bool.Decides.{nat_tests}
 use Rattle.trace_lines.specs.declared.line.Line.{Line}
-use Rattle.radio_packet.specs.declared.sent.Sent.{Sent}
 use Rattle.radio_packet.specs.declared.copy.RadioCopy.{RadioCopy}
 use Rattle.mote_node.specs.declared.mote.Mote.{Mote}
 use Rattle.mote_node.specs.Node.{Node, new_node, is_past}
@@ -15,8 +13,8 @@ use Rattle.mote_node.specs.Turn.{turn_of}
 use Rattle.mote_net.specs.Net.{NetModel}
 use Rattle.window_laws.specs.System.{Turned, IsCopyOf}
 use Rattle.window_laws.specs.Forward.{RunsForward}
-use Rattle.window_laws.specs.Agenda.{Item, Packet, moment_of, mote_of, comes_at, is_left, is_from, wake_items, IsLeast}
-use Rattle.window_laws.specs.NetStep.{NetState, boot, put, stamped, turned_at, turn_at}
+use Rattle.window_laws.specs.Agenda.{Item, Packet, moment_of, mote_of, is_left, is_from, IsLeast}
+use Rattle.window_laws.specs.NetStep.{NetState, boot, stamped, turned_at, turn_at}
 use Rattle.window_laws.proofs.Agenda.{due_has}
 use Rattle.window_laws.proofs.Ahead.{no_sooner, turn_ahead, turn_every}
 use Rattle.window_laws.proofs.Lists.{every_both, every_filter, every_weaker}

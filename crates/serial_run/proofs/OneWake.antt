@@ -1,14 +1,13 @@
 -- In a run each mote has at most one wake.
-use Rattle.std.proofs.Common.{◌≡◌, ℕ, ◌≤◌, Bool, true, false, cond, not, ◌&&◌, ◌||◌, ltb, eqb, List, [], ◌++◌, length, map, refl, ap, ◌∙◌, inl, inr, arith, length-append, append-nil, Option, Some, None}
+use Rattle.std.proofs.Common.{◌≡◌, ℕ, ◌≤◌, true, false, cond, ◌&&◌, ltb, eqb, List, ◌++◌, length, map, ap, ◌∙◌, inl, inr, arith, Option, Some, None}
 use Rattle.std.specs.List.{filter, flat_map, AllByRecursion}
 use Rattle.std.proofs.lemmas.Bool.{cases_eq, and_parts}
-use Rattle.std.proofs.lemmas.List.Elements.{filter-append}
 use Rattle.radio_packet.specs.declared.copy.RadioCopy.{RadioCopy}
 use Rattle.window_laws.specs.Agenda.{Item, Wake, Packet, comes_at, is_left, is_wake_of, wake_items}
 use Rattle.window_laws.specs.NetStep.{NetState, Run, Done, Turn, boot, turned_at, sends_of}
 use Rattle.window_laws.specs.System.{System}
 use Rattle.window_laws.proofs.Agenda.{first_wakes, wakes_other, wakes_own}
-use Rattle.window_laws.proofs.Lists.{filter_both, filter_filter, filter_never, filter_stronger, every_weaker, no_more}
+use Rattle.window_laws.proofs.Lists.{filter_stronger, every_weaker, no_more}
 use Rattle.net_agenda.specs.NetSystem.{system_of}
 use Rattle.net_agenda.specs.Items.{is_wake_at, WakesDiffer}
 use Rattle.serial_run.specs.Laws.{agendas, OneWake, AlwaysOneWake, WakesAlwaysDiffer}

@@ -1,5 +1,5 @@
 -- How far the engine has come.
-use Rattle.std.proofs.Common.{◌≡◌, ℕ, ◌<◌, ◌≤◌, true, not, ◌&&◌, ◌||◌, ltb, eqb, [], length, sym, ap, ◌∙◌, subst}
+use Rattle.std.proofs.Common.{◌≡◌, ℕ, ◌<◌, ◌≤◌, [], length, sym, ap, ◌∙◌, subst}
 use Rattle.std.proofs.Common.{arith}
 use Rattle.std.specs.Prelude.{IfSome}
 use Rattle.std.specs.List.{AllByRecursion}
@@ -9,7 +9,7 @@ use Rattle.mote_node.specs.Node.{Node}
 use Rattle.mote_net.specs.Net.{NetModel}
 use Rattle.serial_run.specs.declared.engine.Engine.{Engine}
 use Rattle.window_laws.specs.Forward.{RunsForward}
-use Rattle.window_laws.specs.Agenda.{Wake, moment_of, mote_of, comes_at, wake_items, IsLeast, up_to}
+use Rattle.window_laws.specs.Agenda.{Wake, moment_of, mote_of, wake_items, IsLeast, up_to}
 use Rattle.window_laws.proofs.Agenda.{first_wakes, below_all, due_has}
 use Rattle.net_agenda.specs.NetSystem.{system_of, tree_at}
 use Rattle.window_laws.specs.NetStep.{NetState, Done, Turn, boot, turn_at}

@@ -9,10 +9,10 @@ use Rattle.std.proofs.lemmas.List.{map-append}
 use Rattle.trace_lines.specs.declared.line.Line.{Line}
 use Rattle.mote_net.specs.Net.{NetModel}
 use Rattle.mote_net.specs.declared.report.Report.{Report}
-use Rattle.mote_net.specs.Report.{Packet, ReportModel, lines_in, line_model, report_of}
+use Rattle.mote_net.specs.Report.{lines_in, report_of}
 use Rattle.serial_run.specs.declared.engine.Engine.{Engine}
 use Rattle.window_laws.specs.Agenda.{packets, up_to}
-use Rattle.serial_run.specs.NetRun.{packet_with_fates, report_at, IsReportOf}
+use Rattle.serial_run.specs.NetRun.{report_at, IsReportOf}
 use Rattle.serial_run.specs.Stands.{IsWhole}
 use Rattle.serial_run.specs.Ended.{HasEnded}
 use Rattle.serial_run.proofs.Handed.{traces_hand_on}

@@ -1,9 +1,8 @@
 -- The traces of a net never go back in moment, and the packets of each mote are numbered in order.
-use Rattle.std.proofs.Common.{◌≡◌, ℕ, ◌+◌, ◌<◌, ◌≤◌, true, false, not, ◌&&◌, ◌||◌, ltb, eqb, List, [], ◌∷◌, ◌++◌, length}
-use Rattle.std.proofs.Common.{map, Option, Some, None, refl, sym, ap, ◌∙◌, subst, inl, inr, arith, zero-le, append-nil}
-use Rattle.std.specs.List.{All, filter, flat_map, range_with_len, AllByRecursion}
+use Rattle.std.proofs.Common.{◌≡◌, ℕ, ◌+◌, ◌<◌, ◌≤◌, true, false, eqb, List, [], ◌∷◌, ◌++◌, length}
+use Rattle.std.proofs.Common.{map, refl, sym, ap, ◌∙◌, subst, inl, inr, arith, zero-le, append-nil}
+use Rattle.std.specs.List.{All, range_with_len, AllByRecursion}
 use Rattle.std.proofs.lemmas.Bool.{cases_eq, eq-eqb, ne_eqb}
-use Rattle.std.proofs.lemmas.Bool.Decides.{nat_tests}
 use Rattle.std.proofs.lemmas.List.{length-append, length-map}
 use Rattle.std.proofs.lemmas.List.Elements.{All-nil, All-cons, All-append, All-weaker, filter-append}
 use Rattle.trace_lines.specs.declared.line.Line.{Line}
@@ -19,12 +18,12 @@ use Rattle.radio_medium.proofs.Copies.{copies_later}
 use Rattle.mote_net.specs.Net.{NetModel}
 use Rattle.window_laws.specs.System.{Turned}
 use Rattle.window_laws.specs.Forward.{IsLater}
-use Rattle.window_laws.specs.Agenda.{Item, Packet, moment_of, mote_of, comes_at, is_left, is_from, wake_items, IsLeast}
+use Rattle.window_laws.specs.Agenda.{Item, moment_of, mote_of, is_left, is_from, IsLeast}
 use Rattle.window_laws.specs.Agenda.{up_to}
 use Rattle.net_agenda.specs.NetSystem.{system_of, mote_at}
 use Rattle.mote_net.specs.Report.{ReportModel, Packet as OfReport}
 use Rattle.serial_run.specs.NetRun.{packet_with_fates}
-use Rattle.window_laws.specs.NetStep.{NetState, Run, Done, Turn, boot, put, stamped, turned_at, turn_at}
+use Rattle.window_laws.specs.NetStep.{NetState, Run, Done, Turn, boot, stamped, turned_at, turn_at}
 use Rattle.serial_run.specs.Stamps.{TracesNeverGoBack, sent_by, LogCountsUp}
 use Rattle.window_laws.proofs.Agenda.{due_has}
 use Rattle.window_laws.proofs.Ahead.{no_sooner, turn_every}
