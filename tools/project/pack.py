@@ -1,10 +1,15 @@
-"""Makes one archive for a classroom: tools/pack [-o FILE]
+"""Makes one archive for a classroom: tools/pack [-o FILE] [OWN ..]
 
 The archive motesim-VERSION.tar.gz has `motesim`, the tools and pages for users, the examples, and the terms under
-which all of it may be passed on. It runs on any Linux for x86-64, the tools with Python 3.11 or newer, from any
-folder: nothing is installed, and nothing is fetched from a network.
+which all of it may be passed on. It runs on any Linux for x86-64 with glibc 2.34 or newer, the tools with Python 3.11
+or newer, from any folder: nothing is installed, and nothing is fetched from a network.
 
     tar xzf motesim-VERSION.tar.gz && cd motesim-VERSION && ./run examples/flooding.toml
+
+It has the files that git knows, and the folders and files of your own that you name, such as an exercise and its
+worksheet: tools/pack examples/mylab worksheet.pdf. A folder or file outside of this tree is at the top of the archive.
+Whatever you name, nothing is packed whose name, or that of its folder, begins with `solution` or `hidden`, nor
+docs/use/TEACH.md. tools/pack lists what it adds to the repository's own files, and what it leaves out.
 
 The archive has the binary that the environment variable MOTESIM names, or without it the proved `motesim` of these
 sources, if ./prove has built it; the page PROVED.md then describes the proof and the kit. Otherwise it has one that is
@@ -19,12 +24,15 @@ import importlib
 import io
 import os
 import re
+import subprocess
 import tarfile
-from collections.abc import Collection
+from collections.abc import Collection, Iterable, Iterator
 from pathlib import Path, PurePosixPath
+from typing import NamedTuple
 
 from motesim.faults import Fault, command
 from motesim.runner.programs import COMPILED, TOP, is_proved, program_of_sources, program_path
+from motesim.terminal import one_line
 from motesim.version import KIT, VERSION
 from motesim.words import words_of
 from project import kit
@@ -33,6 +41,8 @@ from project.tree import commit
 
 # The contents of the archive besides the program: files, and folders with all files in them that git knows.
 PARTS = ('CHANGES.md', 'CITATION.cff', 'LICENSE', 'docs/use', 'examples', 'tools/contiki_host', 'tools/motesim')
+# The page on how the lesson is graded, and the first letters of files and folders that are for teachers.
+GRADING, KEPT_BACK = 'docs/use/TEACH.md', ('solution', 'hidden')
 # A link of a page, with its words and its target. (The words may be on two lines.)
 LINK = re.compile(r'(?<!!)\[([^\]\n]*(?:\n[^\]\n]*)?)\]\(([^)#\s]*)(?:#[^)\s]*)?\)')
 
@@ -76,10 +86,91 @@ def user_commands() -> dict[str, str]:
     return found
 
 
-def is_for_students(file: Path) -> bool:
-    """Returns whether a file goes into the archive: not the lesson's solutions, nor the page on how it is graded."""
-    is_for_teachers = TOP / 'examples/lesson/solutions' in file.parents or file == TOP / 'docs/use/TEACH.md'
-    return file.is_file() and '__pycache__' not in file.parts and not is_for_teachers
+class Sorted(NamedTuple):
+    """Files by what happens to them: those of the repository, those that are added, and those that are left out.
+
+    packed    the place of each file of the archive, by its name there
+    added     the names of those that the maker has named
+    changed   the names of those that differ from the commit
+    left_out  the others, each with the reason
+    is_clone  whether git lists the files of the repository
+    """
+    packed: dict[str, Path]
+    added: list[str]
+    changed: list[str]
+    left_out: dict[str, str]
+    is_clone: bool
+
+    def told(self) -> list[str]:
+        """The lines on what isn't the repository's own, and on what is left out."""
+        lines = [] if self.is_clone else ['Git lists no files of this tree, so all files of its folders are packed.']
+        lines += ['Added: %s' % one_line(it) for it in self.added]
+        lines += ['Not as in the commit: %s' % one_line(it) for it in self.changed]
+        return lines + ['Left out: %s (%s)' % (one_line(name), why) for name, why in self.left_out.items()]
+
+
+def is_kept_back(names: Iterable[str]) -> bool:
+    """Returns whether a file with these names of folders and of its own is for teachers only."""
+    return any(it.lower().startswith(KEPT_BACK) for it in names)
+
+
+def is_rubbish(names: Iterable[str]) -> bool:
+    """Returns whether a file is one that tools and editors make for themselves."""
+    return any(it == '__pycache__' or it.startswith('.') or it.endswith('~') for it in names)
+
+
+def of_git(top: Path, *words: str) -> list[str] | None:
+    """The files that git lists; None if it lists none, as for a tree that isn't a clone."""
+    try:
+        done = subprocess.run(['git', '-C', str(top), *words, '-z'], capture_output=True)
+    except FileNotFoundError:
+        return None
+    return [os.fsdecode(it) for it in done.stdout.split(b'\0') if it] or None
+
+
+def files_of(path: Path) -> Iterator[Path]:
+    """A file, or all files of a folder."""
+    yield from (it for it in (path, *sorted(path.rglob('*'))) if it.is_file())
+
+
+def own_files(named: Iterable[Path], top: Path) -> Iterator[tuple[str, Path]]:
+    """The files that the maker has named, or that are in folders which the maker has named, by their names."""
+    for path in named:
+        there = path.resolve()
+        if not there.exists():
+            raise Fault('there is no file or folder %s' % path)
+        if not there.is_file() and (there == top or there in top.parents):
+            raise Fault('%s contains this whole tree: name a folder in it' % path)
+        base = top if top in there.parents else there.parent
+        for file in files_of(there):
+            yield str(file.relative_to(base)), file
+
+
+def sorted_files(parts: Iterable[str], named: Iterable[Path] = (), top: Path = TOP) -> Sorted:
+    """The files of the archive besides the program, from the repository's parts and what the maker has named."""
+    listed, changed = of_git(top, 'ls-files'), set(of_git(top, 'diff', '--name-only', '--relative', 'HEAD') or ())
+    found, own = Sorted({}, [], [], {}, listed is not None), dict(own_files(named, top))
+    its = {str(file.relative_to(top)): file for part in parts for file in files_of(top / part)}
+    known = set(its if listed is None else listed)
+    for name, file in {**its, **own}.items():
+        names = PurePosixPath(name).parts
+        # (a link is judged by the file that it leads to, too)
+        there = file.resolve().parts[-2:] if file.is_symlink() else ()
+        if is_rubbish(names):
+            continue
+        if name in known and name in own and not own[name].samefile(top / name):
+            raise Fault('%s has the name of a file of the repository: rename it' % own[name])
+        if is_kept_back((*names, *there)) or name == GRADING:
+            found.left_out[name] = 'for teachers'
+        elif name not in known and name not in own:
+            found.left_out[name] = 'git doesn\'t know it, and it wasn\'t named'
+        else:
+            found.packed[name] = file
+            if name not in known or name not in its:
+                found.added.append(name)
+            elif name in changed:
+                found.changed.append(name)
+    return found
 
 
 def about_proof(program: Path) -> str:
@@ -91,7 +182,12 @@ def about_proof(program: Path) -> str:
     return 'The program is compiled, not proved.'
 
 
-def files(program: Path) -> dict[str, tuple[bytes, int]]:
+def parts() -> list[str]:
+    """The parts of this tree that go into the archive."""
+    return [*PARTS, *('tools/' + it for it in user_commands())]
+
+
+def files(program: Path, its: Sorted | None = None) -> dict[str, tuple[bytes, int]]:
     """The contents of the archive: for each name, its bytes and its mode."""
     tools, built = user_commands(), program.read_bytes()
     about = {'version': VERSION, 'commit': commit() or 'not known', 'kit': kit_at_hand(), 'compiled': COMPILED,
@@ -102,11 +198,10 @@ def files(program: Path) -> dict[str, tuple[bytes, int]]:
         pages['PROVED.md'] = (template('proved') % about).encode()
     found = {name: (data, 0o644) for name, data in pages.items()}
     found |= {'motesim': (built, 0o755), 'run': ((template('run') % about).encode(), 0o755)}
-    for part in (*PARTS, *('tools/' + it for it in tools)):
-        path = TOP / part
-        for file in filter(is_for_students, [path, *sorted(path.rglob('*'))]):
-            mode = 0o755 if file.stat().st_mode & 0o100 else 0o644
-            found[str(file.relative_to(TOP))] = file.read_bytes(), mode
+    for name, file in (its or sorted_files(parts())).packed.items():
+        if name in found:
+            raise Fault('%s has the name of a file of the archive: rename it' % file)
+        found[name] = file.read_bytes(), 0o755 if file.stat().st_mode & 0o100 else 0o644
     return {name: (without_dead_links(name, data, found), mode) if name.endswith('.md') else (data, mode)
             for name, (data, mode) in found.items()}
 
@@ -119,14 +214,14 @@ def without_dead_links(name: str, data: bytes, names: Collection[str]) -> bytes:
         target = os.path.normpath(os.path.join(os.path.dirname(name), link[2]))
         return link[0] if '://' in link[2] or not link[2] or target in names or target in folders else link[1]
 
-    return LINK.sub(kept, data.decode('utf-8')).encode()
+    return LINK.sub(kept, data.decode('utf-8', 'surrogateescape')).encode('utf-8', 'surrogateescape')
 
 
-def archive(folder: str, program: Path) -> bytes:
+def archive(folder: str, program: Path, its: Sorted | None = None) -> bytes:
     """The archive, with all in one folder."""
     plain = io.BytesIO()
-    with tarfile.open(fileobj=plain, mode='w', format=tarfile.USTAR_FORMAT) as tar:
-        for name, (data, mode) in sorted(files(program).items()):
+    with tarfile.open(fileobj=plain, mode='w', format=tarfile.PAX_FORMAT) as tar:
+        for name, (data, mode) in sorted(files(program, its).items()):
             entry = tarfile.TarInfo('%s/%s' % (folder, name))
             entry.size, entry.mode = len(data), mode
             tar.addfile(entry, io.BytesIO(data))
@@ -138,11 +233,16 @@ def main() -> int:
     words = words_of(__doc__)
     words.add_argument('-o', '--output', metavar='FILE', type=Path,
                        help='the archive (motesim-VERSION.tar.gz, in this folder)')
+    words.add_argument('own', metavar='OWN', type=Path, nargs='*',
+                       help='a folder or file of your own that goes into the archive too')
     asked = words.parse_args()
+    its = sorted_files(parts(), asked.own)
     folder, packed = 'motesim-%s' % VERSION, program()
     path = asked.output or Path(folder + '.tar.gz')
-    data = archive(folder, packed)
+    data = archive(folder, packed, its)
     path.write_bytes(data)
+    for line in its.told():
+        print(line)
     print('%s: %.1f MB. %s' % (path, len(data) / 1e6, about_proof(packed)))
     print('Students unpack it by: tar xzf %s && cd %s && ./run examples/flooding.toml' % (path.name, folder))
     return 0

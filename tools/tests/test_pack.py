@@ -159,6 +159,67 @@ class Pack(unittest.TestCase):
                          'docs/use/WORKSHEET.md'} <= names)
         self.assertEqual([name for name in names if 'solutions' in name or 'TEACH' in name], [])
 
+    def tree(self, known: str, others: str) -> Path:
+        """A clone with files that git knows, and others."""
+        room = tempfile.TemporaryDirectory()
+        self.addCleanup(room.cleanup)
+        top = Path(room.name).resolve() / 'tree'
+        for name in (*known.split(), *others.split()):
+            (top / name).parent.mkdir(parents=True, exist_ok=True)
+            (top / name).write_text('')
+        for words in ['init', '-q'], ['add', *known.split()], ['-c', 'user.name=a', '-c', 'user.email=a@b', 'commit',
+                                                               '-q', '-m', 'a']:
+            subprocess.run(['git', *words], cwd=top, check=True)
+        return top
+
+    def test_a_teacher_s_exercise_is_packed_only_if_it_is_named_and_never_with_solutions(self) -> None:
+        top = self.tree('examples/a.toml examples/lesson/solutions/task1.toml docs/use/TEACH.md docs/use/QUICK.md',
+                        'examples/lesson/mine.toml examples/lesson/solutions2/x.toml examples/lab/start.toml '
+                        'examples/lab/hidden.toml examples/lab/solutions/anna.toml examples/lab/Hidden_nets/a.toml '
+                        'examples/lab/__pycache__/a.pyc lab2/start.toml lab2/sheet.md')
+        (top / 'lab2/link.toml').symlink_to(top / 'examples/lab/hidden.toml')
+        parts = ['docs/use', 'examples']
+        found = pack.sorted_files(parts, (), top)
+        self.assertEqual(sorted(found.packed), ['docs/use/QUICK.md', 'examples/a.toml'])
+        self.assertEqual(found.told(), [
+            'Left out: docs/use/TEACH.md (for teachers)',
+            'Left out: examples/lab/Hidden_nets/a.toml (for teachers)',
+            'Left out: examples/lab/hidden.toml (for teachers)',
+            'Left out: examples/lab/solutions/anna.toml (for teachers)',
+            "Left out: examples/lab/start.toml (git doesn't know it, and it wasn't named)",
+            "Left out: examples/lesson/mine.toml (git doesn't know it, and it wasn't named)",
+            'Left out: examples/lesson/solutions/task1.toml (for teachers)',
+            'Left out: examples/lesson/solutions2/x.toml (for teachers)'])
+        found = pack.sorted_files(parts, [top / 'examples/lab', top / 'lab2'], top)
+        self.assertEqual(sorted(found.packed), ['docs/use/QUICK.md', 'examples/a.toml', 'examples/lab/start.toml',
+                                                'lab2/sheet.md', 'lab2/start.toml'])
+        self.assertEqual(found.added, ['examples/lab/start.toml', 'lab2/sheet.md', 'lab2/start.toml'])
+        self.assertIn('lab2/link.toml', found.left_out)
+        found = pack.sorted_files(parts, [top / 'examples/lab/hidden.toml'], top)
+        self.assertEqual((found.added, 'examples/lab/hidden.toml' in found.left_out), ([], True))
+
+    def test_files_from_elsewhere_are_at_the_top_of_the_archive(self) -> None:
+        top = self.tree('examples/a.toml LICENSE', '')
+        lab = top.parent / 'course/lab'
+        (lab / 'solutions').mkdir(parents=True)
+        for name in 'start.toml', 'solutions/x.toml', '../sheet.pdf', '../LICENSE':
+            (lab / name).write_text('')
+        found = pack.sorted_files(['examples'], [lab, lab.parent / 'sheet.pdf'], top)
+        self.assertEqual(found.added, ['lab/start.toml', 'sheet.pdf'])
+        self.assertEqual(found.left_out, {'lab/solutions/x.toml': 'for teachers'})
+        for path, said in [(lab.parent / 'LICENSE', 'has the name of a file of the repository: rename it'),
+                           (lab / 'none', 'there is no file or folder'), (top.parent, 'contains this whole tree')]:
+            with self.assertRaisesRegex(Fault, said):
+                pack.sorted_files(['examples'], [path], top)
+
+    def test_a_file_that_differs_from_the_commit_is_listed(self) -> None:
+        top = self.tree('examples/a.toml', '')
+        (top / 'examples/a.toml').write_text('# the solution')
+        self.assertEqual(pack.sorted_files(['examples'], (), top).told(), ['Not as in the commit: examples/a.toml'])
+        shutil.rmtree(top / '.git')
+        self.assertEqual(pack.sorted_files(['examples'], (), top).told(), [
+            'Git lists no files of this tree, so all files of its folders are packed.'])
+
     def test_it_has_the_simulator_in_c_that_export_copies(self) -> None:
         self.assertIn('tools/contiki_host', pack.PARTS)
 
