@@ -47,7 +47,7 @@ def report_in(page: str) -> str:
 
 
 SCENARIO_PAGE = (TOP / 'docs/use/SCENARIO.md').read_text(encoding='utf-8')
-EXAMPLE = SCENARIO_PAGE[SCENARIO_PAGE.index('version = 2'):SCENARIO_PAGE.index('```\n\nA program may')]
+EXAMPLE = SCENARIO_PAGE[SCENARIO_PAGE.index('version = 2\n'):SCENARIO_PAGE.index('```\n\nA program may')]
 EXAMPLE_REPORT = report_in((TOP / 'docs/use/REPORT.md').read_text(encoding='utf-8'))
 
 
