@@ -126,12 +126,14 @@ def main() -> int:
     asked = words()
     os.chdir(TOP)
     kit.prepare_mutants()
-    every = named([edit for crate in kit.crates_below(TOP) for edit in edits_of(crate)], asked.names)
-    chosen = of_gate(every) if asked.gate else every
+    edits = [edit for crate in kit.crates_below(TOP) for edit in edits_of(crate)]
+    chosen = named(edits, asked.names)
+    if asked.gate:
+        chosen = of_gate(chosen)
     if asked.changed:
         chosen = log.changed(chosen)
     use_libraries = check_libraries if asked.built else kit.build_libraries
     use_libraries(list({it.crate.name: it.crate for it in chosen}.values()))
     found = judge_all(chosen)
-    log.note(found)
+    log.note(found, edits)
     return 1 if report(found) else 0

@@ -1,5 +1,6 @@
 """That the kit at hand is the one that tools/project/kit.py knows, with all that it takes of it."""
 import shutil
+import sys
 import types
 import unittest
 from unittest import mock
@@ -32,7 +33,9 @@ class AtHand(unittest.TestCase):
 
 class Format(unittest.TestCase):
     def test_all_sources_definitions_and_proofs_have_the_format_of_the_kit(self) -> None:
-        self.assertEqual(kit.badly_formatted(here.TOP), '', '`rt fmt` in a folder of a crate formats its files')
+        # (the kit's messages about a file are in the test's output)
+        others = [it.folder for it in kit.crates_below(here.TOP) if kit.rtlib().fmt(it.folder, '--check', sys.stdout)]
+        self.assertEqual(others, [], '`rt fmt` in these folders formats their files')
 
 
 class Others(unittest.TestCase):

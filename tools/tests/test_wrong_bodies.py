@@ -5,6 +5,7 @@ import re
 import shutil
 import tempfile
 import unittest
+from collections.abc import Sequence
 from dataclasses import replace
 from pathlib import Path
 from types import SimpleNamespace
@@ -15,7 +16,7 @@ import here  # (it puts tools/ on the path)
 from motesim.faults import Fault
 from project import kit, wrong_bodies
 from project.mutants import checks, log
-from project.mutants.checks import ANSWER, CONTRACT, INVARIANT, LIMIT, Verdict, function_of, refused_in, verdict_of
+from project.mutants.checks import ANSWER, CONTRACT, INVARIANT, LIMIT, Verdict, function_of, refused_in
 from project.mutants.edits import Edit, edits_of, function_around, groups, together
 
 CODE = """pub(crate) fn one<T>(
@@ -156,8 +157,7 @@ def crate_at(room: Path, files: dict[str, str]) -> Any:
 
 class WhatACheckSays(unittest.TestCase):
     def verdict(self, *lines: str) -> Verdict | None:
-        found = refused_in(lines)
-        return next((verdict_of(*it) for it in found.items()), None)
+        return next(iter(refused_in(lines).values()), None)
 
     def test_name_of_a_function(self) -> None:
         for name in 'q::queue::EventQueue::post', 'q::queue::post', 'q::queue::fn::EventQueue::post::map_err', \
@@ -269,8 +269,7 @@ class Log(unittest.TestCase):
         room = tempfile.TemporaryDirectory()
         self.addCleanup(room.cleanup)
         self.room, self.kit = Path(room.name), 'one'
-        for name, value in (('KEPT', self.room / 'log/kept.tsv'), ('version', lambda: self.kit),
-                            ('is_there', lambda it: 'gone' not in it)):
+        for name, value in ('KEPT', self.room / 'log/kept.tsv'), ('version', lambda: self.kit):
             patch = mock.patch.object(log, name, value)
             patch.start()
             self.addCleanup(patch.stop)
@@ -278,16 +277,16 @@ class Log(unittest.TestCase):
     def test_the_last_try_is_noted(self) -> None:
         first, last = Verdict(CONTRACT, 'c::f', 'returns'), Verdict(ANSWER, '', 'an\terror ' + 'x' * 999)
         a, b, gone = (edit_of(name) for name in ('low/a', 'low/b', 'gone/c'))
-        self.note({a: first, b: first, gone: first}, '1')
-        self.note({b: last}, '2')
+        self.note({a: first, b: first, gone: first}, '1', [a, b, gone])
+        self.note({b: last}, '2', [a, b])
         found = log.noted()
         self.assertEqual((list(found), found['low/a'].verdict, found['low/b'].digest), (['low/a', 'low/b'], first,
                                                                                         '2'))
         self.assertTrue(found['low/b'].verdict.why.startswith('an error xxx'))
 
-    def note(self, found: dict[Edit, Verdict], digest: str) -> None:
+    def note(self, found: dict[Edit, Verdict], digest: str, edits: Sequence[Edit]) -> None:
         with mock.patch.object(log, 'digest', lambda edit: digest):
-            log.note(found)
+            log.note(found, edits)
 
     def test_a_digest_has_all_that_a_verdict_depends_on(self) -> None:
         below = crate_at(self.room / 'low', {'src/lib.rt': 'fn a() {}\n', 'specs/A.antt': '', 'proofs/P.antt': ''})
@@ -320,9 +319,9 @@ class Log(unittest.TestCase):
 
     def test_what_is_noted_over_the_same_is_not_tried_again(self) -> None:
         kinds = {'low/a': CONTRACT, 'low/b': ANSWER, 'low/c': checks.NOT_REFUSED}
-        self.note({edit_of(name): Verdict(kind, 'f', 'g') for name, kind in kinds.items()}, '1')
-        self.note({edit_of('low/d'): Verdict(CONTRACT, 'f', 'g')}, '2')
         chosen = [edit_of(name) for name in [*kinds, 'low/d', 'low/e']]
+        self.note({edit_of(name): Verdict(kind, 'f', 'g') for name, kind in kinds.items()}, '1', chosen)
+        self.note({edit_of('low/d'): Verdict(CONTRACT, 'f', 'g')}, '2', chosen)
         with mock.patch.object(log, 'digest', lambda edit: '1'):
             self.assertEqual([it.name for it in log.changed(chosen)], ['low/c', 'low/d', 'low/e'])
 

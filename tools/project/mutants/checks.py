@@ -16,11 +16,11 @@ from typing import NamedTuple
 from project.kit import checked, kept_by_check, linked, says_nothing
 from project.mutants.edits import Edit, together
 
-# The verdicts on a mutant. The prover refuses it for a goal of a contract; only for a loop's invariant; only because
-# an answer by hand no longer fits, or at a limit of its own: both leave open what the contract says. Or it is proved,
-# or nothing is known.
-KINDS = CONTRACT, INVARIANT, ANSWER, LIMIT, NOT_REFUSED, UNKNOWN = (
-    'contract', 'invariant', 'answer', 'limit', 'not refused', 'unknown')
+# The verdicts on a mutant, the best first. The prover refuses it for a goal of a contract; only for a loop's invariant;
+# only at a limit of its own, or because an answer by hand no longer fits: both leave open what the contract says. Or it
+# is proved, or nothing is known.
+KINDS = CONTRACT, INVARIANT, LIMIT, ANSWER, NOT_REFUSED, UNKNOWN = (
+    'contract', 'invariant', 'limit', 'answer', 'not refused', 'unknown')
 REFUSED, OPEN = (CONTRACT, INVARIANT), (ANSWER, LIMIT)
 # The notes of a check about a goal that `search` did not prove, with the words for them in the log.
 NOTES = {'allow values at which this goal is false': 'false', 'gave up at one of its limits': 'search gave up'}
@@ -41,13 +41,6 @@ class Verdict(NamedTuple):
     why: str = ''
 
 
-class Said(NamedTuple):
-    """A check's messages on a function: the end of its line, the notes above it, and the errors in its own proof."""
-    line: str
-    notes: Sequence[str]
-    errors: Sequence[str]
-
-
 def function_of(name: str) -> str:
     """The function of a name that a check prints: f of c::m::S::f, and of the closure c::m::fn::S::f::closure in it."""
     _, is_closure, path = name.partition('::fn::')
@@ -62,48 +55,49 @@ def proof_errors(lines: Sequence[str], name: str) -> list[str]:
     return [it for it in errors if it.startswith(folders)]
 
 
-def refused_in(lines: Sequence[str]) -> dict[str, Said]:
-    """A check's messages on each function that it refuses for more than what the function calls."""
-    found: dict[str, Said] = {}
-    notes: list[str] = []
-    for line in lines:
-        result = re.match(r'fn (\S+): (.*)', line)
-        if not result:
-            notes += [line] if line.startswith('note: ') else []
-            continue
-        name, said = result.groups()
-        if said.startswith(('not proved', 'no proof', COULD_NOT_TELL)):
-            reasons = re.sub(r'^(not proved|no proof)[:;]? ?', '', said).split('; ')
-            own = [it for it in reasons if it and not NOT_OWN.match(it)]
-            errors = proof_errors(lines, name)
-            if own or errors or said == 'not proved':
-                found[name] = Said('; '.join(own), notes, errors)
-        notes = []
-    return found
-
-
 def noted(goal: str, notes: Sequence[str]) -> str:
     """A goal with what the notes say of it."""
     note = next((it for it in notes if '(`%s`)' % goal in it), '')
     return goal + ''.join(' (%s)' % it for said, it in NOTES.items() if said in note)
 
 
-def verdict_of(name: str, said: Said) -> Verdict:
-    """The verdict on a mutant, from a check's output about the function that it changes."""
-    goals = re.findall(r'`([^`]+)`', said.line.partition('`search` did not prove ')[2].partition(';')[0])
+def verdict_of(name: str, said: str, notes: Sequence[str], lines: Sequence[str]) -> Verdict | None:
+    """The verdict on a function, by the end of its line in a check, the notes above that line, and all lines; None if
+    it is proved, or is refused only for what it calls."""
+    if not said.startswith(('not proved', 'no proof', COULD_NOT_TELL)):
+        return None
+    reasons = re.sub(r'^(not proved|no proof)[:;]? ?', '', said).split('; ')
+    own = '; '.join(it for it in reasons if it and not NOT_OWN.match(it))
+    goals = re.findall(r'`([^`]+)`', own.partition('`search` did not prove ')[2].partition(';')[0])
     if goals:
         kind = INVARIANT if all('loop-' in it for it in goals) else CONTRACT
-        return Verdict(kind, name, ', '.join(noted(it, said.notes) for it in goals))
-    error = next((it for it in said.errors if not OF_NAMES.search(it)), next(iter(said.errors), said.line))
-    kind = LIMIT if LIMITS.search(error) or said.line == COULD_NOT_TELL else ANSWER
+        return Verdict(kind, name, ', '.join(noted(it, notes) for it in goals))
+    errors = proof_errors(lines, name)
+    if not (own or errors or said == 'not proved'):
+        return None
+    error = next((it for it in errors if not OF_NAMES.search(it)), next(iter(errors), own))
+    kind = LIMIT if LIMITS.search(error) or own == COULD_NOT_TELL else ANSWER
     return Verdict(kind, name, error or 'not proved')
 
 
-def best(edit: Edit, refused: dict[str, Said]) -> Verdict:
-    """The verdict on a mutant, by the messages on its function, or of all if any may be refused."""
-    found = [verdict_of(name, said) for name, said in refused.items() if edit.function in (None, function_of(name))]
-    order = [*REFUSED, LIMIT, ANSWER]
-    return min(found, key=lambda it: order.index(it.kind), default=Verdict(NOT_REFUSED))
+def refused_in(lines: Sequence[str]) -> dict[str, Verdict]:
+    """The verdict on each function that a check refuses for more than what the function calls."""
+    found: dict[str, Verdict] = {}
+    notes: list[str] = []
+    for line in lines:
+        if line.startswith('note: '):
+            notes.append(line)
+        elif result := re.match(r'fn (\S+): (.*)', line):
+            verdict = verdict_of(result[1], result[2], notes, lines)
+            found |= {verdict.function: verdict} if verdict else {}
+            notes = []
+    return found
+
+
+def best(edit: Edit, refused: dict[str, Verdict]) -> Verdict:
+    """The verdict on a mutant: that on its function, or the best one if any function may be refused."""
+    found = [it for name, it in refused.items() if edit.function in (None, function_of(name))]
+    return min(found, key=lambda it: KINDS.index(it.kind), default=Verdict(NOT_REFUSED))
 
 
 def only(edits: Sequence[Edit]) -> list[str]:

@@ -72,16 +72,10 @@ def changed(edits: Iterable[Edit]) -> list[Edit]:
             or kept[it.name].digest != digest(it)]
 
 
-def is_there(name: str) -> bool:
-    """Returns whether there is a mutant of this name."""
-    crate, _, edit = name.partition('/')
-    return any((TOP / 'crates' / crate).glob('*/%s.edit' % edit))
-
-
-def note(found: Mapping[Edit, Verdict]) -> None:
-    """Notes what mutants came to today. Mutants that are gone are forgotten."""
-    today = time.strftime('%Y-%m-%d')
-    kept = {name: it for name, it in noted().items() if is_there(name)}
+def note(found: Mapping[Edit, Verdict], edits: Iterable[Edit]) -> None:
+    """Notes what mutants came to today. Mutants that aren't among all edits are forgotten."""
+    today, names = time.strftime('%Y-%m-%d'), {it.name for it in edits}
+    kept = {name: it for name, it in noted().items() if name in names}
     kept |= {it.name: Tried(today, verdict, digest(it)) for it, verdict in found.items()}
     rows = ['\t'.join([name, day, kind, function, ' '.join(why[:MOST_LETTERS].split()), digest]) + '\n'
             for name, (day, (kind, function, why), digest) in sorted(kept.items())]
