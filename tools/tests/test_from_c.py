@@ -205,5 +205,77 @@ class Packets(unittest.TestCase):
             self.assertEqual(found.line.strip(), line)
 
 
+
+RETRY = """process p;
+autostart p;
+receiver p;
+code p {
+  var tries = 0;
+  var done = 0;
+  etimer t;
+  body {
+    while %s {
+      send 1;
+      %s
+      tries = (tries + 1);
+    }
+  }
+}
+"""
+
+
+class Calls(unittest.TestCase):
+    """A call of Contiki, or a break, in a program that is in order otherwise."""
+
+    def corrected(self, test: str, line: str) -> tuple[str | None, str, str]:
+        """The line, the line that is inserted, and the hint; with both the program has no error."""
+        text = RETRY % (test, line)
+        fault = find_fault(text)
+        assert fault
+        found, shown = correction(text, fault), advice(text, fault)
+        assert found and shown
+        if found.line is not None:
+            self.assertIsNone(find_fault(found.applied(text)), found)
+        return found.line and found.line.strip(), found.above[1] if found.above else '', shown.hint
+
+    def test_a_name_in_a_call_that_is_not_declared(self) -> None:
+        for call, line, declared in (
+                ('etimer_set(&t, TIMEOUT);', 'set t timeout;', 'var timeout = 20;'),
+                ('etimer_set(&t, PERIOD);', 'set t period;', 'var period = 20;'),
+                ('etimer_set(&t, period);', 'set t period;', 'var period = 20;'),
+                ('etimer_set(&t, TIMEOUT * 2);', 'set t (timeout * 2);', 'var timeout = 20;'),
+                ('etimer_set(&t, RETRY_TIME);', 'set t retry_time;', 'var retry_time = 20;'),
+                ('etimer_set(&t, T);', 'set t my_t;', 'var my_t = 20;'),
+                ('etimer_set(&beat, TIMEOUT);', 'set beat timeout;', 'var timeout = 20; etimer beat;'),
+                ('PROCESS_WAIT_EVENT_UNTIL(ev == reply_event || etimer_expired(&t));',
+                 'yield_until (is(reply_event) || expired(t));', 'event reply_event;'),
+                ('PROCESS_WAIT_EVENT_UNTIL(etimer_expired(&t) || got_reply);',
+                 'yield_until (expired(t) || got_reply);', 'var got_reply = 0;'),
+                ('PROCESS_YIELD_UNTIL(etimer_expired(&wait));', 'yield_until expired(wait);', 'etimer wait;'),
+                ('PROCESS_WAIT_EVENT_UNTIL(ev == PACKET);', 'yield_until is(packet);', ''),
+                ('PROCESS_WAIT_EVENT_UNTIL(ev == packet_event);', 'yield_until is(packet);', '')):
+            with self.subTest(call):
+                found, above, hint = self.corrected('1', call)
+                self.assertEqual((found, above), (line, declared))
+                self.assertIn("isn't declared: `%s`" % declared.partition('; ')[0].rstrip(';') if declared else
+                              'is `yield_until` here', hint.replace(';`', '`'))
+                for nonsense in 'Names have small letters', 'var etimer_set', 'No variable':
+                    self.assertNotIn(nonsense, hint)
+
+    def test_a_break_keeps_the_rest_of_the_test(self) -> None:
+        both = '((tries < 3) && !done)'
+        for body in ('if is(packet) { print data; done = 1; break; }',
+                     'if is(packet) {\nprint data;\ndone = 1;\nbreak;\n}'):
+            found, _, hint = self.corrected(both, body)
+            self.assertIn(found, ('if is(packet) { print data; done = 1; }', ''))
+            self.assertIn('`done = 1;` already makes the test of the `while` false, so leave it out', hint)
+            self.assertNotIn('(done == 0)', hint)
+        found, _, hint = self.corrected(both, 'if is(packet) { print data; break; }')
+        self.assertEqual(found, 'if is(packet) { print data; done = 1; }')
+        self.assertNotIn('var break', hint)
+        found, _, hint = self.corrected('((tries < 3) || (self == 0))', 'if is(packet) { break; }')
+        self.assertIn('write `while (((tries < 3) || (self == 0)) && (done == 0))`, and here `done = 1;`', hint)
+
+
 if __name__ == '__main__':
     unittest.main()

@@ -300,6 +300,15 @@ class Nets(Folder):
         self.assertIn('<pre>in task.toml\nmote 0 has 0 such lines', self.page())
         self.assertIn('href="marks_runs/ben.toml_in_task.toml.html"', self.page())
 
+    def test_a_run_page_names_the_lines_of_the_solution_s_file(self) -> None:
+        need_program(self)
+        self.stub = program_path()
+        self.hand_in('ben.mote', PROGRAM % 4)
+        self.hand_in('carla.toml', net(PROGRAM % 4, name='mine'))
+        self.grade('--net', 'task.toml', '-o', 'marks.html')
+        for name, place in ('ben.mote', 'ben.mote:3'), ('carla.toml', 'carla.toml:12'):
+            self.assertIn('a, line 3 (%s): `print 4`' % place, self.page('marks_runs/%s_in_task.toml.html' % name))
+
 
 class Pages(Folder):
     def test_the_pages_of_an_earlier_marking_are_removed_and_no_others(self) -> None:

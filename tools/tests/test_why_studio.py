@@ -117,6 +117,24 @@ class Page(unittest.TestCase):
         self.browser.run("[...document.querySelectorAll('#why-chain button')][0].click()")
         self.assertEqual(self.browser.run('motesim.chosen().mote'), 1)
 
+    def test_a_program_s_line_is_that_of_the_text_and_can_be_clicked(self) -> None:
+        self.tab('why')
+        self.write('why-asked', 'mote 6 prints flood 1')
+        self.wait('why', 'line 22 (flooding.toml:35): `print newest`, in line 20 (flooding.toml:33): `if ')
+        self.wait('why', ' of the report')
+        self.browser.run("document.querySelector('#why-chain .place').click()")
+        where = "(it => it.mirror ? it.mirror.getSelection() : '')(motesim.editor())"
+        if has_editor(CODEMIRROR):
+            self.assertEqual(self.browser.run(where), 'print newest;')
+        self.tab('steps')
+        self.browser.run("document.getElementById('stop-at').value = 'post mote 0'")
+        self.press_step('On ›')
+        self.wait('state-cards', '(flooding.toml:')
+        self.wait('step-at', ' of the report: ')
+        self.browser.run("document.querySelector('#state-cards .place').click()")
+        if has_editor(CODEMIRROR):
+            self.assertIn(self.browser.run(where).split(' ')[0], ('yield;', 'wait_until', 'yield_until', 'set'))
+
     def test_a_line_that_an_expectation_misses(self) -> None:
         """No line breaks it, so a click shows what came near."""
         self.tab('checks')

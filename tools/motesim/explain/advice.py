@@ -26,13 +26,13 @@ class Advice(NamedTuple):
     def shown(self, source: str, offset: int | None) -> list[str]:
         """The lines below the hint, numbered as in the scenario if that has the program's lines from an offset on."""
         if self.line is None:
-            return ['Insert %s:' % _below(self.above[0], offset), _indented(source, *self.above)] if self.above else []
+            return ['Insert %s:' % _inserted(self.above, offset), _indented(source, *self.above)] if self.above else []
         which = _which(self.first, self.last, offset)
         if not self.line:
             return ['Leave %s out.' % which]
         lines = ['Write, as %s:' % which, _indented(source, self.first, self.line)]
-        return lines + (['and insert %s:' % _below(self.above[0], offset), _indented(source,
-            *self.above)] if self.above else [])
+        return lines + (['and insert %s:' % _inserted(self.above, offset), _indented(source, *self.above)]
+                        if self.above else [])
 
 
 def _which(first: int, last: int, offset: int | None) -> str:
@@ -42,13 +42,17 @@ def _which(first: int, last: int, offset: int | None) -> str:
     return which + (' of the program' if offset is None else '')
 
 
-def _below(line: int, offset: int | None) -> str:
+def _inserted(above: tuple[int, str], offset: int | None) -> str:
+    """The place of a line that is inserted: an event is declared above the line that names the processes."""
+    line, text = above
+    if text.startswith('event '):
+        return 'above ' + _which(line + 1, line + 1, offset)
     return 'below ' + _which(line, line, offset)
 
 
 def _indented(source: str, number: int, line: str) -> str:
     """A line that begins in the same column as a line of the program, or behind that if it opens a block."""
-    there = source.split('\n')[number - 1]
+    there = source.split('\n')[number - 1] if number and not line.startswith('event ') else ''
     indent = len(there) - len(there.lstrip(' '))
     opens = there.rstrip().endswith('{') and not line.rstrip().endswith('{') and line.startswith(('var ', 'etimer ',
                                                                                                   '  '))

@@ -11,7 +11,8 @@ DECLARES = {'event': 'event', 'semaphore': 'semaphore', 'process': 'process', 'v
             'ctimer': 'timer', 'thread': 'thread'}
 HEAD = {'variable': 'var %s = 0;', 'timer': 'etimer %s;'}
 # Words of other languages that name no variable.
-NO_VARIABLES = ('true', 'false', 'and', 'or', 'not', 'random', 'rand', 'rnd', 'sleep', 'printf')
+NO_VARIABLES = ('true', 'false', 'and', 'or', 'not', 'random', 'rand', 'rnd', 'sleep', 'printf',
+                'break', 'continue', 'return', 'goto', 'switch', 'case', 'for', 'do')
 TOP = {'semaphore': 'semaphore %s = 0;', 'event': 'event %s;'}
 
 

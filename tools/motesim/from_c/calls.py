@@ -142,6 +142,8 @@ class Calls(Lines):
             form = CALLS['process_broadcast']
         self.why('`%s` is `%s` here.' % (call.text, form.split()[0]))
         self.writer.of_timer = 'fired' if form.startswith('yield_until') else 'expired'
+        # (a name can be declared only inside of a code)
+        self.writer.unknown = {} if self.place.head else None
 
         def argument(found: re.Match[str]) -> str:
             place = int(found[2])
@@ -162,7 +164,21 @@ class Calls(Lines):
                 self.declare_timer(named, call.text)
             return named
 
-        return ARGUMENT.sub(argument, form)
+        written = ARGUMENT.sub(argument, form)
+        for word, (kind, its) in (self.writer.unknown or {}).items():
+            self.declare(word, kind, its, '20' if form.startswith('set') else '0')
+        self.writer.unknown = None
+        return written
+
+    def declare(self, word: str, kind: str, name: str, value: str) -> None:
+        """Declares a name in a call that nothing has, and says so behind the first reason."""
+        if self.scope.kinds.get(name) == kind:
+            return
+        line = {'variable': 'var %s = %s;' % (name, value), 'timer': 'etimer %s;' % name, 'event': 'event %s;' % name}
+        where = ' above the `process` line, or `is(packet)` if a packet is meant' if kind == 'event' else ''
+        self.writer.reasons.insert(1, '`%s` isn\'t declared: `%s`%s.' % (word, line[kind], where))
+        (self.events if kind == 'event' else self.declares).append(line[kind])
+        self.scope.kinds[name] = kind
 
     def declare_timer(self, name: str, call: str) -> None:
         """Declares a timer that a call sets or restarts, if nothing has its name."""

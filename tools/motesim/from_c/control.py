@@ -3,7 +3,7 @@ from __future__ import annotations
 
 from motesim.from_c.expressions import ONE_TOO_MANY, QUALIFIERS, TYPES, NoCounterpart
 from motesim.from_c.lines import Lines
-from motesim.from_c.places import ends_loop
+from motesim.from_c.places import conjuncts, ends_loop, last_statement
 from motesim.from_c.scope import allowed
 from motesim.from_c.tokens import Token
 from motesim.notation.faults import STATEMENTS
@@ -61,9 +61,9 @@ class Control(Lines):
         while not self.accept('}'):
             if self.token.kind == 'end':
                 self.is_cut = True
-                return ' '.join(['{', *found])
+                return ' '.join(['{', *filter(None, found)])
             found.append(self.statement())
-        return ' '.join(['{', *found, '}'])
+        return ' '.join(['{', *filter(None, found), '}'])
 
     def condition(self) -> str:
         """The test of an `if` or a `while`, up to its block."""
@@ -101,15 +101,30 @@ class Control(Lines):
 
     def of_break(self) -> str:
         """A `break`, by what makes the test of the loop false."""
-        assigned = ends_loop(self.place.loop)
+        ends = [it for it in map(ends_loop, conjuncts(self.place.loop)) if it]
+        before = last_statement([it.text for it in self.tokens[:self.at]]) or self.place.before
+        if before in ends:
+            self.at += 1
+            self.why('There is no `break`: `%s;` already makes the test of the `while` false, so leave it out. What '
+                     'follows in the block still runs once.' % before)
+            return self.end('').removesuffix(';')
+        # (a flag rather than a count, which may be needed behind the loop)
+        assigned = next((it for it in ends if it.endswith(' = 1')), ends[0] if len(ends) == 1 else '')
         if not assigned:
-            raise NoCounterpart(NO_BREAK if not self.place.loop else NO_BREAK + ' Instead of `while %s`, write `while '
-                                                                                '(done == '
-                                '0)`, and here `done = 1;`, with `var done = 0;` at the head of the `code`.' %
-                                self.place.loop)
+            raise NoCounterpart(NO_BREAK + self.of_flag(before))
         self.at += 1
         self.why('%s Here, `%s;` does it; what follows in the block still runs once.' % (NO_BREAK, assigned))
         return self.end(assigned)
+
+    def of_flag(self, before: str) -> str:
+        """Advice to end a loop by a variable of its own, next to the test that it has."""
+        loop = self.place.loop
+        if not loop:
+            return ''
+        test = '(done == 0)' if loop in ('1', '(1 == 1)') else '(%s && (done == 0))' % loop
+        here = 'leave `break` out' if before == 'done = 1' else 'here `done = 1;`'
+        head = '' if 'done' in self.place.variables else ', with `var done = 0;` at the head of the `code`'
+        return ' Instead of `while %s`, write `while %s`, and %s%s.' % (loop, test, here, head)
 
     def choice_or_loop(self, word: str) -> str:
         if word == 'while' and self.is_empty_loop():

@@ -62,6 +62,11 @@ def _rank(text: str, made: Correction) -> int:
     return 2 if found is None else int(found.token.line > made.first + (made.above is not None))
 
 
+def _above_processes(text: str) -> int:
+    """The number of the line above the one that names the processes."""
+    return next((it.line for it in tokens_of(text) if it.text == 'process'), 1) - 1
+
+
 def _same(one: str, other: str) -> bool:
     return [it.text for it in tokens_of(one)] == [it.text for it in tokens_of(other)]
 
@@ -117,7 +122,9 @@ def correction(text: str, fault: ProgramError) -> Correction | None:
                 if first <= fault.token.line <= last and not (is_only_named and last > fault.token.line):
                     advice = advice or str(said)
                 continue
-            above = (reader.place.head, ' '.join(reader.declares)) if reader.declares else None
+            above = (reader.place.head, ' '.join(sorted(reader.declares, reverse=True))) if reader.declares else None
+            if reader.events:
+                above = None if above else (_above_processes(text), ' '.join(reader.events))
             made = Correction(first, last, written, tuple(reader.writer.reasons[:MOST_REASONS]), above)
             found.append((0 if _same(source, written) else _rank(text, made), made))
         best = max(found, key=lambda it: it[0], default=None)

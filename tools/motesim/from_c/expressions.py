@@ -235,6 +235,8 @@ class Writer:
     reasons: list[str] = field(default_factory=list)
     # Whether a number by chance is taken, for which the generator makes a step before.
     draws: bool = False
+    # The names in a call of Contiki that nothing declares: each with its kind and how it is written.
+    unknown: dict[str, tuple[str, str]] | None = None
 
     def why(self, reason: str) -> None:
         if reason not in self.reasons:
@@ -309,10 +311,20 @@ class Writer:
             self.why('An event is not a value: `is(%s)` is true in a call with it.' % word)
             return 'is(%s)' % word
         found = self.scope.meant(word, 'variable')
+        if self.unknown is not None and self.scope.kinds.get(found) != 'variable':
+            return self.new_name(word, 'variable')
         if found != word:
             self.why('Names have small letters: `%s`.' % found if found == lower else
                      'The name is `%s` here.' % found if found == allowed(word) else 'Did you mean `%s`?' % found)
         return found
+
+    def new_name(self, word: str, kind: str) -> str:
+        """A name in a call of Contiki that nothing declares, as it may be declared."""
+        assert self.unknown is not None
+        name = allowed(word)
+        name = name if name not in self.scope.kinds else allowed('my_' + name)
+        self.unknown[word] = kind, name
+        return name
 
     def event(self, node: Node) -> str:
         """The event that is named."""
@@ -321,7 +333,16 @@ class Writer:
         lower = node.text.lower()
         if lower in EVENTS:
             return EVENTS[lower]
-        return node.text if node.text in OWN_EVENTS else self.scope.meant(node.text, 'event')
+        if node.text in OWN_EVENTS:
+            return node.text
+        found = self.scope.meant(node.text, 'event')
+        if self.unknown is None or self.scope.kinds.get(found) == 'event':
+            return found
+        if 'packet' in lower or lower in OWN_EVENTS:
+            event = lower if lower in OWN_EVENTS else 'packet'
+            self.why('`%s` is the event `%s` here.' % (node.text, event))
+            return event
+        return self.new_name(node.text, 'event')
 
     def of_kind(self, node: Node, kind: str) -> str:
         """A process, timer, thread or semaphore that is named, with `&` or without."""
@@ -356,7 +377,10 @@ class Writer:
         if test == 'is':
             return 'is(%s)' % self.event(parts[0])
         kind = {'gone': 'process', 'running': 'process', 'count': 'semaphore'}.get(test, 'timer')
-        return '%s(%s)' % (test, self.of_kind(parts[0], kind))
+        its = self.of_kind(parts[0], kind)
+        if self.unknown is not None and kind == 'timer' and self.scope.kinds.get(its) != 'timer':
+            its = self.new_name(its, 'timer')
+        return '%s(%s)' % (test, its)
 
     def unary(self, sign: str, inner: Node) -> str:
         if sign == '!':

@@ -19,8 +19,9 @@ class Lines(Expressions):
         self.is_cut = self.opens = False
         self.nested = 0
         self.end_of_process = end
-        # Declarations that belong to the head of the code.
+        # Declarations that belong to the head of the code, and those of events.
         self.declares: list[str] = []
+        self.events: list[str] = []
 
     def why(self, reason: str) -> None:
         self.writer.why(reason)

@@ -26,6 +26,7 @@ class Surroundings(NamedTuple):
     head     the line (from 1) below which a variable of this code may be declared, or 0
     variables  those of this code
     last     the first word of the statement above them, or nothing
+    before   the whole of that statement, without its semicolon
     """
     is_head: bool = False
     is_top: bool = False
@@ -34,6 +35,7 @@ class Surroundings(NamedTuple):
     head: int = 0
     variables: frozenset[str] = frozenset()
     last: str = ''
+    before: str = ''
 
 
 def place_below(above: list[str]) -> Surroundings:
@@ -53,20 +55,39 @@ def place_below(above: list[str]) -> Surroundings:
     loop = next((it for it in reversed(opened) if it), '')
     codes = [at for at, word in enumerate(words[:-2]) if word == 'code']
     if not codes or not opened:
-        return Surroundings(len(opened) == 1, not opened, loop, last=_last(words))
+        return Surroundings(len(opened) == 1, not opened, loop, last=_last(words), before=last_statement(words))
     declared = [at for at in range(codes[-1], len(words)) if words[at] == 'var']
     head = tokens[declared[-1] if declared else codes[-1] + 2].line
     names = frozenset(words[at + 1] for at in declared if at + 1 < len(words))
-    return Surroundings(len(opened) == 1, False, loop, words[codes[-1] + 1], head, names, _last(words))
+    return Surroundings(len(opened) == 1, False, loop, words[codes[-1] + 1], head, names, _last(words),
+                        last_statement(words))
 
 
-def _last(words: list[str]) -> str:
-    """The first word of the statement with which a text ends."""
+def last_statement(words: list[str]) -> str:
+    """The statement with which a text ends, without its semicolon; nothing if it ends in another way."""
     words = [it for it in words if it]
     if words[-1:] != [';']:
         return ''
     begin = max((at for at, word in enumerate(words[:-1]) if word in (';', '{', '}')), default=-1)
-    return words[begin + 1]
+    return ' '.join(words[begin + 1:-1])
+
+
+def _last(words: list[str]) -> str:
+    """The first word of the statement with which a text ends."""
+    return last_statement(words).partition(' ')[0]
+
+
+def conjuncts(test: str) -> list[str]:
+    """The parts of a test that all have to be true: `((a < 3) && !b)` has the parts `(a < 3)` and `!b`."""
+    depth = 0
+    if not (test.startswith('(') and test.endswith(')')):
+        return [test]
+    inner = test[1:-1]
+    for at, sign in enumerate(inner):
+        depth += (sign == '(') - (sign == ')')
+        if depth == 0 and inner[at:at + 4] == ' && ':
+            return conjuncts(inner[:at]) + conjuncts(inner[at + 4:])
+    return [test]
 
 
 def _test(words: list[str]) -> str:

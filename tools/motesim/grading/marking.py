@@ -153,11 +153,14 @@ class Task:
             if entry.path.suffix == '.mote' and begins_as_scenario(data):
                 return Marks(entry.name, why='it is a scenario, not the text of a program: a file of a scenario is '
                                              'NAME.toml')
+            # (lines are named by the solution's file; an anonymous one has the same ending)
+            file = entry.name.removesuffix(entry.path.suffix).rpartition('/')[2] + entry.path.suffix
             if not self.nets:
-                found = [self.in_net(data.decode('utf-8'))]
+                found = [self.in_net(data.decode('utf-8'), (file, data.decode('utf-8')))]
             else:
                 source = [program_of(data, entry.path.name, net.program) for net in self.nets]
-                found = [self.in_net(net.with_program(text))._replace(net=net.name, is_hidden=net.is_hidden)
+                its = file, data.decode('utf-8')
+                found = [self.in_net(net.with_program(text), its)._replace(net=net.name, is_hidden=net.is_hidden)
                          for net, text in zip(self.nets, source)]
         except UnicodeDecodeError:
             return Marks(entry.name, why='the file is not UTF-8 text')
@@ -192,8 +195,8 @@ class Task:
                 lines = explanation(entry.name, data, 'motesim: ' + fault.message) if fault else []
         return tuple(line[:LONGEST_WHY] for line in lines[:MOST_LINES])
 
-    def in_net(self, text: str) -> InNet:
-        """The marks of a scenario."""
+    def in_net(self, text: str, file: tuple[str, str]) -> InNet:
+        """The marks of a scenario, whose program is in a file of this name and text."""
         known, names = known_of(text)
         lacks = [lacking(it, names) for it in self.part.sentences]
         part = replace(self.part, sentences=[it for it, lack in zip(self.part.sentences, lacks) if not lack])
@@ -216,7 +219,7 @@ class Task:
         if self.part.report is not None:
             whole = same_report(judge.rows, self.part.report)
             marks.append(Mark(whole.sentence, whole.holds, (), tuple(whole.more)))
-        run = Run('', report, scenario) if len(got.report) <= MOST_SHOWN else None
+        run = Run('', report, scenario, file) if len(got.report) <= MOST_SHOWN else None
         return InNet(marks, lacks, '', run, [None if lack else next(places) for lack in lacks], bytes=len(got.report))
 
     def spread(self, held: Iterator[Mark], lacks: list[str]) -> list[Mark]:

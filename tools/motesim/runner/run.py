@@ -43,10 +43,14 @@ OF_SCENARIO = re.compile(rb'(?:\xef\xbb\xbf)?\s*(?:#|\[|[A-Za-z0-9_"\'-]+\s*=)')
 
 
 class Run(NamedTuple):
-    """The input of a tool: a report, the scenario if it is known, and a name to show."""
+    """The input of a tool: a report, the scenario if it is known, and a name to show.
+
+    file  the name, without folders, and the text of the file that has the programs, if it is known
+    """
     name: str
     report: Report
     scenario: Scenario | None
+    file: tuple[str, str] | None = None
 
 
 def answer(scenario: bytes, *arguments: str, limits: Limits = Limits()) -> Answer:
@@ -101,7 +105,7 @@ def read_run(path: str | Path, scenario: str | Path | None = None, limits: Limit
     """
     data = read_file(path)
     refuse_others(path, data)
-    is_run, at, found = is_scenario(path, data), path, None
+    is_run, at, found, file = is_scenario(path, data), path, None, None
     if is_run and scenario is not None:
         raise Fault('%s is a scenario itself: leave the other one out' % path)
     if not (is_run or data.strip()):
@@ -113,14 +117,20 @@ def read_run(path: str | Path, scenario: str | Path | None = None, limits: Limit
     try:
         if is_run:
             found = Scenario.parse(data)
-            return Run(str(path), Report.parse(Runner(program, limits).report(data)), found)
+            return Run(str(path), Report.parse(Runner(program, limits).report(data)), found, file_of(path, data))
         report = Report.parse(data)
         if scenario is not None:
             at = scenario
-            found = Scenario.parse(read_file(scenario))
+            text = read_file(scenario)
+            found, file = Scenario.parse(text), file_of(scenario, text)
             check_scenario(report, found)
     except (ReportFault, ScenarioFault, ProgramFault) as fault:
         is_explained = is_run and isinstance(fault, (ScenarioFault, NoReport))
         fault.args = ('%s: %s%s' % (at, fault, ' (tools/explain %s says more)' % at if is_explained else ''),)
         raise
-    return Run(str(path), report, found)
+    return Run(str(path), report, found, file)
+
+
+def file_of(path: str | Path, data: bytes) -> tuple[str, str] | None:
+    """The name of a scenario's file, and its text; None for standard input."""
+    return None if str(path) == '-' else (Path(path).name, data.decode('utf-8', 'replace'))

@@ -38,7 +38,7 @@ class Finished(NamedTuple):
 def finished(number: int, text: str, data: bytes, name: str) -> Finished:
     """A run from its report."""
     scenario = Scenario.parse(text)
-    return Finished(number, text, Run(name, Report.parse(data), scenario), scenario)
+    return Finished(number, text, Run(name, Report.parse(data), scenario, (name or 'text', text)), scenario)
 
 
 def column16(line: str, column: int) -> int:

@@ -92,7 +92,7 @@ def led_by(program: Program, number: int) -> str:
         it = program.statement(around.number)
         if it.kind == 'if':
             text = it.text if len(it.text) <= WIDEST else it.text[:WIDEST - 3] + '...'
-            return ', in %sline %d: `%s`' % ('the `else` of ' if around.is_else else '', it.line, text)
+            return ', in %s%s: `%s`' % ('the `else` of ' if around.is_else else '', program.line(it.line), text)
     return ''
 
 

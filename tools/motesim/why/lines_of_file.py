@@ -1,25 +1,39 @@
-"""The lines of a scenario's file on which the lines of its programs are."""
+"""The lines of a file on which the lines of a scenario's programs are."""
 from __future__ import annotations
 
 from dataclasses import dataclass
 
 from motesim.scenario.faults import place_of
+from motesim.toml import NoToml, read_toml
 from motesim.why.translate import ProgramPlace
 
 
 @dataclass(frozen=True)
 class ScenarioFile:
-    """A scenario's file: its name, without folders, and its text."""
+    """A file that has programs, a scenario or `NAME.mote`: its name, without folders, and its text."""
     name: str
     text: str
 
     def place(self, name: str, program: str) -> ProgramPlace | None:
         """The place of a program's text in the file, if all of its lines are found there."""
         rows, lines = self.text.split('\n'), [line.strip() for line in program.rstrip().split('\n')]
-        quotes = place_of(self.text, ('programs', name)).line - 1
-        # (a text of several lines begins on the line of its quotes, or on the one below)
-        for begin in quotes, quotes + 1:
+        begins = [0]
+        if not self.name.endswith('.mote'):
+            quotes = place_of(self.text, ('programs', self.named(name, program))).line - 1
+            # (a text of several lines begins on the line of its quotes, or on the one below)
+            begins = [quotes, quotes + 1]
+        for begin in begins:
             beside = rows[begin:begin + len(lines)]
             if len(beside) == len(lines) and all(line in row for line, row in zip(lines, beside)):
                 return ProgramPlace(self.name, begin)
         return None
+
+    def named(self, name: str, program: str) -> str:
+        """The name that the file has for a program, which a net may call by another one."""
+        try:
+            programs = read_toml(self.text).get('programs', {})
+        except NoToml:
+            return name
+        if name in programs or type(programs) is not dict:
+            return name
+        return next((it for it, text in programs.items() if text == program), name)

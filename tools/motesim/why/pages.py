@@ -10,6 +10,7 @@ from typing import Any
 from motesim.faults import Fault
 from motesim.runner.run import Run
 from motesim.why.chain import Explainer, cause_of, wait_of
+from motesim.why.lines_of_file import ScenarioFile
 from motesim.why.source import At, Source
 
 # A page with more lines than this doesn't have their causes: finding them all would last longer than making the page.
@@ -28,7 +29,8 @@ def source_of(run: Run) -> Source:
     """The source for questions about a run; one without a scenario has no programs."""
     if run.scenario is None:
         raise Fault('Without its scenario, a report doesn\'t say what caused its lines.')
-    return Source(run.name, run.report.text().encode('ascii'), run.scenario)
+    file = ScenarioFile(*run.file) if run.file else None
+    return Source(run.name, run.report.text().encode('ascii'), run.scenario, file)
 
 
 class Causes:

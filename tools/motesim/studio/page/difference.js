@@ -48,7 +48,7 @@ function sideItem({row, text, why, has_mote: hasMote}, who) {
   const words = text === null ? element('span', hasMote ? 'no more lines' : 'no such mote') : element('code', text);
   const item = element('li', '', [Object.assign(element('span', who), {className: 'who'}), words]);
   if (why) item.append(Object.assign(element('span', why), {className: 'why'}));
-  if (row) item.title = `line ${row}`;
+  if (row) item.title = `line ${row} of the report`;
   return item;
 }
 

@@ -121,6 +121,7 @@ export class Editor {
     const begin = offsetOf(this.area.value, [line, column]);
     this.area.focus();
     this.area.setSelectionRange(begin, begin + length);
+    this.keepLine();
   }
 
   /** Keeps the line that the reader types in view. */

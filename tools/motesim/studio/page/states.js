@@ -1,6 +1,6 @@
 // The state of a mote at a step, from the server's replay: variables, waits, timers and the queue; and values of
 // variables on the lanes.
-import {byId, element, makeButton} from '../../timeline/page/dom.js';
+import {byId, element, makeButton, withPlaces} from '../../timeline/page/dom.js';
 import {redraw} from '../../timeline/page/draw.js';
 import {colours} from '../../timeline/page/forms.js';
 import {overlays, panes} from '../../timeline/page/stage.js';
@@ -14,7 +14,8 @@ export const states = {key: '', shown: null, values: null, run: null};
 export function card(title, items, empty) {
   const made = element('div', '', [element('h3', title)]);
   made.className = 'card';
-  const list = items.map(item => element('li', '', [item].flat()));
+  const list = items.map(item => element('li', '',
+    [item].flat().flatMap(it => typeof it === 'string' ? withPlaces(it) : [it])));
   made.append(list.length ? element('ol', '', list) : element('p', empty));
   return made;
 }

@@ -93,7 +93,7 @@ function showStep(pane) {
     return;
   }
   at.replaceChildren(element('strong', `Mote ${mote} at moment ${run.at[line]}`),
-    `, after line ${run.numberOf(line, mote)}: `, element('code', run.text(line)));
+    `, after line ${run.numberOf(line, mote)} of the report: `, element('code', run.text(line)));
   byId('cards').replaceChildren(...cardsOf(pane, mote, line));
   showMoteState(pane, mote, line, key);
 }

@@ -1,5 +1,5 @@
 // The studio: the text is run when no key was pressed for a while, and its run is shown.
-import {byId} from '../../timeline/page/dom.js';
+import {byId, file} from '../../timeline/page/dom.js';
 import {readColours} from '../../timeline/page/forms.js';
 import {refit, room} from '../../timeline/page/main.js';
 import {chosen, page} from '../../timeline/page/stage.js';
@@ -56,6 +56,7 @@ function beginButtons() {
   byId('save-as').addEventListener('click', saveAs);
   byId('export').addEventListener('click', exportPage);
   byId('pin').addEventListener('click', pin);
+  file.goTo = goToLine;
   byId('fault-place').addEventListener('click', () => goToFault());
   document.addEventListener('keydown', event => {
     if (!(event.ctrlKey || event.metaKey) || event.key !== 's') return;
@@ -68,7 +69,18 @@ function beginButtons() {
 
 function goToFault() {
   const {editor} = studio;
-  if (editor.place) editor.goTo(editor.place[0], editor.place[1]);
+  if (!editor.place) return;
+  const [line, from, to] = editor.place;
+  // (the plain text area has no other mark than its selection)
+  editor.goTo(line, from, editor.mirror ? 0 : Math.max(1, to - from));
+}
+
+/** Selects a line of the text, counted from 1. */
+function goToLine(line) {
+  const row = studio.editor.text.split('\n')[line - 1];
+  if (row === undefined) return;
+  const from = row.length - row.trimStart().length;
+  studio.editor.goTo(line - 1, from, row.trimEnd().length - from);
 }
 
 async function beginStudio() {

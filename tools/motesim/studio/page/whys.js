@@ -1,6 +1,6 @@
 // The tab *Why*: questions about the run, which the server answers.
 import {chooseLine} from '../../timeline/page/details.js';
-import {byId, element, lineButton} from '../../timeline/page/dom.js';
+import {byId, element, lineButton, withPlaces} from '../../timeline/page/dom.js';
 import {chooseRow} from '../../timeline/page/rows.js';
 import {panes} from '../../timeline/page/stage.js';
 import {sayWhy, showChain, source} from '../../timeline/page/why.js';
@@ -53,7 +53,8 @@ async function answerWhy() {
 /** Something that came near, as a button if a row of the report shows it. */
 function missButton(mote, {words, line: row}) {
   const text = `mote ${mote}: ${words}`;
-  return row ? lineButton(`line ${row}`, text, '', false, () => chooseRow(panes[0], row)) : element('span', text);
+  return row ? lineButton(`line ${row} of the report`, text, '', false, () => chooseRow(panes[0], row)) :
+    element('span', '', withPlaces(text));
 }
 
 /** Lets the server find causes from now on. */

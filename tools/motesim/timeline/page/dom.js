@@ -26,12 +26,44 @@ export function makeButton(name, act) {
   return button;
 }
 
+// A line of a program in its file, as in `line 24 (start (2).toml:34)`.
+const FILE_LINE = /(?<=line \d+ \()(.+?):(\d+)(?=\))/g;
+
+/** What shows a line of the file of the programs, counted from 1: the studio's editor, if there is one. */
+export const file = {goTo: null};
+
+/** A place in the file of the programs, which a click shows. */
+function filePlace(text, line) {
+  const made = Object.assign(element('span', text), {className: 'place', tabIndex: 0, title: `Go to line ${line}`});
+  made.setAttribute('role', 'link');
+  const go = event => {
+    event.preventDefault();
+    event.stopPropagation();
+    file.goTo(line);
+  };
+  made.addEventListener('click', go);
+  made.addEventListener('keydown', event => { if (event.key === 'Enter' || event.key === ' ') go(event); });
+  return made;
+}
+
+/** A text in pieces, in which places in the file of the programs can be clicked. */
+export function withPlaces(text) {
+  if (!file.goTo) return [text];
+  const pieces = [];
+  let from = 0;
+  for (const found of text.matchAll(FILE_LINE)) {
+    pieces.push(text.slice(from, found.index), filePlace(found[0], Number(found[2])));
+    from = found.index + found[0].length;
+  }
+  return [...pieces, text.slice(from)];
+}
+
 /** A line of the report as a button: its place, its text, and a remark. */
 export function lineButton(where, text, remark, isCurrent, act) {
   const button = makeButton('', act);
   button.className = 'line';
-  button.append(Object.assign(element('span', where), {className: 'where'}), element('code', text));
-  if (remark) button.append(Object.assign(element('span', remark), {className: 'what'}));
+  button.append(Object.assign(element('span', where), {className: 'where'}), element('code', '', withPlaces(text)));
+  if (remark) button.append(Object.assign(element('span', '', withPlaces(remark)), {className: 'what'}));
   if (isCurrent) button.setAttribute('aria-current', 'true');
   return button;
 }

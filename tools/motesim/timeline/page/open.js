@@ -40,7 +40,7 @@ function openAtNote(note) {
   box.hidden = false;
   box.append(element('h2', `Broken: ${note.title}`), ...(note.why ? [element('p', note.why)] : []),
     list('ul', note.lines.map(({text, row}) => !row ? element('span', text) :
-      lineButton(`line ${row}`, text, '', false, () => chooseRow(pane, row)))));
+      lineButton(`line ${row} of the report`, text, '', false, () => chooseRow(pane, row)))));
   const first = note.lines.find(it => it.row);
   if (first) {
     chooseRow(pane, first.row);

@@ -3,7 +3,7 @@ import {chainOf, pathOf} from './causes.js';
 import {chartOf} from './chart.js';
 import {SEND} from './data.js';
 import {chooseLine, chooseMote} from './details.js';
-import {byId, element, handOut, lineButton, list, makeButton} from './dom.js';
+import {byId, element, handOut, lineButton, list, makeButton, withPlaces} from './dom.js';
 import {redraw} from './draw.js';
 import {colours, head, path, stroke} from './forms.js';
 import {SMALL_LANE} from './layout.js';
@@ -43,7 +43,7 @@ export function sayWhy(text, items = []) {
   closeWhy();
   const box = whyBox();
   box.hidden = false;
-  box.replaceChildren(element('h2', 'Why'), element('p', text));
+  box.replaceChildren(element('h2', 'Why'), element('p', '', withPlaces(text)));
   if (items.length) box.append(list('ul', items));
 }
 
@@ -54,7 +54,7 @@ export function showChain(pane, hops, about) {
   buttons.className = 'bar';
   buttons.append(makeButton('Show the whole chain', showWholeChain),
     makeButton('Save the chart as SVG', () => saveChart(pane.run, hops)), makeButton('Close', closeWhy));
-  const items = hops.map(hop => lineButton(`line ${hop.row}`, `${hop.at} ${hop.words}`,
+  const items = hops.map(hop => lineButton(`line ${hop.row} of the report`, `${hop.at} ${hop.words}`,
     `mote ${hop.mote}: ${hop.because}`, hop.line >= 0 && chosen.line === hop.line, () => chooseHop(pane, hop)));
   const chart = element('div');
   chart.className = 'chart';
