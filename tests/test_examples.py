@@ -7,6 +7,7 @@ the solution has to meet the expectations, and the scenario that students begin 
 from __future__ import annotations
 
 import re
+from operator import attrgetter
 from pathlib import Path
 
 import pytest
@@ -19,6 +20,7 @@ from motesim.runner.run import Run, read_run
 PAGES = ['README.md', 'docs/use/EXAMPLES.md', 'docs/use/SCENARIO.md', 'docs/use/REPORT.md']
 EXPECTED = '.expect.toml'
 LESSON = TOP / 'examples/lesson'
+EXAMPLES = [it for it in sorted(TOP.glob('examples/*.toml')) if not it.name.endswith(EXPECTED)]
 
 
 def check_readings(run: Run) -> None:
@@ -63,13 +65,7 @@ def check_sentences(scenario: Path, expectations: Path) -> None:
         pytest.fail('%s: %d sentences hold, %d are broken' % (expectations.name, held, broken), pytrace=False)
 
 
-def pytest_generate_tests(metafunc: pytest.Metafunc) -> None:
-    for name, folder in ('task', LESSON), ('example', TOP / 'examples'):
-        paths = [it for it in sorted(folder.glob('*.toml')) if it.name.endswith(EXPECTED) == (name == 'task')]
-        if name in metafunc.fixturenames:
-            metafunc.parametrize(name, paths, ids=[it.name for it in paths])
-
-
+@pytest.mark.parametrize('example', EXAMPLES, ids=attrgetter('name'))
 def test_example(example: Path) -> None:
     check_sentences(example, beside(example))
     quotes = [(page, line) for page in PAGES for name, line in quotes_of((TOP / page).read_text('utf-8'))
@@ -80,6 +76,7 @@ def test_example(example: Path) -> None:
         check_readings(read_run(example))
 
 
+@pytest.mark.parametrize('task', sorted(LESSON.glob('*' + EXPECTED)), ids=attrgetter('name'))
 def test_task_of_the_lesson(task: Path) -> None:
     check_sentences(LESSON / 'solutions' / task.name.replace(EXPECTED, '.toml'), task)
     _, broken = expect(LESSON / 'start.toml', task, is_quiet=True)

@@ -2,17 +2,14 @@
 
 Runs the program on the scenarios of bench/, on one thread and with workers of both kinds, each alternating with an
 earlier program if --against names one, and prints for each way to run: the seconds of the processor (user time, the
-best round), the seconds of the clock, and the most memory; and the instructions on one thread, if valgrind is
-installed. A ratio is the middle one of the rounds' own ratios of this program to the earlier one, with the least and
-the greatest. Each report is compared with the first one of its scenario: the status is 1 if one differs.
+best round), the seconds of the clock, and the most memory. A ratio is the middle one of the rounds' own ratios of
+this program to the earlier one, with the least and the greatest. Each report is compared with the first one of its
+scenario: the status is 1 if one differs. docs/dev/SPEED.md says how to count instructions.
 """
 from __future__ import annotations
 
-import argparse
 import hashlib
 import os
-import re
-import shutil
 import statistics
 import subprocess
 import tempfile
@@ -25,16 +22,12 @@ from motesim.faults import Fault, command
 from motesim.words import words_of
 from motesim.runner.programs import TOP, program_path
 
-# Each scenario with its arguments, and those of one of a tenth of the length.
-SCENARIOS: dict[str, tuple[list[int], list[int]]] = {
-    'beacons': ([31, 2000, 10], [31, 200, 10]), 'polls': ([500, 200], [500, 20]),
-    'broadcasts': ([8, 20000], [8, 2000]),
-    'timers': ([64, 200000], [64, 20000]), 'steps': ([10, 1000], [10, 100]),
-}
+# Each scenario with the arguments of its script.
+SCENARIOS = {'beacons': [31, 2000, 10], 'polls': [500, 200], 'broadcasts': [8, 20000], 'timers': [64, 200000],
+             'steps': [10, 1000]}
 WAYS = ['', *('--workers %s --sync %s' % (workers, sync) for sync in ('joins', 'marks') for workers in '24')]
-COUNTER = ['valgrind', '--tool=cachegrind', '--cache-sim=no', '--cachegrind-out-file=/dev/null']
 # How each measure is shown: its form, and its unit.
-SHOWN = {'user': ('%.3f s', 1), 'clock': ('%.3f s', 1), 'memory': ('%.1f MB', 1e6), 'instructions': ('%.1f M', 1e6)}
+SHOWN = {'user': ('%.3f s', 1), 'clock': ('%.3f s', 1), 'memory': ('%.1f MB', 1e6)}
 
 
 class Cost(NamedTuple):
@@ -45,9 +38,9 @@ class Cost(NamedTuple):
     report: str
 
 
-def generated(name: str, sizes: Sequence[int]) -> bytes:
+def generated(name: str) -> bytes:
     """A scenario of bench/."""
-    return subprocess.run([TOP / 'bench' / name, *map(str, sizes)], stdout=subprocess.PIPE, check=True).stdout
+    return subprocess.check_output([TOP / 'bench' / name, *map(str, SCENARIOS[name])])
 
 
 def cost_of(words: Sequence[str | Path]) -> Cost:
@@ -64,15 +57,6 @@ def cost_of(words: Sequence[str | Path]) -> Cost:
         return Cost(used.ru_utime, clock, used.ru_maxrss * 1024, hashlib.sha256(report.read()).hexdigest())
 
 
-def instructions(program: str, scenario: Path) -> float:
-    """The instructions of a run, counted one by one, for which it needs some fifty times as long."""
-    done = subprocess.run([*COUNTER, program, scenario], stdout=subprocess.DEVNULL, stderr=subprocess.PIPE, text=True)
-    counted = re.search(r'I +refs: +([\d,]+)', done.stderr)
-    if not counted:
-        raise Fault('valgrind counts no instructions of %s: %s' % (program, done.stderr[:200].strip()))
-    return float(counted[1].replace(',', ''))
-
-
 def cell(name: str, ours: Sequence[float], others: Sequence[float]) -> str:
     """A measure of this program; with that of the earlier one, and the middle, the least and the greatest of the
     ratios of runs that alternated."""
@@ -87,25 +71,20 @@ def measure(title: str, programs: Sequence[str], words: Sequence[str | Path], ro
     """Runs programs alternately, prints the costs in a line, and returns the digests of the reports."""
     turns = [[cost_of([program, *words]) for program in programs] for _ in range(rounds)]
     cells = [cell(name, *([getattr(turn[at], name) for turn in turns if at < len(turn)] for at in (0, 1)))
-             for name in ('user', 'clock', 'memory')]
+             for name in SHOWN]
     print('  %-28s %s' % (title, '; '.join(cells)), flush=True)
     return {cost.report for turn in turns for cost in turn}
 
 
-def measure_scenario(name: str, programs: Sequence[str], asked: argparse.Namespace) -> bool:
+def measure_scenario(name: str, programs: Sequence[str], rounds: int) -> bool:
     """Measures one scenario in all ways, and returns whether all its reports are the same."""
-    whole, tenth = SCENARIOS[name]
     reports = set[str]()
-    print('%s %s' % (name, ' '.join(map(str, whole))), flush=True)
+    print(name, *SCENARIOS[name], flush=True)
     with tempfile.TemporaryDirectory() as folder:
         scenario = Path(folder) / 'scenario.toml'
-        scenario.write_bytes(generated(name, whole))
+        scenario.write_bytes(generated(name))
         for way in WAYS:
-            reports |= measure(way or 'one thread', programs, [*way.split(), scenario], asked.rounds)
-        if asked.counts:
-            scenario.write_bytes(generated(name, tenth))
-            ours, *others = [instructions(program, scenario) for program in programs]
-            print('  %s, of a tenth, on one thread' % cell('instructions', [ours], others))
+            reports |= measure(way or 'one thread', programs, [*way.split(), scenario], rounds)
     if len(reports) > 1:
         print('  THE REPORTS DIFFER')
     return len(reports) == 1
@@ -118,12 +97,8 @@ def main() -> int:
                        help='scenarios: %s; without one, all' % ', '.join(SCENARIOS))
     words.add_argument('--against', metavar='PROGRAM', help='an earlier motesim, which runs alternately with this one')
     words.add_argument('--rounds', type=int, default=5, metavar='N', help='N runs of each (5)')
-    words.add_argument('--no-instructions', action='store_false', dest='counts', help='count no instructions')
     asked = words.parse_args()
-    if asked.counts and not shutil.which('valgrind'):
-        print('Instructions are not counted: on Debian `apt-get install valgrind` installs what counts them.')
-        asked.counts = False
     programs = [str(program_path().resolve()), *([os.path.abspath(asked.against)] if asked.against else [])]
     if len(programs) > 1:
         print('Each measure is that of %s, that of %s, and their ratio.' % tuple(programs))
-    return 0 if all([measure_scenario(name, programs, asked) for name in asked.names or SCENARIOS]) else 1
+    return 0 if all([measure_scenario(name, programs, asked.rounds) for name in asked.names or SCENARIOS]) else 1

@@ -24,7 +24,6 @@ import importlib
 import io
 import os
 import re
-import subprocess
 import tarfile
 from collections.abc import Collection, Iterable, Iterator
 from pathlib import Path, PurePosixPath
@@ -37,12 +36,13 @@ from motesim.version import KIT, VERSION
 from motesim.words import words_of
 from project import kit
 from project.compile import compile_program
-from project.tree import commit
+from project.tree import commit, git
 
 # The contents of the archive besides the program: files, and folders with all files in them that git knows.
 PARTS = ('CHANGES.md', 'CITATION.cff', 'LICENSE', 'docs/use', 'examples', 'tools/contiki_host', 'tools/motesim')
-# The page on how the lesson is graded, and the first letters of files and folders that are for teachers.
-GRADING, KEPT_BACK = 'docs/use/TEACH.md', ('solution', 'hidden')
+# Paths of files for teachers only, and of files that tools and editors make for themselves.
+FOR_TEACHERS = re.compile(r'docs/use/TEACH\.md\Z|(.*/)?(?i:solution|hidden)', re.S)
+RUBBISH = re.compile(r'(.*/)?(\.|__pycache__/|[^/]*~(/|\Z))', re.S)
 # A link of a page, with its words and its target. (The words may be on two lines.)
 LINK = re.compile(r'(?<!!)\[([^\]\n]*(?:\n[^\]\n]*)?)\]\(([^)#\s]*)(?:#[^)\s]*)?\)')
 
@@ -109,25 +109,6 @@ class Sorted(NamedTuple):
         return lines + ['Left out: %s (%s)' % (one_line(name), why) for name, why in self.left_out.items()]
 
 
-def is_kept_back(names: Iterable[str]) -> bool:
-    """Returns whether a file with these names of folders and of its own is for teachers only."""
-    return any(it.lower().startswith(KEPT_BACK) for it in names)
-
-
-def is_rubbish(names: Iterable[str]) -> bool:
-    """Returns whether a file is one that tools and editors make for themselves."""
-    return any(it == '__pycache__' or it.startswith('.') or it.endswith('~') for it in names)
-
-
-def of_git(top: Path, *words: str) -> list[str] | None:
-    """The files that git lists; None if it lists none, as for a tree that isn't a clone."""
-    try:
-        done = subprocess.run(['git', '-C', str(top), *words, '-z'], capture_output=True)
-    except FileNotFoundError:
-        return None
-    return [os.fsdecode(it) for it in done.stdout.split(b'\0') if it] or None
-
-
 def files_of(path: Path) -> Iterator[Path]:
     """A file, or all files of a folder."""
     yield from (it for it in (path, *sorted(path.rglob('*'))) if it.is_file())
@@ -148,19 +129,19 @@ def own_files(named: Iterable[Path], top: Path) -> Iterator[tuple[str, Path]]:
 
 def sorted_files(parts: Iterable[str], named: Iterable[Path] = (), top: Path = TOP) -> Sorted:
     """The files of the archive besides the program, from the repository's parts and what the maker has named."""
-    listed, changed = of_git(top, 'ls-files'), set(of_git(top, 'diff', '--name-only', '--relative', 'HEAD') or ())
-    found, own = Sorted({}, [], [], {}, listed is not None), dict(own_files(named, top))
+    listed, changed = (set(filter(None, git(top, *words, '-z').split('\0')))
+                       for words in (['ls-files'], ['diff', '--name-only', '--relative', 'HEAD']))
+    found, own = Sorted({}, [], [], {}, bool(listed)), dict(own_files(named, top))
     its = {str(file.relative_to(top)): file for part in parts for file in files_of(top / part)}
-    known = set(its if listed is None else listed)
+    known = listed or set(its)
     for name, file in {**its, **own}.items():
-        names = PurePosixPath(name).parts
         # (a link is judged by the file that it leads to, too)
-        there = file.resolve().parts[-2:] if file.is_symlink() else ()
-        if is_rubbish(names):
+        paths = [name, '/'.join(file.resolve().parts[-2:])] if file.is_symlink() else [name]
+        if RUBBISH.match(name):
             continue
         if name in known and name in own and not own[name].samefile(top / name):
             raise Fault('%s has the name of a file of the repository: rename it' % own[name])
-        if is_kept_back((*names, *there)) or name == GRADING:
+        if any(map(FOR_TEACHERS.match, paths)):
             found.left_out[name] = 'for teachers'
         elif name not in known and name not in own:
             found.left_out[name] = 'git doesn\'t know it, and it wasn\'t named'

@@ -18,7 +18,7 @@ from pathlib import Path
 from typing import NamedTuple, NoReturn
 
 from motesim.faults import OF_ALL, Fault
-from motesim.runner.programs import NOT_PROVED, is_compiled, is_program, program_of_sources
+from motesim.runner.programs import NOT_PROVED, is_compiled, program_of_sources, program_path
 from motesim.version import VERSION
 from project.compile import compile_program
 from project.running import ends_with_parent
@@ -107,11 +107,8 @@ def check_arguments(request: Request) -> None:
 
 def program_for(request: Request) -> Path:
     """The binary for the arguments: one that exists handles them itself."""
-    named = os.environ.get('MOTESIM')
-    if named and not request.is_unproved:
-        if not is_program(Path(named)):
-            raise Fault('there is no program %s (the environment variable MOTESIM names it)' % named)
-        return Path(named).resolve()
+    if os.environ.get('MOTESIM') and not request.is_unproved:
+        return program_path().resolve()
     found = program_of_sources(may_be_proved=not request.is_unproved)
     if found is None:
         if request.wants_help:

@@ -21,8 +21,8 @@ PROGRAM = ('#!/bin/sh\necho "mote 0 p"\n[ "$1" = --workers ] && [ "$4" = ODD ] &
 
 class Scenarios(unittest.TestCase):
     def test_each_is_a_scenario(self) -> None:
-        for name, sizes in bench.SCENARIOS.items():
-            found = Scenario.parse(bench.generated(name, sizes[1]))
+        for name in bench.SCENARIOS:
+            found = Scenario.parse(bench.generated(name))
             for text in found.programs.values():
                 self.assertIsNone(find_fault(text), name)
 
@@ -50,7 +50,7 @@ class Command(unittest.TestCase):
             program = Path(room) / 'motesim'
             program.write_text(PROGRAM.replace('ODD', odd))
             program.chmod(0o755)
-            words = ['bench', '--rounds', '1', '--no-instructions', *asked]
+            words = ['bench', '--rounds', '1', *asked]
             with mock.patch.dict('os.environ', MOTESIM=str(program)), mock.patch.object(sys, 'argv', words), \
                     contextlib.redirect_stdout(said), contextlib.redirect_stderr(said):
                 with self.assertRaises(SystemExit) as end:
