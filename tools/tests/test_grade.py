@@ -300,6 +300,47 @@ class Nets(Folder):
         self.assertIn('<pre>in task.toml\nmote 0 has 0 such lines', self.page())
         self.assertIn('href="marks_runs/ben.toml_in_task.toml.html"', self.page())
 
+    def test_programs_in_nets_are_written_as_scenarios(self) -> None:
+        (self.top / 'secret.toml').write_text(net(PROGRAM % 9, motes=5))
+        self.hand_in('ben.mote', PROGRAM % 4)
+        self.hand_in('carla.toml', 'end = ')
+        said = self.grade('--net', 'task.toml', '--hidden', 'secret.toml', '--write', 'runs')
+        self.assertEqual(sorted(os.listdir(self.top / 'runs')), [
+            'anna.toml_in_secret.toml', 'anna.toml_in_task.toml', 'ben.mote_in_secret.toml', 'ben.mote_in_task.toml'])
+        self.assertIn('runs/ben.mote_in_secret.toml\n', said)
+        self.assertIn("grade: carla.toml isn't written: the file is not TOML", self.seen)
+        found = Scenario.parse((self.top / 'runs/ben.mote_in_secret.toml').read_text())
+        self.assertEqual((found.motes, found.programs['task'].strip()), (5, (PROGRAM % 4).strip()))
+        self.grade('--write', 'runs', status=2)
+        self.assertIn('--write needs a net', self.seen)
+
+    def test_the_key_of_an_anonymous_marking(self) -> None:
+        self.hand_in('ben.toml', net(PROGRAM % 4))
+        self.grade('--anonymous', '--key', 'class/key.csv', '-o', 'marks.html')
+        rows = (self.folder / 'key.csv').read_text().splitlines()
+        self.assertEqual((rows[0], len(rows)), ('"number","solution"', 3))
+        self.assertEqual(sorted(it.split(',')[1] for it in rows[1:]), ['"anna.toml"', '"ben.toml"'])
+        for number, name in (it.replace('"', '').split(',') for it in rows[1:]):
+            self.assertIn('%s</td><td class="number %s">' % (number, 'all' if name == 'anna.toml' else 'some'),
+                          self.page())
+        self.assertEqual(list(self.rows()), ['anna.toml', 'ben.toml'])
+        self.grade('--key', 'k.csv', status=2)
+
+    def test_marks_for_excel(self) -> None:
+        self.grade('--excel', '-o', 'class/marks.csv')
+        data = (self.folder / 'marks.csv').read_bytes()
+        self.assertTrue(data.startswith(b'\xef\xbb\xbf"scenario";"holds";"of";"fault";'), data)
+        self.assertIn(b'\n"anna.toml";3;3;"";1;1;1\n', data)
+        self.assertEqual(list(self.rows()), ['anna.toml'])
+
+    def test_a_halt_is_in_the_row(self) -> None:
+        need_program(self)
+        self.stub = program_path()
+        self.hand_in('ben.mote', 'process a;\nautostart a;\ncode a { body { while 1 { } } }\n')
+        self.assertTrue(self.rows('--net', 'task.toml')['ben.mote'].endswith('; mote 0 halts at 0 in task.toml'))
+        self.assertIn('mote 0 halts at 0 in task.toml: it used up its work there, as by a loop without a wait',
+                      self.grade('--net', 'task.toml', '--why', 'ben'))
+
     def test_a_run_page_names_the_lines_of_the_solution_s_file(self) -> None:
         need_program(self)
         self.stub = program_path()

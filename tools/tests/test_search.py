@@ -424,7 +424,8 @@ class Searches(unittest.TestCase):
         # (each mote sends one packet, which can't be lost alone)
         with folder_with() as folder:
             status, said, _ = search(folder, '--faults', 'packets,links')
-            self.assertIn('there is no fault of the kind packets in this scenario\n', said)
+            self.assertIn('there is no fault of the kind packets in this scenario: a link loses only packet n if its '
+                          'sender sends n + 1 to 2n + 1 packets, n is at least 1', said)
 
     def test_broken_without_a_fault(self) -> None:
         with folder_with(sentences=['mote 0 prints', REACHED]) as folder:

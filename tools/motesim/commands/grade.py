@@ -15,7 +15,8 @@ because the machine has other work, the solution isn't marked: grade it again.
 
 Tables `[[change]]` of EXPECTATIONS are not tried: they replace texts of one solution. -o writes the marks to a file:
 NAME.csv for a spreadsheet, NAME.toml, or NAME.html, a page that links each first failed sentence to its timeline.
---why NAME shows what breaks the sentences in one solution, and where the error of a refused one is.
+--why NAME shows what breaks the sentences in one solution, and where the error of a refused one is. --write FOLDER
+writes each program in each net as a scenario, FOLDER/anna.toml_in_hidden.toml, for the studio and the other tools.
 
 Ends with status 0; with 1 if a solution isn't marked; with 2 if the sentences or the nets can't be read.
 """
@@ -55,11 +56,19 @@ def arguments() -> argparse.Namespace:
                        help='write the marks: NAME.csv, NAME.toml or NAME.html')
     words.add_argument('--anonymous', action='store_true',
                        help='show numbers instead of the names of solutions, drawn again in each marking')
+    words.add_argument('--key', metavar='FILE', type=Path,
+                       help='with --anonymous: write which solution has which number, for you only')
+    words.add_argument('--write', metavar='FOLDER', type=Path,
+                       help='also write each program in each net as a scenario, to look at it in the studio')
+    words.add_argument('--excel', action='store_true',
+                       help='NAME.csv has a byte order mark, and `;` between its cells')
     words.add_argument('--csv', action='store_true', help='print the marks for a spreadsheet')
     words.add_argument('--why', metavar='NAME', help='show what breaks the sentences in one solution')
     asked = words.parse_args()
     if asked.seconds <= 0 or asked.memory < 1 or asked.report < 1 or (asked.jobs or 1) < 1:
         words.error('limits and --jobs are greater than 0')
+    if asked.key and not asked.anonymous:
+        words.error('--key needs --anonymous')
     for path in asked.output:
         if path.suffix not in FORMATS:
             words.error('%s: a file of marks ends in .csv, .toml or .html' % path)

@@ -11,9 +11,10 @@ from motesim.explain.synonyms import nearest
 from motesim.faults import Fault
 from motesim.files import replace_whole
 from motesim.grading import page, tables
-from motesim.grading.entries import Entry, anonymous, entries_of, skipped_of
-from motesim.grading.marking import Marks, Task, unmarked
-from motesim.grading.nets import nets_of
+from motesim.grading.entries import Entry, anonymous, data_of, entries_of, skipped_of
+from motesim.grading.marking import Marks, Task, page_name, unmarked
+from motesim.grading.nets import nets_of, program_of
+from motesim.grading.own import OF_KEY
 from motesim.grading.pages import keep_names, pages_of, remove_earlier
 from motesim.grading.progress import Progress
 from motesim.judge.expectations import parts_of, read_all, text_of
@@ -76,10 +77,11 @@ def written(path: Path, text: str) -> None:
     replace_whole(path, [text.encode('utf-8')])
 
 
-def write(path: Path, marked: Sequence[Marks], sentences: Sequence[str], task: Task, expectations: Path) -> None:
+def write(path: Path, marked: Sequence[Marks], sentences: Sequence[str], task: Task, expectations: Path,
+          is_for_excel: bool = False) -> None:
     """Writes the marks into a file, in the form that its name says."""
     if path.suffix == '.csv':
-        text = tables.csv_of(marked, sentences)
+        text = tables.csv_of(marked, sentences, is_for_excel)
     elif path.suffix == '.toml':
         text = tables.toml_of(marked, sentences, one_line(str(expectations)), [net.name for net in task.nets])
     else:
@@ -87,6 +89,31 @@ def write(path: Path, marked: Sequence[Marks], sentences: Sequence[str], task: T
                             time.strftime('%Y-%m-%d at %H:%M'), bool(task.nets))
     written(path, text)
     print(path)
+
+
+def write_scenarios(folder: Path, entries: Sequence[Entry], task: Task) -> None:
+    """Writes the program of each entry in each net as a scenario, for the studio and the other tools."""
+    if not task.nets:
+        raise Fault('--write needs a net: name one by --net or --hidden')
+    folder.mkdir(parents=True, exist_ok=True)
+    for number, entry in enumerate(entries, 1):
+        for net in task.nets:
+            try:
+                text = net.with_program(program_of(data_of(entry), entry.path.name, net.program))
+            except Fault as fault:
+                print('grade: %s isn\'t written: %s' % (one_line(entry.name), entry.why or fault), file=sys.stderr)
+                break
+            path = folder / (page_name(number, entry.name, net.name).removesuffix('.html').removesuffix('.toml')
+                             + '.toml')
+            written(path, text)
+            print(path)
+
+
+def key_of(entries: Sequence[Entry], folder: Path) -> str:
+    """Which solution has which number, as CSV."""
+    rows = ['"%s","%s"' % (it.name, tables.cell(tables.without_separators(one_line(str(it.path.relative_to(folder)))))
+                            .replace('"', '""')) for it in entries]
+    return OF_KEY + ''.join(it + '\n' for it in rows)
 
 
 def entry_of(name: str, entries: Sequence[Entry], folder: Path) -> Entry:
@@ -126,6 +153,10 @@ def status_of(asked: argparse.Namespace) -> int:
         entries = [entry_of(asked.why, entries, asked.folder)]
     elif asked.anonymous:
         entries = anonymous(entries)
+        if asked.key:
+            written(asked.key, key_of(entries, asked.folder))
+    if asked.write:
+        write_scenarios(asked.write, entries, task)
     if pictures:
         remove_earlier(pictures)
         # (all that it may make: it can be ended at any time)
@@ -146,5 +177,5 @@ def status_of(asked: argparse.Namespace) -> int:
         print('\n'.join([*tables.table(marked, sentences), '', *tables.below(marked, sentences),
                          *tables.pointer(marked)]))
     for path in asked.output:
-        write(path, marked, sentences, task, asked.expectations)
+        write(path, marked, sentences, task, asked.expectations, asked.excel)
     return 1 if any(it.is_open for it in marked) else 0

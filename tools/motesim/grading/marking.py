@@ -13,7 +13,7 @@ from motesim.files import replace_whole
 from motesim.grading.entries import Entry, data_of
 from motesim.grading.nets import Net, NoProgram, program_of
 from motesim.judge.expectations import (
-    REFUSED, Part, UnknownSentence, known_of, more_of, read_all, refused, same_report,
+    REFUSED, REQUIRED, Part, UnknownSentence, known_of, more_of, read_all, refused, same_report,
 )
 from motesim.judge.judge import Broken, Judge
 from motesim.judge.sentences import lacking
@@ -40,7 +40,6 @@ WIDEST_NAME = 40
 UNSAFE = re.compile(r'[^A-Za-z0-9.-]|^\.')
 LONGEST_NAME = 80
 OF_HIDDEN = 'in a hidden net'
-REQUIRED = ' (required)'
 # How many lines of an error are shown.
 MOST_LINES = 40
 
@@ -77,6 +76,7 @@ class Marks:
     picture  the page with the timeline of its first failed sentence, in the folder of pictures
     no_page  the reason why there is no such page, though pages were asked for
     fix      of a refused scenario or program, the place of its error and how it is put right
+    halts    the first mote that halts in a net, if one does
     """
     name: str
     marks: tuple[Mark, ...] = ()
@@ -86,6 +86,7 @@ class Marks:
     no_page: str = ''
     fix: tuple[str, ...] = ()
     is_open: bool = False
+    halts: str = ''
 
     def in_lines(self) -> Marks:
         """The same, with each text in one line: names in a solution may have signs that would end or change a row."""
@@ -127,6 +128,7 @@ class InNet(NamedTuple):
     net: str = ''
     is_hidden: bool = False
     bytes: int = 0
+    halts: str = ''
 
 
 @dataclass(frozen=True)
@@ -220,7 +222,8 @@ class Task:
             whole = same_report(judge.rows, self.part.report)
             marks.append(Mark(whole.sentence, whole.holds, (), tuple(whole.more)))
         run = Run('', report, scenario, file) if len(got.report) <= MOST_SHOWN else None
-        return InNet(marks, lacks, '', run, [None if lack else next(places) for lack in lacks], bytes=len(got.report))
+        return InNet(marks, lacks, '', run, [None if lack else next(places) for lack in lacks], bytes=len(got.report),
+                     halts=halt_of(report))
 
     def spread(self, held: Iterator[Mark], lacks: list[str]) -> list[Mark]:
         """A mark for each sentence: one on what a scenario lacks doesn't hold."""
@@ -237,7 +240,8 @@ class Task:
                               first.more if first else (), shown_of(failed), place < self.part.required))
         why = ' '.join(next((its.why for its in found if its.why), '').split())[:LONGEST_WHY]
         lacks = [next((it for it in each if it), '') for each in zip(*(its.lacks for its in found))]
-        return Marks(name, tuple(marks), why, tuple(lacks))
+        halts = next((its.halts + (' in %s' % its.net if its.net else '') for its in found if its.halts), '')
+        return Marks(name, tuple(marks), why, tuple(lacks), halts=halts)
 
     def possible_pictures(self, entries: Sequence[Entry]) -> list[str]:
         """The names of all pages that the marking of these entries may write."""
@@ -261,6 +265,12 @@ class Task:
         write_page(self.pictures / name, '%s: %s' % (marks.name, mark.sentence), [its.run._replace(name=marks.name)],
                    note=note, write=replace_whole)
         return name, ''
+
+
+def halt_of(report: Report) -> str:
+    """The first mote that halts in a report, with the moment; an empty text if none does."""
+    last = ((mote.number, mote.lines[-1]) for mote in report.motes if mote.lines)
+    return next(('mote %d halts at %d' % (number, it.at) for number, it in last if it.kind == 'halt'), '')
 
 
 def unmarked(name: str, why: str) -> Marks:

@@ -6,24 +6,27 @@ import stat
 from pathlib import Path
 
 from motesim.grading.pages import NAMES, OF_PAGES, names_in
+from motesim.toml import MARK
 
 # The beginnings of marks.
 OF_TOML = '# Written by tools/grade.'
 OF_PAGE = '<!DOCTYPE html>\n<html lang="en">\n<head>\n<meta name="generator" content="tools/grade">\n'
+OF_KEY = '"number","solution"\n'
 COLUMNS = ('scenario', 'holds', 'of', 'fault')
-OF_CSV = ','.join('"%s"' % it for it in COLUMNS)
-HEADS = {'.toml': OF_TOML + '\n', '.html': OF_PAGE, '.csv': OF_CSV + ','}
+HEADS = {'.toml': (OF_TOML + '\n',), '.html': (OF_PAGE,), '.csv': (
+    *(begin + sign.join([*('"%s"' % it for it in COLUMNS), '']) for begin, sign in (('', ','), (MARK, ';'))), OF_KEY)}
 
 
 def is_marks(path: Path) -> bool:
     """True if a plain file begins as the marks do that tools/grade writes."""
-    head = HEADS.get(path.suffix, '').encode()
+    heads = [it.encode() for it in HEADS.get(path.suffix, ())]
     try:
         number = os.open(path, os.O_RDONLY | os.O_NONBLOCK | os.O_NOFOLLOW | os.O_CLOEXEC)
     except OSError:
         return False
     with open(number, 'rb') as file:
-        return bool(head) and stat.S_ISREG(os.fstat(number).st_mode) and file.read(len(head)) == head
+        begin = file.read(max(map(len, heads), default=0)) if stat.S_ISREG(os.fstat(number).st_mode) else b''
+        return any(map(begin.startswith, heads))
 
 
 def own_of(folder: Path) -> set[str]:

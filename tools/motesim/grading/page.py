@@ -5,9 +5,10 @@ from collections.abc import Sequence
 from html import escape
 from urllib.parse import quote
 
-from motesim.grading.marking import REQUIRED, Marks
+from motesim.grading.marking import Marks
 from motesim.grading.own import OF_PAGE
 from motesim.grading.tables import count_of, required_of
+from motesim.judge.expectations import REQUIRED
 
 HEAD = OF_PAGE + """<meta charset="utf-8">
 <meta name="viewport" content="width=device-width">
@@ -71,7 +72,7 @@ def page_of(marked: Sequence[Marks], sentences: Sequence[str], title: str, folde
         HEAD % escape(title) + '<h1>%s</h1>' % escape(title),
         '<p>%s ● means that a sentence holds%s, ○ that it doesn\'t.%s</p>' % (
             'Marked on %s.' % date if date else '', ' in all nets' if has_nets else '', OF_REQUIRED * bool(required)),
-        '<table><thead><tr><th>Solution</th><th class="number">Holds</th><th>Sentences</th><th>First that '
+        '<table><thead><tr><th>Solution</th><th class="number">Mark</th><th>Sentences</th><th>First that '
         'fails</th></tr>'
         '</thead><tbody>', *rows, '</tbody></table>',
         '<h2>Sentences</h2>', '<table><tbody>', *below, '</tbody></table>', '</body>', '</html>', ''])

@@ -6,8 +6,10 @@ import io
 import unicodedata
 from collections.abc import Sequence
 
-from motesim.grading.marking import REQUIRED, Marks
+from motesim.grading.marking import Marks
 from motesim.grading.own import COLUMNS, OF_TOML
+from motesim.judge.expectations import REQUIRED
+from motesim.toml import MARK
 
 # A cell that begins so is a formula to some spreadsheets.
 OF_FORMULA = ('=', '+', '-', '@', '\t', '\r', '|', '%')
@@ -38,7 +40,8 @@ def table(marked: Sequence[Marks], sentences: Sequence[str]) -> list[str]:
         broken = ', '.join('%d%s' % (number, REQUIRED * one.is_required) for number, one in enumerate(it.marks, 1)
                            if not one.holds)
         count = count_of(it, len(sentences))
-        shown = it.why or '; '.join(one for one in (broken and 'broken: %s' % broken, it.fault) if one)
+        shown = it.why or '; '.join(one for one in (broken and 'broken: %s' % broken, it.fault, it.halts)
+                                      if one)
         rows.append(('%s  %s  %s' % (it.short_name.ljust(width), count, shown)).rstrip())
     return rows
 
@@ -70,13 +73,14 @@ def without_separators(text: str) -> str:
     return text.replace(';', '\\x3b').replace('\t', '\\x09')
 
 
-def csv_of(marked: Sequence[Marks], sentences: Sequence[str]) -> str:
+def csv_of(marked: Sequence[Marks], sentences: Sequence[str], is_for_excel: bool = False) -> str:
     """A row for each solution, with 1 for a sentence that holds and otherwise 0; nothing if it isn't marked.
 
-    All texts are in quotes.
+    All texts are in quotes. A file for Excel begins with a byte order mark, and `;` separates its cells.
     """
-    out = io.StringIO(newline='')
-    rows = csv.writer(out, lineterminator='\n', quoting=csv.QUOTE_NONNUMERIC)
+    out = io.StringIO(MARK * is_for_excel, newline='')
+    out.seek(0, io.SEEK_END)
+    rows = csv.writer(out, lineterminator='\n', quoting=csv.QUOTE_NONNUMERIC, delimiter=',;'[is_for_excel])
     rows.writerow([*COLUMNS, *map(cell, sentences)])
     for it in marked:
         holds: list[object] = [int(one.holds) for one in it.marks]
@@ -126,4 +130,5 @@ def why(marks: Marks) -> list[str]:
         lines.append(('holds   ' if it.holds else 'broken  ') + it.words)
         nets = ['in %s' % ', '.join(it.nets)] if it.nets else []
         lines += ['          ' + row for row in [*nets, *it.more]]
+    lines += ['%s: it used up its work there, as by a loop without a wait' % marks.halts] if marks.halts else []
     return lines + [RENAMED] * any(marks.lacks)

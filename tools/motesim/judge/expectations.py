@@ -37,6 +37,8 @@ WRITTEN = {
 def beside(scenario: Path) -> Path:
     """The file of expectations next to a scenario."""
     return scenario.with_suffix('.expect.toml')
+# The remark behind a required sentence.
+REQUIRED = ' (required)'
 
 
 def text_of(path: Path) -> str:
@@ -218,12 +220,13 @@ def expect(scenario: Path, expectations: Path, is_quiet: bool = False) -> tuple[
             raise Fault('%s: %s' % (part.name, fault)) from None
         if part.replace and not (is_quiet and all(it.holds for it in verdicts)):
             print('with %s:' % (part.name if part.name != name else 'a change'))
-        for it in verdicts:
+        for number, it in enumerate(verdicts):
             passed, failed = passed + it.holds, failed + (not it.holds)
+            words = it.sentence + REQUIRED * (number < part.required)
             if it.holds and not is_quiet:
-                print('holds   %s' % it.sentence)
+                print('holds   %s' % words)
             elif not it.holds:
-                print('\n          '.join(['broken  %s' % it.sentence, *it.more]))
+                print('\n          '.join(['broken  %s' % words, *it.more]))
         has_fault |= not part.replace and any(it.is_refused and not it.holds for it in verdicts)
     if has_fault:
         print('tools/explain %s shows the place of the error, and what you may write there' % scenario)

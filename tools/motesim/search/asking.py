@@ -9,7 +9,7 @@ from motesim.judge.sentences import Sentence
 from motesim.runner.programs import program_path
 from motesim.search.by_dask import ByDask
 from motesim.search.change import Base
-from motesim.search.faults import Asked, faults_of
+from motesim.search.faults import WHY_NONE, Asked, faults_of
 from motesim.search.kept import Kept
 from motesim.search.one_program import Limits, OneProgram
 from motesim.search.prepare import plain_run, prepare
@@ -47,7 +47,8 @@ class Asking:
         """The lines to show before anything is tried."""
         broken = [self.texts[number] for number in self.plain.broken]
         rows = ['broken without a fault, so left out: ' + it for it in broken]
-        rows += ['there is no fault of the kind %s in this scenario' % kind for kind in self.absent]
+        rows += ['there is no fault of the kind %s in this scenario%s' % (kind, WHY_NONE.get(kind, ''))
+                 for kind in self.absent]
         rows += ['left out: ' + it for it in self.prepared.left_out]
         blind = 0
         for mask in self.prepared.blind.values():

@@ -262,6 +262,13 @@ def _parameters(base: Base, asked: Asked) -> Iterator[FaultyPart]:
                                  ('parameter', name, value))
 
 
+# The reason why a scenario has no fault of a kind.
+WHY_NONE = {
+    'packets': (': a link loses only packet n if its sender sends n + 1 to 2n + 1 packets, n is at least 1, and the '
+                'link has no loss yet. docs/use/SCENARIO.md says how only the first packet is lost'),
+    'collisions': ': its packets collide already',
+    'links': ': no mote hears another one, or each link loses everything already',
+}
 MAKERS: dict[str, Callable[[Base, Asked], Iterator[FaultyPart]]] = {
     'links': _links, 'both-ways': _both_ways, 'every': _every, 'packets': _packets, 'motes': _motes,
     'deaths': _deaths, 'late': _late, 'collisions': _collisions, 'queues': _queues, 'values': _values,

@@ -163,16 +163,18 @@ def checks(done: Finished, saved: str, expected: tuple[str, str] | None) -> dict
 def marks(part: expectations.Part, done: Finished) -> list[dict[str, Any]]:
     """A mark for each sentence of a part, and one for its report, if it has one."""
     judge = Judge(done.run.report, done.scenario)
-    found = []
+    found = list[dict[str, Any]]()
     for words, sentence in zip(part.sentences, expectations.read_all(part.sentences, names_of(done.scenario))):
         broken = judge.broken(sentence)
-        found.append({'sentence': words, 'holds': broken is None, 'row': broken.row if broken else None,
+        found.append({'sentence': words, 'holds': broken is None, 'required': len(found) < part.required,
+                      'row': broken.row if broken else None,
                       'more': expectations.more_of(broken, judge.rows) if broken else []})
     if part.report is not None:
         whole = expectations.same_report(judge.rows, part.report)
         row = next((row for row, (ours, wanted) in enumerate(zip_longest(judge.rows, part.report.splitlines()), 1)
                     if ours != wanted), None)
-        found.append({'sentence': whole.sentence, 'holds': whole.holds, 'row': row, 'more': whole.more})
+        found.append({'sentence': whole.sentence, 'holds': whole.holds, 'required': False, 'row': row,
+                      'more': whole.more})
     return found
 
 

@@ -63,6 +63,7 @@ function checkItem(it) {
     button.title = 'Show how near the run came';
     inside.append(button);
   }
+  if (it.required) inside.append(' (required)');
   if (!it.holds) inside.append(Object.assign(element('span', it.more.join('\n')), {className: 'why'}));
   const item = element('li', '', [sign, inside]);
   item.className = it.holds ? 'holds' : 'broken';
