@@ -1,19 +1,19 @@
 """Refuses each request for memory of a run, one in each run: tools/dev/refuse_memory [FILE [-- WORD ..]]
 
 The program simulates a scenario, and is refused its first request, in the next run its second, and so on until a run
-needs no more of them. The start of a thread is a request too, for its stack. Each run has to end with the whole
-report and status 0, or, unless a start was refused, with `motesim: out of memory`, status 1 and a beginning of the
-report, or, with workers, with `motesim: run fault 5`, status 1 and no report; and each has to end. If the threads of
-workers are refused memory, some of these runs end as out of memory: only an executor reports it as a failed thread.
-If a report has so many lines that threads format it, a refused start of one of them leads to the whole report.
+needs no more of them. The start of a thread is a request too, for its stack. Each run has to end in one of three ways:
+with the whole report and status 0; with `motesim: out of memory`, status 1 and a beginning of the report, unless a
+start was refused; or, with workers, with `motesim: run fault 5`, status 1 and no report. If the threads of workers are
+refused memory, some of these runs end as out of memory: only an executor reports it as a failed thread. If a report
+has so many lines that threads format it, a refused start of one of them leads to the whole report.
 
 The words after FILE are the arguments of motesim, as in `-- --workers 2 --sync marks`. Without FILE small scenarios
 are tried, on one thread and with two and three workers of both kinds: packets that meet and are heard, a full ring, a
 full queue, a refused timer, and a scenario with a fault; and two motes with many lines, by two workers of both kinds.
-So is a test of crates/part_tests, as `rt ci` builds it, which calls kernels and motes once they are out of memory: it
-has to pass, or to end with an error of its own if it has no kernel or mote to call.
+A test of crates/part_tests, as `rt ci` builds it, is tried in the same way. It calls kernels and motes once they are
+out of memory, and has to pass, or to end with an error of its own if it has no kernel or mote to call.
 
-A library in C that is loaded before the C library refuses; `cc` compiles it.
+The requests are refused by a library in C, which `cc` compiles, and which is loaded before the C library.
 """
 from __future__ import annotations
 

@@ -1,10 +1,10 @@
 """Runs motesim on a scenario with one byte spoiled, for each byte, and on its prefixes: tools/dev/spoil_bytes
 
-The scenario is tests/cases/motes/print_then_yield.toml. Each of its bytes is replaced by each of the bytes in
-SPOILED. For such a text motesim writes a report and ends with status 0, or writes only the line of a fault and ends
-with status 1. Another simulator of the same rules counted how many texts have which result, and how long their reports
-are together. A prefix of the scenario is not TOML (fault 1) or lacks a key (fault 2), except the one that lacks only
-the last line feed.
+The scenario is tests/cases/motes/print_then_yield.toml. Each of its bytes is replaced by each byte of a short list
+(SPOILED in tests/test_spoiled_bytes.py). For such a text motesim writes a report and ends with status 0, or writes
+only the line of a fault and ends with status 1. Another simulator of the same rules counted how many texts have which
+result, and how long their reports are together. A prefix of the scenario is not TOML (fault 1) or lacks a key (fault
+2), except the one that lacks only the last line feed.
 """
 from __future__ import annotations
 

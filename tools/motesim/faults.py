@@ -17,7 +17,7 @@ from motesim.terminal import plain_stream
 from motesim.version import KIT, VERSION
 
 FAILED, INTERRUPTED = 2, 130
-# The environment variable that has errors of the tools themselves shown with all their places.
+# If this environment variable is set, an error of a tool itself is shown with its traceback.
 SHOW = 'MOTESIM_TRACEBACK'
 OF_ALL = 'motesim %s, proved with %s' % (VERSION, KIT)
 

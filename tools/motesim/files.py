@@ -66,7 +66,7 @@ def _replace(target: Path, parts: Iterable[bytes]) -> None:
 
 
 def _mask() -> int:
-    """The mode that new files don't get."""
+    """The permissions that new files don't get (the umask)."""
     mask = os.umask(0o077)
     os.umask(mask)
     return mask

@@ -1,8 +1,9 @@
-"""Reads TOML: the one place in which the tools do.
+"""The only module in which the tools read TOML.
 
 `read_toml(text)` returns the tables, or raises a `NoToml` with the place. Python's own reader fails in three ways (a
-text that isn't TOML, arrays nested deeper than its stack, a number with thousands of digits); here they are one. It
-needs hours for a key of many parts, so keys are counted before it reads. The limits are those of `motesim` itself.
+text that isn't TOML, arrays nested deeper than its stack, a number with thousands of digits); here all three raise
+`NoToml`. Python's reader needs hours for a key of many parts, so the parts of keys are counted before it reads. The
+limits are those of `motesim` itself.
 """
 from __future__ import annotations
 
@@ -18,14 +19,14 @@ PLACE = re.compile(r' \(at (?:line (\d+), column (\d+)|end of document)\)$')
 # How many parts a key may have, and how deep arrays and inline tables may be nested.
 DEEPEST = 80
 MANY_PARTS = 'A key has more than %d parts: write fewer dots' % DEEPEST
-TOO_DEEP = 'Arrays or tables are nested too deeply: at most %d are allowed in each other' % DEEPEST
+TOO_DEEP = 'Arrays or tables are nested too deeply: at most %d levels are allowed' % DEEPEST
 TOO_LONG = 'A number has too many digits'
 # Messages that aren't Python's.
 OURS = MANY_PARTS, TOO_DEEP, TOO_LONG
 
 PART = re.compile(r'''[A-Za-z0-9_-]++|"(?:[^"\\\n]|\\.)*+"|'[^'\n]*+\'''')
 # Texts and comments, in which dots and brackets mean nothing, and the rest: keys with all their parts, and brackets.
-# (A text of several lines always has a match, so its repetitions needn't be possessive: in those, Python 3.11.2 fails.)
+# (A text of several lines always has a match, so its repetitions needn't be possessive; in those Python 3.11.2 fails.)
 PIECE = re.compile(r"""
     (?P<text> "{3} (?:[^"\\]+|\\(?:.|\Z)|"(?!""))* (?:"{3,5}|\Z)
             | '{3} (?:[^']+|'(?!''))* (?:'{3,5}|\Z)
@@ -36,7 +37,7 @@ PIECE = re.compile(r"""
 
 
 class NoToml(Fault):
-    """A text that isn't TOML: the reason, and the line (from 1) and column (from 0) up to which it is."""
+    """A text that isn't TOML: the reason, and the line (from 1) and column (from 0) of the first error."""
 
     def __init__(self, said: str, line: int, column: int):
         super().__init__('%s (at line %d, column %d)' % (said, line, column + 1))
@@ -44,7 +45,7 @@ class NoToml(Fault):
 
     @property
     def shown(self) -> str:
-        """The reason, and that Python says it if it does."""
+        """The reason; if it is in Python's words, this is said before it."""
         return self.said if self.said in OURS else 'Python says: %s' % self.said
 
 
@@ -101,7 +102,7 @@ def check_brackets(text: str) -> None:
 
 
 def is_deep(tables: dict[str, Any]) -> bool:
-    """True if something is in more tables and arrays than may be in each other."""
+    """True if tables and arrays are nested more deeply than is allowed."""
     level: list[Any] = [tables]
     for _ in range(DEEPEST + 1):
         members = [it for one in level for it in (one.values() if isinstance(one, dict) else one)]

@@ -2,9 +2,9 @@
 
 Runs the program on the scenarios of bench/, on one thread and with workers of both kinds, each alternating with an
 earlier program if --against names one, and prints for each way to run: the seconds of the processor (user time, the
-best round), the seconds of the clock, and the most memory. A ratio is the middle one of the rounds' own ratios of
-this program to the earlier one, with the least and the greatest. Each report is compared with the first one of its
-scenario: the status is 1 if one differs. docs/dev/SPEED.md says how to count instructions.
+best round), the seconds of the clock, and the most memory. Each round has a ratio of this program to the earlier one:
+the median of these ratios is printed, with the least and the greatest. Each report is compared with the first one of
+its scenario: the status is 1 if one differs. docs/dev/SPEED.md says how to count instructions.
 """
 from __future__ import annotations
 

@@ -1,10 +1,10 @@
 """Writes the lists of definitions into their pages: tools/dev/spec_lists
 
 docs/dev/SPECS.md lists all files of specs/, in the order of crates.txt. docs/proof/HEADLINE.md lists those on which
-the headline rests, the contract of `simulate` in crates/simulation/specs/Simulation*.antt: a file rests on each file
-of specs/ that it imports, and on the files on which those rest. That list goes from the top down: the crates from the
-last of crates.txt to the first, and within a crate a file before those that it imports. Each file is listed with the
-first sentence of its own first comment. `./test` checks that both pages are up to date.
+the theorem rests: the contract of `simulate`, in crates/simulation/specs/Simulation*.antt, each file of specs/ that
+this file imports, each that those import, and so on. That list goes from the top down:
+the crates from the last of crates.txt to the first, and within a crate a file before those that it imports. Each file
+is listed with the first sentence of its own first comment. `./test` checks that both pages are up to date.
 """
 from __future__ import annotations
 

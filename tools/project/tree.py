@@ -1,4 +1,4 @@
-"""The commit of this tree, and other answers of git."""
+"""The commit of this tree, and other facts from git."""
 from __future__ import annotations
 
 import os

@@ -1,7 +1,7 @@
 """Tries mutants of the crates' functions, many in one check: the prover must refuse each because of its effect.
 
 A mutant is a file NAME.edit of crates/CRATE/must-fail, gate-bodies or wrong-bodies (docs/proof/WRONG_BODIES.md). It is
-refused for its meaning if a goal of a contract fails. If only an answer by hand no longer fits, or the prover stops at
+refused for its meaning if a goal of a contract fails. If only a proof by hand no longer fits, or the prover stops at
 a limit, it says little about the contract: such a mutant is reported as open, and counts as skipped, until it is
 written so that the contract decides. A control comes first: the crate without an edit has to be proved.
 
@@ -114,7 +114,7 @@ def report(found: Mapping[Edit, Verdict]) -> int:
     print("refused for a goal of a contract: %d; for a loop's invariant: %d" % (
         len(of_kind[CONTRACT]), len(of_kind[INVARIANT])))
     if still:
-        print('skipped: open, because only an answer by hand no longer fits, or at a limit: %s' % ' '.join(still))
+        print('skipped: open, because only a proof by hand no longer fits, or at a limit: %s' % ' '.join(still))
     if failed:
         print('not refused: %s' % ' '.join(failed))
     print('%d passed, %d failed, %d skipped' % (len(found) - len(still) - len(failed), len(failed), len(still)))

@@ -125,8 +125,8 @@ class Entries(Folder):
             'x.toml': '0 of 3  an empty folder', 'gone.toml': '0 of 3  a link, and not a file',
             'other.toml': '0 of 3  a link, and not a file', 'pipe.toml': '0 of 3  a pipe, and not a file',
             'socket.toml': '0 of 3  a socket, and not a file',
-            'deep.toml': '0 of 3  the file is not TOML: Arrays or tables are nested too deeply: at most 80 are allowed '
-            'in each other (at line 1, column 85)',
+            'deep.toml': '0 of 3  the file is not TOML: Arrays or tables are nested too deeply: at most 80 levels are '
+            'allowed (at line 1, column 85)',
             'key.toml': '0 of 3  the file is not TOML: A key has more than 80 parts: write fewer dots (at line 1, '
             'column 1)',
             'notes.txt': '0 of 3  its name ends neither in .toml nor in .mote',

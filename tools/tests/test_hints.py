@@ -243,8 +243,8 @@ class Hints(unittest.TestCase):
     def test_python_says_only_what_it_says(self) -> None:
         for text, seen in [
             ('.'.join(['a'] * 81) + ' = 1', 'TOML (A key has more than 80 parts: write fewer dots)'),
-            ('x = ' + '[' * 81 + ']' * 81, 'TOML (Arrays or tables are nested too deeply: at most 80 are allowed in '
-                                           'each other)'),
+            ('x = ' + '[' * 81 + ']' * 81, 'TOML (Arrays or tables are nested too deeply: at most 80 levels are '
+                                           'allowed)'),
             ('x = ' + '7' * 5000, 'TOML (A number has too many digits)'),
             ('x = ', 'TOML (Python says: Invalid value)'),
         ]:

@@ -121,7 +121,7 @@ class PlacesTest(unittest.TestCase):
                 self.assertLess(len({place[:2] for place in small} & {place[:2] for place in large}), 3)
 
     def test_what_cannot_be_met_is_told(self) -> None:
-        with self.assertRaisesRegex(places.NoPlace, 'no place was found'):
+        with self.assertRaisesRegex(places.NoPlace, 'was always nearer'):
             places.scattered(100, 10, 10, 1, 9, None)
         with self.assertRaisesRegex(places.NoPlace, 'connected'):
             places.scattered(3, 1000, 1000, 1, 0, 1)
@@ -225,8 +225,8 @@ FAULTS = [
     ('flood.mote', 'fled.mote', 14, '"fled.mote"', 'No such file'),
     ('flood.mote', 'Bad Name.mote', 14, '"Bad Name.mote"', 'A-Z a-z 0-9'),
     ('program = "flood.mote"\n', '', 9, '[places]', 'needs the key `program`'),
-    ('step = 10', 'step = 1.5', 8, '1.5', 'a value of another kind'),
-    ('step = 10', '"a b" = 1', 8, '"a b"', 'another name'),
+    ('step = 10', 'step = 1.5', 8, '1.5', 'not of an allowed kind'),
+    ('step = 10', '"a b" = 1', 8, '"a b"', 'is not allowed'),
     ('to = 1', 'to = 0', 15, '[[loss]]', 'two motes of the plan'),
     ('to = 1', 'to = 25', 15, '[[loss]]', '0 to 24'),
     ('every = 2', 'every = 0', 19, '0', '1 to 1,000,000'),

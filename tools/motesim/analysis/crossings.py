@@ -10,7 +10,8 @@ Nobody has measured between two neighbouring points, so each drawn curve only sh
 The interval contains all of that gap: it reaches from the left ends of the gaps to their right ends.
 
 If a curve crosses several times, the first and the last crossing have intervals, from the first and the last crossing
-of each drawn curve in the same direction. Between them no drawn curve shows which of its crossings belongs to which.
+of each drawn curve in the same direction. For the crossings between them, a drawn curve doesn't show which of
+its crossings belongs to which of the curve's.
 """
 from __future__ import annotations
 
@@ -82,7 +83,7 @@ def place(line: Line, threshold: float, is_rising: bool | None = None, is_log: b
 
 
 def gap_of(line: Line, threshold: float, is_rising: bool, is_last: bool = False) -> tuple[float, float]:
-    """The points between which a line first crosses in that direction, or last.
+    """The points between which a line crosses for the first time in that direction, or for the last time.
 
     If it doesn't, it crosses before its first point or behind its last.
     """
@@ -102,7 +103,7 @@ def by_key(curve: Sequence[Runs]) -> list[dict[Key, tuple[float, float]]] | None
 
 
 def point(runs: Sequence[tuple[float, float]], middle: Middle) -> tuple[float, float]:
-    """The place of some runs: on the axis, and upwards."""
+    """The place of some runs: on the horizontal and on the vertical axis."""
     xs = [x for x, _ in runs]
     return xs[0] if xs.count(xs[0]) == len(xs) else middle(xs), middle([y for _, y in runs])
 

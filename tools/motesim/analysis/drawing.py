@@ -187,7 +187,7 @@ def _scale_of_measure(axes: Any) -> None:
 
 
 def _scale_upwards(axes: Any, shown: Shown, wish: Wish) -> None:
-    """A logarithmic axis upwards, from the least to the greatest value or end of an interval above 0."""
+    """A logarithmic vertical axis, from the least to the greatest value or end of an interval above 0."""
     values = [it for point in shown.points for it in (
         point.values if wish.show == 'points' else (point.estimate.low, point.estimate.middle, point.estimate.high))]
     values.append(threshold_of(wish))
@@ -208,7 +208,7 @@ def _check_log(places: Sequence[Cell], wish: Wish) -> None:
 
 
 def _numbers(places: Sequence[Cell], is_scale: bool) -> list[float]:
-    """The places on the axis: numbers, or others by their order."""
+    """The places on the axis: numbers themselves, other values by their order."""
     return [float(it) if is_scale and isinstance(it, int | float) else float(at) for at, it in enumerate(places)]
 
 
@@ -223,7 +223,7 @@ def _scale(axes: Any, places: list[Cell], wish: Wish, is_scale: bool) -> None:
     texts = ['%.4g' % it if type(it) is float else text_of(it) for it in places]
     shown = _fitting(axes, at, texts, wish)
     if not is_scale and not all(shown):
-        # (each of some names is needed)
+        # (names are all needed, but a number may be left out)
         axes.set_xticks(at, texts, rotation=ANGLE, ha='right', rotation_mode='anchor')
     else:
         kept = [it for it in range(len(at)) if shown[it] or len(at) <= MOST_MARKS]

@@ -7,9 +7,9 @@ come from a fixed seed, so the same runs give the same interval anywhere. The mi
 confidence (`part_of_draws`), since few runs spread less than what they are drawn from.
 
 The interval of a share stays between 0 and 1: by Wilson's score if the runs are 0 or 1 each. Otherwise, if Student's t
-would pass 0 or 1, it is cut there, or comes from the bootstrap if there are enough runs. That of the bootstrap of
-Student's t is never wider than Wilson's score, which is the widest that shares with this mean can need. Runs that are
-all the same have no interval: they don't show how far others would spread.
+would pass 0 or 1, it is cut there, or comes from the bootstrap if there are enough runs. An interval by the bootstrap
+of Student's t is never wider than that of Wilson's score: no shares with this mean need a wider one. Runs that are all
+the same have no interval: they don't show how far others would spread.
 """
 from __future__ import annotations
 
@@ -230,12 +230,12 @@ def mean_of(values: Sequence[float], confidence: float, interval: str = AUTO, me
 
 
 def _within_wilson(found: Estimate, low: float, high: float, confidence: float) -> Estimate:
-    """An interval of shares, within Wilson's score interval of as many runs with the same mean if it is too wide.
+    """An interval of shares. If it is too wide, it is cut to Wilson's score interval of as many runs with this mean.
 
-    It is too wide if it has no end on a side, or if its end on the far side of the mean, from 0 or 1, is beyond
-    Wilson's. An end that passes the nearer one of 0 and 1 is cut there.
-    No shares vary more than ones that are 0 or 1 each and have their mean: the variance of numbers between 0 and 1 is
-    at most m (1 - m) for the mean m (Bhatia and Davis, The American Mathematical Monthly 107 (4), 2000).
+    It is too wide if it has no end on a side, or if its end on the side of the mean that is farther from 0 or 1 is
+    beyond Wilson's. An end that passes the nearer one of 0 and 1 is cut there. No shares vary more than shares that
+    are each 0 or 1 and have the same mean: the variance of numbers between 0 and 1 is at most m (1 - m) for the mean m
+    (Bhatia and Davis, The American Mathematical Monthly 107 (4), 2000).
     """
     _, _, least, most, _ = wilson(found.middle, found.runs, confidence)
     least, most = least or 0.0, 1.0 if most is None else most

@@ -1,7 +1,7 @@
 """Two sweeps compared run by run: the same parameters on both sides, so that what they have in common drops out.
 
 Only runs in which both sides have a value are compared; the others are counted, with the reason. If nets are averaged,
-these pairs are: each net counts once, as the mean of its pairs.
+so are these pairs: each net counts once, as the mean of its pairs.
 
 The difference of two shares of runs, of a measure that is 0 or 1 in each, has the interval of method 10 of R. G.
 Newcombe ("Improved confidence intervals for the difference between binomial proportions based on paired data",
@@ -26,7 +26,7 @@ Key = tuple[Cell, ...]
 
 
 class Pair(NamedTuple):
-    """The measure of one run on both sides, and the value of the parameter to the right."""
+    """The measure of one run on both sides, and the value of the parameter on the horizontal axis."""
     against: Cell
     one: float
     other: float
@@ -36,9 +36,11 @@ class Pair(NamedTuple):
 
 
 class Paired(NamedTuple):
-    """The pairs, those that lack a value by the value to the right and the reason, and how many are of two nets.
+    """The pairs of runs, and counts of the others.
 
-    without  by the value to the right and the net's name: the pairs that lack a value
+    left_out     how many pairs lack a value, by the value on the horizontal axis and the reason
+    of_two_nets  how many pairs are of two different nets
+    without      how many pairs lack a value, by the value on the horizontal axis and the net's name
     """
     pairs: list[Pair]
     left_out: dict[tuple[Cell, str], int]
@@ -64,9 +66,12 @@ class Paired(NamedTuple):
 
 
 class Difference(NamedTuple):
-    """Of the pairs with one value: the means of both sides, the difference with its interval, who has more, how many
-    pairs are left out, how many pairs of runs there are, the nets in which pairs lack a value, and whether the
-    differences are skewed."""
+    """The comparison of the pairs with one value on the horizontal axis.
+
+    It has the means of both sides, the difference with its interval, how often each side has more, how many pairs are
+    left out, how many pairs of runs there are, the nets in which pairs lack a value, and whether the differences are
+    skewed.
+    """
     against: Cell
     one: float
     other: float
@@ -144,7 +149,7 @@ def _number(row: Mapping[str, Cell], measure: str) -> float:
 
 
 def differences(paired: Paired, confidence: float, interval: str) -> list[Difference]:
-    """The differences, for each value of the parameter to the right."""
+    """The differences, for each value of the parameter on the horizontal axis."""
     groups: dict[Cell, list[Pair]] = {}
     for pair in paired.pairs:
         groups.setdefault(pair.against, []).append(pair)

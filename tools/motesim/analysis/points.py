@@ -249,7 +249,7 @@ def check_pairs(rows: Sequence[Row], wish: Wish, kept: Sequence[str]) -> None:
 
 
 def shared_nets(rows: Sequence[Row], names: Sequence[str], measure: str) -> tuple[int, int] | None:
-    """The runs and the nets of the first point, by these parameters, that has fewer nets than runs, and several."""
+    """The numbers of runs and nets of the first point whose runs are in several nets, but in fewer than runs."""
     groups: dict[tuple[Cell, ...], list[Cell]] = {}
     for row in rows:
         if row.get(PLACES) is not None and number_of(row, measure) is not None:
@@ -273,7 +273,7 @@ def names_of_nets(rows: Sequence[Row], over: str) -> list[str]:
 
 
 def name_of_net(row: Row, names: Sequence[str]) -> str:
-    """The name of a run's net: by these parameters, or else by its places."""
+    """The name of a run's net: by these parameters, or by its places."""
     return ' '.join('%s %s' % (name, text_of(row[name])) for name in names) or 'net %s' % text_of(row[PLACES])[:8]
 
 
@@ -317,7 +317,7 @@ def _place(row: Row, wish: Wish) -> Place:
 
 
 def _lacking_runs(row: Row, value: float | None) -> int:
-    """The number of runs of a row that have no value: of a net several, of a run one."""
+    """The number of runs without a value in a row: several in the row of a net, one in that of a run."""
     return _whole(row, WITHOUT) if WITHOUT in row else int(value is None)
 
 
@@ -337,7 +337,7 @@ def _runs_at(rows: Sequence[Row], wish: Wish) -> dict[Place, int]:
 
 
 def _nets(rows: Sequence[Row], wish: Wish) -> list[Net]:
-    """The averaged nets of which runs have no value."""
+    """The averaged nets in which some runs have no value."""
     found = [Net(_place(row, wish), str(row[NET]), _whole(row, WITH), _whole(row, RUNS)) for row in rows
              if RUNS in row and row[RUNS] != row[WITH]]
     return sorted(found, key=lambda it: (order(it.place[0]), order(it.place[1])))

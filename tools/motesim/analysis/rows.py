@@ -55,7 +55,7 @@ def once(rows: Sequence[Row], file: str, apart: Sequence[str] = ()) -> tuple[lis
 
 
 def by_net(rows: Sequence[Row], wish: Wish) -> list[Row]:
-    """The rows with one for each net: the mean of the measures, of the net's runs in which all of them have a value.
+    """The rows, with one row for each net: the means of the measures, over its runs in which all have a value.
 
     Parameters that vary within nets, such as a seed of chance, have no value in these rows. The columns RUNS, WITH,
     WITHOUT and NET say how many runs a net has, how many have values and how many not, and how it is called. Rows with
@@ -84,7 +84,7 @@ def by_net(rows: Sequence[Row], wish: Wish) -> list[Row]:
 
 
 def warnings_of(rows: Sequence[Row], apart: Sequence[str] = (), has_lines: bool = True) -> list[str]:
-    """Lines about runs that draw alike, about runs with a warning in their notes, and about runs of several
+    """Lines about runs that draw the same numbers, about runs with a warning in their notes, and about runs of several
     builds of motesim.
 
     apart      the columns by which runs are separated on purpose

@@ -190,14 +190,14 @@ def left_out(shown: Shown, wish: Wish, most: int | None = None) -> list[str]:
 
 
 def _not_above_0(shown: Shown, wish: Wish) -> int:
-    """The number of runs, if each is a point, that have no place on a logarithmic axis upwards."""
+    """The number of runs, if each is a point, that have no place on a logarithmic vertical axis."""
     if not wish.log_y or wish.show != 'points':
         return 0
     return sum(value <= 0 for point in shown.points for value in point.values)
 
 
 def check_log_y(shown: Shown, wish: Wish) -> None:
-    """Refuses a logarithmic axis upwards if a middle that it would show isn't above 0."""
+    """Refuses a logarithmic vertical axis if one of the means or medians to be shown isn't above 0."""
     if not wish.log_y or wish.show == 'points':
         return
     low = next((it for it in shown.points if it.estimate.middle <= 0), None)
@@ -221,7 +221,7 @@ def remarks(shown: Shown, wish: Wish) -> list[str]:
 
 
 def of_skewed(shown: Shown) -> list[str]:
-    """That intervals of few skewed runs near 0 or 1 are too narrow."""
+    """The warning that intervals of few skewed runs near 0 or 1 are too narrow."""
     kind = measured([value for point in shown.points for value in point.values])
     its = [it for it in shown.points if it.estimate.method in NARROW and it.estimate.runs < ENOUGH_RUNS and
            is_skewed_near_an_end(it.values)] if kind == 'share' else []
@@ -231,7 +231,7 @@ def of_skewed(shown: Shown) -> list[str]:
 
 
 def of_bars(shown: Shown, wish: Wish) -> list[str]:
-    """That bars reach 0, which a logarithmic axis doesn't have."""
+    """The remark that bars reach 0, which a logarithmic axis doesn't have."""
     if not wish.log_y or wish.show not in ('mean', 'median'):
         return []
     count = sum(it.estimate.low is not None and it.estimate.low <= 0 for it in shown.points)
@@ -240,7 +240,7 @@ def of_bars(shown: Shown, wish: Wish) -> list[str]:
 
 
 def of_nets(shared: tuple[int, int] | None) -> list[str]:
-    """That the runs of a point are in fewer nets."""
+    """The warning that there are fewer nets than runs at a point."""
     if shared is None:
         return []
     return ['%d runs in %d nets: intervals count runs as independent, and are too narrow if nets differ; use one seed '
@@ -248,7 +248,7 @@ def of_nets(shared: tuple[int, int] | None) -> list[str]:
 
 
 def of_intervals(estimates: Sequence[Estimate], is_drawn: bool = False) -> list[str]:
-    """The draws of the bootstrap, if one is used; which intervals there aren't, and which are too narrow."""
+    """The draws of the bootstrap, if one is used; the intervals that are missing, and those that are too narrow."""
     lines = []
     if is_drawn or any(it.method in DRAWING for it in estimates):
         lines.append('bootstrap: %s' % DRAWN)
@@ -258,9 +258,9 @@ def of_intervals(estimates: Sequence[Estimate], is_drawn: bool = False) -> list[
             min(few), LEAST_RUNS))
     bounded = sum(it.method == BOUNDED for it in estimates)
     if bounded:
-        lines.append('an end of %s by bootstrap-t is that of Wilson\'s score, the widest that shares with this mean '
-                     'can need, because too many draws have nearly equal runs: such an interval is rather too wide; '
-                     'more runs make it narrower' % some(bounded, 'interval'))
+        lines.append('an end of %s by bootstrap-t is that of Wilson\'s score, because too many draws have nearly '
+                     'equal runs; no shares with this mean need a wider interval, so it is too wide rather than too '
+                     'narrow; more runs make it narrower' % some(bounded, 'interval'))
     too_alike = sum(it.method == 'too alike' for it in estimates)
     if too_alike:
         lines.append('no interval for %s by bootstrap-t: too many of its draws have equal runs, and so no standard '
@@ -296,7 +296,7 @@ def crossings_of(shown: Shown, wish: Wish) -> dict[Cell, Crossing | None]:
     for by in dict.fromkeys(point.by for point in shown.points):
         its = [point for point in shown.points if point.by == by]
         if not all(isinstance(point.against, int | float) for point in its):
-            raise Fault('a threshold is crossed along numbers, and %s has others' % wish.against)
+            raise Fault('a curve crosses a threshold only if the values of %s are numbers' % wish.against)
         if wish.log and any(x <= 0 for point in its for x in point.others or (point.x,)):
             raise Fault('--log needs values above 0, and some of %s are not' % wish.against)
         curve = tuple(Runs(it.others or (it.x,) * len(it.values), it.values, it.keys) for it in its)
@@ -363,7 +363,7 @@ def columns_of_crossing(found: Crossing | None) -> Row:
 
 def rows_of_differences(found: Sequence[Difference], against: str, one: str, other: str,
                         is_by_net: bool = False) -> list[Row]:
-    """A paired comparison as rows of a table: of nets also how many there are, and which have missing pairs."""
+    """A paired comparison as rows of a table; with nets, also how many there are, and which have missing pairs."""
     return [{against: it.against, **({'nets': it.difference.runs} if is_by_net else {}), 'pairs': it.pairs,
              'left out': it.left_out, one: it.one, other: it.other,
              'difference': it.difference.middle, 'low': it.difference.low, 'high': it.difference.high,

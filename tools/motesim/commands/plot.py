@@ -52,8 +52,8 @@ def arguments() -> argparse.Namespace:
                        help='only runs with these values: 20, or 10,20, or 10..30')
     words.add_argument('--title', metavar='TEXT', help="the title of the picture; '' is none")
     words.add_argument('--footer', metavar='TEXT', help="the text below the picture; '' is none")
-    words.add_argument('--x', metavar='TEXT', default='', help='the text at the axis from left to right')
-    words.add_argument('--y', metavar='TEXT', default='', help='the text at the axis upwards')
+    words.add_argument('--x', metavar='TEXT', default='', help='the text at the horizontal axis')
+    words.add_argument('--y', metavar='TEXT', default='', help='the text at the vertical axis')
     words.add_argument('--label', action='append', default=[], metavar='VALUE=TEXT',
                        help='the text of the legend for a value of --by')
     words.add_argument('--size', metavar='WxH', default='',

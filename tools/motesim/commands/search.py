@@ -43,7 +43,7 @@ def arguments() -> argparse.ArgumentParser:
     words.add_argument('--expect', action='append', default=[], metavar='SENTENCE',
                        help='an expectation, instead of those of a file')
     words.add_argument('--faults', default='', metavar='KINDS',
-                       help='which faults (links,motes; with --set, only those values)')
+                       help='which kinds of faults (links,motes; with --set, those that --set is for)')
     words.add_argument('--at-most', type=int, default=1, metavar='K', help='how many faults at once (1)')
     words.add_argument('--every', default='2', metavar='NUMBERS', help='for `every`: which packets are lost (2)')
     words.add_argument('--moments', metavar='NUMBERS', help='for `deaths` and `late`: the moments')

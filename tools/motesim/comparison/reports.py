@@ -51,7 +51,7 @@ def lists_of(report: Report) -> dict[int, Sequence[Any]]:
 def differences(a: Report, b: Report) -> list[Difference]:
     """The first difference of each mote's traces, and of the logs of the medium, in the order of moments.
 
-    At one moment the motes are in their order, and the medium comes behind them.
+    At one moment the motes are in their order, and the medium comes after them.
     """
     ours, others, found = lists_of(a), lists_of(b), []
     columns = Both(a, b)

@@ -77,7 +77,7 @@ class Comparison:
         self.with_workers = with_workers
 
     def difference(self, scenario: bytes, is_strict: bool = False) -> tuple[str, bytes]:
-        """Which simulator differs from motesim on one thread, and how, or ''; and the report of that."""
+        """Which simulator differs from motesim on one thread, and how, or ''; and the report of the latter."""
         answer = self.runner.answer(scenario)
         if answer.status:
             raise ScenarioFault('motesim refuses it: %s' % answer.fault.decode(errors='replace').strip())
@@ -101,7 +101,7 @@ class Comparison:
         return Compared(difference, reached, len(report))
 
     def smallest(self, scenario: bytes, is_strict: bool = False) -> bytes:
-        """The scenario without all that the difference doesn't need."""
+        """The smallest scenario that still differs: everything that isn't needed for the difference is removed."""
         # (needed when something differs only)
         from motesim.search.net import loss_steps, mote_steps, net_of, number_steps, program_steps
         net = net_of(Scenario.parse(scenario))
@@ -171,7 +171,7 @@ def compare_all(items: Iterable[Item], work: Comparison, folder: Path, jobs: int
             if differing <= MOST_SHOWN:
                 path = folder / ('differs_%d.toml' % differing)
                 path.write_bytes(scenario)
-                print('  %s has it' % path, flush=True)
+                print('  the scenario is in %s' % path, flush=True)
         now = time.monotonic()
         if now - last > 20:
             last = now

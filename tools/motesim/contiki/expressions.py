@@ -130,7 +130,7 @@ def decided(operator: str, left: Made, right: Made) -> bool | None:
 
 
 def implied(expression: Expression | None) -> Known | None:
-    """The event that an expression says to be there, if it is true."""
+    """The event that a process must have been called with if an expression is true."""
     if isinstance(expression, Is):
         return Known(expression.event)
     if isinstance(expression, Test) and expression.kind in ('fired', 'gone'):
@@ -144,7 +144,7 @@ def implied(expression: Expression | None) -> Known | None:
 class Expressions:
     """Writes the expressions of one block in C.
 
-    `known` is the event, if that is known. A simple block has one event for its whole length, and C no `ev` there:
+    `known` is the event, if that is known. A simple block has one event for its whole length, and C has no `ev` there:
     `has_event` is false. `word` is the function that returns the word of any event.
     """
 
@@ -283,7 +283,7 @@ class Expressions:
         return self.comparison(operator, cut(left), cut(right))
 
     def logic(self, expression: Operation) -> Made:
-        """Both sides of `&&` are true if it is, so each side may rest on the event that the other one says."""
+        """If `&&` is true, both sides are, so each side may assume the event for which the other one tests."""
         is_and = expression.operator == '&&'
         before = self.known
         if is_and and self.has_event:

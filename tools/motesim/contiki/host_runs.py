@@ -30,7 +30,7 @@ def compilers() -> tuple[str, str]:
 
 
 def called(arguments: list[str], folder: Path) -> None:
-    """Calls a compiler, which has to say nothing."""
+    """Calls a compiler, which must print nothing."""
     done = subprocess.run(arguments, cwd=folder, capture_output=True, text=True, errors='replace')
     if done.returncode or done.stderr:
         said = (done.stderr or done.stdout or 'it ended with status %d' % done.returncode).strip().splitlines()

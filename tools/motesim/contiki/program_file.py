@@ -58,7 +58,7 @@ class ProgramFile:
         self.program = program
         self.counts_work = counts_work
         self.use = use_of(program)
-        # (the callbacks that something names: those that are only reset are named by what the first process does once)
+        # (the callbacks that something names: those that are only reset are named in code that runs once)
         self.called = self.use.set_timers | (self.use.again if program.autostart else set())
         self.names = Names(program)
         self.numbers = {timer: number for number, timer in enumerate(program.timers())}

@@ -136,7 +136,7 @@ def chance_seeds(plan: Plan, files: Sequence[str]) -> list[str]:
 
 
 def some_runs(sweep: Sweep) -> Iterator[dict[str, Value]]:
-    """The first run, the last, and others between them, each as far from those before as may be."""
+    """The first run, the last, and others between them, each as far as possible from those before."""
     count = sweep.runs()
     places = dict.fromkeys([0, count - 1])
     step = count

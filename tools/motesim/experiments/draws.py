@@ -1,9 +1,9 @@
-"""Runs that draw alike, though their seeds differ: the limit of the pattern for chance of docs/use/EXPERIMENTS.md.
+"""Runs that draw the same numbers with different seeds: the limit of the pattern for chance of EXPERIMENTS.md.
 
-A mote of the pattern draws from 257 times its number, and the seed. So with a seed that is 257 greater mote k draws as
-mote k + 1 does, and two runs whose seeds are a multiple of 257 apart aren't independent. Each row of a sweep has the
-names of its seeds of the pattern in the column CHANCE: which rows draw alike can be found from any rows, whether one
-command made them or several.
+A mote of the pattern draws from 257 times its number, and the seed. If the seed is 257 greater, mote k draws the same
+numbers as mote k + 1, and two runs whose seeds are a multiple of 257 apart aren't independent. Each row of a sweep has
+the names of its seeds of the pattern in the column CHANCE: which rows draw the same numbers can be found from any
+rows, whether one command made them or several.
 """
 from __future__ import annotations
 
@@ -15,7 +15,7 @@ from motesim.experiments.results import Row
 
 # A note that begins so is about a run that has all its measures.
 WARNING = 'warning: '
-# The column with the parameters that are seeds of the pattern, and the number of seeds in a row that draw apart.
+# The column with the parameters that are seeds of the pattern, and how many consecutive seeds draw different numbers.
 CHANCE, APART = 'chance_seeds', 257
 DRAWS = re.compile(r'self\s*\*\s*257\s*\)?\s*\+\s*\$\{(\w+)\}')
 ADVICE = 'use at most %d seeds in a row' % APART
@@ -43,7 +43,7 @@ class Seeds:
             self.add(name, row.get(name))
 
     def earlier(self, name: str) -> dict[int, int]:
-        """For each value that draws as a smaller one does: the nearest of these."""
+        """For each value that draws the same numbers as smaller values: the nearest of these."""
         found: dict[int, int] = {}
         last: dict[int, int] = {}
         for value in sorted(self.values.get(name, ())):
@@ -53,7 +53,7 @@ class Seeds:
         return found
 
     def lines(self) -> list[str]:
-        """A line for each parameter of which values draw alike."""
+        """A line for each parameter with values that draw the same numbers."""
         found = []
         for name, values in self.values.items():
             alike = self.earlier(name)
@@ -76,7 +76,7 @@ def names_in(row: Mapping[str, Cell]) -> list[str]:
 
 
 def lines_of(rows: Iterable[Row]) -> list[str]:
-    """A line for each parameter of whose values some draw alike in these rows."""
+    """A line for each parameter with values in these rows that draw the same numbers."""
     seeds = Seeds()
     for row in rows:
         seeds.add_row(row)

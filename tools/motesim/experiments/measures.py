@@ -160,12 +160,12 @@ def _guarded(work: Callable[[Judge], Cell]) -> Callable[[Bench], Cell]:
 def _of_sentence(kind: str, words: str, names: Names) -> Callable[[Bench], Cell]:
     parts = [part.strip() for part in words.split('->')]
     if len(parts) != (2 if kind == 'delay' else 1):
-        raise MeasureFault('delay needs two sentences, `A -> B`; the others need one' if '->' in words else
+        raise MeasureFault('delay needs two sentences, `A -> B`; other measures need one' if '->' in words else
                            'delay needs two sentences, `A -> B`')
     sentences = [read_sentence(part, names) for part in parts]
     first = sentences[0]
     if isinstance(first, Refused):
-        raise MeasureFault('a run without a report has a fault instead of measures')
+        raise MeasureFault('nothing can be measured in a run that has no report')
     if kind == 'holds':
         return lambda bench: int(bench.judge.broken(first) is None)
     if kind == 'count' and isinstance(first, Copies | Packets):
@@ -195,7 +195,7 @@ def _checked(value: object, name: str) -> Cell:
     if callable(item):
         # (a number of numpy)
         return _checked(item(), name)
-    raise MeasureFault('%s must return a number, a text or None, and returns %s' % (name, type(value).__name__))
+    raise MeasureFault('%s must return a number, a text or None, but returns %s' % (name, type(value).__name__))
 
 
 def _of_python(file: str, function: str, sources: Mapping[str, str]) -> Callable[[Bench], Cell]:

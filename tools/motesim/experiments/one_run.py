@@ -32,7 +32,7 @@ from motesim.judge.sentences import names_of
 
 DIGITS = 16
 # The time on the clock that a run may last is this many times its processor time: rows must not depend on what else
-# the machine does. A run past it has a fault with these words, and the same sweep runs it again.
+# the machine does. A run past this time has a fault with these words, and the same sweep repeats it.
 BUSY = 30
 TOO_BUSY = 'the machine is too busy'
 LONGEST_FAULT = 400
@@ -164,7 +164,7 @@ def measured(work: Work, bench: Bench, known: Scenario) -> tuple[dict[str, Cell]
 
 
 def warned(report: Report, known: Scenario, seconds: float) -> list[str]:
-    """The warnings of losses in step and of seeds, as long as finding them is no longer than a run may be."""
+    """The warnings of losses in step and of seeds, unless finding them needs more time than a run may last."""
     try:
         with limited(seconds):
             found = [*of_losses(known, report), *of_seeds(known, programs_of(known))]

@@ -39,7 +39,7 @@ PLOT = {'file': needed(str), 'measure': needed(str), 'against': optional(str, ''
         WHERE: optional(dict, {}), LABELS: optional(dict, {})}
 # How many values of a column a message has.
 MOST_SHOWN = 12
-# The views without a measure upwards.
+# The views without a measure on the vertical axis.
 NOT_UPWARDS = ('cdf', 'heat')
 # Options that have no effect in a comparison run by run, and are refused.
 NOT_IN_PAIRS = ('show', 'threshold', 'by', 'log_y')
@@ -75,10 +75,10 @@ def wishes_of(plan: Plan) -> list[Wish]:
                 raise tables.fault(path + (key,), 'A comparison run by run shows the mean of the differences, as one '
                                                   'line.', 'a plot without `%s`' % key, False)
         if values['log_y'] and values['show'] in NOT_UPWARDS:
-            raise tables.fault(path + ('log_y',), 'A plot with this `show` has no measure upwards.',
+            raise tables.fault(path + ('log_y',), 'A plot with this `show` has no measure on the vertical axis.',
                                '`log_y` for medians, means and points', False)
         if values['interval'] != AUTO and values['show'] != 'mean' and not is_paired:
-            raise tables.fault(path + ('interval',), 'An interval is one of means, and this plot shows none.',
+            raise tables.fault(path + ('interval',), 'Only means have such intervals, and this plot shows none.',
                                '`show = "mean"` as well')
         values['threshold'] = '' if values['threshold'] is None else str(values['threshold'])
         values['confidence'] = 95 if values['confidence'] is None else values['confidence']
@@ -240,7 +240,7 @@ def wishes(asked: argparse.Namespace) -> list[Wish]:
     if asked.pair and asked.compare:
         raise Fault('--pair and --compare are two comparisons: leave out one')
     if asked.show == 'heat' and not asked.by:
-        raise Fault('--show heat needs --by: the parameter of the axis upwards')
+        raise Fault('--show heat needs --by: the parameter of the vertical axis')
     drawing.size_of(asked.size)
     return [Wish(asked.measure, asked.against or '', asked.by or '', asked.output or '', asked.title, asked.x, asked.y,
                  log=asked.log, show=asked.show or MEDIAN, interval=asked.interval, confidence=asked.confidence,

@@ -1,6 +1,6 @@
 """The file of a sweep: a row for each run, in CSV or in SQLite.
 
-A row is kept as soon as it exists. Values are texts in CSV; a number is one that reads as such.
+A row is kept as soon as it exists. In CSV all values are texts; a text that reads as a number is one.
 """
 from __future__ import annotations
 
@@ -38,7 +38,7 @@ def cell(text: str) -> Cell:
     """A value from its text."""
     if NUMBER.fullmatch(text):
         return int(text)
-    # (only what would be written so again, as another text is a text)
+    # (only if it would be written in the same way; any other text stays a text)
     return float(text) if REAL.fullmatch(text) and repr(float(text)) == text else text or None
 
 
@@ -54,7 +54,7 @@ def line_of(values: Iterable[Cell]) -> str:
 
 
 class CsvFile:
-    """Rows in a file of CSV. Each is written as a whole; what a broken end left of a last line is dropped.
+    """Rows in a file of CSV. Each is written as a whole; the rest of a last line that was cut off is dropped.
 
     A row is known by its spot: its first byte and its length, in one number. No row is kept in memory.
     """
@@ -281,7 +281,7 @@ def columns_of_csv(path: Path) -> list[str]:
 
 
 def rows_of_csv(path: Path) -> Iterator[tuple[int, Row]]:
-    """The rows of a file of CSV with their spots; a line that is the first one again is none."""
+    """The rows of a file of CSV with their spots; a line that repeats the first one isn't a row."""
     columns: list[str] = []
     for number, (begin, end, values) in enumerate(_records(path), 1):
         if number == 1:

@@ -85,7 +85,7 @@ class Sweeper:
             ('the measures', row['measures_sha256'] != self.made['measures_sha256'])) if is_changed]
 
     def keep(self, is_renewed: bool, retries: bool) -> None:
-        """Looks through the rows that are there. What others made is in the way, or is dropped."""
+        """Looks through the rows of the file. Rows of another plan or program are an error, or are dropped."""
         count = unchanged = 0
         others: Counter[str] = Counter()
         spots, places = array('Q'), array('q')
@@ -119,7 +119,7 @@ class Sweeper:
         return self.spots.count(0)
 
     def missing(self) -> Iterator[int]:
-        """The places of the missing runs, as far as each is missing once its turn comes."""
+        """The places of the missing runs: of those that are still missing when their turn comes."""
         return (place for place, spot in enumerate(self.spots) if not spot)
 
     def jobs(self, places: Iterable[int]) -> Iterator[Job]:
@@ -154,7 +154,7 @@ class Sweeper:
         return self.chances[files]
 
     def alike(self) -> list[str]:
-        """A line for each parameter of which values draw alike, in the rows of the file and in this sweep."""
+        """A line for each parameter with values that draw the same numbers, in the file and in this sweep."""
         for given in some_runs(self.sweep):
             for name in self.chance_seeds(given):
                 for value in (*self.sweep.vary.get(name, ()), given[name]):
@@ -189,7 +189,7 @@ class Sweeper:
         return count
 
     def in_order(self) -> None:
-        """Writes the rows in the order of the sweep, and others behind them, with notes on those that draw alike."""
+        """Writes the rows in the order of the sweep, then others, and notes on those that draw the same numbers."""
         seeds = Seeds()
         if self.drawn.values or any(self.chances.values()):
             for _, row in self.file.rows():

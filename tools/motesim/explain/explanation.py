@@ -70,7 +70,7 @@ def place_of_token(text: str, program: str, token: program_faults.Token) -> Plac
 
 
 def offset_of(text: str, program: str) -> int | None:
-    """The line of a scenario above the first one of a program's text, if that has lines of its own there."""
+    """The line of a scenario above the first line of a program's text, if the text has lines of its own."""
     source: list[str] = tables_of(text)['programs'][program].split('\n')
     rows, at = text.split('\n'), scenario_faults.place_of(text, ('programs', program)).line
     for offset in (at, at - 1) if len(source) > 2 else ():
@@ -83,7 +83,7 @@ def offset_of(text: str, program: str) -> int | None:
 
 
 def place_of_scenario(text: str, fault: ScenarioError) -> Place | None:
-    """The place of an error of the scenario itself; of a missing key at its top a table of similar name, or None."""
+    """The place of an error of the scenario itself; for a missing key at its top, a table of similar name, or None."""
     if fault.lacks is None:
         return fault.place(text)
     like = synonyms.like_of_missing(tables_or_none(text), fault)
@@ -174,7 +174,7 @@ def explanation(name: str, data: bytes, line: str) -> list[str]:
     """The lines to show below the line of an error."""
     what, fault = line.removeprefix('motesim: '), scenario_faults.find_fault(data)
     if fault is None or fault.message != what:
-        # (as of memory, and of texts that only Python reads as TOML)
+        # (for instance of an error of memory, or of a text that only Python reads as TOML)
         return wrapped(rule_of(what)) + ['This tool does not know its place.']
     if begins_as_program(data):
         return program_instead(name, data)
@@ -238,7 +238,7 @@ def is_plan(tables: dict[str, Any] | None) -> bool:
 
 
 def program_instead(name: str, data: bytes) -> list[str]:
-    """The lines on a file with the text of a program instead of a scenario: how a scenario has it, and its error."""
+    """The lines on a file with a program instead of a scenario: how to put it into a scenario, and its error."""
     source = data.decode('utf-8', 'replace').removeprefix(MARK)
     its = program_faults.find_fault(source)
     lines = ['%s is the text of a program, not a scenario.' % one_line(name), *hinted(hints.OF_PROGRAM)]

@@ -224,7 +224,7 @@ def _of_operator(tokens: list[Token], at: int, may: list[str]) -> str | None:
 
 
 def _of_unknown(before: list[Token], here: Token, behind: Token, may: list[str]) -> str | None:
-    """A name that nothing has: one that was misspelt, or a wish. (A single letter is hardly misspelt.)"""
+    """An unknown name: it was misspelt, or nothing like it exists. (A single letter is hardly misspelt.)"""
     begins = not before or before[-1].text in ('{', '}', ';')
     if here.text in WISHES:
         return WISHES[here.text]

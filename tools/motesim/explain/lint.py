@@ -107,7 +107,7 @@ class Program:
 
 
     def tests_of_sign(self) -> Iterator[tuple[str, Token]]:
-        """Each test whether a value is at least 0, or below it, with the warning: both are decided."""
+        """Each test whether a value is at least 0, or below 0, with the warning: the results are always the same."""
         for at in range(1, len(self.words) - 1):
             sign = self.words[at]
             if sign in ('>=', '<') and self.words[at + 1] == '0':
@@ -125,7 +125,7 @@ class Program:
                         yield code, range(here + 1, self.end_of_block(here + 1))
 
     def waits_before_set(self) -> Iterator[Token]:
-        """Each timer in the first wait for it that nothing skips, if it is only set behind that wait."""
+        """Each timer whose first wait can't be skipped, if the timer is only set after that wait."""
         for code, body in self.bodies():
             # (of the blocks around a place, whether each is always entered)
             around: list[bool] = []

@@ -13,7 +13,7 @@ WRITTEN = {
     'programs': ['[programs]', "p = '''", 'process a;', 'autostart a;', 'code a { body { print 1; } }', "'''"],
     'mote': ['[[mote]]', 'x = 0', 'y = 0', 'program = "%s"'],
 }
-OF_PROGRAMS = 'a key for each program: its name, which has its text'
+OF_PROGRAMS = 'a key for each program: its name, with its text as the value'
 
 
 def head_of(name: str) -> str:

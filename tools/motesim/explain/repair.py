@@ -196,7 +196,7 @@ def _attempts_at_value(text: str, rows: list[str], tables: object, fault: Scenar
 
 
 def _attempts_at_number(hint: str, row: str, number: int, place: Place, of: tuple[str, int, int]) -> Iterator[Repair]:
-    """Another number at a place; if the place is a whole table within a line, at the key in it."""
+    """Another number at a place; if the place is a whole table on one line, at the key within it."""
     name, value, nearest = of
     if row[place.column:place.column + place.length].replace('_', '').lstrip('+') == str(value):
         yield Repair(hint, number, number, (_replaced(row, place, str(nearest)),))
@@ -218,7 +218,7 @@ def _attempts_at_header(name: str, number: int) -> Iterator[Repair]:
 
 
 def _attempts_at_missing(text: str, rows: list[str], tables: object, fault: ScenarioError) -> Iterator[Repair]:
-    """A key that is missing, and one that most likely is it."""
+    """A missing key, and the key that was most likely meant for it."""
     wanted, like = fault.missing, synonyms.like_of_missing(tables, fault)
     if not like:
         return
@@ -244,7 +244,7 @@ VALUE_BEHIND = re.compile(r'''["']?\s*=\s*("[^"]*"|'[^']*'|\[[^\]]*\]|[^\s,}#]+)
 
 
 def _attempts_at_key(text: str, rows: list[str], tables: object, fault: ScenarioError) -> Iterator[Repair]:
-    """A key that isn't known: another is meant, or it is left out."""
+    """An unknown key: another key is meant, or it is to be left out."""
     name, place = str(fault.path[-1]), fault.place(text)
     row, number = rows[place.line - 1], place.line
     if fault.path[0] == 'programs':

@@ -2,7 +2,7 @@
 
 A loss with `every = 2` loses each second packet of its sender. If the sender alternates between two kinds of packets,
 it loses all of one kind and none of the other, though the summary says 0.500. `resonances(scenario, report)` finds the
-losses of which that is so in a run: one kind of packet is lost far more often than the period says.
+losses for which that is so in a run: one kind of packet is lost far more often than the period says.
 
 `all_at_once(scenario, report)` finds the senders whose links all lose the same packets, since their periods have a
 common multiple that is too small: with `every = 2` on each link, every second packet reaches nobody.

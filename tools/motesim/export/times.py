@@ -33,7 +33,7 @@ def turns(mote: Mote) -> Iterator[Turn]:
 
 
 class CopyTime(NamedTuple):
-    """A copy's path: its sender and its receiver, when, and its fate."""
+    """A copy's path: its sender and its receiver, its times, and its fate."""
     sender: int
     number: int
     value: int

@@ -47,7 +47,7 @@ class Calls(Lines):
         return 'receiver %s;' % self.scope.codes[0]
 
     def of_packet(self, word: str) -> str:
-        """A buffer that is filled, or sent: the filling sends."""
+        """A buffer that is filled or sent: the statement that fills it becomes the `send`."""
         call = self.expression()
         self.why(BROADCAST)
         if word != 'packetbuf_copyfrom' and self.place.last == 'send':

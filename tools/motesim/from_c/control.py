@@ -45,7 +45,7 @@ class Control(Lines):
         return 'else { %s' % inner if self.is_cut else 'else { %s }' % inner
 
     def body(self) -> str:
-        """A block; one statement without braces is put into some."""
+        """A block; a single statement without braces gets some."""
         if self.token.kind == 'end' and self.opens:
             self.why('A block always has its braces: the one that opens it is missing.')
             self.is_cut = True

@@ -230,10 +230,10 @@ class Expressions:
 class Writer:
     """Writes expressions as the notation has them, and collects why they differ."""
     scope: Scope
-    # What a timer means as a test: `fired` in a wait, else `expired`.
+    # What a timer means as a test: `fired` in a wait, otherwise `expired`.
     of_timer: str = 'expired'
     reasons: list[str] = field(default_factory=list)
-    # Whether a number by chance is taken, for which the generator makes a step before.
+    # Whether a random number is used, for which the generator makes a step first.
     draws: bool = False
     # The names in a call of Contiki that nothing declares: each with its kind and how it is written.
     unknown: dict[str, tuple[str, str]] | None = None
@@ -468,7 +468,7 @@ class Writer:
         return '(%s %% %d)' % (self.text(left), mask + 1) if mask < MOST else self.text(left)
 
     def part(self, node: Node) -> str:
-        """A part of an address is the number of a mote; other arrays and fields there are none."""
+        """A part of an address is the number of a mote; there are no other arrays and fields."""
         words: list[str] = []
         at = node
         while at.kind in ('index', 'member'):

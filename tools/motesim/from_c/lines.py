@@ -68,7 +68,7 @@ class Lines(Expressions):
         """A name that is declared."""
         found = allowed(name)
         if found != name.lower():
-            self.why('`%s` is a word of the notation, so the name is another.' % name if found.startswith('my_') else
+            self.why('`%s` is a word of the notation, so the name is changed.' % name if found.startswith('my_') else
                      'A name has at most 16 characters.')
         return found
 

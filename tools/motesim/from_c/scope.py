@@ -17,7 +17,7 @@ LONGEST = 16
 
 
 def allowed(name: str) -> str:
-    """A name that may be declared, as near to this one as may be: small letters, at most 16, not reserved."""
+    """A name that may be declared, as similar to this one as possible: small letters, at most 16, not reserved."""
     name = name.lower().lstrip('_') or 'x'
     return ('my_' + name if name in RESERVED else name)[:LONGEST].rstrip('_')
 

@@ -323,7 +323,7 @@ class Statements(Declarations, Calls, Control):
             return self.end('%s %s' % (word, value))
         has_brackets = self.token.text == '(' and bool(self.accept('('))
         if has_brackets:
-            self.why('`%s` is a statement, and no call.' % word)
+            self.why('`%s` is a statement, not a call.' % word)
         text = self.of_targets(word, has_brackets)
         if has_brackets:
             self.need(')')
@@ -338,7 +338,7 @@ class Statements(Declarations, Calls, Control):
         return self.end('%s = %s' % (name, self.value()))
 
     def is_of_radio(self) -> bool:
-        """Returns whether a `broadcast` has only a value, and no event."""
+        """Returns whether a `broadcast` has a value without an event."""
         at = self.token
         is_event = at.text.lower().startswith('process_event') or self.scope.kinds.get(at.text, 'event') == 'event'
         return not (is_event and at.kind == 'name') or at.text in READ_ONLY
@@ -362,7 +362,7 @@ class Statements(Declarations, Calls, Control):
         elif word == 'set':
             parts.append(self.writer.of_kind(self.target(), 'timer'))
             if self.accept(',') and not has_commas or self.accept('=', 'to'):
-                self.why('The time follows the timer at once.')
+                self.why('The time comes directly after the name of the timer.')
             if self.token.text in (';', ')', '}') or self.token.kind == 'end':
                 raise NoCounterpart('A timer is set to a time, in moments: `set %s 10;`.' % parts[1])
             parts.append(self.value())

@@ -15,7 +15,7 @@ PROCESSES = re.compile(r'\s*process\s+([a-z0-9_]+(?:\s*,\s*[a-z0-9_]+)*)\s*;\s*(
 
 
 def process_line(text: str) -> Repair:
-    """The line that names the processes, if it has not those of the codes, in their order."""
+    """The line that names the processes, if it doesn't have those of the codes, in their order."""
     codes = Scope.of(text).codes
     for number, line in enumerate(text.split('\n'), 1):
         found = PROCESSES.fullmatch(line)

@@ -64,7 +64,7 @@ class Mark(NamedTuple):
 
 
 def lines_of(rows: Iterable[str]) -> tuple[str, ...]:
-    """Rows of which each is one line, with the tabs of a program."""
+    """Rows that are one line each, with the tabs of a program."""
     return tuple('\t'.join(map(one_line, row.split('\t'))) for row in rows)
 
 

@@ -52,7 +52,8 @@ DEED = Table('DEED', 'Lines of the report', ('mote 1 %s',), (
     (('starts P', 'leaves P', 'halts'), '`start P`, `leave P`, `halt`'),
     (("writes 'full echo msg'",), 'lines that continue with this text after the moment'),
     (("writes 'collide' or 'lost'",), 'lines that continue with one of these texts'),
-    (('never sends', 'never prints P VALUE'), 'none of these lines (after `mote`, `motes`, `every mote`, `together`)'),
+    (('never sends', 'never prints P VALUE'), 'none of these lines; only if MOTES is `mote ..`, `motes ..` or '
+                                             '`every mote ..`, also with `together`'),
 ))
 VALUE = Table('VALUE', 'Is', ('mote 1 prints p %s',), (
     (('7',), 'this number'),

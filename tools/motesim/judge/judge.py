@@ -66,7 +66,7 @@ def _first_spare(rows: list[int], count: Count) -> int | None:
 
 
 def _without_value(pattern: Pattern) -> Pattern:
-    """A pattern without the value at its end, and without the words before it that may be any."""
+    """A pattern without the value at its end, and without the words before it that match anything."""
     words = pattern[:-1]
     while words[-1] is None:
         words = words[:-1]
@@ -288,7 +288,7 @@ class Judge:
         return None
 
     def other_value(self, it: Does, motes: tuple[int, ...]) -> str:
-        """The value that a line has which is missing with the wanted one, in words; empty if there is none."""
+        """The value that a line has instead of the wanted one, in words; empty if there is no such line."""
         found = [event for mote in motes for pattern in it.deed.patterns if isinstance(pattern[-1], Value)
                  for event in self.matches(_without_value(pattern), mote)]
         found.sort(key=lambda event: (event.line.at, event.row))

@@ -1,6 +1,7 @@
-"""Sentences that are nearly right: the usual wording of what sentences have a word of their own for.
+"""Sentences that are nearly right: the usual wording of something for which sentences have a form of their own.
 
-`rewritten(sentence)` yields the sentence as it may have been meant. Only a reader knows which of them is one.
+`rewritten(sentence)` yields the sentence as it may have been meant. Only reading them shows which of them are
+sentences.
 """
 from __future__ import annotations
 

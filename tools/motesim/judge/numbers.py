@@ -20,5 +20,5 @@ def has_lines(name: str, number: int) -> str:
 
 
 def there_are(number: int, what: str) -> str:
-    """The number of things that there are, which are named in the plural."""
+    """A number of things, which are named in the plural."""
     return 'there is 1 %s' % ONE_OF[what] if number == 1 else 'there are %d %s' % (number, what)

@@ -63,7 +63,7 @@ RULES = {
 }
 SYSTEM = ('etimer', 'ctimer', 'radio')
 EVENTS = ('continue', 'msg', 'com', 'packet', 'exit', 'timer')
-# The words that declare something, and of these the ones behind which its name is.
+# The words that declare something, and those of them that are followed by its name.
 DECLARING = ('event', 'semaphore', 'process', 'autostart', 'receiver', 'code', 'var', 'etimer', 'ctimer', 'thread',
              'onpoll', 'onexit', 'body')
 NAMING = ('event', 'semaphore', 'process', 'code', 'var', 'etimer', 'ctimer', 'thread')

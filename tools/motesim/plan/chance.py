@@ -18,7 +18,7 @@ def mixed(state: int) -> int:
 
 
 class Chance:
-    """Numbers from a seed, 0 or greater. Streams of one seed that have other numbers share nothing."""
+    """Numbers from a seed, 0 or greater. Streams of one seed with different numbers share nothing."""
 
     def __init__(self, seed: int, stream: int = 0) -> None:
         self.state = (seed + mixed(stream)) & MASK

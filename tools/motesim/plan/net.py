@@ -84,7 +84,7 @@ class Builder:
         except UnicodeDecodeError:
             raise self.tables.fault(path, 'This file is not UTF-8.', 'a file with a text') from None
         except (Fault, ValueError) as fault:
-            # (a ValueError is of a name that none can have)
+            # (a ValueError: no file can have this name)
             raise self.tables.fault(path, 'The file can\'t be read: %s.' % fault,
                                     'the name of a file, relative to the folder of the plan') from None
 

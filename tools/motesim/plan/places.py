@@ -39,7 +39,7 @@ class Crowd:
         self.squares.setdefault(self.square(point), []).append(point)
 
     def near(self, point: Point) -> Iterable[Point]:
-        """The points of the square and of those around it: all that are not farther than a side, and some that are."""
+        """The points of the square and of those around it: all that are at most a side away, and some farther ones."""
         x, y = self.square(point)
         for dx in (-1, 0, 1):
             for dy in (-1, 0, 1):
@@ -100,7 +100,7 @@ def ring(count: int, radius: int) -> list[Point]:
 
 
 def _net(draw: Callable[[int], Point], count: int, least: int) -> list[Point]:
-    """So many places as `draw` returns for their numbers, none nearer to another than `least`."""
+    """Places, which `draw` returns for their numbers; none is nearer to another than `least`."""
     crowd = Crowd(least)
     points: list[Point] = []
     for number in range(count):
@@ -109,7 +109,7 @@ def _net(draw: Callable[[int], Point], count: int, least: int) -> list[Point]:
             if not least or all(squared(point, other) >= least * least for other in crowd.near(point)):
                 break
         else:
-            raise NoPlace('For mote %d of %d no place was found in %d draws that is %d from all others.' % (
+            raise NoPlace('Mote %d of %d was drawn %d times, and was always nearer than %d to another one.' % (
                 number, count, TRIES_FOR_A_PLACE, least))
         crowd.add(point)
         points.append(point)
@@ -123,7 +123,7 @@ class Drawn(NamedTuple):
 
 
 def _drawn(net: Callable[[], list[Point]], reach: int | None) -> Drawn:
-    """A net; with a reach the first of those drawn that is connected."""
+    """A net; with a reach, nets are drawn until one is connected."""
     for rejected in range(TRIES_FOR_A_NET):
         points = net()
         if reach is None or is_connected(points, reach):

@@ -45,13 +45,14 @@ class Plan:
         """The parameters with their default values."""
         table = self.tables.top.get('parameters', {})
         if type(table) is not dict:
-            raise self.tables.fault(('parameters',), '`parameters` is a table.', '`[parameters]`')
+            raise self.tables.fault(('parameters',), '`parameters` must be a table.', '`[parameters]`')
         for name, value in table.items():
             path = 'parameters', name
             if not NAME.fullmatch(name):
-                raise self.tables.fault(path, 'A parameter has another name.', 'a name of `a-z 0-9 _`', False)
+                raise self.tables.fault(path, 'The name of this parameter is not allowed.', 'a name of `a-z 0-9 _`',
+                                        False)
             if type(value) not in (int, bool, str):
-                raise self.tables.fault(path, 'A parameter has a value of another kind.',
+                raise self.tables.fault(path, 'The value of this parameter is not of an allowed kind.',
                                         'a whole number, a text, `true` or `false`')
         return dict(table)
 

@@ -14,14 +14,14 @@ def is_prime(number: int) -> bool:
 
 
 def near(about: int, count: int = PRIMES) -> list[int]:
-    """Primes in a row whose losses, one in so many packets, are on average as near to one in `about` as may be."""
+    """Consecutive primes: losses of one packet in each are, on average, as near as possible to one in `about`."""
     primes = [it for it in range(2, 20 * about + 100) if is_prime(it)]
     rows = [primes[begin:begin + count] for begin in range(len(primes) - count + 1)]
     return min(rows, key=lambda row: abs(sum(1 / it for it in row) / count - 1 / about))
 
 
 def periods(links: Iterable[Link], about: int, seed: int) -> dict[Link, int]:
-    """The period of each link: of one sender's links, each has another prime as long as there are any left."""
+    """The period of each link: of one sender's links, each has a different prime as long as there are any left."""
     chance, primes = Chance(seed, LOSS_STREAM), near(about)
     found: dict[Link, int] = {}
     left: dict[int, list[int]] = {}

@@ -1,7 +1,7 @@
 """The tables of a plan: which keys they have, and faults with their places.
 
-A value that is a text may name parameters, `"${step}"`. One that is nothing else is the parameter's value, and may so
-mean a number or `true` and `false`.
+A value that is a text may name parameters, `"${step}"`. A text that is only `"${step}"` is replaced by the
+parameter's value, which may be a number, `true` or `false`.
 """
 from __future__ import annotations
 
@@ -68,7 +68,7 @@ def optional(kind: type, default: object, least: int = 0, most: int = 0) -> Key:
 
 
 def any_kind(words: str, is_needed: bool) -> Key:
-    """A key that holds values of several kinds, which these words tell."""
+    """A key that holds values of several kinds, which these words name."""
     return Key(object, is_needed=is_needed, words=words)
 
 

@@ -128,7 +128,7 @@ class _Joined:
 
 
 def _rename(lines: Lines, names: list[str]) -> None:
-    """Has the names of some lines be places in the list of all names."""
+    """Replaces the names of some lines by their places in the list of all names."""
     if lines.names == names[:len(lines.names)]:
         return
     if names == lines.names[:len(names)]:

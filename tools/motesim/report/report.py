@@ -52,7 +52,7 @@ class Outcome(NamedTuple):
 
 OUTCOMES = ('received', 'lost', 'full', 'collided', 'halted', 'left')
 _LOST, _HALTED, _LEFT = (OUTCOMES.index(it) for it in ('lost', 'halted', 'left'))
-# From how many copies on several processes look for their outcomes, and at how many motes each looks at once.
+# From this number of copies on, several processes look for the outcomes, each for this many motes at a time.
 MANY, MOTES_AT_ONCE = 200_000, 256
 _BECAME = {'recv': 'received', 'lost': 'full', 'collide': 'collided'}
 

@@ -54,7 +54,7 @@ class Bad(Exception):
 
 
 class Words(dict[str, Any]):
-    """The words of one kind that occurred, each with its meaning. A new one is looked at once."""
+    """The words of one kind that occurred, each with its meaning. Each new word is examined only once."""
     __slots__ = ('expected',)
 
     def __init__(self, expected: str):

@@ -38,7 +38,7 @@ def started(start: Callable[[], subprocess.Popen[bytes]]) -> subprocess.Popen[by
 
 
 def over(leader: int) -> None:
-    """Forgets a run that has ended. Without runs, signals end this process at once again."""
+    """Forgets a run that has ended. If none is left, signals end this process at once, as before."""
     _Runs.leaders.discard(leader)
     if _is_main() and not _Runs.leaders:
         for number in ENDING:

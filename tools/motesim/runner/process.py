@@ -45,7 +45,7 @@ def _most_memory() -> int:
 class Limits(NamedTuple):
     """The limits of a run: seconds, bytes of memory and of its report, and seconds of processor time.
 
-    The seconds of a run depend on what else the machine does, those of processor time hardly.
+    The seconds of a run depend on what else the machine does; its processor time hardly depends on that.
     """
     seconds: float = 600.0
     memory: int = _most_memory()
@@ -153,7 +153,7 @@ class Running:
                 self._kill()
 
     def _kill(self) -> None:
-        """Ends the program and its children. Nobody has waited for it, so that its number is still its own."""
+        """Ends the program and its children. Nobody has waited for it yet, so no other process has its number."""
         with contextlib.suppress(OSError):
             (os.killpg if self._is_leader else os.kill)(self._process.pid, signal.SIGKILL)
 

@@ -1,7 +1,7 @@
 """The program that all tools run, and the place of kept programs.
 
-`program_path` returns the program that MOTESIM names; else the proved one of these sources, if it has been built; else
-one that was compiled without a proof, and then says so. Binaries are kept in out/programs by a digest of what
+`program_path` returns the program that MOTESIM names; otherwise the proved one of these sources, if it has been built;
+otherwise one that was compiled without a proof, and then says so. Binaries are kept in out/programs by a digest of what
 they were made of:
 
     proved-DIGEST/motesim      built by `./prove` or `./test`; the digest is of the sources, contracts and proofs
@@ -47,7 +47,7 @@ def is_program(path: Path) -> bool:
 # Sources.
 
 def crates_of_program(top: Path) -> list[str]:
-    """The crates from which the program is made, by crates.txt: lines of a name, words on it, and the crates below."""
+    """The crates of which the program is made, by crates.txt: lines of a name, options, and the crates that it uses."""
     below: dict[str, list[str]] = {}
     for row in (top / 'crates.txt').read_text('utf-8').splitlines():
         name, _, rest = row.partition('#')[0].partition(':')
@@ -199,7 +199,7 @@ def program_path() -> Path:
 
 @functools.cache
 def _program_here() -> Path:
-    """The program of these sources, which a process keeps to when they change."""
+    """The program of these sources. A process keeps using it even if they change."""
     found = program_of_sources()
     if found is None:
         raise ProgramFault('motesim isn\'t compiled yet: ./run FILE.toml compiles it within a minute or so, once; '

@@ -12,7 +12,7 @@
 
 Errors are `motesim.faults.Fault`, whose text can be shown to users:
 
-    ReportFault    a text is not a report; its line is in it
+    ReportFault    a text is not a report; the message names the line
     ScenarioFault  a text is not a scenario, or not that of the report
     ProgramFault   the program is not built, or refuses a scenario (then it is a NoReport)
     Fault          a file can't be read
@@ -59,7 +59,7 @@ def answer(scenario: bytes, *arguments: str, limits: Limits = Limits()) -> Answe
 
 
 def run_program(scenario: bytes, *arguments: str, limits: Limits = Limits()) -> bytes:
-    """The report of a scenario; one that the program refuses has a `NoReport`."""
+    """The report of a scenario. Raises a `NoReport` if the program refuses the scenario."""
     return Runner(limits=limits).report(scenario, *arguments)
 
 
@@ -93,7 +93,7 @@ def refuse_others(path: str | Path, data: bytes) -> None:
         raise Fault('%s is a plan, not a scenario: tools/scenario %s -o NAME.toml makes a scenario of it' % (
             path, path))
     if begins_as_program(data):
-        raise Fault('%s is the text of a program, not a scenario: tools/explain %s says how a scenario has it' % (
+        raise Fault('%s is the text of a program, not a scenario: tools/explain %s shows how to put it into one' % (
             path, path))
 
 

@@ -33,7 +33,7 @@ def encoding_of(data: bytes) -> Encoding | None:
 
 
 def shown(file: str, found: Encoding) -> str:
-    """That a file has another encoding."""
+    """The message that a file has another encoding."""
     return '%s looks like a text in %s, %s.' % (file, found.name, found.sign)
 
 

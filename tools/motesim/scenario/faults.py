@@ -25,7 +25,7 @@ RULES: dict[str, str] = {
     'scenario is not UTF-8': 'A scenario is a text in UTF-8, and these bytes are not.',
     'scenario fault 1': 'A scenario is a TOML document, and this text is not.',
     'scenario fault 2': 'A table lacks a key that it needs.',
-    'scenario fault 3': 'A table has an unknown key, or the name of a program is not of its form.',
+    'scenario fault 3': 'A table has an unknown key, or the name of a program has another form.',
     'scenario fault 4': 'A key has a value of the wrong kind.',
     'scenario fault 5': 'A number, or the count of motes, programs or losses, is out of range.',
     'scenario fault 6': 'A mote, or a key of `queue`, names a program that the scenario does not have.',
@@ -313,7 +313,7 @@ def places(text: str) -> dict[Path, Place]:
 
 
 def last_outside(text: str) -> int:
-    """The last line that begins outside of a text of several lines: of one that has no end, its first."""
+    """The last line that begins outside of a text of several lines; if such a text has no end, its first line."""
     return max((number for number, _ in _lines(text)), default=1)
 
 

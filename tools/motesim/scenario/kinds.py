@@ -24,7 +24,7 @@ def begins_as_results(data: bytes) -> bool:
 
 
 def begins_as_program(data: bytes) -> bool:
-    """Returns whether a text begins as a program does, and no TOML."""
+    """Returns whether a text begins as a program does, and not as TOML."""
     return PROGRAM.match(data) is not None
 
 

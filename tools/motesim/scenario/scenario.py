@@ -40,7 +40,7 @@ class Scenario:
     places    a `MotePlace` for each mote, by its number
     losses    for each pair (sender, receiver) with a loss, its `every`
 
-    It is read for the tools' needs: what motesim refuses has no sense here, and isn't all looked for.
+    It is read for the tools' needs: not every text that motesim refuses is refused here.
     """
 
     def __init__(self, tables: dict[str, Any]):

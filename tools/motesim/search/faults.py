@@ -183,7 +183,7 @@ def _every(base: Base, asked: Asked) -> Iterator[FaultyPart]:
 
 
 def _packets(base: Base, asked: Asked) -> Iterator[FaultyPart]:
-    """Links that lose packet n: each (n + 1)th, which is only that one if fewer than 2n + 2 are sent."""
+    """Links that lose packet n: they lose 1 packet in n + 1, which is only packet n if fewer than 2n + 2 are sent."""
     losses = base.scenario_itself.losses
     for sender, receiver in _directed(base):
         if (sender, receiver) in losses:
@@ -202,7 +202,7 @@ def _motes(base: Base, asked: Asked) -> Iterator[FaultyPart]:
 
 
 def moments_of(base: Base, asked: Asked) -> tuple[int, ...]:
-    """When motes fail or start late."""
+    """The moments at which motes fail or start late."""
     end = base.scenario_itself.end
     return asked.moments or tuple(sorted({max(1, end * quarter // 4) for quarter in (1, 2, 3)}))
 

@@ -24,7 +24,7 @@ LONGEST_FILE_NAME = 120
 
 @dataclass
 class Found:
-    """A minimal set of faults, with the sentences for which it is, and the file that has it."""
+    """A minimal set of faults, with the sentences that it breaks, and the file that has it."""
     faults: list[FaultyPart]
     sentences: list[str]
     file: str = ''

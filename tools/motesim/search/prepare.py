@@ -2,7 +2,7 @@
 
 A mote fails, or starts late, by a process that its program gets. Whether that process itself changes anything is found
 out by a run: with a moment past the end, or for a late start with the moment 0, the report has to be the one without
-it, but for the lines that name it.
+it, except for the lines that name it.
 """
 from __future__ import annotations
 
@@ -56,7 +56,7 @@ def without_process(report: bytes, mote: int, process: str) -> list[bytes]:
 
 
 def difference(base: Base, plain: Plain, program: OneProgram, mote: int, kind: str) -> tuple[str, bytes]:
-    """In what the report of a scenario with the added process differs, or nothing; and that report."""
+    """The difference in the report of a scenario with the added process, or nothing; and that report."""
     change = Change()
     change.added[mote] = kind, base.scenario_itself.end + 1 if kind == DIES else 0
     answer = program.run(base.text(change).encode())

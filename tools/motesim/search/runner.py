@@ -42,10 +42,10 @@ class Runner(Protocol):
     """Runs tasks, a batch at a time."""
 
     def outcomes(self, tasks: Iterator[Task], is_over: IsOver) -> Iterator[Outcome]:
-        """Yields the results of the tasks, in the order of their arrival; no more are begun once it is over."""
+        """Yields the results of the tasks, in the order of their arrival. Once `is_over()` is true, none is begun."""
 
     def close(self) -> None:
-        """Ends what was begun for it."""
+        """Ends the processes that were begun for the runs."""
 
     def kill(self) -> None:
         """Stops what has begun."""
@@ -58,7 +58,7 @@ class IsOver(Protocol):
 
 
 class Here:
-    """Several processes of this machine. The tasks may come one by one: no more are taken than are soon run."""
+    """Several processes of this machine. Tasks may be produced one by one: only those that soon run are fetched."""
 
     def __init__(self, work: Work, processes: int):
         self.processes = processes
@@ -81,8 +81,7 @@ class Here:
                     yield from found
         except BrokenProcessPool:
             raise Fault('the system ended a process of the search, as it does when memory runs out. --resume '
-                        'continues, '
-                        'and --jobs says with how many processes') from None
+                        'continues the search, and --jobs N sets how many processes it uses') from None
 
     def close(self) -> None:
         self.pool.shutdown(cancel_futures=True)

@@ -1,7 +1,7 @@
 """Sets of faults: how many there are, which are still to be tried, and the known results.
 
 Faults have numbers, and sets are tuples of these, in rising order. Which of the expectations a set breaks
-is a number with the bit e for expectation e. A set is *minimal* for an expectation if it breaks it and no smaller set
+is a number with the bit e for expectation e. A set is *minimal* for an expectation that it breaks if no smaller set
 in it does.
 """
 from __future__ import annotations
@@ -83,7 +83,7 @@ class Known:
         return filter(self.is_possible, itertools.combinations(range(len(self.faults)), size))
 
     def add(self, found: Set, broken: int) -> None:
-        """Notes what a set breaks; of that, it is minimal for what no smaller set in it breaks."""
+        """Notes which expectations a set breaks. It is minimal for those that no smaller set in it breaks."""
         new = self.left(found) & broken
         if new:
             self.minimal[found] = new

@@ -40,7 +40,7 @@ class Case(NamedTuple):
 def way_of(broken: Broken) -> str:
     """The way in which a sentence is broken: the explanation without the numbers, except a 0.
 
-    A line that is one too many, or wrong, is another way than one that isn't there.
+    A line too many, or a wrong line, is a different way from a missing line.
     """
     why = re.sub(r'\d+', lambda found: '0' if found[0] == '0' else 'N', broken.why)
     return why if broken.row is None else why + ' (a line shows it)'

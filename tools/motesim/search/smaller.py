@@ -1,7 +1,7 @@
 """Smaller programs: each way to take one step from a program to a smaller one.
 
-Each step leaves fewer words, or a number for a name, or a smaller number, so that steps come to an end. Some of what
-comes out is not a program, as when a variable goes that is used; callers have to check that.
+Each step leaves fewer words, or a number for a name, or a smaller number, so that steps come to an end. Some
+results aren't programs, for instance if a variable is removed that is still used; callers have to check that.
 """
 from __future__ import annotations
 

@@ -86,7 +86,7 @@ class Text:
         return Change(begin, end, '')
 
     def appended(self, name: str, table: list[str]) -> Change:
-        """The change with a table more, after the last of its name or at the end of the text."""
+        """The change with one more table, after the last of its name or at the end of the text."""
         members = self.members(name)
         first, end_line = self.lines(name, len(members) - 1) if members else (0, len(self.rows))
         spaced = bool(members) and first > 0 and not self.rows[first - 1].strip()

@@ -24,7 +24,7 @@ class Limits(NamedTuple):
 
 
 class Superseded(Fault):
-    """A newer text came."""
+    """A newer text has arrived."""
 
     def __init__(self) -> None:
         super().__init__('a newer text came')

@@ -136,7 +136,7 @@ class Session:
     # Runs.
 
     def run(self, asked: dict[str, Any]) -> Answered:
-        """Runs a text: its columns, or its error, or that a newer text came, or the limit that it reached."""
+        """Runs a text: its columns, or its error, or that a newer text has arrived, or the limit that it reached."""
         text, ticket = _text(asked, 'text'), self.runs.ask()
         data = text.encode('utf-8')
         try:

@@ -1,9 +1,9 @@
 """Flows from end to end: which messages of an origin came to whom, how often, and how much later.
 
-What counts as the same message the user says, as `print sink`: each line `print sink V` is a delivery of the message V
-at its mote. A message begins with the first packet of that value, at the mote that sends it; or, as in
-`print source -> print sink`, with the first line `print source V`. So a program that numbers its messages, as by
-`send ((self * 256) + count)`, has a flow for each origin, however many motes pass its packets on.
+The user says what counts as the same message, such as `print sink`: each line `print sink V` is a delivery of the
+message V at its mote. A message begins with the first packet of that value, at the mote that sends it; or, as in
+`print source -> print sink`, with the first line `print source V`. So a program that numbers its messages, as by `send
+((self * 256) + count)`, has a flow for each origin, however many motes pass its packets on.
 """
 from __future__ import annotations
 

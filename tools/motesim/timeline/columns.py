@@ -25,7 +25,7 @@ LEVEL = 6
 OF_FIELDS = {'process': 'p', 'sender': 'p', 'serial': 'x', 'number': 'x', 'event': 'e', 'word': 'w', 'value': 'w'}
 ARRAYS = {'u8': 'B', 'u16': 'H', 'u32': 'I'}
 TOO_LARGE = 'the report has a number that is too large for a page'
-# From how many lines on several processes make the columns, and of how many motes each makes them at once.
+# From this number of lines on, several processes make the columns, each for this many motes at a time.
 MANY, MOTES_AT_ONCE = 300_000, 16
 
 

@@ -19,7 +19,7 @@ OF_EVENT, OF_TIMER, OF_SEMAPHORE = (re.compile(form % r'\(\s*(\w+)\s*\)') for fo
 DOES = {'start': 'starts it', 'spawn': 'runs it', 'restart': 'runs it', **dict.fromkeys(SETS, 'sets the timer')}
 NEVER, LAST = 'was never %s, the last time at %d', 'was not %s the last time, at %d'
 ELSEWHERE = '; timer %s was due at %d: its event was taken while %s waited at %s'
-# Events that the kernel makes, and no statement.
+# Events that only the kernel makes, not a statement.
 OF_KERNEL = ('packet', 'timer', 'exited', 'exit', 'init', 'continue')
 
 

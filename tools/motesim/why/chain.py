@@ -210,7 +210,7 @@ class Explainer:
 
 
 def wait_of(link: Link, at: int, before: int) -> str:
-    """For what a line waited since its cause, at an earlier moment or the same."""
+    """The reason for the time between a line and its cause, which is at an earlier moment or the same."""
     if link.how == 'timer':
         return 'full' if at > max(link.since + link.interval, link.since) else 'timer'
     if link.how == 'medium':

@@ -164,7 +164,7 @@ def of_sentence(source: Source, sentence: str, it: Filter) -> Log:
     elif isinstance(asked, Packets):
         lines = [line for line in asker.packets() if is_inside(line, asker, asked)]
     else:
-        raise Fault('this sentence is about no lines of a trace: %s' % sentence)
+        raise Fault('this sentence isn\'t about lines of a trace: %s' % sentence)
     kept = filtered(source.traces, it)
     wanted = {(line.where.mote, source.traces.row(line.where)) for line in lines}
     log = Log(source.traces)

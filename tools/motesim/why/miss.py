@@ -1,7 +1,7 @@
 """The near misses of a line that a sentence wants and that isn't there.
 
 They are found in the trace, in the log of the medium, or in the replay of the mote: a line that came too late or
-has another value, a copy that was lost, a process that wasn't there, a condition that wasn't true, a neighbour that
+has another value, a copy that was lost, a process that wasn't running, a condition that wasn't true, a neighbour that
 didn't send.
 """
 from __future__ import annotations

@@ -233,7 +233,7 @@ class Replay:
     # Processes
 
     def run(self, process: int, frame: Frame) -> bool:
-        """Runs a process with an event. Whether it has ended."""
+        """Runs a process with an event. Returns whether it has ended."""
         event, word, sender = frame.event, frame.word, frame.sender
         if process < 0:
             self.run_system(process, event, word, frame)

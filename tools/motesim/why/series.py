@@ -78,7 +78,7 @@ class Series:
         self.traces.kept.pop(mote, None)
 
     def keep_peak(self, depth: int, first: int, last: int) -> None:
-        """A queue has been so long from one interval to another."""
+        """A queue had this length from one interval to another."""
         for part in range(first, last + 1):
             if self.peaks[part] < depth:
                 self.peaks[part] = depth

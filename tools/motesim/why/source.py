@@ -107,7 +107,7 @@ class Traces:
         return self.data[begin:self.data.find(b'\n', begin)].decode('ascii', 'replace')
 
     def text_at(self, where: At) -> str:
-        """The text of a line, of which the trace isn't kept."""
+        """The text of a line whose trace isn't kept."""
         if where.mote in self.kept:
             return self.text(where)
         begin = self.begins[where.mote]
@@ -158,7 +158,7 @@ class Traces:
         return self.came[mote]
 
     def collisions(self, mote: int, at: str) -> list[int]:
-        """The places of the packets that collide at a mote at a moment. (A million of them are looked up in turn.)"""
+        """The places of the packets that collide at a mote at a moment. (A million are looked up one after another.)"""
         if mote not in self.collided:
             found = self.collided[mote] = {}
             for place, line in enumerate(self.lines(mote)):

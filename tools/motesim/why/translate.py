@@ -462,5 +462,5 @@ class _Translator:
 
 
 def translated(text: str, is_detailed: bool = False) -> Program:
-    """A program that motesim accepts, in Python. Its details are which statements were reached, and each test."""
+    """A program that motesim accepts, in Python. With details it notes each statement that is reached, and each test."""
     return _Translator(text, is_detailed).translate()

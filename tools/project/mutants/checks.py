@@ -17,7 +17,7 @@ from project.kit import checked, kept_by_check, linked, says_nothing
 from project.mutants.edits import Edit, together
 
 # The verdicts on a mutant, the best first. The prover refuses it for a goal of a contract; only for a loop's invariant;
-# only at a limit of its own, or because an answer by hand no longer fits: both leave open what the contract says. Or it
+# only at a limit of its own, or because a proof by hand no longer fits: both leave open what the contract says. Or it
 # is proved, or nothing is known.
 KINDS = CONTRACT, INVARIANT, LIMIT, ANSWER, NOT_REFUSED, UNKNOWN = (
     'contract', 'invariant', 'limit', 'answer', 'not refused', 'unknown')
