@@ -262,6 +262,11 @@ class Calls(unittest.TestCase):
                 for nonsense in 'Names have small letters', 'var etimer_set', 'No variable':
                     self.assertNotIn(nonsense, hint)
 
+    def test_a_packet_to_a_mote(self) -> None:
+        found, _, hint = self.corrected('1', 'send(3, tries);')
+        self.assertEqual(found, 'send ((3 * 256) + tries);')
+        self.assertIn('its value may say for whom it is', hint)
+
     def test_a_break_keeps_the_rest_of_the_test(self) -> None:
         both = '((tries < 3) && !done)'
         for body in ('if is(packet) { print data; done = 1; break; }',

@@ -271,6 +271,9 @@ class Warnings(unittest.TestCase):
             ('process a; code a { body { print 1; } }', 5, 'no process starts at boot'),
             ('process a, b; autostart a; code a { body { } } code b { body { } }', 5, '`b` is never started'),
             (CODE % 'yield_until is(packet); print data;', 5, 'no process is the `receiver`'),
+            (CODE % 'yield_until is(packet); print data;', 5, 'calls them `deaf`; write `receiver a;` above'),
+            (CODE % 'set t 4; while !expired(t) { }', 5, '`wait_while` and the same test, without a block'),
+            (CODE % 'set t 4; while !expired(t) { seq = (seq + 1); }', 5, 'a loop that waits for nothing'),
             (CODE % 'while 1 { seq = (seq + 1); }', 5, 'nothing waits'),
             (CODE % 'yield_until fired(t);', 5, '`t` is never set'),
             ('process a; autostart a; code a { ctimer c { print 1; } body { set c 5; yield_until fired(c); } }', 5,
@@ -313,6 +316,11 @@ class Warnings(unittest.TestCase):
         for body in 'wait_until expired(t); reset t;', 'wait_until is(packet); yield;', 'yield_until is(packet);':
             seen = self.seen((CODE % ('set t 1; while 1 { %s }' % body)).replace('autostart', 'receiver a; autostart'))
             self.assertEqual([it for it in seen if 'without an end' in it], [])
+
+    def test_a_loop_that_counts_or_changes_its_test_is_in_order(self) -> None:
+        for body in ('while (seq < 3) { seq = (seq + 1); }', 'set t 4; while !expired(t) { pause; }',
+                     'while (seq < 3) { post a msg 1 into seq; }', 'set t 1; while !expired(t) { stop t; set t 0; }'):
+            self.assertEqual([it for it in self.seen(CODE % body) if 'waits for nothing' in it], [], body)
 
     def test_the_examples_have_none(self) -> None:
         for path in sorted((TOP / 'examples').glob('*.toml')):

@@ -247,6 +247,19 @@ class Shrinks(unittest.TestCase):
                 self.assertEqual((done.returncode, done.stdout), (2, ''))
                 self.assertIn(wanted, done.stderr)
 
+    def test_an_explanation_with_other_numbers_is_shown(self) -> None:
+        with folder_with() as folder:
+            (Path(folder) / 'p.toml').write_text(
+                'version = 2\nend = 9\nmedium = { range = 9, base = 2, per = 100, collide = false }\n'
+                'mote = [{ x = 0, y = 0, program = "p" }, { x = 5, y = 0, program = "p" }]\n'
+                '[programs]\np = "process p; autostart p; code p { body { print (5 + 2); } }"\n')
+            words = [sys.executable, '-B', str(TOOLS / 'shrink'), 'p.toml']
+            done = subprocess.run([*words, 'mote 1 prints just p 8'], cwd=folder, capture_output=True, text=True)
+            self.assertIn('so the cause may be another one:\n  before: mote 1 prints 7 instead of 8\n'
+                          '  now:    mote 1 prints 1 instead of 8\n', done.stdout)
+            done = subprocess.run([*words, 'mote 1 prints exactly 3 times'], cwd=folder, capture_output=True, text=True)
+            self.assertNotIn('another one', done.stdout)
+
     def test_a_search_shrinks_what_it_finds(self) -> None:
         with folder_with() as folder:
             status, said, _ = search(folder, '--faults', 'motes', '--shrink')

@@ -324,6 +324,7 @@ class Questions(unittest.TestCase):
 
     def test_lines_that_are_not_there(self) -> None:
         for question, said in (('0:28', 'line 28 is in the trace of mote 1, and not of mote 0'),
+                               ('7 print h 8', 'a line of a trace is named with its mote, 1: 7 print h 8'),
                                ('30', 'line 30 is in no trace'), ('999', 'line 999 is in no trace'),
                                ('7:3 print h 8', 'there is no mote 7'), ('1:3 print h 8', 'mote 1 has no line')):
             with self.assertRaisesRegex(Unasked, said):
@@ -367,7 +368,7 @@ class Misses(unittest.TestCase):
         return [it.words for _, its in misses(asker, missing) for it in its]
 
     def test_a_line_at_another_moment(self) -> None:
-        self.assertEqual(self.misses('mote 1 prints h 8 by 6')[0], '`print h 8`, at 7: 1 moment too late')
+        self.assertEqual(self.misses('mote 1 prints h 8 by 6')[0], '`print h 8`, at 7: 1 moment too late, since the sentence allows up to 6')
         self.assertEqual(self.misses('mote 1 prints h 8 after 9')[0], '`print h 8`, at 7: 3 moments too early')
 
     def test_other_values(self) -> None:
@@ -516,7 +517,7 @@ code p {
         begun = time.process_time()
         first = next(_Misses(asker, missing, 0).outside())
         self.assertLess(time.process_time() - begun, 2)
-        self.assertEqual(first.words, '`send 0 7`, at 4: 1 moment too late')
+        self.assertEqual(first.words, '`send 0 7`, at 4: 1 moment too late, since the sentence allows up to 3')
 
     def test_the_first_point_at_which_chains_diverge(self) -> None:
         other = source(SCENARIO + '[[loss]]\nfrom = 0\nto = 1\nevery = 1\n',
@@ -686,7 +687,7 @@ class Runs(unittest.TestCase):
         self.assertEqual(self.why('examples/flooding.toml', '--short', 'mote 6 prints flood 1').stdout, shown.stdout)
         near = self.why('examples/flooding.toml', 'mote 1 prints flood 2 by 85').stdout
         self.assertIn('line 22 (flooding.toml:35): `print newest`', near)
-        self.assertIn('4 moments too late (line 52 of the report)\n', near)
+        self.assertIn('4 moments too late, since the sentence allows up to 85 (line 52 of the report)\n', near)
         got = json.loads(self.why('examples/flooding.toml', 'mote 6 prints flood 1', '--json').stdout)
         self.assertEqual([it['at'] for it in got['chain']], [46] * 4 + [43] * 4 + [40] * 3 + [0, 0])
         self.assertEqual(got['path']['medium'], {'moments': 6, 'times': 2})

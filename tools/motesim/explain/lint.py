@@ -20,7 +20,12 @@ AT_ONCE, OF_EVENT, LATER = 'wait_until', ('is', 'fired', 'gone'), 'yield_until'
 STILL_TRUE = ('an endless loop in which only `%s` waits: its test is about the event of this call, and stays '
               'true until the next call, so the loop turns until the mote\'s work is used up, and the mote halts; `%s` '
               'waits for the next call first' % (AT_ONCE, LATER))
-LOOPS = ENDLESS, STILL_TRUE
+BUSY = ('a loop that waits for nothing: its test can\'t change before the next call, so once it is true the loop turns '
+        'until the mote\'s work is used up, and the mote halts; `wait_while` and the same test, without a block, lets '
+        'the mote wait')
+LOOPS = ENDLESS, STILL_TRUE, BUSY
+# Statements after which a test may have another value, though no variable in it is assigned.
+CHANGES = frozenset(('spawn', 'synch', 'set', 'reset', 'restart_timer', 'stop', 'start', 'kill', 'acquire', 'signal'))
 OF_CTIMER = ('`%s` is a `ctimer`: its event goes to the process ctimer, which runs its block, so `fired(%s)` is never '
              'true here; an `etimer` posts its event to its own process')
 # The factor of the pattern for chance, by which so many motes and seeds draw different numbers, and its warning.
@@ -104,6 +109,19 @@ class Program:
                     yield ENDLESS, self.tokens[at]
                 elif len(waits) == 1 and block[waits[0]] == AT_ONCE and block[waits[0] + 1] in OF_EVENT:
                     yield STILL_TRUE, self.tokens[at + 2 + waits[0]]
+            elif word == 'while' and self.is_busy(at):
+                yield BUSY, self.tokens[at]
+
+    def is_busy(self, at: int) -> bool:
+        """Returns whether nothing in the block of a `while` waits or may change its test."""
+        if self.tokens[at + 1].kind == 'number':
+            return False
+        begin = self.words.index('{', at)
+        test, block = self.words[at + 1:begin], self.words[begin:self.end_of_block(begin)]
+        assigned = {block[place - 1] for place, it in enumerate(block) if it == '='}
+        into = {block[place + 1] for place, it in enumerate(block[:-1]) if it == 'into'}
+        return not CHANGES.intersection(block) and not set(WAITS).intersection(block) and not set(
+            test) & (assigned | into)
 
 
     def tests_of_sign(self) -> Iterator[tuple[str, Token]]:
@@ -171,7 +189,11 @@ def of_program(program: Program) -> Iterator[Warned]:
                 yield Warned('the process `%s` is never started' % process.text, name, process)
     packet = program.first('is', '(', 'packet', ')')
     if packet and not program.receivers:
-        yield Warned('the program waits for packets, but no process is the `receiver`: they are dropped', name, packet)
+        codes = [it for at, it in enumerate(program.tokens) if program.words[at - 1] == 'code']
+        its = next((it for it in reversed(codes) if it.line < packet.line), codes[0] if codes else None)
+        yield Warned('the program waits for packets, but no process is the `receiver`: they are dropped, and the report '
+                     'calls them `deaf`; write `receiver %s;` above the first `code`' % (its.text if its else 'P'),
+                     name, packet)
     for text, token in program.endless_loops():
         yield Warned(text, name, token, instead=LATER if text == STILL_TRUE else '')
     for token in program.awaited_ctimers():

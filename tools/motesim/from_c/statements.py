@@ -313,13 +313,16 @@ class Statements(Declarations, Calls, Control):
             return self.end(word)
         if word in OF_EXPRESSION:
             self.writer.of_timer = 'fired' if word == 'yield_until' else 'expired'
+            receiver = self.of_pair() if word == 'send' else ''
             value = self.value()
-            if word == 'send' and self.accept('to'):
+            if receiver:
+                self.need(')')
+            if word == 'send' and (receiver or self.accept('to')):
                 self.why('A packet goes to all motes that hear it: its value may say for whom it is. The receiver '
                          'tests `((data / 256) == self)`, and takes `(data % 256)`.')
                 if any(int(it) > LARGEST_PART for it in re.findall(r'\b[0-9]+\b', value)):
                     raise NoCounterpart(TOO_LARGE_PART)
-                value = '((%s * 256) + %s)' % (self.value(), value)
+                value = '((%s * 256) + %s)' % (receiver or self.value(), value)
             return self.end('%s %s' % (word, value))
         has_brackets = self.token.text == '(' and bool(self.accept('('))
         if has_brackets:
@@ -328,6 +331,19 @@ class Statements(Declarations, Calls, Control):
         if has_brackets:
             self.need(')')
         return self.end(text)
+
+    def of_pair(self) -> str:
+        """The first of two numbers in parentheses, as in `send(3, data)`; nothing if there is one, or none."""
+        begin = self.at
+        if self.accept('('):
+            try:
+                found = self.expression()
+                if self.accept(','):
+                    return self.writer.text(found)
+            except NoCounterpart:
+                pass
+        self.at = begin
+        return ''
 
     def set_variable(self) -> str:
         self.at += 1

@@ -23,6 +23,7 @@ from motesim.search.one_program import OneProgram
 from motesim.search.quick_judge import QuickJudge
 
 NAME = 'the scenario'
+MOTE = re.compile(r'\bmotes? \d+')
 Effect = tuple[str | int, ...]
 STEPS: dict[str, Callable[[Net], Iterator[NetStep]]] = {
     'motes': mote_steps, 'losses': loss_steps, 'programs': program_steps, 'numbers': number_steps}
@@ -103,10 +104,15 @@ class Shrinking:
     is_whole: bool = True
     last: int = 0
     longest: int | None = None
+    # The explanations of the first report, of the present one, and of the one that was seen last.
+    first: str = ''
+    now: str = ''
+    tried: str = ''
 
     def __post_init__(self) -> None:
         self.way = self.way_now(self.case)
         self.longest = self.last
+        self.first = self.now = self.tried
         if self.way is None:
             more = ' only by these faults' if self.case.effects else ', or breaks a sentence of --keep' * bool(
                 self.case.keeps)
@@ -134,6 +140,7 @@ class Shrinking:
         if found is None or any(found.is_broken(it) for it in case.keeps):
             return None
         broken = found.broken(case.sentence)
+        self.tried = broken.why if broken else ''
         return way_of(broken) if broken else None
 
     def after(self, step: NetStep) -> Case | None:
@@ -173,12 +180,17 @@ class Shrinking:
                     return found
                 case = self.after(tried[index])
                 if case is not None and self.way_now(case) == self.way:
-                    self.case, found, at = case, True, index
+                    self.case, self.now, found, at = case, self.tried, True, index
                     self.taken.append(tried[index].words)
                     break
             else:
                 return found
         return found
+
+    @property
+    def may_differ(self) -> bool:
+        """Returns whether the explanation has other numbers than at first, apart from those of motes."""
+        return MOTE.sub('', self.first) != MOTE.sub('', self.now)
 
     @property
     def text(self) -> str:

@@ -79,4 +79,8 @@ def status_of(asked: argparse.Namespace) -> int:
         len(shrinking.taken), shrinking.runs,
         'no further step is possible' if shrinking.is_whole else 'STOPPED: more steps may be possible'))
     print('%s breaks: %s' % (output, shrinking.case.sentence))
+    if shrinking.may_differ:
+        print('The explanation has other numbers now, so the cause may be another one:')
+        print('  before: %s' % shrinking.first)
+        print('  now:    %s' % shrinking.now)
     return 0 if shrinking.is_whole else INTERRUPTED

@@ -70,7 +70,8 @@ class _Misses:
         own = [it for it in self.missing.found if it.where.mote == self.mote]
         late = [it for it in own if it.at > self.end]
         for it in late[:1]:
-            yield Miss('late', '%s, at %d: %s too late' % (self.deed(it), it.at, count(it.at - self.end, 'moment')),
+            yield Miss('late', '%s, at %d: %s too late, since the sentence allows up to %d' % (
+                self.deed(it), it.at, count(it.at - self.end, 'moment'), self.end),
                        self.source.traces.row(it.where), True)
         early = [it for it in own if it.at < self.begin]
         for it in early[-1:]:

@@ -20,6 +20,7 @@ from motesim.why.source import At, Found, Source, Traces
 
 LINE = re.compile(r'\s*(?:(?:mote\s+)?(\d+)\s*:\s*)?(?:line\s+)?(\d+)\s*', re.I)
 TEXT = re.compile(r'\s*(?:mote\s+)?(\d+)\s*:\s*(\d+ [a-z]+.*?)\s*', re.I)
+BARE = re.compile(r'\s*(\d+ [a-z]+(?: \S+)*)\s*')
 KINDS = {'collided': b'collide', 'received': b'recv', 'full': b'lost'}
 ENDLESS = 1_000_000
 
@@ -97,6 +98,10 @@ def line_asked(traces: Traces, question: str) -> At | None:
         if text[2] not in traces.lines(mote):
             raise Unasked("mote %d has no line '%s'" % (mote, text[2]))
         return At(mote, traces.lines(mote).index(text[2]))
+    bare = BARE.fullmatch(question)
+    found = next((mote for mote in range(traces.motes) if bare and bare[1] in traces.lines(mote)), None)
+    if bare and found is not None:
+        raise Unasked('a line of a trace is named with its mote, %d: %s, or by its number' % (found, bare[1]))
     return None
 
 
