@@ -39,18 +39,19 @@ def become(called: list[str], **environment: str) -> NoReturn:
     os.execvpe(called[0], called, {**os.environ, 'PYTHONDONTWRITEBYTECODE': '1', **environment})
 
 
-def about(module: Path) -> str | None:
-    """The text at the top of a module, which is the help of the command that calls pytest for it."""
-    return ast.get_docstring(ast.parse(module.read_text('utf-8')))
+def asked_of(module: Path, named: str) -> tuple[list[str], list[str]]:
+    """The names that a command gets, and the options that it passes on; its help begins with the module's text."""
+    words = words_of(ast.get_docstring(ast.parse(module.read_text('utf-8'))))
+    words.add_argument('names', nargs='*', metavar='NAME', help=named + '; without a name, all')
+    words.epilog = 'Other options are passed on to pytest, each in one word: -x, -kWORD.'
+    asked, others = words.parse_known_args()
+    return asked.names, others
 
 
 def check(module: Path) -> NoReturn:
     """Tests the program with a module of tests/."""
-    words = words_of(about(module))
-    words.add_argument('names', nargs='*', metavar='NAME', help='what to test (all)')
-    words.epilog = 'Other options are passed on to pytest, each in one word: -x, -kWORD.'
-    asked, others = words.parse_known_args()
-    become([*pytest('group'), str(module), *others, *('--name=' + it for it in asked.names)],
+    names, others = asked_of(module, 'a part of the tests, as described above')
+    become([*pytest('group'), str(module), *others, *('--name=' + it for it in names)],
            MOTESIM=str(program_path().resolve()))
 
 
@@ -62,15 +63,9 @@ def check_program() -> NoReturn:
 
 @command('test_tools')
 def test_tools() -> NoReturn:
-    words = words_of(about(TESTS / 'conftest.py'))
-    words.add_argument('--may-skip', action='append', default=[], choices=['browser'],
-                       help='skip the tests that need it; without this option they fail')
-    words.add_argument('names', nargs='*', metavar='NAME', help='a file of tools/tests, or a part of its name')
-    asked = words.parse_args()
-    chosen = [it for it in sorted(TESTS.glob('test_*.py'))
-              if not asked.names or any(name in it.stem for name in asked.names)]
+    names, others = asked_of(TESTS / 'conftest.py', 'a file of tools/tests, or a part of its name')
+    chosen = [it.name for it in sorted(TESTS.glob('test_*.py')) if not names or any(name in it.stem for name in names)]
     if not chosen:
-        raise Fault('no file of tests has a name with %s' % ', '.join(asked.names))
+        raise Fault('no file of tests has a name with %s' % ', '.join(names))
     os.chdir(TESTS)
-    become(['timeout', '--kill-after=10s', '%dm' % MINUTES, *pytest('scope'),
-            *('--may-skip=' + it for it in asked.may_skip), *(it.name for it in chosen)])
+    become(['timeout', '--kill-after=10s', '%dm' % MINUTES, *pytest('scope'), *others, *chosen])

@@ -2,7 +2,7 @@
 
 NAME is a file of tools/tests, test_report, or a part of its name; without one all are run. Prints each test that
 fails, with its error, and each that is skipped, with the reason: the program or the package that it lacks. One that
-lacks the browser fails, unless `--may-skip browser` allows that, and so does a file without tests. The last line is
+lacks the browser fails, unless `--may-skip=browser` allows that, and so does a file without tests. The last line is
 `N passed, M failed, K skipped`. With pytest-xdist as many tests run in parallel as there are processors. After 30
 minutes the tests are ended.
 """
