@@ -262,6 +262,18 @@ class Calls(unittest.TestCase):
                 for nonsense in 'Names have small letters', 'var etimer_set', 'No variable':
                     self.assertNotIn(nonsense, hint)
 
+    def test_a_chain_of_else_if(self) -> None:
+        chain = 'if (tries == 1) {\nprint 1;\n} else if (tries == 2) {\nprint 2;\n%s} else {\nprint 4;\n}'
+        for more, said in (('', ''), ('} else if (tries == 3) {\nprint 3;\n', 'The chain has 2 such `else if`: each '
+                                     'is written so, and 2 more `}` follow its last block.')):
+            text = RETRY % ('1', chain % more)
+            fault = find_fault(text)
+            assert fault
+            found = advice(text, fault)
+            assert found
+            self.assertEqual(found.line, '} else { if (tries == 2) {')
+            self.assertTrue(found.hint.endswith(said or 'closes it.'), found.hint)
+
     def test_a_packet_to_a_mote(self) -> None:
         found, _, hint = self.corrected('1', 'send(3, tries);')
         self.assertEqual(found, 'send ((3 * 256) + tries);')

@@ -257,7 +257,8 @@ class Shrinks(unittest.TestCase):
             done = subprocess.run([*words, 'mote 1 prints just p 8'], cwd=folder, capture_output=True, text=True)
             self.assertIn('so the cause may be another one:\n  before: mote 1 prints 7 instead of 8\n'
                           '  now:    mote 1 prints 1 instead of 8\n', done.stdout)
-            done = subprocess.run([*words, 'mote 1 prints exactly 3 times'], cwd=folder, capture_output=True, text=True)
+            done = subprocess.run([*words, 'mote 1 prints exactly 3 times'], cwd=folder, capture_output=True,
+                                  text=True)
             self.assertNotIn('another one', done.stdout)
 
     def test_a_search_shrinks_what_it_finds(self) -> None:

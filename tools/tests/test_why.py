@@ -368,7 +368,8 @@ class Misses(unittest.TestCase):
         return [it.words for _, its in misses(asker, missing) for it in its]
 
     def test_a_line_at_another_moment(self) -> None:
-        self.assertEqual(self.misses('mote 1 prints h 8 by 6')[0], '`print h 8`, at 7: 1 moment too late, since the sentence allows up to 6')
+        self.assertEqual(self.misses('mote 1 prints h 8 by 6')[0],
+                         '`print h 8`, at 7: 1 moment too late, since the sentence allows up to 6')
         self.assertEqual(self.misses('mote 1 prints h 8 after 9')[0], '`print h 8`, at 7: 3 moments too early')
 
     def test_other_values(self) -> None:

@@ -11,6 +11,9 @@ OF_PARENTHESES = ('Only an operation of two values has parentheses, as `(a + b)`
                   'and '
                   'other statements need none.')
 
+# The end of the reason for an `else if` whose block continues below the line.
+CUT_CHAIN = 'one more `}` closes it'
+
 
 class Advice(NamedTuple):
     """A hint, and the line that should be there; the lines (from 1) that it replaces. An empty line is left out.
@@ -76,7 +79,26 @@ def advice(source: str, fault: ProgramError) -> Advice | None:
         is_misspelt = hint in [hints.MEANT % it for it in ('fired', 'expired', 'running')]
         return Advice(hint if hint and is_misspelt else reasons)
     own = '' if found.above else names.otherwise(source, fault)
+    if CUT_CHAIN in reasons:
+        own += _of_chain(source, fault)
     return Advice(reasons + own, found.line, found.first, found.last, found.above)
+
+
+def _of_chain(source: str, fault: ProgramError) -> str:
+    """Advice on an `else if` whose block continues below, and on those that follow in the same chain."""
+    words = [it.text for it in tokens_of(source)]
+    at = next((at for at, it in enumerate(tokens_of(source)) if it == fault.token), 0)
+    count = 0
+    while words[at - 1:at + 1] == ['else', 'if'] and '{' in words[at:]:
+        count, at, depth = count + 1, words.index('{', at), 0
+        while at < len(words):
+            depth += (words[at] == '{') - (words[at] == '}')
+            at += 1
+            if not depth:
+                break
+        at += 1
+    return (' The chain has %d such `else if`: each is written so, and %d more `}` follow its last block.' % (
+        count, count)) if count > 1 else ''
 
 
 def _is_assigned(source: str, fault: ProgramError) -> bool:

@@ -20,9 +20,9 @@ AT_ONCE, OF_EVENT, LATER = 'wait_until', ('is', 'fired', 'gone'), 'yield_until'
 STILL_TRUE = ('an endless loop in which only `%s` waits: its test is about the event of this call, and stays '
               'true until the next call, so the loop turns until the mote\'s work is used up, and the mote halts; `%s` '
               'waits for the next call first' % (AT_ONCE, LATER))
-BUSY = ('a loop that waits for nothing: its test can\'t change before the next call, so once it is true the loop turns '
-        'until the mote\'s work is used up, and the mote halts; `wait_while` and the same test, without a block, lets '
-        'the mote wait')
+BUSY = ('a loop that waits for nothing: its test can\'t change before the next call, so once it is true the loop '
+        'turns until the mote\'s work is used up, and the mote halts; `wait_while` and the same test, without a block, '
+        'lets the mote wait')
 LOOPS = ENDLESS, STILL_TRUE, BUSY
 # Statements after which a test may have another value, though no variable in it is assigned.
 CHANGES = frozenset(('spawn', 'synch', 'set', 'reset', 'restart_timer', 'stop', 'start', 'kill', 'acquire', 'signal'))
@@ -191,9 +191,9 @@ def of_program(program: Program) -> Iterator[Warned]:
     if packet and not program.receivers:
         codes = [it for at, it in enumerate(program.tokens) if program.words[at - 1] == 'code']
         its = next((it for it in reversed(codes) if it.line < packet.line), codes[0] if codes else None)
-        yield Warned('the program waits for packets, but no process is the `receiver`: they are dropped, and the report '
-                     'calls them `deaf`; write `receiver %s;` above the first `code`' % (its.text if its else 'P'),
-                     name, packet)
+        yield Warned('the program waits for packets, but no process is the `receiver`: they are dropped, and the '
+                     'report calls them `deaf`; write `receiver %s;` above the first `code`' % (
+                         its.text if its else 'P'), name, packet)
     for text, token in program.endless_loops():
         yield Warned(text, name, token, instead=LATER if text == STILL_TRUE else '')
     for token in program.awaited_ctimers():
