@@ -2,7 +2,7 @@
 
 After that ./run and all tools run the proved program; until then they run the one that is built already. A proof needs
 about 20 to 40 minutes on four cores, at a low priority. `rt ci` does the work, on a copy of the program's crates in
-out/proof. If the kit can (rattle-kit-13f does), it keeps the results of each proved crate, for all clones on this
+out/proof. A kit that can do so, such as rattle-kit-13f, keeps the results of each proved crate for all clones on this
 machine. So interrupt ./prove at any time: the next one, or ./test, continues with the crates that are left. It prints
 a line for each crate. The prover's output is in out/proof.log, and is shown for a crate that isn't proved. ./test is the
 gate, which also proves and runs all tests.

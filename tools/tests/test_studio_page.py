@@ -315,7 +315,7 @@ class Page(unittest.TestCase):
         self.wait('m.differs.first && document.getElementById("notice").innerText.includes("run with a fault")')
         self.value('document.querySelector("#notice button").click()')
         self.wait('m.studio.judged === m.studio.number && !m.differs.first')
-        self.assertIn('The same report as that of the run before', self.shown('change'))
+        self.assertIn('The same report as that of the previous run', self.shown('change'))
 
     def test_what_is_hardly_meant_is_warned_of(self) -> None:
         self.open()
@@ -338,7 +338,7 @@ class Page(unittest.TestCase):
         self.assertIn('Change the text', self.shown('change'))
         self.type_behind('send 6;', ' send 8;')
         self.wait('m.differs.first')
-        words = 'The first difference from the run before is at moment 30, in the trace of mote 0'
+        words = 'The first difference from the previous run is at moment 30, in the trace of mote 0'
         self.assertIn(words, self.shown('change'))
         self.assertIn('30 post 2 talker timer 0', self.shown('change'))
         self.assertEqual(self.value('[m.differs.first.at, m.differs.first.mote]'), [30, 0])
@@ -348,7 +348,7 @@ class Page(unittest.TestCase):
         self.assertIn('only A', self.value('document.querySelector("#compare pre").textContent'))
         self.type_behind('# Two', ' ')
         self.wait('m.studio.judged === m.studio.number && !m.differs.first')
-        self.assertIn('The same report as that of the run before', self.shown('change'))
+        self.assertIn('The same report as that of the previous run', self.shown('change'))
 
     def test_a_pinned_run_is_the_one_to_compare_with(self) -> None:
         self.open()
@@ -361,7 +361,7 @@ class Page(unittest.TestCase):
         self.value('document.getElementById("pin").click()')
         self.type_behind('send 9;', ' send 3;')
         self.wait('m.differs.first && Array.from(run.w).includes(3)')
-        self.assertIn('The first difference from the run before is at moment 50', self.shown('change'))
+        self.assertIn('The first difference from the previous run is at moment 50', self.shown('change'))
 
     def test_a_dragged_mote_changes_the_text(self) -> None:
         self.open()

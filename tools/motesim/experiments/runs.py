@@ -22,8 +22,8 @@ DASK_SECONDS = 10
 DASK_TICK, TASKS_AHEAD = 1, 4
 # The most runs of a task of Dask.
 MOST_IN_TASK = 50
-# A job has a limit for the scenario, for the run and for each measure. If it lasts so much longer that none of these
-# can have ended it, its process is ended.
+# A job has limits of processor time: for the scenario, for the run and for each measure. If it still runs after the
+# time that these limits allow, and these seconds more, its process is ended.
 SECONDS_MORE = 5
 
 
@@ -84,12 +84,12 @@ def packed(folder: Path) -> Path:
 
 
 def run_jobs(jobs: list[Job]) -> list[Result]:
-    """Runs several jobs one after another: a task of its own for each short run would last longer than the run."""
+    """Runs several jobs one after another, because a separate task for a short run would last longer than the run."""
     return [run_job(job) for job in jobs]
 
 
 def in_lists(jobs: Iterable[Job], length: int) -> Iterator[list[Job]]:
-    """The jobs in lists of this length, of which each is made when it is needed."""
+    """The jobs in lists of this length. Each list is made when it is needed."""
     left = iter(jobs)
     while some := list(islice(left, length)):
         yield some
@@ -124,7 +124,7 @@ def run_by_dask(jobs: Iterable[Job], count: int, address: str) -> Iterator[Resul
 
 
 def _results(distributed: Any, client: Any, lists: Iterator[list[Job]], ahead: int, stop: Break) -> Iterator[Result]:
-    """The results of all lists, of which the cluster has so many at a time."""
+    """The results of all lists. The cluster has at most `ahead` lists at a time."""
     going: list[Any] = []
     while True:
         going += [client.submit(run_jobs, jobs, pure=False) for jobs in islice(lists, ahead - len(going))]

@@ -17,7 +17,8 @@ from motesim.runner.programs import ProgramFault
 from motesim.search.runner import IsOver
 from motesim.search.work import Bench, Outcome, Task, Work
 
-# A batch goes over the net, so it is larger than one here; so many for each worker are on their way at a time.
+# A batch for a cluster goes over the network, so it has more tasks than one on this machine. How many batches each
+# worker of the cluster has at a time.
 BATCH, AHEAD = 64, 3
 # For each thread of a worker, its bench, and the search that the bench is for.
 _here = threading.local()

@@ -111,7 +111,7 @@ def prints_of_programs(scenario: Scenario) -> dict[str, dict[str, list[str]]]:
 def difference(before: Finished, after: Finished, is_pinned: bool) -> dict[str, Any]:
     """The differences between two runs: the lines of tools/compare, and as data the first difference (`first`),
     the moment of the first one in each trace (`parts`), and the motes that run another program (`motes`)."""
-    one = before.named('the pinned run' if is_pinned else 'the run before')
+    one = before.named('the pinned run' if is_pinned else 'the previous run')
     lines, first, is_same = compared(one, after.named('this run'), MOST_ROWS)
     reports = before.run.report, after.run.report
     programs = [[mote.program for mote in report.motes] for report in reports]

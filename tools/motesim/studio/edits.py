@@ -3,7 +3,7 @@
     changes, said = edit(text, {'what': 'move', 'mote': 3, 'x': 10, 'y': 20})
     text = applied(text, changes)
 
-The text is read before and after an edit. One that changes anything else than what it should is refused.
+The text is read before and after an edit. An edit is refused if it would change anything more than it should.
 """
 from __future__ import annotations
 
@@ -130,7 +130,7 @@ def add(text: Text, wish: dict[str, Any], wanted: dict[str, Any]) -> tuple[list[
 
 
 def remove(text: Text, wish: dict[str, Any], wanted: dict[str, Any]) -> tuple[list[Change], str]:
-    """Removes a mote with its losses. Those after it get the number before theirs, in the losses too."""
+    """Removes a mote with its losses. The numbers of the motes after it become one less, in the losses too."""
     mote = _mote(text, wish)
     if len(text.members('mote')) == 1:
         raise Fault('a scenario has at least one mote')

@@ -1,7 +1,7 @@
-"""The program under limits: one run at a time, and a newer one stops the one before.
+"""The program under limits: one run at a time, and a newer one stops the previous one.
 
     runs = Runs(Limits())
-    ticket = runs.ask()                 # stops the run before, if it still runs
+    ticket = runs.ask()                 # stops the previous run, if it still runs
     got = runs.run(ticket, scenario)    # an `Answer`; raises `Superseded` if there is a newer ticket
 """
 from __future__ import annotations
@@ -45,7 +45,7 @@ class Runs:
         self.running: Running | None = None
 
     def ask(self) -> int:
-        """The ticket of a new run. The run before is stopped."""
+        """The ticket of a new run. The previous run is stopped."""
         with self.state:
             self.newest += 1
             if self.running is not None:

@@ -1,7 +1,7 @@
 """Searches for faults, for the page: tools/search and tools/shrink in processes of their own, one at a time.
 
     searches = Searches(limits)
-    number = searches.begin(Wanted(...))     # stops the search before
+    number = searches.begin(Wanted(...))     # stops the previous search
     searches.state(number)                   # its progress, and at its end what it found
 """
 from __future__ import annotations
@@ -125,7 +125,7 @@ class Going:
         return (self.folder / str(self.one(index)['file'])).read_text('utf-8')
 
     def shrunk(self, index: object, sentence: str) -> dict[str, str]:
-        """The smallest scenario that holds without the faults of a set and breaks the sentence with them."""
+        """The smallest scenario in which the sentence holds without the faults of a set, and is broken with them."""
         words = [NAME, sentence, '-o', 'small.toml', '--seconds', str(self.limits.seconds)]
         for effect in self.one(index)['effects']:
             words += ['--fault', ' '.join(map(str, effect))]
@@ -147,7 +147,7 @@ class Searches:
         self.going: Going | None = None
 
     def begin(self, wanted: Wanted) -> int:
-        """Starts a search. The one before is stopped and forgotten."""
+        """Starts a search. The previous one is stopped and forgotten."""
         with self.lock:
             self.forget()
             self.number += 1

@@ -37,11 +37,11 @@ test('numbers have their nouns', () => assert.deepEqual(
 
 test('a difference is one sentence', () => {
   const of = difference =>
-    differenceInWords({same: false, first: null, motes: [], ...difference}, 'the run before');
-  assert.equal(of({same: true}), 'The same report as that of the run before.');
+    differenceInWords({same: false, first: null, motes: [], ...difference}, 'the previous run');
+  assert.equal(of({same: true}), 'The same report as that of the previous run.');
   assert.equal(of({first: {at: 30, mote: 2, inMedium: false}}),
-    'The first difference from the run before is at moment 30, in the trace of mote 2.');
+    'The first difference from the previous run is at moment 30, in the trace of mote 2.');
   assert.equal(of({first: {at: 30, mote: 2, inMedium: true}}),
-    'The first difference from the run before is at moment 30, in the log of the medium.');
-  assert.equal(of({motes: [4, 5]}), 'Other programs than in the run before: mote 4, 5.');
+    'The first difference from the previous run is at moment 30, in the log of the medium.');
+  assert.equal(of({motes: [4, 5]}), 'Other programs than in the previous run: mote 4, 5.');
 });

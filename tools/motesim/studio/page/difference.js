@@ -16,7 +16,7 @@ export const differs = {first: null, parts: new Map()};
 
 /** Shows how this run differs from the one before, or from the pinned one. */
 function showDifference(difference, isPinned) {
-  const other = isPinned ? 'the pinned run' : 'the run before';
+  const other = isPinned ? 'the pinned run' : 'the previous run';
   Object.assign(differs, {first: null, parts: new Map()});
   byId('change-sides').replaceChildren();
   byId('change-show').hidden = true;

@@ -85,7 +85,7 @@ function showRun(run, answer) {
   drawAll();
 }
 
-/** Asks for the results of a run, and for its differences from the run before. */
+/** Asks for the results of a run, and for its differences from the previous run. */
 async function judge(number, isOther) {
   const {where, name} = studio.document, against = studio.pinned || studio.before;
   const results = await attempt(() => ask('judge', {number, against, is_pinned: Boolean(studio.pinned), where, name,
