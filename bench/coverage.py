@@ -60,10 +60,21 @@ def rare(chance: Chance) -> float:
     return 1 - part(chance) if chance.below(20) == 0 else 1.0
 
 
+def many_packets(chance: Chance) -> float:
+    """Runs of 700 packets, of which each is lost with the chance 0.0001."""
+    return sum(chance.below(10_000) > 0 for _ in range(700)) / 700
+
+
+def rare_and_small(chance: Chance) -> float:
+    """Runs that lose nothing, but one of thirty loses an exponential share, 0.2 % on average."""
+    return max(0.0, 1 + 0.002 * math.log(part(chance))) if chance.below(30) == 0 else 1.0
+
+
 SHARES: list[tuple[str, Callable[[Chance], float], float]] = [
     ('exponential', exponential, 0.98), ('lognormal', lognormal, 0.97), ('40 packets', packets, 0.95),
     ('one of five', partition, 1 - 0.2 * 0.25 - 0.8 * 0.005), ('20 packets', few_packets, 0.99),
-    ('one of twenty', rare, 0.975)]
+    ('one of twenty', rare, 0.975), ('700 packets', many_packets, 0.9999),
+    ('one of thirty', rare_and_small, 1 - 0.002 / 30)]
 
 
 def covered(draw: Callable[[Chance], float], true: float, runs: int, sweeps: int) -> tuple[list[float], list[float]]:
@@ -96,8 +107,9 @@ def main() -> None:
     print('losses        runs  ' + '  '.join('%11s' % it for it in (*METHODS, 'none', 'Wilson', 'width')))
     for name, draw, true in SHARES:
         for runs in RUNS if name in (sys.argv[2:] or name) else ():
-            held, more = covered(draw, true, runs, sweeps)
-            print('%-13s %4d  %s' % (name, runs, '  '.join('%11.2f' % it for it in held + more)), flush=True)
+            held, (*more, width) = covered(draw, true, runs, sweeps)
+            print('%-13s %4d  %s  %11.4f' % (name, runs, '  '.join('%11.2f' % it for it in held + more), width),
+                  flush=True)
 
 
 if __name__ == '__main__':

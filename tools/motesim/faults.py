@@ -14,12 +14,10 @@ from collections.abc import Callable
 from typing import NoReturn
 
 from motesim.terminal import plain_stream
-from motesim.version import KIT, VERSION
 
 FAILED, INTERRUPTED = 2, 130
 # If this environment variable is set, an error of a tool itself is shown with its traceback.
 SHOW = 'MOTESIM_TRACEBACK'
-OF_ALL = 'motesim %s, proved with %s' % (VERSION, KIT)
 
 
 class Fault(Exception):
@@ -81,11 +79,18 @@ def status_of(tool: str, work: Callable[[], int]) -> int:
     return FAILED
 
 
-def finish(tool: str, work: Callable[[], int], version: str) -> NoReturn:
+def version_line() -> str:
+    """The line of `--version`, on the program that would run."""
+    # (only this option needs it, and its modules import this one)
+    from motesim.runner.versions import version_line
+    return version_line()
+
+
+def finish(tool: str, work: Callable[[], int], version: Callable[[], str]) -> NoReturn:
     """Ends a command with the status that `work` returns, or with 2 and one line on standard error."""
     # (a search for cycles among millions of lines lasts longer than the work)
     gc.disable()
-    sys.exit(status_of(tool, (lambda: say(version)) if sys.argv[1:] == ['--version'] else work))
+    sys.exit(status_of(tool, (lambda: say(version())) if sys.argv[1:] == ['--version'] else work))
 
 
 def say(line: str) -> int:
@@ -93,7 +98,8 @@ def say(line: str) -> int:
     return 0
 
 
-def command(tool: str, version: str = OF_ALL) -> Callable[[Callable[[], int]], Callable[[], NoReturn]]:
+def command(tool: str, version: Callable[[], str] = version_line) -> Callable[[Callable[[], int]],
+                                                                              Callable[[], NoReturn]]:
     """Makes a command of a function that returns its status. With the argument --version it prints the version."""
     def made(work: Callable[[], int]) -> Callable[[], NoReturn]:
         @functools.wraps(work)

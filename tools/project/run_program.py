@@ -17,9 +17,9 @@ from collections.abc import Sequence
 from pathlib import Path
 from typing import NamedTuple, NoReturn
 
-from motesim.faults import OF_ALL, Fault
+from motesim.faults import Fault
 from motesim.runner.programs import NOT_PROVED, is_compiled, program_of_sources, program_path
-from motesim.version import VERSION
+from motesim.runner.versions import version_line
 from project.compile import compile_program
 from project.running import ends_with_parent
 
@@ -29,7 +29,7 @@ HELP = Path(__file__).with_name('help.txt')
 HELP_OF_RUN = """
 Options of ./run itself, which compiles the program if none is built:
       --unproved     Runs a program that is compiled without a proof, even if a proved one is built
-      --version      Says which version this is, and which kit it was proved with"""
+      --version      Says which version this is, and whether the program that would run is proved"""
 FAILED, MISUSED = 1, 2
 
 
@@ -85,11 +85,22 @@ def has_error(file: str) -> bool:
     return False
 
 
+def is_plan(file: str) -> bool:
+    """Returns whether a file has a plan instead of a scenario."""
+    from motesim.scenario.kinds import has_plan
+    with contextlib.suppress(OSError):
+        return has_plan(Path(file).read_bytes())
+    return False
+
+
 def say_more(file: str | None) -> None:
     """Says on a terminal how to learn why there is no report, if the scenario is the reason."""
     if file and os.isatty(2):
         if not can_be_read(file):
             say('%s: there is no file %s that can be read' % (NAME, file))
+        elif is_plan(file):
+            say('%s: %s is a plan, not a scenario: tools/scenario %s -o NAME.toml makes a scenario of it' % (
+                NAME, file, file))
         elif has_error(file):
             say('%s: tools/explain %s says more' % (NAME, file))
 
@@ -149,7 +160,7 @@ def main() -> NoReturn:
         signal.signal(signal.SIGINT, signal.SIG_DFL)
     request = request_of(sys.argv[1:])
     if request.words == ['--version']:
-        print('motesim %s, compiled without a proof' % VERSION if request.is_unproved else OF_ALL)
+        print(version_line(may_be_proved=not request.is_unproved))
         sys.exit(0)
     try:
         run(program_for(request), request)

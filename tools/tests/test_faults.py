@@ -11,7 +11,8 @@ from pathlib import Path
 from typing import Any
 
 from here import TOOLS, TOP
-from motesim.version import KIT, VERSION
+from motesim.runner.versions import version_line
+from motesim.version import VERSION
 
 COMMAND = '''import sys, time
 sys.path.insert(0, %r)
@@ -81,7 +82,7 @@ class Ends(unittest.TestCase):
 
 class Tools(unittest.TestCase):
     def test_the_version_is_told(self) -> None:
-        seen = 'motesim %s, proved with %s\n' % (VERSION, KIT)
+        seen = version_line() + '\n'
         for command in TOOLS / 'compare', TOOLS / 'dev/spec_lists', TOP / 'run':
             done = subprocess.run([str(command), '--version'], stdin=subprocess.DEVNULL, capture_output=True,
                                   text=True)

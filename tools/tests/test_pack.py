@@ -83,7 +83,7 @@ class Pack(unittest.TestCase):
                 self.assertEqual((done.returncode, done.stderr), (0,
                                                                   'motesim: this program is compiled, not proved\n'))
             done = subprocess.run([str(top / 'run'), '--version'], capture_output=True, text=True)
-            self.assertEqual((done.stdout, done.stderr), ('motesim %s, compiled without a proof\n' % VERSION, ''))
+            self.assertEqual((done.stdout, done.stderr), ('motesim %s, compiled, not proved\n' % VERSION, ''))
 
     def unpacked(self) -> Path:
         """An archive in which the program refuses all but an empty scenario, and its proof isn't known."""

@@ -15,7 +15,7 @@ from here import TOOLS
 from motesim.analysis import estimates
 from motesim.analysis.around import dodged, labelled
 from motesim.analysis.crossings import Key, Runs, crossing, place
-from motesim.analysis.drawing import ticks_between
+from motesim.analysis.drawing import lengths, ticks_between, with_gaps
 from motesim.analysis.paired import Pair, Paired, differences, pairs_of
 from motesim.analysis.points import Wish, is_seed, shown_of
 from motesim.analysis.rows import by_net, once, warnings_of
@@ -91,9 +91,15 @@ class Estimates(unittest.TestCase):
     def test_the_bootstrap_of_t_has_no_end_for_runs_that_are_nearly_equal(self) -> None:
         values = [1.0] * 9 + [0.9]
         self.assertEqual(estimates.mean_of(values, 0.95, 'bootstrap-t').method, 'too alike')
-        # (a share has that of Wilson's score: 0.99 of 10 runs have 0.7083 to 0.9998)
+        # (a share has that of Wilson's score on 0.8 to 1, twice the loss of the worst run: the mean loss 0.01 is 0.05
+        # of this range, and 0.05 of 10 runs have 0.0052 to 0.3445 by Wilson's formula; 1 - 0.2 * 0.3445 = 0.9311)
         found = estimates.mean_of(values, 0.95, 'bootstrap-t', 'share')
-        self.assertEqual((found.method, round(found.low or 0, 4)), ('bootstrap-t, Wilson', 0.7083))
+        self.assertEqual((found.method, round(found.low or 0, 4)), ('bootstrap-t, Wilson', 0.9311))
+        mirrored = estimates.mean_of([1 - it for it in values], 0.95, 'bootstrap-t', 'share')
+        self.assertEqual((mirrored.method, round(mirrored.high or 0, 4)), ('bootstrap-t, Wilson', 0.0689))
+        # (with a run that loses half or more, the range is all of 0 to 1)
+        found = estimates.mean_of([1.0] * 9 + [0.4], 0.95, 'bootstrap-t', 'share')
+        self.assertAlmostEqual(found.low or 0, estimates.wilson(0.94, 10, 0.95).low or 0, delta=1e-12)
         for factor, seen in (1, "an end of 1 interval by bootstrap-t is that of Wilson's score"), (
                 3, 'no interval for 1 mean by bootstrap-t: too many of its draws have equal runs'):
             rows: list[Row] = [{**row(1, seed, value), 'ratio': factor * value} for seed, value in enumerate(values)]
@@ -120,6 +126,21 @@ class Estimates(unittest.TestCase):
             with self.subTest(packets=packets, percent=percent, runs=runs):
                 self.assertGreaterEqual(held, 0.92 * made)
 
+    def test_the_bootstrap_of_t_of_runs_that_lose_almost_nothing_is_narrow_and_holds_the_mean(self) -> None:
+        # (700 packets, of which each is lost with a chance of 1 in 10,000: the worst run of most sweeps loses one)
+        for runs, widest in (10, 0.004), (30, 0.0015):
+            held = made = 0
+            for sweep in range(60):
+                chance = Chance(sweep, runs)
+                values = [sum(chance.below(10_000) > 0 for _ in range(700)) / 700 for _ in range(runs)]
+                found = estimates.mean_of(values, 0.95, 'bootstrap-t', 'share')
+                if found.low is None or found.high is None:
+                    continue
+                made += 1
+                held += found.low <= 0.9999 <= found.high
+                self.assertLess(found.high - found.low, widest)
+            self.assertGreaterEqual(held, 0.95 * made)
+
     def test_means_of_few_skewed_runs_near_1_have_a_line(self) -> None:
         skewed = [1.0, 1.0, 0.99, 1.0, 1.0, 0.98, 1.0, 0.8, 1.0, 1.0]
         for values, is_said in (skewed, True), (skewed * 3, False), ([0.5, 0.6, 0.2, 0.1], False), (
@@ -128,6 +149,17 @@ class Estimates(unittest.TestCase):
             shown = shown_of(rows, Wish('ratio', 'period', show='mean'))
             line = '1 mean near 0 or 1 of fewer than 30 skewed runs'
             self.assertEqual(any(line in it for it in remarks(shown, Wish('ratio', 'period', show='mean'))), is_said)
+
+    def test_wilsons_score_of_none_and_of_all_runs_ends_exactly_at_0_and_1(self) -> None:
+        for runs in range(1, 201):
+            for confidence in 0.5, 0.9, 0.95, 0.99, 0.999:
+                none, every = (estimates.wilson(share, runs, confidence) for share in (0.0, 1.0))
+                self.assertEqual((none.low, every.high), (0.0, 1.0))
+                self.assertTrue(0 < (none.high or 0) and (every.low or 0) < 1)
+                for found in none, every, estimates.wilson(1 / runs, runs, confidence):
+                    self.assertTrue((found.low or 0.0) <= found.middle <= (found.high or 0.0), (runs, confidence))
+        its = [estimates.Estimate(2, 0.5, 0.5 + 1e-15, 0.6), estimates.Estimate(2, 0.5, None, 0.4)]
+        self.assertEqual(lengths(its), [[0.0, 0.0], [0.6 - 0.5, 0.0]])
 
     def test_wilsons_score_is_that_of_the_books(self) -> None:
         # (of 10 runs 8 and 10 are 1: 0.490 to 0.943, and 0.722 to 1; Wilson, JASA 22, 1927, by his formula)
@@ -692,6 +724,81 @@ class Command(unittest.TestCase):
         rows = self.plot('--measure', 'sent', '--against', 'period', '--pair', 'density=thin,dense')
         self.assertEqual(rows[2][1:2] + rows[2][-8:], ['5', '5.000', '-', '-', *alike, '5', '0'])
         self.plot('--measure', 'sent', '--against', 'period', '--pair', 'density=thin', status=2)
+
+    def test_two_files_that_differ_in_a_default_are_compared(self) -> None:
+        for name, more, protocol in ('net', 0, 'flood'), ('more', 2, 'gossip'):
+            (self.folder / (name + '.csv')).write_text('period,protocol,seed,sent,fault,parameters\n' + ''.join(
+                '%d,%s,%d,%d,,period protocol seed\n' % (period, protocol, seed, more + seed * period)
+                for period in (1, 2) for seed in (1, 2, 3)))
+        words = '--measure', 'sent', '--against', 'period', '--compare', 'more.csv'
+        rows = self.plot(*words)
+        self.assertEqual([it[:6] for it in rows[2:4]], [['1', '3', '0', '2.000', '4.000', '2.000'],
+                                                        ['2', '3', '0', '4.000', '6.000', '2.000']])
+        self.assertIn('net and more also differ in protocol (flood, gossip): this is part of the difference', [
+            ' '.join(it) for it in rows])
+        # (a seed that differs makes other runs, which are no pairs)
+        path = self.folder / 'more.csv'
+        path.write_text(''.join(it + '\n' for it in path.read_text().splitlines() if ',1,' in it or 'sent' in it))
+        text = (self.folder / 'net.csv').read_text().splitlines()
+        (self.folder / 'net.csv').write_text('\n'.join([text[0], *(it for it in text if 'flood,2,' in it)]) + '\n')
+        self.plot(*words, status=2)
+        self.assertIn('the two sides have no run in common', self.seen)
+
+    def test_the_measure_without_a_value_is_named_on_either_axis(self) -> None:
+        text = 'period,seed,sent,first,fault,parameters\n' + ''.join('%d,%d,%d,%s,,period seed\n' % (
+            period, seed, seed, '' if seed == 1 else '5') for period in (1, 2) for seed in (1, 2, 3))
+        (self.folder / 'net.csv').write_text(text)
+        rows = self.plot('--measure', 'sent', '--against', 'first', '--show', 'points')
+        self.assertEqual(' '.join(rows[-1]), 'left out: 2 runs without a value of first')
+        rows = self.plot('--measure', 'first', '--against', 'sent', '--show', 'points')
+        self.assertEqual(' '.join(rows[-1]), 'left out: 2 runs without a value of first')
+        (self.folder / 'net.csv').write_text(text.replace('1,2,2,5', '1,2,,5'))
+        rows = self.plot('--measure', 'sent', '--against', 'first', '--show', 'points')
+        self.assertEqual(' '.join(rows[-1]), 'left out: 3 runs without a value of first or sent')
+
+    def test_a_file_that_is_cut_off_is_refused(self) -> None:
+        path = self.folder / 'net.csv'
+        whole = path.read_text()
+        words = '--measure', 'sent', '--against', 'period', *ONE
+        path.write_text(whole[:-1])
+        self.plot(*words)
+        path.write_text(whole[:-3])
+        self.plot(*words, status=2)
+        self.assertIn('net.csv ends within its last row', self.seen)
+
+    def test_a_logarithmic_axis_of_a_cdf(self) -> None:
+        self.plot('--measure', 'sent', '--against', 'period', '--by', 'density', '--show', 'heat', '--log', status=2)
+        self.assertIn('leave it out', self.seen)
+        interpreter_with(self, 'matplotlib')
+        pictures = []
+        for name, more in ('a.svg', []), ('b.svg', ['--log']):
+            self.plot('--measure', 'sent', '--show', 'cdf', '--where', 'period=1', *ONE, *more, '-o', name)
+            pictures.append((self.folder / name).read_text())
+        self.assertNotEqual(*pictures)
+        (self.folder / 'net.csv').write_text(results().replace(',11,', ',0,'))
+        self.plot('--measure', 'sent', '--show', 'cdf', '--where', 'period=1', *ONE, '--log', '-o', 'c.svg', status=2)
+        self.assertIn('--log needs values above 0, and some of sent are not', self.seen)
+
+    def test_a_line_has_a_gap_where_no_run_has_a_value(self) -> None:
+        wish = Wish('sent', 'period', show='mean')
+        rows: list[Row] = [row(period, seed, None if period == 2 else seed) for period in (1, 2, 4) for seed in (1, 2)]
+        shown = shown_of(rows, wish)
+        made = with_gaps(shown.points, shown, [1, 4])
+        self.assertEqual([it.against for it in made], [1, 2, 4])
+        self.assertEqual([math.isnan(it.estimate.middle) for it in made], [False, True, False])
+        self.assertEqual(with_gaps(shown.points, shown._replace(empty_at={}), [1, 4]), shown.points)
+        interpreter_with(self, 'matplotlib')
+        text = results().splitlines()
+        at = text[0].split(',').index('sent')
+        lines = [','.join('' if number == at and it.startswith('4,thin') else value
+                          for number, value in enumerate(it.split(','))) for it in text]
+        (self.folder / 'net.csv').write_text('\n'.join(lines) + '\n')
+        for how in 'mean', 'median':
+            self.plot('--measure', 'sent', '--against', 'period', *ONE, '--show', how, '-o', 'a.svg')
+            line = re.search(r'<g id="line2d_\d+">\s*<path d="([^"]*)" clip-path="[^"]*" style="fill: none; '
+                             r'stroke: #0072b2; stroke-width: 1.5', (self.folder / 'a.svg').read_text())
+            assert line
+            self.assertEqual(line[1].count('M'), 2, line[1])
 
     def test_left_out_pairs_are_below_a_picture(self) -> None:
         interpreter_with(self, 'matplotlib')

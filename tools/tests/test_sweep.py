@@ -149,6 +149,20 @@ class MeasuresTest(unittest.TestCase):
             read_measure('python: mine.py:x', self.names, {'mine.py': 'def :'})
 
 
+    def test_a_number_that_is_none_is_not_kept(self) -> None:
+        source = {'m.py': 'def f(run):\n    return %s\n'}
+        for value in 'float("nan")', 'float("inf")', '-1e999':
+            text = {'m.py': source['m.py'] % value}
+            with self.assertRaisesRegex(MeasureFault, 'f returns -?(nan|inf), and no cell has that: return None'):
+                read_measure('python: m.py:f', self.names, text).of(bench())
+
+    def test_the_measure_that_was_meant_is_named(self) -> None:
+        for words, seen in ('rato', 'did you mean ratio?'), ('colided of mote 1', 'did you mean collided?'), (
+                'flow raeched: print a', 'a flow has no raeched; there are: .*did you mean reached?'):
+            with self.assertRaisesRegex(MeasureFault, seen.replace('?', r'\?')):
+                read_measure(words, self.names)
+
+
 class ValuesTest(unittest.TestCase):
     def test_values(self) -> None:
         self.assertEqual(values_of('10,20, 40'), [10, 20, 40])
@@ -403,6 +417,16 @@ class SweepTest(Bed):
             self.assertEqual((done.returncode, done.stdout), (2, ''), words)
             self.assertIn(seen, done.stderr)
             self.assertFalse((self.folder / 'net.csv').exists())
+
+    def test_a_flow_of_a_process_that_no_program_has_is_refused_before_any_run(self) -> None:
+        done = self.sweep('--vary', 'motes=2,3', '--measure', 'flow reached: print aa')
+        self.assertEqual(done.returncode, 2, done.stdout)
+        self.assertIn("measure 'flow reached: print aa': no program has a process aa; there are: a", done.stderr)
+        self.assertFalse((self.folder / 'net.csv').exists())
+        # (the programs may vary too: one of them has the process)
+        (self.folder / 'bee.mote').write_text(MOTE.replace(' a', ' bee'))
+        done = self.sweep('--vary', 'name=a,bee', '--measure', 'flow reached: print bee')
+        self.assertEqual((done.returncode != 2, len(self.rows())), (True, 2), done.stderr)
 
     def test_runs_that_make_no_scenario_are_rows_wherever_they_are(self) -> None:
         done = self.sweep('--vary', 'motes=0,3,5000', '--measure', 'motes: every mote prints a', '-o', 'odd.csv')

@@ -8,6 +8,7 @@ from pathlib import Path
 from typing import Any
 
 from motesim.analysis.around import dodged, labelled, points_of, width_of, words_around
+from motesim.analysis.estimates import Estimate
 from motesim.analysis.origin import origin_path
 from motesim.analysis.paired import Difference
 from motesim.analysis.points import Point, Shown, Wish, order
@@ -100,9 +101,13 @@ def _save(figure: Any, pyplot: Any, path: Path) -> None:
 
 def _errors(points: Sequence[Point], of: Callable[[Point], Any]) -> list[list[float]]:
     """The lengths of the intervals to each side."""
-    found = [of(it) for it in points]
-    return [[0.0 if it.low is None else it.middle - it.low for it in found],
-            [0.0 if it.high is None else it.high - it.middle for it in found]]
+    return lengths([of(it) for it in points])
+
+
+def lengths(found: Sequence[Estimate]) -> list[list[float]]:
+    """The lengths of intervals below and above their middles, at least 0."""
+    return [[0.0 if it.low is None else max(0.0, it.middle - it.low) for it in found],
+            [0.0 if it.high is None else max(0.0, it.high - it.middle) for it in found]]
 
 
 def _draw_points(axes: Any, points: list[Point], xs: list[float], wish: Wish, look: dict[str, str],
@@ -118,8 +123,9 @@ def _draw_points(axes: Any, points: list[Point], xs: list[float], wish: Wish, lo
     middles = [it.estimate.middle for it in points]
     if wish.show == 'median' and points[0].across is None:
         axes.plot(xs, middles, label=label, **look)
-        axes.fill_between(xs, [it.estimate.low for it in points], [it.estimate.high for it in points], alpha=0.18,
-                          linewidth=0, color=look['color'])
+        lows, highs = ([math.nan if end is None else end for end in ends] for ends in zip(*(
+            (it.estimate.low, it.estimate.high) for it in points)))
+        axes.fill_between(xs, lows, highs, alpha=0.18, linewidth=0, color=look['color'])
         return
     across = _errors(points, lambda it: it.across) if points[0].across else None
     axes.errorbar(xs, middles, yerr=_errors(points, lambda it: it.estimate), xerr=across, label=label, capsize=3,
@@ -130,12 +136,16 @@ def _draw_steps(axes: Any, shown: Shown, wish: Wish) -> None:
     """For each curve the part of its runs whose value is at most x, up to the greatest value of all curves."""
     curves = shown.curves()
     every = [value for it in curves for value in it.values]
+    if wish.log and min(every) <= 0:
+        raise Fault('--log needs values above 0, and some of %s are not' % wish.measure)
     for number, it in enumerate(curves):
         look, values = _look(number), it.values or [min(every)]
         parts = [at / it.runs for at in range(len(it.values) + 1)]
         label = _legend_of(wish, it.by) + ('' if it.values else ': no run has a value') if wish.by else None
         axes.step([values[0], *it.values, max(every)], [*parts, parts[-1]], where='post', label=label,
                   color=look['color'], linestyle=look['linestyle'])
+    if wish.log:
+        _scale_of_measure(axes)
 
 
 def _draw_heat(figure: Any, axes: Any, shown: Shown, wish: Wish) -> None:
@@ -279,6 +289,20 @@ def draw(shown: Shown, wish: Wish, path: Path) -> bool:
     return has_room
 
 
+def with_gaps(points: list[Point], shown: Shown, places: Sequence[Cell]) -> list[Point]:
+    """The points of a curve, with one that isn't drawn at each place where all its runs have no value: its line would
+    cross the place otherwise."""
+    if points[0].across is not None:
+        return points
+    by, here = points[0].by, {it.against for it in points}
+    missing = {place for of, place in (*shown.empty_at, *shown.faults_at) if of == by and place not in here}
+    nothing = Estimate(0, math.nan, None, None)
+    # (a place of which no curve has a value isn't on an axis of names, on which lines join neighbours)
+    is_scale = all(type(it) in (int, float) for it in places)
+    gaps = [Point(by, it, (), nothing) for it in missing if it in places or is_scale and type(it) in (int, float)]
+    return sorted([*points, *gaps], key=lambda it: order(it.against))
+
+
 def _draw_curves(axes: Any, shown: Shown, wish: Wish) -> None:
     places = sorted({point.against for point in shown.points}, key=order)
     is_scale = all(type(it) in (int, float) for it in places)
@@ -289,11 +313,12 @@ def _draw_curves(axes: Any, shown: Shown, wish: Wish) -> None:
         _check_log(places, wish)
     for number, (by, points) in enumerate(groups.items()):
         label = _legend_of(wish, by) if wish.by else None
+        points = with_gaps(points, shown, places) if wish.show in ('mean', 'median') else points
         xs = [it.x if is_scale else float(places.index(it.against)) for it in points]
         if wish.show in ('mean', 'points') and shown.points[0].across is None:
             every = _numbers(places, is_scale)
             moved = dict(zip(every, dodged(every, number, len(groups), wish.log and is_scale)))
-            xs = [moved[it] for it in xs]
+            xs = [moved.get(it, it) for it in xs]
         _draw_points(axes, points, xs, wish, _look(number), label)
     _draw_threshold(axes, shown, wish)
     if wish.show != 'cdf':
@@ -357,9 +382,7 @@ def draw_differences(found: Sequence[Difference], wish: Wish, words: str, notes:
     is_scale = all(type(it) in (int, float) for it in places)
     xs = [float(it) if isinstance(it, int | float) and is_scale else number for number, it in enumerate(places)]
     gaps = [it.difference for it in found]
-    axes.errorbar(xs, [it.middle for it in gaps], capsize=3, elinewidth=1, **_look(0),
-                  yerr=[[0.0 if it.low is None else it.middle - it.low for it in gaps],
-                        [0.0 if it.high is None else it.high - it.middle for it in gaps]])
+    axes.errorbar(xs, [it.middle for it in gaps], capsize=3, elinewidth=1, yerr=lengths(gaps), **_look(0))
     axes.axhline(0, color='#555555', linewidth=0.8)
     _scale(axes, places, wish, is_scale)
     axes.set_xlabel(wish.x or wish.against)

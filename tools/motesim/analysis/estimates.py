@@ -8,8 +8,8 @@ confidence (`part_of_draws`), since few runs spread less than what they are draw
 
 The interval of a share stays between 0 and 1: by Wilson's score if the runs are 0 or 1 each. Otherwise, if Student's t
 would pass 0 or 1, it is cut there, or comes from the bootstrap if there are enough runs. An interval by the bootstrap
-of Student's t is never wider than that of Wilson's score: no shares with this mean need a wider one. Runs that are all
-the same have no interval: they don't show how far others would spread.
+of Student's t is cut to Wilson's score for runs that lose up to twice as much as the worst run. Runs that are all the
+same have no interval: they don't show how far others would spread.
 """
 from __future__ import annotations
 
@@ -33,6 +33,8 @@ LEAST_RUNS = 10
 # With fewer runs than this, means of skewed runs near 0 or 1 are in their intervals less often than these say.
 ENOUGH_RUNS = 30
 NEAR, SKEWED = 0.1, 1.0
+# How many times the greatest loss of the runs others are taken to lose at most, if runs are nearly equal.
+RANGE = 2
 # The wish for a method that fits.
 AUTO = 'auto'
 Value = TypeVar('Value')
@@ -194,11 +196,12 @@ def mean_by_wilson(values: Sequence[float], confidence: float) -> Estimate:
 
 
 def wilson(share: float, runs: int, confidence: float) -> Estimate:
-    """Wilson's score interval for a share of some runs."""
+    """Wilson's score interval for a share of some runs; the ends are exactly 0 for none of them and 1 for all."""
     z = statistics.NormalDist().inv_cdf((1 + confidence) / 2)
     middle = (share + z * z / (2 * runs)) / (1 + z * z / runs)
     room = z / (1 + z * z / runs) * math.sqrt(share * (1 - share) / runs + z * z / (4 * runs * runs))
-    return Estimate(runs, share, max(0.0, middle - room), min(1.0, middle + room), 'wilson')
+    # (an end that is the share itself may be rounded to its other side)
+    return Estimate(runs, share, min(share, max(0.0, middle - room)), max(share, min(1.0, middle + room)), 'wilson')
 
 
 def method_of(values: Sequence[float], confidence: float, interval: str, measure: Measured) -> str:
@@ -223,23 +226,29 @@ def mean_of(values: Sequence[float], confidence: float, interval: str = AUTO, me
     if found.method != 'bootstrap-t' or found.low is None or found.high is None:
         return found
     if measure == 'share':
-        return _within_wilson(found, found.low, found.high, confidence)
+        return _within_wilson(values, found, found.low, found.high, confidence)
     if math.isfinite(found.low) and math.isfinite(found.high):
         return found
     return found._replace(low=None, high=None, method='too alike')
 
 
-def _within_wilson(found: Estimate, low: float, high: float, confidence: float) -> Estimate:
-    """An interval of shares. If it is too wide, it is cut to Wilson's score interval of as many runs with this mean.
+def _within_wilson(values: Sequence[float], found: Estimate, low: float, high: float, confidence: float) -> Estimate:
+    """An interval of shares, within Wilson's score interval on a range of twice the losses if it is too wide.
 
-    It is too wide if it has no end on a side, or if its end on the side of the mean that is farther from 0 or 1 is
-    beyond Wilson's. An end that passes the nearer one of 0 and 1 is cut there. No shares vary more than shares that
-    are each 0 or 1 and have the same mean: the variance of numbers between 0 and 1 is at most m (1 - m) for the mean m
-    (Bhatia and Davis, The American Mathematical Monthly 107 (4), 2000).
+    The losses are the distances from the nearer one of 0 and 1. The range begins there, and has twice the greatest
+    loss of the runs, at most 1: Wilson's score is that of as many runs whose mean has the same place in this range. No
+    numbers in a range vary more than ones that are at its ends only and have their mean (Bhatia and Davis, The
+    American Mathematical Monthly 107 (4), 2000). bench/coverage.py measures what the factor 2 is worth.
+    The interval is too wide if it has no end on a side, or if its end on the far side of the mean is beyond Wilson's.
+    An end that passes the nearer one of 0 and 1 is cut there.
     """
-    _, _, least, most, _ = wilson(found.middle, found.runs, confidence)
-    least, most = least or 0.0, 1.0 if most is None else most
-    is_low = low < least and (math.isinf(low) or found.middle > 0.5)
+    is_near_1 = found.middle > 0.5
+    unit = min(1.0, RANGE * (1 - min(values) if is_near_1 else max(values)))
+    loss = 1 - found.middle if is_near_1 else found.middle
+    _, _, least, most, _ = wilson(loss / unit, found.runs, confidence)
+    ends = unit * (least or 0.0), unit * (1.0 if most is None else most)
+    least, most = (1 - ends[1], 1 - ends[0]) if is_near_1 else ends
+    is_low = low < least and (math.isinf(low) or is_near_1)
     is_high = high > most and (math.isinf(high) or found.middle < 0.5)
     return found._replace(low=least if is_low else max(0.0, low), high=most if is_high else min(1.0, high),
                           method=BOUNDED if is_low or is_high else found.method)
@@ -261,7 +270,7 @@ MEANS = (AUTO, 't', 'bootstrap', 'bootstrap-t')
 # The method bootstrap-t if an end of the interval is that of Wilson's score.
 BOUNDED = 'bootstrap-t, Wilson'
 NAMES = {'t': 'Student\'s t', 'bootstrap': 'the bootstrap', 'bootstrap-t': 'the bootstrap of Student\'s t',
-         BOUNDED: 'the bootstrap of Student\'s t within Wilson\'s score',
+         BOUNDED: 'the bootstrap of Student\'s t within Wilson\'s score on twice the range',
          'wilson': 'Wilson\'s score',
          'within': 'Student\'s t cut at 0 and 1', 'within pairs': 'Student\'s t cut at -1 and 1',
          'newcombe': 'Newcombe\'s method 10'}

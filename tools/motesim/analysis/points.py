@@ -6,7 +6,7 @@ from collections.abc import Mapping, Sequence
 from typing import NamedTuple
 
 from motesim.analysis.estimates import AUTO, NAMES, Estimate, Measured, mean_of, measured, median_with_quartiles
-from motesim.explain.synonyms import nearest
+from motesim.explain.synonyms import known
 from motesim.experiments.measures import Cell
 from motesim.experiments.results import Row, text_of
 from motesim.faults import Fault
@@ -123,6 +123,7 @@ class Shown(NamedTuple):
     runs_at        of averaged nets: how many runs each point has
     warnings       lines about the runs
     nets           of averaged nets: those in which runs have no value
+    lacked         with a measure on either axis: those of which runs have no value
     """
     points: list[Point]
     over: list[str]
@@ -136,6 +137,7 @@ class Shown(NamedTuple):
     runs_at: Mapping[Place, int] = {}
     nets: Sequence[Net] = ()
     warnings: Sequence[str] = ()
+    lacked: Sequence[str] = ()
 
     def curves(self) -> list[Curve]:
         """The runs of each value of `by`, also of one whose runs have no value."""
@@ -175,13 +177,6 @@ def _check(rows: Sequence[Row], wish: Wish) -> None:
         raise Fault('there is no parameter %s; %s' % (wish.against, known(wish.against, parameters, measures)))
     if wish.measure not in measures:
         raise Fault('there is no measure %s; %s' % (wish.measure, known(wish.measure, measures)))
-
-
-def known(name: str, names: Sequence[str], others: Sequence[str] = ()) -> str:
-    """The names that there are, and the one that was likely meant."""
-    near = nearest(name, [*names, *others])
-    more = '; and the measures: %s' % ', '.join(others) if others else ''
-    return 'there are: %s%s%s' % (', '.join(names), more, '; did you mean %s?' % near if near else '')
 
 
 def number_of(row: Row, measure: str) -> float | None:
@@ -354,10 +349,14 @@ def _of_two_measures(rows: Sequence[Row], good: Sequence[Row], varying: Sequence
     groups: dict[tuple[Cell, ...], list[tuple[float, float, tuple[Cell, ...]]]] = {}
     bys: dict[tuple[Cell, ...], Cell] = {}
     empty = not_above_0 = 0
+    lacked: set[str] = set()
     for row in good:
         x, y = number_of(row, wish.against), number_of(row, wish.measure)
         key = tuple(row[name] for name in kept)
         empty += _lacking_runs(row, None if x is None else y)
+        # (the mean of a net doesn't say which of the two its runs lack)
+        is_net = bool(row.get(WITHOUT))
+        lacked |= {name for name, value in ((wish.against, x), (wish.measure, y)) if value is None or is_net}
         if x is None or y is None:
             continue
         if wish.log and x <= 0:
@@ -374,4 +373,5 @@ def _of_two_measures(rows: Sequence[Row], good: Sequence[Row], varying: Sequence
         points.append(Point(bys[key], across.middle, values, wish.estimate(values, of_y), across, keys, xs))
     points.sort(key=lambda it: (order(it.by), order(it.against)))
     return Shown(points, over, len(rows) - len(good), empty, not_above_0,
-                 shared=shared_nets(good, kept, wish.measure), nets=_nets(good, wish._replace(against='')))
+                 shared=shared_nets(good, kept, wish.measure), nets=_nets(good, wish._replace(against='')),
+                 lacked=[it for it in (wish.against, wish.measure) if it in lacked])

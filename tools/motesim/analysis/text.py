@@ -8,8 +8,8 @@ from functools import lru_cache
 from typing import Any
 
 from motesim.analysis.crossings import Crossing, Middle, Runs, crossing
-from motesim.analysis.estimates import BOUNDED, DRAWN, ENOUGH_RUNS, LEAST_RUNS, NAMES, OF_ROW, Estimate
-from motesim.analysis.estimates import is_skewed_near_an_end, measured
+from motesim.analysis.estimates import BOUNDED, DRAWN, ENOUGH_RUNS, LEAST_RUNS, NAMES, OF_ROW, RANGE
+from motesim.analysis.estimates import Estimate, is_skewed_near_an_end, measured
 from motesim.analysis.paired import Difference, Paired, reasons
 from motesim.analysis.points import Curve, Net, Place, Point, Shown, Wish, order
 from motesim.experiments.measures import Cell
@@ -181,8 +181,8 @@ def left_out(shown: Shown, wish: Wish, most: int | None = None) -> list[str]:
         lines.append('no value of %s in %s: so much of a curve is missing at its end' % (
             wish.measure, ', '.join(map(''.join, zip(counts, names)))))
     elif shown.empty:
-        lines.append('left out: %s without a value of %s%s' % (some(shown.empty, 'run'), wish.measure,
-                                                              _at(shown.empty_at, wish, most)))
+        lines.append('left out: %s without a value of %s%s' % (
+            some(shown.empty, 'run'), ' or '.join(shown.lacked) or wish.measure, _at(shown.empty_at, wish, most)))
     for number, name in (shown.not_above_0, wish.against), (_not_above_0(shown, wish), wish.measure):
         if number:
             lines.append('left out: %s whose %s isn\'t above 0' % (some(number, counted(wish)[:-1]), name))
@@ -258,9 +258,9 @@ def of_intervals(estimates: Sequence[Estimate], is_drawn: bool = False) -> list[
             min(few), LEAST_RUNS))
     bounded = sum(it.method == BOUNDED for it in estimates)
     if bounded:
-        lines.append('an end of %s by bootstrap-t is that of Wilson\'s score, because too many draws have nearly '
-                     'equal runs; no shares with this mean need a wider interval, so it is too wide rather than too '
-                     'narrow; more runs make it narrower' % some(bounded, 'interval'))
+        lines.append('an end of %s by bootstrap-t is that of Wilson\'s score on a range of %d times the greatest '
+                     'distance of a run from 0 or 1, because too many draws have nearly equal runs: a run beyond this '
+                     'range isn\'t accounted for' % (some(bounded, 'interval'), RANGE))
     too_alike = sum(it.method == 'too alike' for it in estimates)
     if too_alike:
         lines.append('no interval for %s by bootstrap-t: too many of its draws have equal runs, and so no standard '

@@ -10,7 +10,9 @@ from dataclasses import dataclass
 
 from motesim.faults import Fault
 from motesim.experiments.draws import CHANCE, seeds_of
-from motesim.experiments.measures import file_of, mote_of, read_measure
+from motesim.experiments.measures import file_of, mote_of, processes_of_flow, read_measure
+from motesim.explain.synonyms import known
+from motesim.notation.keywords import SYSTEM
 from motesim.plan.plan import Plan
 from motesim.plan.tables import Value, optional, text_of_value, value_of_text
 from motesim.runner.run import read_file
@@ -174,12 +176,27 @@ def known_names(sweep: Sweep) -> Names:
     return names_of(largest)
 
 
+def check_flow(sweep: Sweep, words: str, names: Names) -> None:
+    """Refuses a measure of a flow with a process that none of the tried runs has: programs may vary too."""
+    missing = set(processes_of_flow(words)).difference(names.processes or ())
+    others: set[str] = set(names.processes or ())
+    for given in some_runs(sweep) if missing else ():
+        with contextlib.suppress(Fault):
+            others.update(names_of(Scenario.parse(sweep.plan.scenario(given))).processes or ())
+        if missing <= others:
+            return
+    for process in sorted(missing):
+        raise Fault('in the measure %r: no program has a process %s; %s' % (
+            words, process, known(process, sorted(others.difference(SYSTEM)))))
+
+
 def columns_of(sweep: Sweep, names: Names, sources: Mapping[str, str]) -> list[str]:
     """The columns of the results. A measure that can't be read is refused, before any run."""
     measures = []
     for words in sweep.measures:
         try:
             measures.append(read_measure(words, names, sources).name)
+            check_flow(sweep, words, names)
         except SentenceFault as fault:
             raise Fault('in the measure %r\n%s' % (words, fault.explained)) from None
     columns = [*sweep.plan.parameters, *measures, *MADE]

@@ -5,6 +5,7 @@
 """
 from __future__ import annotations
 
+import math
 import re
 from collections.abc import Callable, Mapping
 from dataclasses import dataclass
@@ -12,6 +13,7 @@ from functools import cached_property
 from pathlib import PurePath
 from typing import Any
 
+from motesim.explain.synonyms import known, nearest
 from motesim.judge import judge as judges
 from motesim.summary import counts as summary
 from motesim.faults import Fault
@@ -185,6 +187,8 @@ def _of_sentence(kind: str, words: str, names: Names) -> Callable[[Bench], Cell]
 
 def _checked(value: object, name: str) -> Cell:
     """Checks the result of a user's function, and returns it."""
+    if type(value) is float and not math.isfinite(value):
+        raise MeasureFault('%s returns %r, and no cell has that: return None if there is no value' % (name, value))
     if value is None or type(value) in (int, float):
         return value  # type: ignore[return-value]
     if type(value) is bool:
@@ -252,6 +256,12 @@ def file_of(words: str) -> str:
     return found[1] if found else ''
 
 
+def processes_of_flow(words: str) -> list[str]:
+    """The processes that the flow of a measure such as `flow reached: print flood` names."""
+    found = OF_FLOW.fullmatch(_parts(words)[1])
+    return sorted({it.process for it in read_flow(found[2]) if it.process}) if found else []
+
+
 def mote_of(words: str) -> int | None:
     """The mote of a measure such as `sent of mote 3`."""
     found = OF_SUMMARY.fullmatch(_parts(words)[1])
@@ -265,7 +275,9 @@ def read_measure(words: str, names: Names = Names(), sources: Mapping[str, str] 
     try:
         if python:
             return Measure(name, text, _of_python(python[1], python[2], sources), python[1])
-        if flow and flow[1] in FLOWS:
+        if flow and flow[1] not in FLOWS:
+            raise MeasureFault('%r is not a measure: a flow has no %s; %s' % (text, flow[1], known(flow[1], FLOWS)))
+        if flow:
             return Measure(name, text, _of_flow(flow[1], flow[2]))
         if sentence:
             return Measure(name, text, _of_sentence(sentence[1], sentence[2], names))
@@ -276,5 +288,7 @@ def read_measure(words: str, names: Names = Names(), sources: Mapping[str, str] 
     plain = OF_SUMMARY.fullmatch(text)
     if plain and plain[1] in SUMMARY:
         return Measure(name, text, _of_summary(plain[1], plain[2]))
-    raise MeasureFault('%r is not a measure. A measure is one of %s, or begins with %s, python: or flow NAME:' % (
-        text, ', '.join((*SUMMARY, REACHABLE)), ', '.join(kind + ':' for kind in KINDS)))
+    near = nearest(plain[1] if plain else text, [*SUMMARY, REACHABLE])
+    raise MeasureFault('%r is not a measure%s. A measure is one of %s, or begins with %s, python: or flow NAME:' % (
+        text, '; did you mean %s?' % near if near else '', ', '.join((*SUMMARY, REACHABLE)),
+        ', '.join(kind + ':' for kind in KINDS)))

@@ -20,7 +20,7 @@ from motesim.analysis.rows import by_net, once, warnings_of
 from motesim.experiments import packages
 from motesim.experiments.asked import values_of
 from motesim.experiments.measures import Cell
-from motesim.experiments.results import Row, cell, columns_of_results, read_results, text_of
+from motesim.experiments.results import Row, cell, check_whole, columns_of_results, read_results, text_of
 from motesim.faults import Fault
 from motesim.plan.plan import Plan
 from motesim.plan.tables import Tables, any_kind, needed, optional, text_of_value
@@ -77,6 +77,9 @@ def wishes_of(plan: Plan) -> list[Wish]:
         if values['log_y'] and values['show'] in NOT_UPWARDS:
             raise tables.fault(path + ('log_y',), 'A plot with this `show` has no measure on the vertical axis.',
                                '`log_y` for medians, means and points', False)
+        if values['log'] and values['show'] == 'heat':
+            raise tables.fault(path + ('log',), 'A plot with this `show` has no axis with a scale.',
+                               'a plot without `log`', False)
         if values['interval'] != AUTO and values['show'] != 'mean' and not is_paired:
             raise tables.fault(path + ('interval',), 'Only means have such intervals, and this plot shows none.',
                                '`show = "mean"` as well')
@@ -177,7 +180,7 @@ def show(rows: Sequence[Row], wish: Wish, source: Source) -> bool:
 
 def compare(sides: Sides, wish: Wish, source: Source) -> bool:
     """Compares two sides run by run; returns whether there is a picture if one was wanted."""
-    rows, others, names, kept = sides
+    rows, others, names, kept, _ = sides
     if wish.measure not in measures_of(rows) or wish.measure not in measures_of(others):
         raise Fault('there is no measure %s on both sides; there are: %s' % (
             wish.measure, ', '.join(it for it in measures_of(rows) if it in measures_of(others))))
@@ -200,7 +203,7 @@ def compare(sides: Sides, wish: Wish, source: Source) -> bool:
     made = text.rows_of_differences(found, wish.against, *names, wish.nets)
     good = [row for row in rows if not row['fault']]
     shared = None if wish.nets else shared_nets(good, [wish.against], wish.measure)
-    more = text.of_nets(shared) + text.of_intervals([it.difference for it in found])
+    more = note_of_compared(sides) + text.of_nets(shared) + text.of_intervals([it.difference for it in found])
     warnings = warnings_of([*rows, *others], [*separated_by(wish), *wish.over.split(',')], False)
     more += warnings
     notes = text.of_pairs(paired, found, wish.against) + more
@@ -237,6 +240,8 @@ def wishes(asked: argparse.Namespace) -> list[Wish]:
         raise Fault('--label is the text of a line of --by: add --by NAME, or leave it out')
     if asked.log_y and (asked.pair or asked.compare or asked.show in NOT_UPWARDS):
         raise Fault('--log-y is for medians, means and points: leave it out')
+    if asked.log and asked.show == 'heat':
+        raise Fault('--log is for an axis with a scale, which --show heat doesn\'t have: leave it out')
     if asked.pair and asked.compare:
         raise Fault('--pair and --compare are two comparisons: leave out one')
     if asked.show == 'heat' and not asked.by:
@@ -293,6 +298,7 @@ def runs_of(path: Path, where: Sequence[str], apart: Sequence[str] = ()) -> list
     rows = read_results(path)[1]
     if not rows:
         raise Fault('%s has no runs: run tools/sweep again' % path)
+    check_whole(path, rows)
     rows = chosen(rows, where)
     if not rows:
         raise Fault('%s has no runs with these values together: %s' % (path, ', '.join(where)))
@@ -303,11 +309,32 @@ def runs_of(path: Path, where: Sequence[str], apart: Sequence[str] = ()) -> list
 
 
 class Sides(NamedTuple):
-    """The two sides of a comparison, their names, and the parameters that say which runs are a pair."""
+    """The two sides of a comparison, their names, and the parameters that say which runs are a pair.
+
+    compared  the parameters in which two files differ, each with one value in a file
+    """
     one: list[Row]
     other: list[Row]
     names: tuple[str, str]
     kept: list[str]
+    compared: Sequence[str] = ()
+
+
+def compared_by(rows: Sequence[Row], others: Sequence[Row], names: Sequence[str], over: str) -> list[str]:
+    """The parameters that have one value in each of two files, and not the same: they are what is compared."""
+    found = []
+    for name in names:
+        one, other = ({row[name] for row in side} for side in (rows, others))
+        if len(one) == len(other) == 1 and one != other and not is_repeat(name, over):
+            found.append(name)
+    return found
+
+
+def note_of_compared(sides: Sides) -> list[str]:
+    """The line about the parameters in which two files differ."""
+    its = ['%s (%s, %s)' % (name, *(text_of(side[0][name]) or 'none' for side in (sides.one, sides.other)))
+           for name in sides.compared]
+    return ['%s and %s also differ in %s: this is part of the difference' % (*sides.names, ', '.join(its))] * bool(its)
 
 
 def sides_of(wish: Wish, rows: list[Row], results: Path, other: Path, where: Sequence[str]) -> Sides:
@@ -320,7 +347,9 @@ def sides_of(wish: Wish, rows: list[Row], results: Path, other: Path, where: Seq
         names = results.stem, other.stem
         if names[0] == names[1]:
             names = str(results), str(other)
-        return Sides(rows, others, names, [it for it in parameters if it in parameters_of(others)])
+        kept = [it for it in parameters if it in parameters_of(others)]
+        compared = compared_by(rows, others, [it for it in kept if it != wish.against], wish.over)
+        return Sides(rows, others, names, [it for it in kept if it not in compared], compared)
     name, _, values = wish.pair.partition('=')
     sides = values.split(',')
     if name not in [*parameters, *(it for it in SEPARATES if it in rows[0])] or len(sides) != 2:

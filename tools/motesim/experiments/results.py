@@ -297,6 +297,18 @@ def read_csv(path: Path) -> tuple[list[str], list[Row]]:
     return columns_of_csv(path), [row for _, row in rows_of_csv(path)]
 
 
+def check_whole(path: Path, rows: Sequence[Row]) -> None:
+    """Raises a fault if the last row of a file of CSV is cut off within its last value, which all rows have."""
+    if is_sqlite(path) or not rows:
+        return
+    with open(path, 'rb') as file:
+        file.seek(-1, os.SEEK_END)
+        is_ended = file.read() == b'\n'
+    if not is_ended and rows[-1]['parameters'] != rows[0]['parameters']:
+        raise Fault('%s ends within its last row: a copy was cut off, or a sweep writes it now; copy it again, or '
+                    'wait for the sweep' % path)
+
+
 def is_sqlite(path: Path) -> bool:
     return path.suffix in SQLITE
 

@@ -2,7 +2,7 @@
 from __future__ import annotations
 
 import difflib
-from collections.abc import Iterable
+from collections.abc import Iterable, Sequence
 
 from motesim.scenario.faults import LOSS, MEDIUM, MOTE, TOP, ScenarioError
 
@@ -41,6 +41,13 @@ def nearest(word: str, known: Iterable[str]) -> str | None:
     """The known word that this one is most like, if one is near."""
     found = difflib.get_close_matches(word.lower(), list(known), 1, 0.6)
     return found[0] if found and found[0] != word else None
+
+
+def known(name: str, names: Sequence[str], others: Sequence[str] = ()) -> str:
+    """The names that there are, others that are measures, and the one that was likely meant."""
+    near = nearest(name, [*names, *others])
+    more = '; and the measures: %s' % ', '.join(others) if others else ''
+    return 'there are: %s%s%s' % (', '.join(names), more, '; did you mean %s?' % near if near else '')
 
 
 def meant(name: str, known: Iterable[str]) -> str | None:

@@ -1,9 +1,10 @@
 """The versions of the program and of the kit of a run."""
 from __future__ import annotations
 
+import os
 from pathlib import Path
 
-from motesim.runner.programs import is_compiled, is_proved
+from motesim.runner.programs import is_compiled, is_proved, program_of_sources
 from motesim.version import KIT, VERSION
 
 
@@ -17,3 +18,17 @@ def program_version(program: Path) -> str:
     if is_proved(program):
         return VERSION
     return '%s unproved' % VERSION if is_compiled(program) else 'another'
+
+
+def version_line(may_be_proved: bool = True) -> str:
+    """Returns the line of `--version`: the version, and whether the program that would run is proved."""
+    named = os.environ.get('MOTESIM') if may_be_proved else None
+    program = Path(named) if named else program_of_sources(may_be_proved)
+    proofs = 'the proofs of %s are for %s' % (VERSION, KIT)
+    if program is None:
+        return 'motesim %s, not built yet (%s)' % (VERSION, proofs)
+    if is_proved(program):
+        return 'motesim %s, proved with %s' % (VERSION, KIT)
+    if is_compiled(program):
+        return 'motesim %s, compiled, not proved (%s)' % (VERSION, proofs)
+    return 'tools of motesim %s with another program, %s, which MOTESIM names (%s)' % (VERSION, program, proofs)
