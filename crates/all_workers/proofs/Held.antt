@@ -29,8 +29,8 @@ use Rattle.worker_cut.specs.Crossed.{is_to}
 use Rattle.worker_cut.proofs.Counts.{IsHad}
 use Rattle.worker_cut.proofs.Windows.{LedTo, coming, coming_pending, is_history, receivers}
 use Rattle.worker_window.specs.declared.share.Share.{Share}
-use Rattle.all_workers.specs.declared.workers.Workers.{Workers}
-use Rattle.all_workers.specs.Workers.{IsAt}
+use Rattle.all_workers.specs.declared.workers.WorkerGroup.{WorkerGroup}
+use Rattle.all_workers.specs.WorkerGroup.{IsAt}
 use Rattle.all_workers.proofs.Step.{some_worker}
 use Rattle.all_workers.specs.Held.{AreWith, AgendaIsHeld}
 use Rattle.all_workers.proofs.Waiting.{same_copies, waiting, gathered_is, to_come_is}
@@ -108,7 +108,7 @@ module _ (of : List ℕ) where
       is_first : (copy : RadioCopy) → IsHad of workers copy.to → is_to_first workers copy ≡ true
       is_first copy h = ap (λ o. option_map_or (λ w. ltb w workers) o false) h.1 ∙ lt-ltb h.0 workers h.2
 
-module _ (n : NetModel) (fine : RunsForward (system_of n)) (of : List ℕ) (end : ℕ) (group : Workers) (at : IsAt n of (suc end) group) where
+module _ (n : NetModel) (fine : RunsForward (system_of n)) (of : List ℕ) (end : ℕ) (group : WorkerGroup) (at : IsAt n of (suc end) group) where
   abbrev workers : ℕ
   workers = length group.inboxes.items
 

@@ -10,7 +10,7 @@ use Rattle.copy_exchange.specs.Endpoints.{Leaves}
 use Rattle.window_laws.specs.Windows.{is_from_sender}
 use Rattle.worker_window.specs.Window.{IsOutgoing}
 use Rattle.window_laws.proofs.Lists.{every_weaker}
-use Rattle.all_workers.specs.Workers.{IsCut}
+use Rattle.all_workers.specs.WorkerGroup.{IsCut}
 
 module _ (P : RadioCopy → Type 0) where
   rest_of_each : (x : RadioCopy) (xs : List RadioCopy) → ((s : ℕ) → Each P (filter (is_from_sender s) (x ∷ xs)))

@@ -17,10 +17,10 @@ use Rattle.copy_exchange.specs.Inboxes.{IsFresh, IsSettled, Settled}
 use Rattle.worker_cut.specs.Crossed.{is_own, is_to, crossed}
 use Rattle.worker_window.specs.declared.share.Share.{Share}
 use Rattle.worker_window.specs.Share.{Keeps}
-use Rattle.all_workers.specs.declared.workers.Workers.{Workers}
-use Rattle.all_workers.specs.Workers.{IsAt, IsWorkerAt}
+use Rattle.all_workers.specs.declared.workers.WorkerGroup.{WorkerGroup}
+use Rattle.all_workers.specs.WorkerGroup.{IsAt, IsWorkerAt}
 use Rattle.all_workers.specs.Start.{AreFirst}
-use Rattle.all_workers.specs.Workers.{IsCut}
+use Rattle.all_workers.specs.WorkerGroup.{IsCut}
 
 -- if no sender has a part, there is nothing
 no_parts : (rest : List Item) → ((s : ℕ) → part s rest ≡ []) → rest ≡ []
@@ -74,7 +74,7 @@ first_worker n of v share taker marked keeps fresh = record {
   waits = λ s. record { rest = []; all = rw fresh refl; later = tt };
 }
 
-pub starts : (n : NetModel) (of : List ℕ) (group : Workers) → IsCut (length n.motes) (length group.inboxes.items) of → AllZip IsFresh group.inboxes.items group.takers.items
+pub starts : (n : NetModel) (of : List ℕ) (group : WorkerGroup) → IsCut (length n.motes) (length group.inboxes.items) of → AllZip IsFresh group.inboxes.items group.takers.items
     → AreFirst n of (length group.inboxes.items) group.shares.items → group.first_out ≡ None → IsAt n of 0 group
 starts n of group cut fresh shares none = record {
   motes = first_mote (system_of n);

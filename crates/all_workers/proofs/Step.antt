@@ -18,7 +18,7 @@ use Rattle.worker_cut.proofs.Crossed.{given_is, crossed_next}
 use Rattle.worker_cut.proofs.Windows.{one_more, same_copies}
 use Rattle.worker_window.specs.Share.{Motes}
 use Rattle.worker_window.specs.Window.{RunsOwnMote, IsOutgoing, outgoing_by}
-use Rattle.all_workers.specs.Workers.{IsCut}
+use Rattle.all_workers.specs.WorkerGroup.{IsCut}
 use Rattle.all_workers.proofs.Same.{own_copies_same}
 use Rattle.all_workers.proofs.Sent.{every_of_each}
 
@@ -55,7 +55,7 @@ none_early until (x ∷ xs) e =
 
 module _ (n : NetModel) (fine : RunsForward (system_of n)) (of : List ℕ) (workers : ℕ) (cut : IsCut (length n.motes) workers of) (from until : ℕ) (motes : Motes) (up : from < until) (short : until ≤ from + (system_of n).lookahead)
     (taken gathered : ℕ → List RadioCopy) (outgoing : ℕ → List RadioCopy) (nexts : ℕ → Motes)
-    (told : (v : ℕ) → v < workers → GatheredCopies (system_of n) of motes v (gathered v))
+    (recounted : (v : ℕ) → v < workers → GatheredCopies (system_of n) of motes v (gathered v))
     (took : (v : ℕ) → v < workers → (s : ℕ) → filter (is_from_sender s) (taken v) ≡ filter (is_from_sender s) (gathered v))
     (runs : (v : ℕ) → v < workers → (k : ℕ) → is_own of v k ≡ true → RunsOwnMote n (is_own of v) from until motes (nexts v) (taken v) k)
     (out : (v : ℕ) → v < workers → (s : ℕ) → outgoing_by n (is_own of v) (nexts v) s ≡ outgoing_by n (is_own of v) motes s ++ filter (is_from_sender s) (outgoing v))
@@ -77,7 +77,7 @@ module _ (n : NetModel) (fine : RunsForward (system_of n)) (of : List ℕ) (work
           let ran = runs v h k mine in
           record {
             given = ran.given;
-            is_given = given_is (system_of n) of motes (gathered v) (taken v) v k from until mine (told v h) (took v h) ran.given ran.is_given;
+            is_given = given_is (system_of n) of motes (gathered v) (taken v) v k from until mine (recounted v h) (took v h) ran.given ran.is_given;
             alone = subst (λ m. Alone (system_of n) k until ran.given (motes k) m) (next_is v k mine) ran.alone;
           }
 
@@ -99,10 +99,10 @@ module _ (n : NetModel) (fine : RunsForward (system_of n)) (of : List ℕ) (work
   not_own u h s e = let o = out u h s in let p = rw e at o in sym p
 
   -- the copies that each worker has gathered after the window
-  pub told_next : (v : ℕ) → v < workers → (after : List RadioCopy) → ((s : ℕ) → filter (is_from_sender s) after ≡ filter (is_from_sender s) (gathered v) ++ out_of v s)
+  pub traced_next : (v : ℕ) → v < workers → (after : List RadioCopy) → ((s : ℕ) → filter (is_from_sender s) after ≡ filter (is_from_sender s) (gathered v) ++ out_of v s)
       → GatheredCopies (system_of n) of next v after
   unfolding system_of
-  told_next v h after more s = more s ∙ (ap (λ l. l ++ out_of v s) (told v h s) ∙ by_worker (slice_get of s) refl)
+  traced_next v h after more s = more s ∙ (ap (λ l. l ++ out_of v s) (recounted v h s) ∙ by_worker (slice_get of s) refl)
     where
       -- a mote that doesn't exist sends nothing
       none_sent : slice_get of s ≡ None → (x : Motes) → copies_by (system_of n) x s ≡ []

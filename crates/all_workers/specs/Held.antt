@@ -13,10 +13,10 @@ use Rattle.net_agenda.specs.NetSystem.{system_of}
 use Rattle.copy_inbox.specs.Handles.{TakerView}
 use Rattle.copy_exchange.specs.Takers.{taken_by, gathered_by}
 use Rattle.worker_window.specs.declared.share.Share.{Share}
-use Rattle.all_workers.specs.declared.workers.Workers.{Workers}
-use Rattle.all_workers.specs.Workers.{IsAt}
+use Rattle.all_workers.specs.declared.workers.WorkerGroup.{WorkerGroup}
+use Rattle.all_workers.specs.WorkerGroup.{IsAt}
 
--- the copies that one worker holds, together with those that lie in its inbox: gathered, and not taken yet
+-- the copies that one worker holds, together with those in its inbox that are gathered and not taken yet
 pub record AreWith (share : Share) (taker : TakerView) (copies : List RadioCopy) : Type 0 where
   pub items : List Item
   pub holds : Holds share.agenda.buckets items
@@ -24,10 +24,10 @@ pub record AreWith (share : Share) (taker : TakerView) (copies : List RadioCopy)
   pub gathered : IsPermutation (gathered_by taker) (taken_by taker ++ waiting)
   pub both : IsPermutation copies (packets items ++ waiting)
 
--- If the workers are ready before a moment, the copies of the net's agenda after all turns before it are those that the
--- workers hold together with those in the inboxes, each once.
+-- If the workers are ready before a moment, the copies of the net's agenda after all turns before it are those that
+-- the workers hold and those in the inboxes, each exactly once.
 abbrev pub AgendaIsHeld : Type 0
-AgendaIsHeld = (n : NetModel) → RunsForward (system_of n) → (of : List ℕ) (end : ℕ) (group : Workers)
+AgendaIsHeld = (n : NetModel) → RunsForward (system_of n) → (of : List ℕ) (end : ℕ) (group : WorkerGroup)
     → IsAt n of (suc end) group
     → (net : NetState Node Line) → Run (system_of n) end (boot (system_of n)) net
     → (parts : ℕ → List RadioCopy)

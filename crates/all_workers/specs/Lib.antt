@@ -3,4 +3,4 @@ pub mod Start
 pub mod Threads
 pub mod WindowLength
 pub mod Worker
-pub mod Workers
+pub mod WorkerGroup

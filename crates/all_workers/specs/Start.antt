@@ -7,8 +7,8 @@ use Rattle.net_agenda.specs.NetSystem.{system_of}
 use Rattle.worker_window.specs.declared.share.Share.{Share}
 use Rattle.worker_window.specs.Share.{Keeps}
 use Rattle.copy_exchange.specs.Inboxes.{IsFresh}
-use Rattle.all_workers.specs.declared.workers.Workers.{Workers}
-use Rattle.all_workers.specs.Workers.{IsCut}
+use Rattle.all_workers.specs.declared.workers.WorkerGroup.{WorkerGroup}
+use Rattle.all_workers.specs.WorkerGroup.{IsCut}
 
 -- the shares of this many workers, in order, in which each mote wakes at 0
 pub record AreFirst (n : NetModel) (of : List ℕ) (workers : ℕ) (shares : List Share) : Type 0 where
@@ -18,7 +18,7 @@ pub record AreFirst (n : NetModel) (of : List ℕ) (workers : ℕ) (shares : Lis
 
 -- workers that can run: there are at most 16, each with an inbox that was never used, each mote belongs to one of them,
 -- and wakes at 0
-pub record AreReady (n : NetModel) (of : List ℕ) (group : Workers) : Type 0 where
+pub record AreReady (n : NetModel) (of : List ℕ) (group : WorkerGroup) : Type 0 where
   pub few : length group.inboxes.items ≤ 16
   pub cut : IsCut (length n.motes) (length group.inboxes.items) of
   pub fresh : AllZip IsFresh group.inboxes.items group.takers.items

@@ -2,9 +2,9 @@
 
 ghost use Rattle.all_workers.specs.Held.{AgendaIsHeld};
 
-/// At the start of each window but the first, before which nothing was sent, the copies of the net's agenda are those
-/// that the workers hold together with those in the inboxes, each once. The agenda is that of the run of the net one
-/// turn at a time, after all turns before the window.
+/// At the start of each window except the first, before which nothing was sent, the copies of the net's agenda are
+/// those that the workers hold and those in the inboxes, each exactly once. The agenda is that of the run of the net
+/// one turn at a time, after all turns before the window.
 pub fn agenda_is_held()
     ensures agenda_is_held { AgendaIsHeld }
 {}

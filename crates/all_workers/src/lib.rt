@@ -11,4 +11,4 @@ mod workers;
 pub use threads::run_threads;
 pub use windows::{lookahead_of, window_end, window_length};
 pub use worker::{Worker, split_workers, workers_of};
-pub use workers::Workers;
+pub use workers::WorkerGroup;

@@ -8,7 +8,7 @@ ghost use Rattle.all_workers.specs.Threads.{AllMade, HaveWorked};
 use crate::worker::{Worker, workers_of};
 use copy_exchange::endpoints;
 use copy_inbox::{Inbox, Taker};
-use fork_join::{Refused, Work, fork_join};
+use fork_join::{Work, WorkerError, fork_join};
 use std::alloc::Global;
 use std::sync::Wait;
 use std::thread::Threads;
@@ -26,7 +26,7 @@ pub fn run_threads<R, W>(
     inboxes: &[Inbox],
     takers: Vec<Taker>,
     work: &W,
-) -> Result<Vec<Worker>, Refused>
+) -> Result<Vec<Worker>, WorkerError>
 where
     R: Threads + Wait + Sync,
     W: Work<Worker> + Sync,
@@ -38,7 +38,7 @@ where
     ensures failed { IfErr result (λ e. is_own e ≡ true) }
 {
     let Ok(endpoints) = endpoints(alloc, inboxes, takers) else {
-        return Err(Refused::Memory);
+        return Err(WorkerError::Memory);
     };
     let workers = workers_of(alloc, shares, endpoints)?;
     fork_join(rt, alloc, workers, work)

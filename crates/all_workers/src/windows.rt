@@ -18,13 +18,13 @@ pub fn lookahead_of(net: &Net) -> u64
     net.medium().lookahead(net.end())
 }
 
-/// The length of a window: the lookahead, or `longest`, if that is above 0 and less.
+/// The length of a window: the lookahead, or `longest` if that is above 0 and below the lookahead.
 pub fn window_length(lookahead: u64, longest: u32) -> u64
     requires positive { 0 < lookahead }
     ensures value { result ≡ length_of_window lookahead longest }
     ensures above_zero { 0 < result }
     ensures within { result ≤ lookahead }
-    ensures told { 0 < longest → longest < lookahead → result ≡ longest }
+    ensures recounted { 0 < longest → longest < lookahead → result ≡ longest }
 {
     let longest = u64::from(longest);
     if longest == 0 || lookahead <= longest {

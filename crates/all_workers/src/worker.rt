@@ -2,11 +2,11 @@
 
 ghost use Rattle.std.specs.Prelude.{◌≡◌, map, IfErr, IfOk};
 ghost use Rattle.std.specs.List.{zip};
-ghost use Rattle.fork_join.specs.declared.work.Refused.TheVariants.{Memory};
+ghost use Rattle.fork_join.specs.declared.work.WorkerError.TheVariants.{Memory};
 ghost use Rattle.all_workers.specs.Worker.{make_worker};
 
 use copy_exchange::Endpoint;
-use fork_join::Refused;
+use fork_join::WorkerError;
 use std::alloc::Global;
 use worker_window::Share;
 
@@ -15,11 +15,11 @@ use worker_window::Share;
 pub struct Worker {
     pub share: Share,
     pub endpoint: Endpoint,
-    /// When the earliest copy arrives that it delivered and that is still in an inbox.
+    /// The moment of the earliest arrival, of the copies that it delivered and that are still in an inbox.
     pub first_out: Option<u64>,
 }
 
-/// Makes each worker of its share and its endpoint.
+/// Makes each worker from its share and its endpoint.
 ///
 /// # Errors
 /// `Memory` if an allocation fails. It is the only error.
@@ -27,7 +27,7 @@ pub fn workers_of(
     alloc: Global,
     shares: Vec<Share>,
     endpoints: Vec<Endpoint>,
-) -> Result<Vec<Worker>, Refused>
+) -> Result<Vec<Worker>, WorkerError>
     ensures workers { IfOk result (λ workers. workers.items ≡ map make_worker (zip shares.items endpoints.items)) }
     ensures refused { IfErr result (λ reason. reason ≡ Memory) }
 {
@@ -49,7 +49,7 @@ pub fn workers_of(
 pub fn split_workers(
     alloc: Global,
     workers: Vec<Worker>,
-) -> Result<(Vec<Share>, Vec<Endpoint>), Refused>
+) -> Result<(Vec<Share>, Vec<Endpoint>), WorkerError>
     ensures shares { IfOk result (λ r. r.0.items ≡ map (λ worker. worker.share) workers.items) }
     ensures endpoints { IfOk result (λ r. r.1.items ≡ map (λ worker. worker.endpoint) workers.items) }
     ensures refused { IfErr result (λ reason. reason ≡ Memory) }

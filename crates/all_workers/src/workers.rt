@@ -2,22 +2,22 @@
 
 ghost use Rattle.std.specs.Prelude.{◌≡◌, ◌≤◌, length, IfOk, IfErr};
 ghost use Rattle.std.specs.List.{AllZip};
-ghost use Rattle.fork_join.specs.declared.work.Refused.TheVariants.{Memory};
+ghost use Rattle.fork_join.specs.declared.work.WorkerError.TheVariants.{Memory};
 ghost use Rattle.mote_net.specs.Meaning.{net_of};
 ghost use Rattle.copy_exchange.specs.Inboxes.{IsFresh};
 ghost use Rattle.all_workers.specs.Start.{AreFirst};
-ghost use Rattle.all_workers.specs.Workers.{IsAt, IsCut};
+ghost use Rattle.all_workers.specs.WorkerGroup.{IsAt, IsCut};
 
 use copy_inbox::{Inbox, Taker};
-use fork_join::Refused;
+use fork_join::WorkerError;
 use mote_net::Net;
 use std::alloc::Global;
 use worker_window::Share;
 
-/// The workers of a net: their shares, their inboxes with the takers, and `first_out`, when the earliest of the copies
-/// in the inboxes arrives.
+/// The workers of a net: their shares, their inboxes with the takers, and `first_out`, the moment at which the
+/// earliest of the copies in the inboxes arrives.
 #[derive(Drop)]
-pub struct Workers {
+pub struct WorkerGroup {
     pub shares: Vec<Share>,
     pub inboxes: Vec<Inbox>,
     pub takers: Vec<Taker>,
@@ -25,7 +25,12 @@ pub struct Workers {
 }
 
 /// The shares of this many workers before the motes' first turns: each mote wakes at 0.
-fn first_shares(alloc: Global, net: &Net, of: &[u16], workers: u16) -> Result<Vec<Share>, Refused>
+fn first_shares(
+    alloc: Global,
+    net: &Net,
+    of: &[u16],
+    workers: u16,
+) -> Result<Vec<Share>, WorkerError>
     requires covers_motes { length of.now ≡ length (net_of net.now).motes }
     ensures first { let n = net_of net.now in IfOk result (λ shares. AreFirst n of.now workers shares.items) }
     ensures err { IfErr result (λ e. e ≡ Memory) }
@@ -38,7 +43,7 @@ fn first_shares(alloc: Global, net: &Net, of: &[u16], workers: u16) -> Result<Ve
     Ok(shares)
 }
 
-impl Workers {
+impl WorkerGroup {
     /// The workers before the motes' first turns: each mote wakes at 0, and nothing is in the inboxes. `of` is the
     /// worker of each mote.
     ///
@@ -50,7 +55,7 @@ impl Workers {
         of: &[u16],
         inboxes: Vec<Inbox>,
         takers: Vec<Taker>,
-    ) -> Result<Workers, Refused>
+    ) -> Result<WorkerGroup, WorkerError>
         requires inboxes_bounded { length inboxes.items ≤ 16 }
         requires cut { IsCut (length (net_of net.now).motes) (length inboxes.items) of.now }
         requires fresh { AllZip IsFresh inboxes.items takers.items }
@@ -62,7 +67,7 @@ impl Workers {
         ensures err { IfErr result (λ e. e ≡ Memory) }
     {
         let shares = first_shares(alloc, net, of, inboxes.len() as u16)?;
-        Ok(Workers {
+        Ok(WorkerGroup {
             shares,
             inboxes,
             takers,

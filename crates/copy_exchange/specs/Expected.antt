@@ -1,4 +1,4 @@
--- The items that a worker takes until a window's marks have come.
+-- The items that a worker takes until a window's marks have arrived.
 use Rattle.std.specs.Prelude.{◌≡◌, ℕ, ◌<◌, List, [], ◌∷◌, ◌++◌}
 use Rattle.std.specs.List.{AllByRecursion as Each}
 use Rattle.radio_packet.specs.declared.copy.RadioCopy.{RadioCopy}

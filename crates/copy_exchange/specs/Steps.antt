@@ -29,7 +29,7 @@ abbrev pub opened_sender : (own : Bool) → TakerView → Option SenderView
 opened_sender own t =
     cond own None (Some (record { inbox = t.inbox; state = make_sender_state t.state.marked t.state.made [] }))
 
--- the worker has one more sender on each inbox but its own
+-- the worker has one more sender on each inbox except its own
 pub record Opens (worker : ℕ) (old new : List TakerView) (senders : List (Option SenderView)) : Type 0 where
   pub takers : length new ≡ length old
   pub count : length senders ≡ length old
@@ -59,7 +59,7 @@ pub record GathersRow (old new : List TakerView) (senders : List (Option SenderV
   pub takers : length new ≡ length old
   pub taker : (v : ℕ) (t : TakerView) → v < length old
       → slice_index_or new v t ≡ gather_into (slice_index_or old v t) (at_place senders v)
-  pub told : (v : ℕ) (t : TakerView) (s : SenderView) → v < length old → at_place senders v ≡ Some s
+  pub recounted : (v : ℕ) (t : TakerView) (s : SenderView) → v < length old → at_place senders v ≡ Some s
       → TellsOf (slice_index_or old v t).state s.state
 
 -- the taker has gathered these senders, one after another
@@ -72,7 +72,7 @@ pub record GathersBack (endpoints : List Endpoint) (takers : List TakerView) : T
   pub count : length takers ≡ length endpoints
   pub taker : (v : ℕ) (e : Endpoint) (t : TakerView) → slice_get endpoints v ≡ Some e → slice_get takers v ≡ Some t
       → t ≡ gather_senders e.taker (senders_to endpoints v)
-  pub told : (v : ℕ) (e : Endpoint) → slice_get endpoints v ≡ Some e
+  pub recounted : (v : ℕ) (e : Endpoint) → slice_get endpoints v ≡ Some e
       → Each (λ (s : SenderView). TellsOf e.taker.state s.state) (senders_to endpoints v)
 
 -- ---- a mark goes through one sender
@@ -80,7 +80,7 @@ abbrev pub pushed_with_mark : Option SenderView → (window : ℕ) → List Carr
 pushed_with_mark None window = []
 pushed_with_mark (Some s) window = s.state.pushed ++ Mark window ∷ []
 
--- the sender at this place, if there is one, pushed the mark; all else is unchanged
+-- the sender at this place, if there is one, pushed the mark; everything else is unchanged
 pub record MarksOne (to window : ℕ) (old new : Endpoint) : Type 0 where
   pub stays : Stays old new
   pub taker : new.taker ≡ old.taker

@@ -21,7 +21,7 @@ pub struct Endpoint {
     pub senders: Vec<Option<Sender>>,
 }
 
-/// By hand, so that dropping an endpoint is one call, which is all that the check of a function that owns one sees.
+/// Implemented by hand: the check of a function that owns an endpoint then sees only one call for its drop.
 impl Drop for Endpoint {
     fn drop(self) {
         let Endpoint {

@@ -1,4 +1,4 @@
-//! The number of marks that have come from each sender.
+//! The number of marks that have arrived from each sender.
 
 ghost use Rattle.std.specs.Prelude.{◌≡◌, ℕ, ◌+◌, ◌<◌, ◌≤◌, ◌^◌, ◌↔◌, length, slice_index_or, slice_set, IfOk, IsTrue};
 ghost use Rattle.copy_exchange.specs.Marks.{AllPast, AreNone};
@@ -20,8 +20,8 @@ pub fn no_marks(alloc: Global, senders: usize) -> Result<Vec<u64>, AllocError>
     Ok(marks)
 }
 
-/// Returns whether the mark of window number `window` (from 0) has come from each sender: whether more marks than
-/// `window` have, those of the windows up to this one.
+/// Returns whether the mark of window number `window` (from 0) has arrived from each sender, that is, whether more
+/// than `window` marks have: those of the windows up to this one.
 pub fn all_past(marks: &[u64], window: u64) -> bool
     ensures decides { IsTrue result ↔ AllPast window marks.now }
 {
@@ -33,7 +33,7 @@ pub fn all_past(marks: &[u64], window: u64) -> bool
     true
 }
 
-/// The number of marks pushed once each sender that lacks the window's mark has pushed it.
+/// The number of marks that will have been pushed once each sender that lacks the window's mark has pushed it.
 pub fn marks_wanted(marks: &[u64], window: u64) -> u64 {
     let mut wanted: u64 = 0;
     for count in marks {

@@ -78,7 +78,7 @@ pub fn pair_inboxes(
     Ok(pairs)
 }
 
-/// Between windows, how many copies were delivered to a worker that it has not taken yet.
+/// The number of copies, between windows, that were delivered to a worker and that it has not taken yet.
 pub fn known(inbox: &Inbox, taker: &Taker) -> u64
     requires is_settled { IsSettled inbox.now taker.now }
     ensures count { length (gathered_by taker.now) ≡ length (taken_by taker.now) + result }

@@ -23,7 +23,7 @@ use std::sync::ledger::Ledger;
 #[derive(Drop)]
 pub struct MarkEndpoint {
     pub base: Endpoint,
-    /// By the senders' numbers.
+    /// The numbers of marks, by the senders' numbers.
     pub marks: Vec<u64>,
     /// The state of waiting for marks.
     pub waiting: Waiting,
@@ -73,32 +73,33 @@ impl MarkEndpoint {
         self.base.push_marks(rt, inboxes, window)
     }
 
-    /// Takes items until the mark of the window has come from each sender, and returns their copies; items of a later
-    /// window that come sooner are taken too. `watch` looks at the flag that a failing worker sets.
+    /// Takes items until the mark of the window has arrived from each sender, and returns their copies; items of a
+    /// later window that arrive sooner are taken too. `watch` looks at the flag that a failing worker sets.
     ///
     /// # Errors
-    /// `Memory`; `Stopped` if the flag was seen set while a mark was missing; `Unexpected` if a copy came that isn't
-    /// for a mote of this worker from a mote of another, or that arrives before this worker's next window.
+    /// `Memory`; `Stopped` if the flag was seen set while a mark was missing; `Unexpected` if a copy arrived that
+    /// isn't for a mote of this worker from a mote of another, or that arrives before this worker's next window.
     pub fn take_window<R: Wait, L: Ledger>(
         &mut self,
         rt: &R,
         alloc: Global,
         inbox: &Inbox,
         watch: &mut Watch<'_, L>,
-        standing: &WindowPosition<'_>,
+        window_position: &WindowPosition<'_>,
         window: u64,
     ) -> Result<Vec<RadioCopy>, MarkError>
         requires inbox { self.old.base.taker.inbox ≡ inbox.now }
         requires counts { Counts self.old.marks.items self.old.base.taker.state }
         ensures took { IfOk result
-            (λ copies. TakesExpected (position_of standing.now) self.old.base.taker self.new.base.taker copies.items) }
+            (λ copies. TakesExpected (position_of window_position.now) self.old.base.taker self.new.base.taker
+            copies.items) }
         ensures marked { OnOk result (Counts self.new.marks.items self.new.base.taker.state
             × AllPast window self.new.marks.items) }
         ensures kept { (self.new.base.worker ≡ self.old.base.worker)
             × (self.new.base.senders ≡ self.old.base.senders) }
         ensures stopped { IfErr result (λ error. error ≡ Stopped → watch.new.seen ≡ true) }
         ensures unexpected { IfErr result
-            (λ error. error ≡ Unexpected → TakesUnexpected (position_of standing.now) self.old.base.taker
+            (λ error. error ≡ Unexpected → TakesUnexpected (position_of window_position.now) self.old.base.taker
             self.new.base.taker) }
     {
         let MarkEndpoint {
@@ -111,7 +112,7 @@ impl MarkEndpoint {
             alloc,
             inbox,
             watch,
-            standing,
+            window_position,
             &mut base.taker,
             marks,
             window,

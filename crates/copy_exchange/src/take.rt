@@ -1,4 +1,4 @@
-//! Taking until the marks of a window have come.
+//! Takes items until the marks of a window have arrived.
 
 ghost use Rattle.std.specs.Prelude.{◌≡◌, ◌↔◌, true, IfOk, IfErr, OnOk, OnErr, IsTrue};
 ghost use Rattle.copy_inbox.specs.declared.rule.TakerState.{TakerState};
@@ -25,7 +25,7 @@ pub enum MarkError {
     Memory = 1,
     /// The flag was set: another worker failed, or wasn't started.
     Stopped = 2,
-    /// A copy came that isn't expected. None comes in a run in which all workers keep to the protocol.
+    /// A copy arrived that isn't expected. There is none in a run in which all workers follow the protocol.
     Unexpected = 3,
 }
 
@@ -61,21 +61,21 @@ pub struct WindowPosition<'a> {
 
 /// Returns whether the copy is for a mote of the worker, isn't from one of its motes, and arrives no sooner than the
 /// worker's next window begins.
-fn is_expected(standing: &WindowPosition<'_>, copy: RadioCopy) -> bool
-    ensures decides { IsTrue result ↔ IsExpectedAt (position_of standing.now) copy }
+fn is_expected(window_position: &WindowPosition<'_>, copy: RadioCopy) -> bool
+    ensures decides { IsTrue result ↔ IsExpectedAt (position_of window_position.now) copy }
 {
-    if !is_own(standing.of, standing.worker, copy.to) {
+    if !is_own(window_position.of, window_position.worker, copy.to) {
         return false;
     }
-    if is_own(standing.of, standing.worker, copy.sender) {
+    if is_own(window_position.of, window_position.worker, copy.sender) {
         return false;
     }
-    standing.from <= copy.at
+    window_position.from <= copy.at
 }
 
 /// Receives an item that was taken: counts a mark; appends a copy to those that arrived, if it is expected.
 fn hear(
-    standing: &WindowPosition<'_>,
+    window_position: &WindowPosition<'_>,
     marks: &mut Vec<u64>,
     arrived: &mut Vec<RadioCopy>,
     item: Item,
@@ -85,12 +85,12 @@ fn hear(
         ((d : TakerState) → Counts marks.old.items d → IsNextTaken d item
         → Counts marks.new.items (state_with d item)) }
     ensures arrived { OnOk result
-        (AddsCopy (position_of standing.now) item arrived.old.items arrived.new.items) }
-    ensures refused { IfErr result (Refuses (position_of standing.now) item) }
+        (AddsCopy (position_of window_position.now) item arrived.old.items arrived.new.items) }
+    ensures refused { IfErr result (Refuses (position_of window_position.now) item) }
 {
     match item.what {
         Carried::Packet(copy) => {
-            if !is_expected(standing, copy) {
+            if !is_expected(window_position, copy) {
                 return Err(MarkError::Unexpected);
             }
             arrived.push(copy)?;
@@ -106,7 +106,7 @@ fn take_waiting<R: Wait, L: Ledger>(
     alloc: Global,
     inbox: &Inbox,
     watch: &mut Watch<'_, L>,
-    standing: &WindowPosition<'_>,
+    window_position: &WindowPosition<'_>,
     taker: &mut Taker,
     marks: &mut Vec<u64>,
     window: u64,
@@ -115,12 +115,12 @@ fn take_waiting<R: Wait, L: Ledger>(
     requires inbox { taker.old.inbox ≡ inbox.now }
     requires counts { Counts marks.old.items taker.old.state }
     ensures took { IfOk result
-        (λ copies. TakesExpected (position_of standing.now) taker.old taker.new copies.items) }
+        (λ copies. TakesExpected (position_of window_position.now) taker.old taker.new copies.items) }
     ensures counts { OnOk result (Counts marks.new.items taker.new.state) }
     ensures marked { OnOk result (AllPast window marks.new.items) }
     ensures stopped { IfErr result (λ error. error ≡ Stopped → watch.new.seen ≡ true) }
     ensures unexpected { IfErr result
-        (λ error. error ≡ Unexpected → TakesUnexpected (position_of standing.now) taker.old taker.new) }
+        (λ error. error ≡ Unexpected → TakesUnexpected (position_of window_position.now) taker.old taker.new) }
 {
     let mut arrived = Vec::new(alloc);
     for _ in rt.forever() {
@@ -128,25 +128,25 @@ fn take_waiting<R: Wait, L: Ledger>(
             return Ok(arrived);
         }
         match inbox.take_next(rt, taker) {
-            Some(item) => hear(standing, marks, &mut arrived, item)?,
+            Some(item) => hear(window_position, marks, &mut arrived, item)?,
             None => wait(rt, inbox, watch, marks, window, waiting)?,
         }
     }
     unreachable!()
 }
 
-/// Takes items until the mark of window number `window` (from 0) has come from each sender, that is, until more marks
-/// than `window` have; returns the copies taken on the way.
+/// Takes items until the mark of window number `window` (from 0) has arrived from each sender, that is, until more
+/// marks than `window` have; returns the copies taken on the way.
 ///
 /// # Errors
-/// `Memory`; `Stopped` if the flag was seen set while a mark was missing; `Unexpected` if a copy came that isn't
+/// `Memory`; `Stopped` if the flag was seen set while a mark was missing; `Unexpected` if a copy arrived that isn't
 /// expected.
 pub fn take_marks<R: Wait, L: Ledger>(
     rt: &R,
     alloc: Global,
     inbox: &Inbox,
     watch: &mut Watch<'_, L>,
-    standing: &WindowPosition<'_>,
+    window_position: &WindowPosition<'_>,
     taker: &mut Taker,
     marks: &mut Vec<u64>,
     window: u64,
@@ -155,15 +155,23 @@ pub fn take_marks<R: Wait, L: Ledger>(
     requires inbox { taker.old.inbox ≡ inbox.now }
     requires counts { Counts marks.old.items taker.old.state }
     ensures took { IfOk result
-        (λ copies. TakesExpected (position_of standing.now) taker.old taker.new copies.items) }
+        (λ copies. TakesExpected (position_of window_position.now) taker.old taker.new copies.items) }
     ensures counts { OnOk result (Counts marks.new.items taker.new.state) }
     ensures marked { OnOk result (AllPast window marks.new.items) }
     ensures stopped { IfErr result (λ error. error ≡ Stopped → watch.new.seen ≡ true) }
     ensures unexpected { IfErr result
-        (λ error. error ≡ Unexpected → TakesUnexpected (position_of standing.now) taker.old taker.new) }
+        (λ error. error ≡ Unexpected → TakesUnexpected (position_of window_position.now) taker.old taker.new) }
 {
     waiting.begin();
     take_waiting(
-        rt, alloc, inbox, watch, standing, taker, marks, window, waiting,
+        rt,
+        alloc,
+        inbox,
+        watch,
+        window_position,
+        taker,
+        marks,
+        window,
+        waiting,
     )
 }

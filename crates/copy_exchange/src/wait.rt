@@ -38,7 +38,7 @@ impl Waiting {
     }
 
     /// Begins the wait of a window. The worker may look twice as often as in the previous window if some looks were
-    /// left there, and else half as often.
+    /// left there, and otherwise half as often.
     pub fn begin(&mut self) {
         self.looks = if self.left > 0 {
             self.looks.saturating_mul(2).min(MOST_LOOKS)
@@ -49,7 +49,7 @@ impl Waiting {
     }
 }
 
-/// After a look that found nothing: gives up if the flag is set, and else lets some time pass.
+/// After a look that found nothing: gives up if the flag is set, and otherwise lets some time pass.
 ///
 /// # Errors
 /// `Stopped` if the flag is set. It is the only error.

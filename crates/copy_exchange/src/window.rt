@@ -1,4 +1,4 @@
-//! Before a window and after it.
+//! The steps before a window and after it.
 
 ghost use Rattle.std.specs.Prelude.{◌≡◌, ◌≤◌, ◌^◌, true, length, map, IfOk, IfSome, OnOk};
 ghost use Rattle.std.specs.List.{AllByRecursion as Each, AllZip, range_with_len};
@@ -160,7 +160,7 @@ fn gather_one<R: Wait>(rt: &R, inbox: &Inbox, taker: &mut Taker, sender: Option<
     requires taker { taker.old.inbox ≡ inbox.now }
     requires sender { IfSome sender (λ s. s.inbox ≡ inbox.now) }
     ensures gathered { taker.new ≡ gather_into taker.old sender }
-    ensures told { IfSome sender (λ s. TellsOf taker.old.state s.state) }
+    ensures recounted { IfSome sender (λ s. TellsOf taker.old.state s.state) }
 {
     if let Some(sender) = sender {
         inbox.gather(rt, taker, sender);

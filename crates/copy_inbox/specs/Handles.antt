@@ -17,7 +17,7 @@ use Rattle.copy_inbox.specs.Items.{is_packet, ArePackets, Packets, part, OfMade}
 use Rattle.copy_inbox.specs.Gathered.{is_gathered, untaken_of, known_of, TookFronts, Whole, Later}
 use Rattle.copy_inbox.specs.Views.{make_taker_state, make_sender_state, make_gathered}
 
--- which inbox it is
+-- the identity of the inbox
 abbrev pub InboxId : Type 0
 InboxId = SegId Global
 
@@ -76,7 +76,7 @@ abbrev pub NoMarkLeft : TakerState → Type 0
 NoMarkLeft d = (d.marked ≡ false) ⊎ PacketsLeft d
 
 -- the remaining items are packets, of which these are the copies: appended to the items taken, they complete those that
--- each gathered sender pushed, and there is nothing else
+-- each gathered sender pushed, and there are no others
 abbrev pub Empties : TakerState → List RadioCopy → Type 0
 Empties d copies = (rest : List Item) × ArePackets rest copies × Whole d.gathered (d.taken ++ rest)
     × OfMade d.made (d.taken ++ rest)
@@ -127,7 +127,7 @@ pub record IsNextTaken (d : TakerState) (x : Item) : Type 0 where
   -- it is of a sender that was made, and no more is taken of that than a sender may push
   pub number : x.sender < d.made
   pub few : length (part x.sender (d.taken ++ x ∷ [])) ≤ 2 ^ 62
-  -- one less is known, if its sender was gathered
+  -- one item fewer is known, if its sender was gathered
   pub known : known_of d.gathered d.taken
       ≡ cond (is_gathered d.gathered x.sender) 1 0 + known_of d.gathered (d.taken ++ x ∷ [])
   -- it is a packet if only packets can come, and then only packets come after it

@@ -1,4 +1,4 @@
--- The senders that a taker records: a count of each but the first ones, which were gathered.
+-- The senders that a taker records: it has a count for each sender, except the first ones, which were gathered.
 use Rattle.std.specs.Prelude.{◌≡◌, ℕ, ◌+◌, ◌-◌, ◌^◌, ◌<◌, ◌≤◌, ◌⊎◌, Bool, true, List, length, drop, slice_index_or}
 use Rattle.std.specs.Prelude.{slice_set}
 use Rattle.copy_inbox.specs.declared.count.Count.{Count}

@@ -22,7 +22,7 @@ make_gathered s made pushed = record { number = s; made = made; pushed = pushed 
 abbrev pub new_taker : View
 new_taker = Taking (make_taker_state false 0 [] [])
 
--- a split: the taker has made one sender more, and the new pass is that sender's
+-- a split: the taker has made one more sender, and the new pass is that sender's
 abbrev pub with_one_more : View → View
 with_one_more (Taking d) = Taking (make_taker_state d.marked (d.made + 1) d.taken d.gathered)
 with_one_more (Sending p) = Sending p

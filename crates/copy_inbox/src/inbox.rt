@@ -112,7 +112,7 @@ impl Model for Sender {
         × (s.pass.me.hand ≡ None) × (s.pass.me.spare ≡ None) };
 }
 
-/// By hand, so that dropping a taker is one call, which is all that the check of a function that owns one sees.
+/// Implemented by hand: the check of a function that owns a taker then sees only one call for its drop.
 impl Drop for Taker {
     fn drop(self) {
         let Taker {
@@ -124,7 +124,7 @@ impl Drop for Taker {
     }
 }
 
-/// By hand, for the same reason.
+/// Implemented by hand, for the same reason.
 impl Drop for Sender {
     fn drop(self) {
         let Sender {

@@ -1,4 +1,4 @@
-//! An inbox: many threads push copies of packets into it, and one takes them. No copy is lost, doubled or made up.
+//! An inbox: many threads push copies of packets into it, and one takes them. No copy is lost, duplicated or invented.
 #![tactic(auto)]
 
 mod count;

@@ -4,8 +4,8 @@ use std::sync::Wait;
 use std::sync::atomic::{AtomicU64, Ordering};
 use std::time::Duration;
 
-/// Counts the marks of an inbox, so that its taker can sleep until enough of them have come. No contract says that it
-/// is woken: it also wakes by itself, after a time.
+/// Counts the marks of an inbox, so that its taker can sleep until enough of them have been pushed. No contract says
+/// that it is woken: it also wakes by itself, after a time.
 #[derive(Drop)]
 pub struct MarkCount {
     /// The number of marks pushed.
@@ -36,7 +36,7 @@ impl MarkCount {
         self.wanted.store(wanted, Ordering::SeqCst);
         let marks = self.marks.load(Ordering::SeqCst);
         if marks < wanted {
-            // A mark that comes in between changes the low half of the count, and then this doesn't sleep.
+            // A mark that is pushed in the meantime changes the low half of the count, and then this doesn't sleep.
             let low = (marks % (1 << 32)) as u32;
             self.marks.park_timeout(rt, low, longest);
         }

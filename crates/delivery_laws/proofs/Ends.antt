@@ -9,8 +9,8 @@ use Rattle.delivery_laws.specs.HandedOn.{Target, ToOne, ToAll, Line, Halt, Incar
 use Rattle.delivery_laws.specs.Delivery.{DeliveryMachine, initial}
 use Rattle.delivery_laws.specs.Laws.{DeliveryHandsOn}
 use Rattle.delivery_laws.proofs.Lines.{handings_joined}
-use Rattle.delivery_laws.proofs.Stands.{Posts, IsPair, Gone, IsGivenTo, IsGiven, lacking_of, Stands}
-use Rattle.delivery_laws.proofs.Follows.{below_split, lacking_none, lacking_other, lacking_own, nothing_lacks, stands_aside, halt_is_aside, stands_runs, stands_at_first}
+use Rattle.delivery_laws.proofs.IsInState.{Posts, IsPair, Gone, IsGivenTo, IsGiven, lacking_of, IsInState}
+use Rattle.delivery_laws.proofs.Follows.{below_split, lacking_none, lacking_other, lacking_own, nothing_lacks, in_state_aside, halt_is_aside, in_state_runs, in_state_at_first}
 
 abbrev HasLine : List Line → ℕ → Type 0
 HasLine t s = Contains (map (λ h. h.serial) (handings t)) s
@@ -68,10 +68,10 @@ hands_on n k handed t p g e = record {
   to_all = λ s b c. let h = e.given s b in (e.lacks s, to_all_of h.target t s (e.lacks s) (p.single s h.target ToAll h.was_posted c) h.is_given, e.ends s b);
 }
 
-given_whole : (m : DeliveryMachine) (t : List Line) (h : Stands m t) → h.lacking ≡ [] → (s : ℕ) → s < h.taken → IsGiven t s []
+given_whole : (m : DeliveryMachine) (t : List Line) (h : IsInState m t) → h.lacking ≡ [] → (s : ℕ) → s < h.taken → IsGiven t s []
 given_whole m t h e s k = let g = h.are_given s k in rw (e, lacking_none m.walked s) at g
 
-ended_whole : (m : DeliveryMachine) (t : List Line) (h : Stands m t) → h.lacking ≡ [] → Ended t h.taken
+ended_whole : (m : DeliveryMachine) (t : List Line) (h : IsInState m t) → h.lacking ≡ [] → Ended t h.taken
 ended_whole m t h e = record {
   lacks = λ s. [];
   given = given_whole m t h e;
@@ -80,7 +80,7 @@ ended_whole m t h e = record {
   lines = λ s k. let g = given_whole m t h e s k in has_line g.target t s g.is_given;
 }
 
-pub done_hands_on : (m : DeliveryMachine) (t : List Line) → Stands m t → m.coming ≡ [] → HandedOn t
+pub done_hands_on : (m : DeliveryMachine) (t : List Line) → IsInState m t → m.coming ≡ [] → HandedOn t
 done_hands_on m t h c = hands_on m.accepted h.taken h.taken t h.posts h.gone (ended_whole m t h (nothing_lacks (IsPair m.list m.numbered (process_list t) (length t)) m.coming h.lacking h.pairs c))
 
 -- a halt in the middle of a walk
@@ -110,11 +110,11 @@ none_reached t s lacking g e =
     let q : handings t ≡ handings g.before ++ handings_behind g.before g.behind = ap handings g.place ∙ handings_joined [] g.before g.behind in
     rw q (All-append (λ h. h.serial ≡ s → ⊥) _ _ g.not_after_own (none_equal s _ (zip_none _ z)))
 
-given_before : (m : DeliveryMachine) (t : List Line) (h : Stands m t) → m.walked + 1 ≡ h.taken → (s : ℕ) → s < m.walked → IsGiven t s []
+given_before : (m : DeliveryMachine) (t : List Line) (h : IsInState m t) → m.walked + 1 ≡ h.taken → (s : ℕ) → s < m.walked → IsGiven t s []
 given_before m t h w s k = let g = h.are_given s (omega arith) in rw (lacking_other m.walked h.lacking s k) at g
 
 -- the walk has no line yet: its event was not delivered
-ended_before : (m : DeliveryMachine) (t : List Line) (h : Stands m t) → m.walked + 1 ≡ h.taken → All (λ x. x.serial ≡ m.walked → ⊥) (handings t) → Ended t m.walked
+ended_before : (m : DeliveryMachine) (t : List Line) (h : IsInState m t) → m.walked + 1 ≡ h.taken → All (λ x. x.serial ≡ m.walked → ⊥) (handings t) → Ended t m.walked
 ended_before m t h w a = record {
   lacks = λ s. [];
   given = given_before m t h w;
@@ -124,7 +124,7 @@ ended_before m t h w a = record {
 }
 
 -- the walk has a line
-ended_within : (m : DeliveryMachine) (t : List Line) (h : Stands m t) → m.walked + 1 ≡ h.taken → HasLine t m.walked → EndsInHalt t → Ended t h.taken
+ended_within : (m : DeliveryMachine) (t : List Line) (h : IsInState m t) → m.walked + 1 ≡ h.taken → HasLine t m.walked → EndsInHalt t → Ended t h.taken
 ended_within m t h w l e = record {
   lacks = lacking_of m.walked h.lacking;
   given = h.are_given;
@@ -133,7 +133,7 @@ ended_within m t h w l e = record {
   lines = λ s k. elim (below_split s m.walked (omega arith)) [ inl b ↦ (let g = given_before m t h w s b in has_line g.target t s g.is_given) | inr b ↦ rw b l ];
 }
 
-ended_at : (m : DeliveryMachine) (t : List Line) (h : Stands m t) → m.walked + 1 ≡ h.taken → EndsInHalt t → (g : IsGivenToAll t m.walked h.lacking) → (is : List Incarnation) → g.reached ≡ is → HandedOn t
+ended_at : (m : DeliveryMachine) (t : List Line) (h : IsInState m t) → m.walked + 1 ≡ h.taken → EndsInHalt t → (g : IsGivenToAll t m.walked h.lacking) → (is : List Incarnation) → g.reached ≡ is → HandedOn t
 ended_at m t h w e g [] r = hands_on m.accepted h.taken m.walked t h.posts h.gone (ended_before m t h w (none_reached t m.walked h.lacking g r))
 ended_at m t h w e g (i ∷ is) r =
     let f : g.reached ≡ [] → ⊥ = λ q. let c : i ∷ is ≡ [] = sym r ∙ q in (cc) in
@@ -143,7 +143,7 @@ walked_to_all : (g : Target) (t : List Line) (s : ℕ) (lacking : List Incarnati
 walked_to_all (ToOne p) t s lacking f h = absurd (f h.1)
 walked_to_all ToAll t s lacking f h = h.0
 
-halted_within : (m : DeliveryMachine) (t : List Line) (h : Stands m t) → (h.lacking ≡ [] → ⊥) → EndsInHalt t → HandedOn t
+halted_within : (m : DeliveryMachine) (t : List Line) (h : IsInState m t) → (h.lacking ≡ [] → ⊥) → EndsInHalt t → HandedOn t
 halted_within m t h f e =
     let w : m.walked + 1 ≡ h.taken = h.current (λ c. f (nothing_lacks (IsPair m.list m.numbered (process_list t) (length t)) m.coming h.lacking h.pairs c)) in
     let g : IsGiven t m.walked (lacking_of m.walked h.lacking m.walked) = h.are_given m.walked (omega arith) in
@@ -151,13 +151,13 @@ halted_within m t h f e =
     let a = walked_to_all g'.target t m.walked h.lacking f g'.is_given in
     ended_at m t h w e a a.reached refl
 
-halted_with : (m : DeliveryMachine) (t : List Line) (h : Stands m t) → EndsInHalt t → (lacking : List Incarnation) → h.lacking ≡ lacking → HandedOn t
+halted_with : (m : DeliveryMachine) (t : List Line) (h : IsInState m t) → EndsInHalt t → (lacking : List Incarnation) → h.lacking ≡ lacking → HandedOn t
 halted_with m t h e [] q = hands_on m.accepted h.taken h.taken t h.posts h.gone (ended_whole m t h q)
 halted_with m t h e (i ∷ is) q = halted_within m t h (λ f. let c : i ∷ is ≡ [] = sym q ∙ f in (cc)) e
 
-pub halt_hands_on : (m : DeliveryMachine) (t : List Line) → Stands m t → HandedOn (t ++ Halt ∷ [])
-halt_hands_on m t h = let k = stands_aside m Halt t halt_is_aside h in halted_with m (t ++ Halt ∷ []) k (t, refl) k.lacking refl
+pub halt_hands_on : (m : DeliveryMachine) (t : List Line) → IsInState m t → HandedOn (t ++ Halt ∷ [])
+halt_hands_on m t h = let k = in_state_aside m Halt t halt_is_aside h in halted_with m (t ++ Halt ∷ []) k (t, refl) k.lacking refl
 
 pub delivery_hands_on : DeliveryHandsOn
-delivery_hands_on t (inl r) = done_hands_on r.0 t (stands_runs initial [] t r.0 r.1 stands_at_first) r.2
-delivery_hands_on t (inr h) = rw h.ends (halt_hands_on h.last h.before (stands_runs initial [] h.before h.last h.runs stands_at_first))
+delivery_hands_on t (inl r) = done_hands_on r.0 t (in_state_runs initial [] t r.0 r.1 in_state_at_first) r.2
+delivery_hands_on t (inr h) = rw h.ends (halt_hands_on h.last h.before (in_state_runs initial [] h.before h.last h.runs in_state_at_first))

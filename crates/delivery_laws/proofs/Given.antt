@@ -7,7 +7,7 @@ use Rattle.std.proofs.lemmas.Bool.Decides.{nat_tests}
 use Rattle.delivery_laws.specs.HandedOn.{Target, ToOne, ToAll, Line, Post, Incarnation, Handing, is_on, is_listed, process_list, handing_at, handings_behind, handings, of_serial, IsGivenToOne, IsFor, IsGivenToAll}
 use Rattle.delivery_laws.specs.Delivery.{take_or_drop}
 use Rattle.delivery_laws.proofs.Lines.{handings_more, given_handing}
-use Rattle.delivery_laws.proofs.Stands.{IsGivenTo, IsGiven, handings_given}
+use Rattle.delivery_laws.proofs.IsInState.{IsGivenTo, IsGiven, handings_given}
 
 -- the line is no `take` or `drop` of the serial or a smaller one
 pub record IsBeyond (s : ℕ) (l : Line) : Type 0 where

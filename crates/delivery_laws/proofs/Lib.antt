@@ -4,7 +4,7 @@ pub mod Follows
 pub mod Given
 pub mod Joined
 pub mod Lines
-pub mod Stands
+pub mod IsInState
 pub mod StartsAndHalts
 pub mod Views
 pub mod Whole

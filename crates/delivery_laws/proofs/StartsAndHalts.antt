@@ -8,17 +8,17 @@ use Rattle.delivery_laws.specs.Delivery.{DeliveryMachine, initial, take_or_drop,
 use Rattle.delivery_laws.specs.Laws.{DeliveryHaltsLast, DeliveryStartsTheUnlisted}
 use Rattle.delivery_laws.specs.Traces.{TracesThatBreakTheOthers}
 use Rattle.delivery_laws.proofs.Lines.{alone}
-use Rattle.delivery_laws.proofs.Stands.{Stands, same_listed}
-use Rattle.delivery_laws.proofs.Follows.{stands_runs, stands_at_first}
+use Rattle.delivery_laws.proofs.IsInState.{IsInState, same_listed}
+use Rattle.delivery_laws.proofs.Follows.{in_state_runs, in_state_at_first}
 
 -- a line of a trace with one line appended is the appended one, or a line of the trace
-record StandsIn (t before : List Line) (x : Line) (behind : List Line) (l : Line) : Type 0 where
+record IsFoundIn (t before : List Line) (x : Line) (behind : List Line) (l : Line) : Type 0 where
   rest : List Line
   of_rest : behind ≡ rest ++ l ∷ []
   within : t ≡ before ++ x ∷ rest
 
-stands_in_more : (y : Line) (t before : List Line) (x : Line) (behind : List Line) (l : Line) → StandsIn t before x behind l → StandsIn (y ∷ t) (y ∷ before) x behind l
-stands_in_more y t before x behind l s = record { rest = s.rest; of_rest = s.of_rest; within = ap (λ u. y ∷ u) s.within }
+is_found_in_more : (y : Line) (t before : List Line) (x : Line) (behind : List Line) (l : Line) → IsFoundIn t before x behind l → IsFoundIn (y ∷ t) (y ∷ before) x behind l
+is_found_in_more y t before x behind l s = record { rest = s.rest; of_rest = s.of_rest; within = ap (λ u. y ∷ u) s.within }
 
 record IsLast (t before : List Line) (x : Line) (behind : List Line) (l : Line) : Type 0 where
   nothing : behind ≡ []
@@ -32,11 +32,11 @@ none_is_some : (bs : List Line) (x : Line) (behind : List Line) → bs ++ x ∷ 
 none_is_some [] x behind e = cc
 none_is_some (b ∷ bs) x behind e = cc
 
-split_push : (t before : List Line) (x : Line) (behind : List Line) (l : Line) → t ++ l ∷ [] ≡ before ++ x ∷ behind → IsLast t before x behind l ⊎ StandsIn t before x behind l
+split_push : (t before : List Line) (x : Line) (behind : List Line) (l : Line) → t ++ l ∷ [] ≡ before ++ x ∷ behind → IsLast t before x behind l ⊎ IsFoundIn t before x behind l
 split_push [] [] x behind l e = inl (record { nothing = cc; all = refl; same = cc })
 split_push [] (b ∷ before) x behind l e = absurd (none_is_some before x behind (cc))
 split_push (y ∷ t) [] x behind l e = inr (record { rest = t; of_rest = cc; within = cc })
-split_push (y ∷ t) (b ∷ before) x behind l e = let f : y ≡ b = cc in subst (λ z. IsLast (y ∷ t) (z ∷ before) x behind l ⊎ StandsIn (y ∷ t) (z ∷ before) x behind l) f (elim (split_push t before x behind l (cc)) [ inl s ↦ inl (last_more y t before x behind l s) | inr s ↦ inr (stands_in_more y t before x behind l s) ])
+split_push (y ∷ t) (b ∷ before) x behind l e = let f : y ≡ b = cc in subst (λ z. IsLast (y ∷ t) (z ∷ before) x behind l ⊎ IsFoundIn (y ∷ t) (z ∷ before) x behind l) f (elim (split_push t before x behind l (cc)) [ inl s ↦ inl (last_more y t before x behind l s) | inr s ↦ inr (is_found_in_more y t before x behind l s) ])
 
 -- nothing follows a halt
 
@@ -64,14 +64,14 @@ no_halt_runs : (m : DeliveryMachine) (t : List Line) (m' : DeliveryMachine) → 
 no_halt_runs m t m' stays c = omega (arith, c.1)
 no_halt_runs m t m' (goes_on ls n more n' r s) c = elim (Contains-append_cases ls more Halt c) [ inl d ↦ no_halt_runs m ls n r d | inr d ↦ no_halt_step n more n' s d ]
 
-stands_there : (before behind : List Line) (x : Line) → Contains (before ++ x ∷ behind) x
-stands_there before behind x = Contains-append_right before (x ∷ behind) x (0, omega arith, refl)
+in_state_there : (before behind : List Line) (x : Line) → Contains (before ++ x ∷ behind) x
+in_state_there before behind x = Contains-append_right before (x ∷ behind) x (0, omega arith, refl)
 
 ends_without : (t : List Line) → NoHalt t → HaltIsLast t
-ends_without t n before behind e = absurd (n (subst (λ u. Contains u Halt) (sym e) (stands_there before behind Halt)))
+ends_without t n before behind e = absurd (n (subst (λ u. Contains u Halt) (sym e) (in_state_there before behind Halt)))
 
 ends_with : (t : List Line) → NoHalt t → HaltIsLast (t ++ Halt ∷ [])
-ends_with t n before behind e = elim (split_push t before Halt behind Halt e) [ inl s ↦ s.nothing | inr s ↦ absurd (n (subst (λ u. Contains u Halt) (sym s.within) (stands_there before s.rest Halt))) ]
+ends_with t n before behind e = elim (split_push t before Halt behind Halt e) [ inl s ↦ s.nothing | inr s ↦ absurd (n (subst (λ u. Contains u Halt) (sym s.within) (in_state_there before s.rest Halt))) ]
 
 pub halt_is_last : DeliveryHaltsLast
 halt_is_last t (inl r) = ends_without t (no_halt_runs initial t r.0 r.1)
@@ -86,10 +86,10 @@ no_start_given : (there : Bool) (s p q : ℕ) → take_or_drop there s p ≡ Sta
 no_start_given true s p q e = cc
 no_start_given false s p q e = cc
 
-started : (m : DeliveryMachine) (t : List Line) (p : ℕ) → is_listed m.list p ≡ false → Stands m t → (q : ℕ) → Start p ≡ Start q → is_listed (process_list t) q ≡ false
+started : (m : DeliveryMachine) (t : List Line) (p : ℕ) → is_listed m.list p ≡ false → IsInState m t → (q : ℕ) → Start p ≡ Start q → is_listed (process_list t) q ≡ false
 started m t p u h q e = let f : p ≡ q = cc in sym (same_listed m.list (process_list t) q h.lists.same) ∙ subst (λ r. is_listed m.list r ≡ false) f u
 
-starts_step : (m : DeliveryMachine) (more : List Line) (m' : DeliveryMachine) (t : List Line) → DeliveryStep m more m' → Stands m t → StartsTheUnlisted t → StartsTheUnlisted (t ++ more)
+starts_step : (m : DeliveryMachine) (more : List Line) (m' : DeliveryMachine) (t : List Line) → DeliveryStep m more m' → IsInState m t → StartsTheUnlisted t → StartsTheUnlisted (t ++ more)
 starts_step m more m' t (starts n p u) h k = one_more t (Start p) (started n t p u h) k
 starts_step m more m' t (leaves n p) h k = one_more t (Leave p) (λ q e. absurd (cc)) k
 starts_step m more m' t (posts n g) h k = one_more t (Post n.accepted g) (λ q e. absurd (cc)) k
@@ -104,7 +104,7 @@ nothing_starts before behind p e = absurd (none_is_some before (Start p) behind 
 
 starts_runs : (t : List Line) (m : DeliveryMachine) → DeliveryRuns initial t m → StartsTheUnlisted t
 starts_runs t m stays = nothing_starts
-starts_runs t m (goes_on ls n more n' r s) = starts_step n more n' ls s (stands_runs initial [] ls n r stands_at_first) (starts_runs ls n r)
+starts_runs t m (goes_on ls n more n' r s) = starts_step n more n' ls s (in_state_runs initial [] ls n r in_state_at_first) (starts_runs ls n r)
 
 pub starts_the_unlisted : DeliveryStartsTheUnlisted
 starts_the_unlisted t (inl r) = starts_runs t r.0 r.1

@@ -17,8 +17,8 @@ Moves v lines w = (walked : ℕ) (coming : List Incarnation) → DeliveryRuns (m
 abbrev pub Stops : View → List Line → Type 0
 Stops v lines = (walked : ℕ) (coming : List Incarnation) → Halts (machine_at v walked coming) lines
 
-pub stands_still : (v : View) → Moves v [] v
-stands_still v walked coming = stays
+pub in_state_still : (v : View) → Moves v [] v
+in_state_still v walked coming = stays
 
 pub moves_joined : (u v w : View) (ls more : List Line) → Moves u ls v → Moves v more w → Moves u (ls ++ more) w
 moves_joined u v w ls more h i walked coming = runs_joined _ _ (machine_at v walked coming) _ _ (h walked coming) (i walked coming)

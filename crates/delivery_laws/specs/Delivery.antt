@@ -1,5 +1,5 @@
--- A machine that delivers events in the order in which they were accepted: just as much of a mote's kernel as the
--- order of delivery rests on.
+-- A machine that delivers events in the order in which they were accepted: the part of a mote's kernel on which the
+-- order of delivery rests.
 use Rattle.std.specs.Prelude.{ℕ, Bool, false, ◌≡◌, ◌<◌, ◌+◌, ◌⊎◌, List, [], ◌∷◌, ◌++◌, map, if◌then◌else◌}
 use Rattle.std.specs.List.{All}
 use Rattle.delivery_laws.specs.HandedOn.{Target, ToOne, ToAll, Line, Start, Leave, Post, Take, Drop, Halt, Other}

@@ -1,4 +1,4 @@
-//! The event queue of a mote: posted events in the order in which they came, each with its serial.
+//! The event queue of a mote: posted events in the order in which they were accepted, each with its serial.
 #![tactic(auto)]
 
 mod queue;

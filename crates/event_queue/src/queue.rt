@@ -11,7 +11,7 @@ use std::error::Error;
 use std::fmt;
 use std::marker::Model;
 
-/// An event that was accepted: its serial, whom it goes to, and the event itself.
+/// An event that was accepted: its serial, its target, and the event itself.
 #[derive(Clone, Copy, Debug, PartialEq, Eq)]
 pub struct Posted {
     pub serial: u64,
@@ -19,7 +19,7 @@ pub struct Posted {
     pub event: Event,
 }
 
-/// The error of a full queue (`PROCESS_ERR_FULL` of `process.h`). Nobody gets the event that was posted.
+/// The error of a full queue (`PROCESS_ERR_FULL` of `process.h`). The posted event is refused.
 #[derive(Clone, Copy, Debug, PartialEq, Eq)]
 pub struct Full;
 
@@ -33,7 +33,7 @@ impl fmt::Display for Full {
 
 impl Error for Full {}
 
-/// An event that waits, and whom it goes to. It has no serial, since those that wait were accepted one after another.
+/// An event that waits, and its target. It has no serial, because those that wait were accepted one after another.
 #[derive(Clone, Copy)]
 struct Waiting {
     target: Target,

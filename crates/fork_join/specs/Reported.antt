@@ -1,42 +1,42 @@
--- Which error a join returns.
+-- The error that a join returns.
 use Rattle.std.specs.Prelude.{◌≡◌, ◌⊎◌, List, [], ◌∷◌, ◌++◌, length, take, Option, Some, None, IfSome}
 use Rattle.std.specs.List.{AllZip, fold}
-use Rattle.fork_join.specs.declared.work.Refused.{Refused}
-use Rattle.fork_join.specs.declared.work.Refused.TheVariants.{Memory, Thread}
+use Rattle.fork_join.specs.declared.work.WorkerError.{WorkerError}
+use Rattle.fork_join.specs.declared.work.WorkerError.TheVariants.{Memory, Thread}
 use Rattle.fork_join.specs.Gravest.{gravest}
 use Rattle.fork_join.specs.Kept.{Handle}
 
 -- how a thread ended: without an error, with one that the work allows, or without memory for its result
-abbrev pub MayEnd : (Refused → Type 0) → Option Refused → Type 0
+abbrev pub MayEnd : (WorkerError → Type 0) → Option WorkerError → Type 0
 MayEnd errs None = Unit {0}
 MayEnd errs (Some e) = errs e ⊎ (e ≡ Memory)
 
 -- the error that is reported, with one more thread
-abbrev pub with_end : Option Refused → Option Refused → Option Refused
+abbrev pub with_end : Option WorkerError → Option WorkerError → Option WorkerError
 with_end so_far None = so_far
 with_end so_far (Some e) = Some (gravest so_far e)
 
 -- the error that is reported of all threads, in their order
-abbrev pub reported : List (Option Refused) → Option Refused
+abbrev pub reported : List (Option WorkerError) → Option WorkerError
 reported ends = fold with_end None ends
 
 -- an error of the fork itself: a start failed, or there was no memory for a handle
-abbrev pub IsOwn : Option Refused → Type 0
+abbrev pub IsOwn : Option WorkerError → Type 0
 IsOwn own = IfSome own (λ e. (e ≡ Memory) ⊎ (e ≡ Thread))
 
 -- The error of the first workers, which were started, and of the fork itself. If the fork has none, all were started.
 -- An error of a worker's own takes precedence over `Stopped`; of several the lowest worker's is reported, and the
 -- fork's comes last.
-abbrev pub IsReported : {T : Type 0} → (T → Refused → Type 0) → List T → Refused → Type 0
+abbrev pub IsReported : {T : Type 0} → (T → WorkerError → Type 0) → List T → WorkerError → Type 0
 IsReported errs workers e =
-    (ends : List (Option Refused)) × (own : Option Refused)
+    (ends : List (Option WorkerError)) × (own : Option WorkerError)
     × AllZip (λ worker end. MayEnd (errs worker) end) (take (length ends) workers) ends
     × IsOwn own × (own ≡ None → length ends ≡ length workers)
     × (reported (ends ++ own ∷ []) ≡ Some e)
 
 -- the error of the threads that were started
-abbrev pub IsReportedOf : {A W T : Type 0} → (W → T → Refused → Type 0) → List (Handle A W T) → Refused → Type 0
+abbrev pub IsReportedOf : {A W T : Type 0} → (W → T → WorkerError → Type 0) → List (Handle A W T) → WorkerError → Type 0
 IsReportedOf errs handles e =
-    (ends : List (Option Refused))
+    (ends : List (Option WorkerError))
     × AllZip (λ handle end. MayEnd (errs handle.promise.work.value handle.promise.worker.value) end) handles ends
     × (reported ends ≡ Some e)

@@ -8,7 +8,7 @@ ghost use Rattle.fork_join.specs.Reported.{IsReported, IsReportedOf};
 ghost use Rattle.fork_join.specs.Tokens.{HasTokens};
 
 use crate::stop::{Flag, Watch};
-use crate::work::{Refused, Work, gravest};
+use crate::work::{Work, WorkerError, gravest};
 use std::alloc::{AllocFailed, Global};
 use std::marker::Brand;
 use std::snapshot::Snapshot;
@@ -20,7 +20,7 @@ use std::thread::{Promise, PromisedHandle, Scope, Threads};
 /// The end of a worker's thread: the result of its work, and its part of the tokens.
 #[derive(Drop)]
 struct Ended<T, L: Ledger> {
-    result: Result<T, Refused>,
+    result: Result<T, WorkerError>,
     share: Share<L>,
 }
 
@@ -47,8 +47,8 @@ impl<T, W: Work<T>, L: Ledger> Promise<Ended<T, L>> for Promised<W, T> {
 /// in their order.
 ///
 /// # Errors
-/// The error of the first worker that failed, of those whose handle was kept; else `Thread` if a thread couldn't be
-/// started, or `may_start` refused it, or `Memory` if an allocation for the handles failed. A worker whose handle
+/// The error of the first worker that failed, of those whose handle was kept; otherwise `Thread` if a thread couldn't
+/// be started, or `may_start` refused it, or `Memory` if an allocation for the handles failed. A worker whose handle
 /// couldn't be stored is joined, and its answer dropped. A worker for whose result an allocation failed counts as one
 /// that returned `Memory`. It is never `Stopped`: a worker stops only after another, or a start, has failed.
 pub fn fork_join<R, T, W>(
@@ -56,7 +56,7 @@ pub fn fork_join<R, T, W>(
     alloc: Global,
     workers: Vec<T>,
     work: &W,
-) -> Result<Vec<T>, Refused>
+) -> Result<Vec<T>, WorkerError>
 where
     R: Threads + Wait + Sync,
     T: Send + Drop,
@@ -67,7 +67,7 @@ where
     ensures failed { IfErr result (λ e. is_own e ≡ true) }
 {
     let Some(parts) = (workers.len() as u64).checked_add(1) else {
-        return Err(Refused::Memory);
+        return Err(WorkerError::Memory);
     };
     fork_parts::<R, T, W, Brand>(rt, alloc, workers, work, Blank::new(parts))
 }
@@ -79,7 +79,7 @@ fn fork_parts<R, T, W, L>(
     workers: Vec<T>,
     work: &W,
     blank: Blank,
-) -> Result<Vec<T>, Refused>
+) -> Result<Vec<T>, WorkerError>
 where
     R: Threads + Wait + Sync,
     T: Send + Drop,
@@ -106,7 +106,7 @@ fn fork_scope<R, T, W, L>(
     work: &W,
     flag: &Flag<L>,
     all: Share<L>,
-) -> Result<Vec<T>, Refused>
+) -> Result<Vec<T>, WorkerError>
 where
     R: Threads + Wait + Sync,
     T: Send + Drop,
@@ -123,7 +123,7 @@ where
     thread::scope(
         thread::scope_env(),
         rt,
-        |scope| -> Result<Vec<T>, Refused>
+        |scope| -> Result<Vec<T>, WorkerError>
             requires ready { Each (W.ready work.now) workers.items }
             requires parts { all.parts ≡ L.parts }
             requires one_more { all.parts ≡ suc (length workers.items) }
@@ -175,7 +175,7 @@ fn fork_all<'s, 'e: 's, R, T, W, L>(
     work: &'e W,
     flag: &'e Flag<L>,
     all: Share<L>,
-) -> Result<Vec<T>, Refused>
+) -> Result<Vec<T>, WorkerError>
 where
     R: Threads + Wait + Sync,
     T: Send + Drop + 'e,
@@ -195,7 +195,7 @@ where
     for worker in workers {
         if !work.may_start(&worker) {
             flag.set(rt, &mut all);
-            refused = Some(Refused::Thread);
+            refused = Some(WorkerError::Thread);
             break;
         }
         let promise = Promised {
@@ -206,13 +206,13 @@ where
         let begun = scope.spawn_with(promise, move || run_worker(rt, work, worker, flag, share));
         let Ok(handle) = begun else {
             flag.set(rt, &mut all);
-            refused = Some(Refused::Thread);
+            refused = Some(WorkerError::Thread);
             break;
         };
         if let Err(AllocFailed { value: handle }) = started.push(handle) {
             flag.set(rt, &mut all);
             let _answer = handle.join(rt);
-            refused = Some(Refused::Memory);
+            refused = Some(WorkerError::Memory);
             break;
         }
     }
@@ -229,7 +229,7 @@ fn join_all<R: Threads, T: Send + Drop, W: Work<T>, L: Ledger + Send>(
     alloc: Global,
     started: Vec<PromisedHandle<Ended<T, L>, Promised<W, T>>>,
     all: &mut Share<L>,
-) -> Result<Vec<T>, Refused>
+) -> Result<Vec<T>, WorkerError>
     ensures kept { IfOk result (λ done. AllKept W.makes started.items done.items) }
     ensures reported { IfErr result (IsReportedOf W.errs started.items) }
     ensures parts { all.new.parts ≡ all.old.parts + length started.items }
@@ -244,7 +244,7 @@ fn join_all<R: Threads, T: Send + Drop, W: Work<T>, L: Ledger + Send>(
             Ok(worker) => {
                 if failed.is_none() {
                     if let Err(_worker) = done.push(worker) {
-                        failed = Some(Refused::Memory);
+                        failed = Some(WorkerError::Memory);
                     }
                 }
             }
@@ -262,15 +262,15 @@ fn none_stopped<R: Wait, T: Drop, L: Ledger>(
     rt: &R,
     flag: &Flag<L>,
     all: Share<L>,
-    done: Result<Vec<T>, Refused>,
-) -> Result<Vec<T>, Refused>
+    done: Result<Vec<T>, WorkerError>,
+) -> Result<Vec<T>, WorkerError>
     requires parts { all.parts ≡ L.parts }
     requires tokens { HasTokens done all.amount }
     ensures same { result ≡ done }
     ensures failed { IfErr result (λ e. is_own e ≡ true) }
 {
     match done {
-        Err(Refused::Stopped) => {
+        Err(WorkerError::Stopped) => {
             let mut all = all;
             flag.audit(rt, &mut all);
             unreachable!()

@@ -7,4 +7,4 @@ mod work;
 
 pub use fork::fork_join;
 pub use stop::Watch;
-pub use work::{Refused, Work};
+pub use work::{Work, WorkerError};

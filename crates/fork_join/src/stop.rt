@@ -150,7 +150,7 @@ impl<'a, L: Ledger> Watch<'a, L> {
         *seen = flag.see(rt, share);
     }
 
-    /// Ends the look of a worker that ended, and sets the flag if it failed.
+    /// Ends a worker's look once the worker has ended, and sets the flag if it failed.
     pub(crate) fn end<R: Wait>(self, rt: &R, failed: bool) -> Share<L>
         ensures part { result.parts ≡ 1 }
         ensures amount { failed ≡ false → result.amount ≡ tokens_of self.entry.seen }

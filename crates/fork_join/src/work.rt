@@ -9,7 +9,7 @@ use std::sync::ledger::Ledger;
 
 /// The reason why a worker gave up, or wasn't started.
 #[derive(Clone, Copy, Debug, PartialEq, Eq)]
-pub enum Refused {
+pub enum WorkerError {
     /// Out of memory: an allocation failed.
     Memory,
     /// A thread couldn't be started, or its work failed.
@@ -18,30 +18,31 @@ pub enum Refused {
     Stopped,
 }
 
-impl Refused {
+impl WorkerError {
     /// Returns whether the worker failed itself.
     pub(crate) fn is_own(self) -> bool
         ensures value { result ≡ is_own self }
     {
         match self {
-            Refused::Memory | Refused::Thread => true,
-            Refused::Stopped => false,
+            WorkerError::Memory | WorkerError::Thread => true,
+            WorkerError::Stopped => false,
         }
     }
 
-    /// Which of two reasons is reported: `Memory` and `Thread` go before `Stopped`, else the first before the other.
-    fn graver(self, other: Refused) -> Refused
+    /// The reason that is reported, of two: `Memory` and `Thread` take precedence over `Stopped`; otherwise it is the
+    /// first.
+    fn graver(self, other: WorkerError) -> WorkerError
         ensures value { result ≡ graver self other }
     {
         match self {
-            Refused::Stopped => other,
-            Refused::Memory | Refused::Thread => self,
+            WorkerError::Stopped => other,
+            WorkerError::Memory | WorkerError::Thread => self,
         }
     }
 }
 
-/// The reason that is reported, with one more reason.
-pub(crate) fn gravest(so_far: Option<Refused>, other: Refused) -> Refused
+/// The reported reason, once one more worker gave up, for the reason `other`.
+pub(crate) fn gravest(so_far: Option<WorkerError>, other: WorkerError) -> WorkerError
     ensures value { result ≡ gravest so_far other }
 {
     match so_far {
@@ -50,31 +51,31 @@ pub(crate) fn gravest(so_far: Option<Refused>, other: Refused) -> Refused
     }
 }
 
-impl From<AllocError> for Refused {
-    ghost use Rattle.fork_join.specs.declared.work.Refused.{Refused};
+impl From<AllocError> for WorkerError {
+    ghost use Rattle.fork_join.specs.declared.work.WorkerError.{WorkerError};
 
-    ghost from_gives = { λ _ e. e ≡ Refused.Memory };
+    ghost from_gives = { λ _ e. e ≡ WorkerError.Memory };
 
-    fn from(_: AllocError) -> Refused {
-        Refused::Memory
+    fn from(_: AllocError) -> WorkerError {
+        WorkerError::Memory
     }
 }
 
-impl<T: Drop> From<AllocFailed<T>> for Refused {
-    ghost use Rattle.fork_join.specs.declared.work.Refused.{Refused};
+impl<T: Drop> From<AllocFailed<T>> for WorkerError {
+    ghost use Rattle.fork_join.specs.declared.work.WorkerError.{WorkerError};
 
-    ghost from_gives = { λ _ e. e ≡ Refused.Memory };
+    ghost from_gives = { λ _ e. e ≡ WorkerError.Memory };
 
-    fn from(_: AllocFailed<T>) -> Refused {
-        Refused::Memory
+    fn from(_: AllocFailed<T>) -> WorkerError {
+        WorkerError::Memory
     }
 }
 
 /// The work that all workers do, each on its own record `T`.
 pub trait Work<T> {
     ghost use Rattle.std.specs.Prelude.{◌≡◌, true, IfErr, IfOk};
-    ghost use Rattle.fork_join.specs.declared.work.Refused.{Refused};
-    ghost use Rattle.fork_join.specs.declared.work.Refused.TheVariants.{Stopped};
+    ghost use Rattle.fork_join.specs.declared.work.WorkerError.{WorkerError};
+    ghost use Rattle.fork_join.specs.declared.work.WorkerError.TheVariants.{Stopped};
 
     /// The condition on a worker's record.
     ghost ready: { Self → T → Type 0 };
@@ -83,14 +84,14 @@ pub trait Work<T> {
     ghost makes: { Self → T → T → Type 0 };
 
     /// The errors that it may return instead.
-    ghost errs: { Self → T → Refused → Type 0 } = { λ _ _ _. Unit {0} };
+    ghost errs: { Self → T → WorkerError → Type 0 } = { λ _ _ _. Unit {0} };
 
-    /// Works on the record of one worker. Workers that wait for one another look at the flag while they wait: it is
-    /// set if a worker failed, or a start.
+    /// Works on the record of one worker. Workers that wait for one another look at the flag while they wait: the flag
+    /// is set if a worker, or a start, has failed.
     ///
     /// # Errors
     /// `Stopped` only if the worker saw the flag set.
-    fn work<L: Ledger>(&self, worker: T, watch: &mut Watch<'_, L>) -> Result<T, Refused>
+    fn work<L: Ledger>(&self, worker: T, watch: &mut Watch<'_, L>) -> Result<T, WorkerError>
         requires ready { ready self.now worker }
         ensures makes { IfOk result (makes self.now worker) }
         ensures errs { IfErr result (errs self.now worker) }

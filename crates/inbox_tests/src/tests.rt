@@ -1,5 +1,5 @@
-//! Most tests write their observations into one text and compare it once, in a function that they share: so a test owns
-//! little at the points at which it can end early, which would cost its proof most.
+//! Most tests write their observations into one text and compare it once, in a function that they share. So a test
+//! owns little wherever it can end early; owning much there would cost its proof most.
 
 mod marked;
 mod plain;
@@ -96,7 +96,7 @@ fn write_known(text: &mut String, inbox: &Inbox, taker: &Taker) -> Result<(), Al
     write!(text, "known {}|", inbox.known(taker))
 }
 
-/// Closes the inbox, and writes the rest of its items down.
+/// Closes the inbox, and writes down the rest of its items.
 fn write_rest<R: Wait>(
     rt: &R,
     text: &mut String,

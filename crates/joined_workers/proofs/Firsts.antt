@@ -5,7 +5,7 @@ use Rattle.std.specs.List.{AllByRecursion}
 use Rattle.radio_packet.specs.declared.copy.RadioCopy.{RadioCopy}
 use Rattle.window_laws.proofs.Lists.{every_append, every_weaker}
 use Rattle.joined_workers.specs.Worker.{IsFirstOf}
-use Rattle.all_workers.specs.Workers.{IsNotBefore}
+use Rattle.all_workers.specs.WorkerGroup.{IsNotBefore}
 use Rattle.window_laws.specs.Windows.{NoneBefore}
 
 nothing_before : (xs : List RadioCopy) (first result : Option ℕ) → ((copy : RadioCopy) → IsNotBefore first copy → IsNotBefore result copy) → AllByRecursion (IsNotBefore first) xs → AllByRecursion (IsNotBefore result) xs

@@ -7,4 +7,4 @@ pub mod Nexts
 pub mod Ready
 pub mod Returned
 pub mod Runs
-pub mod Stands
+pub mod IsInState

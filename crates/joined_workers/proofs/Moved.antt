@@ -20,34 +20,34 @@ use Rattle.worker_cut.specs.Laws.{GatheredCopies}
 use Rattle.worker_window.specs.declared.share.Share.{Share}
 use Rattle.worker_window.specs.Share.{Motes, Keeps}
 use Rattle.worker_window.specs.Window.{RunsOwnMote, IsOutgoing, outgoing_by}
-use Rattle.all_workers.specs.declared.workers.Workers.{Workers}
+use Rattle.all_workers.specs.declared.workers.WorkerGroup.{WorkerGroup}
 use Rattle.all_workers.specs.declared.worker.Worker.{Worker}
-use Rattle.all_workers.specs.Workers.{IsAt, IsWorkerAt}
+use Rattle.all_workers.specs.WorkerGroup.{IsAt, IsWorkerAt}
 use Rattle.all_workers.specs.Worker.{make_worker}
 use Rattle.joined_workers.specs.Laws.{GroupRunsUntil}
-use Rattle.all_workers.specs.Workers.{IsCut, IsNotBefore}
+use Rattle.all_workers.specs.WorkerGroup.{IsCut, IsNotBefore}
 use Rattle.joined_workers.specs.Worker.{IsFirstOf}
 use Rattle.all_workers.proofs.Choose.{choose}
 use Rattle.all_workers.proofs.Lookups.{there, read, mapped, as_long, inside, each_from, each_at, zip_long, map_long}
 use Rattle.all_workers.proofs.Lookups.{none_of, one_of, same_found}
 use Rattle.joined_workers.proofs.Moves.{Piece, piece, window}
 use Rattle.all_workers.proofs.Same.{keeps_same}
-use Rattle.all_workers.proofs.Step.{next, next_is, led_next, out_of, told_next, sent_late}
+use Rattle.all_workers.proofs.Step.{next, next_is, led_next, out_of, traced_next, sent_late}
 use Rattle.joined_workers.proofs.Arrived.{each_of_every}
 
 -- the effect of a window on one worker's part
-record Told : Type 0 where
+record OnRecord : Type 0 where
   next : Motes
   taken : List RadioCopy
   gathered : List RadioCopy
   outgoing : List RadioCopy
 
-module _ (n : NetModel) (fine : RunsForward (system_of n)) (of : List ℕ) (from until : ℕ) (old new : Workers) (at : IsAt n of from old) (up : from < until) (short : until ≤ from + (system_of n).lookahead) (all : GroupRunsUntil n of until old new) where
+module _ (n : NetModel) (fine : RunsForward (system_of n)) (of : List ℕ) (from until : ℕ) (old new : WorkerGroup) (at : IsAt n of from old) (up : from < until) (short : until ≤ from + (system_of n).lookahead) (all : GroupRunsUntil n of until old new) where
   abbrev workers : ℕ
   workers = length old.inboxes.items
 
-  record IsPart (v : ℕ) (z : Told) : Type 0 where
-    told : GatheredCopies (system_of n) of at.motes v z.gathered
+  record IsPart (v : ℕ) (z : OnRecord) : Type 0 where
+    recounted : GatheredCopies (system_of n) of at.motes v z.gathered
     took : (s : ℕ) → filter (is_from_sender s) z.taken ≡ filter (is_from_sender s) z.gathered
     runs : (k : ℕ) → is_own of v k ≡ true → RunsOwnMote n (is_own of v) from until at.motes z.next z.taken k
     out : (s : ℕ) → outgoing_by n (is_own of v) z.next s ≡ outgoing_by n (is_own of v) at.motes s ++ filter (is_from_sender s) z.outgoing
@@ -61,16 +61,16 @@ module _ (n : NetModel) (fine : RunsForward (system_of n)) (of : List ℕ) (from
   up_to : from ≤ until
   up_to = omega arith
 
-  part : (v : ℕ) → v < workers → (z : Told) × IsPart v z
+  part : (v : ℕ) → v < workers → (z : OnRecord) × IsPart v z
   part v h = of_piece (piece n of from until old new at all v h)
     where
-      of_piece : Piece n of from until old new at all v → (z : Told) × IsPart v z
+      of_piece : Piece n of from until old new at all v → (z : OnRecord) × IsPart v z
       of_piece p =
           let w = window n of from until old new at all short up_to v p in
           let gathered_is : gathered_by p.endpoint.taker ≡ gathered_by p.taker = ap copies_gathered p.starts.same_gathered in (
             record { next = w.next; taken = taken_by p.done.endpoint.taker; gathered = gathered_by p.taker; outgoing = p.ran.outgoing },
             record {
-              told = p.here.gathered;
+              recounted = p.here.gathered;
               took = λ s.
                   ap (λ t. filter (is_from_sender s) (taken_by t)) p.ran.delivers.taker ∙ (p.ran.collects.in_order s ∙ ap (filter (is_from_sender s)) gathered_is);
               runs = w.runs;
@@ -91,11 +91,11 @@ module _ (n : NetModel) (fine : RunsForward (system_of n)) (of : List ℕ) (from
             },
           )
 
-  nothing_told : Told
-  nothing_told = record { next = at.motes; taken = []; gathered = []; outgoing = [] }
+  nothing_reported : OnRecord
+  nothing_reported = record { next = at.motes; taken = []; gathered = []; outgoing = [] }
 
-  parts : (f : ℕ → Told) × ((v : ℕ) → v < workers → IsPart v (f v))
-  parts = choose nothing_told IsPart workers part
+  parts : (f : ℕ → OnRecord) × ((v : ℕ) → v < workers → IsPart v (f v))
+  parts = choose nothing_reported IsPart workers part
 
   taken : ℕ → List RadioCopy
   taken v = (parts.0 v).taken
@@ -112,9 +112,9 @@ module _ (n : NetModel) (fine : RunsForward (system_of n)) (of : List ℕ) (from
   is_part : (v : ℕ) → v < workers → IsPart v (parts.0 v)
   is_part v h = parts.1 v h
 
-  told : (v : ℕ) → v < workers → GatheredCopies (system_of n) of at.motes v (gathered v)
+  recounted : (v : ℕ) → v < workers → GatheredCopies (system_of n) of at.motes v (gathered v)
   unfolding gathered
-  told v h = (is_part v h).told
+  recounted v h = (is_part v h).recounted
 
   took : (v : ℕ) → v < workers → (s : ℕ) → filter (is_from_sender s) (taken v) ≡ filter (is_from_sender s) (gathered v)
   unfolding taken gathered
@@ -133,13 +133,13 @@ module _ (n : NetModel) (fine : RunsForward (system_of n)) (of : List ℕ) (from
   goes v h = (is_part v h).goes
 
   abbrev after : Motes
-  after = next n fine of workers at.cut from until at.motes up short taken gathered outgoing nexts told took runs out goes
+  after = next n fine of workers at.cut from until at.motes up short taken gathered outgoing nexts recounted took runs out goes
 
   abbrev out_to : (v s : ℕ) → List RadioCopy
-  out_to = out_of n fine of workers at.cut from until at.motes up short taken gathered outgoing nexts told took runs out goes
+  out_to = out_of n fine of workers at.cut from until at.motes up short taken gathered outgoing nexts recounted took runs out goes
 
   late : (v : ℕ) → v < workers → Each (λ (copy : RadioCopy). until ≤ copy.at) (outgoing v)
-  late = sent_late n fine of workers at.cut from until at.motes up short taken gathered outgoing nexts told took runs out goes at.led
+  late = sent_late n fine of workers at.cut from until at.motes up short taken gathered outgoing nexts recounted took runs out goes at.led
 
   endpoints_long : length all.endpoints ≡ length old.shares.items
   endpoints_long =
@@ -202,8 +202,8 @@ module _ (n : NetModel) (fine : RunsForward (system_of n)) (of : List ℕ) (from
       subst (λ x. IsWorkerAt n of until after new.first_out v x (get_or new.takers.items v taker)) (sym is_share)
       (subst (λ x. IsWorkerAt n of until after new.first_out v d.0.share x) (sym is_taker) (record {
         keeps = subst (λ x. Keeps n of v until after x d.0.share) (sym (p.taken_after t.0 t.1))
-            (keeps_same n of v (nexts v) after (λ k m. next_is n fine of workers at.cut from until at.motes up short taken gathered outgoing nexts told took runs out goes v k m) until (taken v) d.0.share (p.keeps d.0 d.1));
-        gathered = told_next n fine of workers at.cut from until at.motes up short taken gathered outgoing nexts told took runs out goes v h (gathered_by t.0) gathers;
+            (keeps_same n of v (nexts v) after (λ k m. next_is n fine of workers at.cut from until at.motes up short taken gathered outgoing nexts recounted took runs out goes v k m) until (taken v) d.0.share (p.keeps d.0 d.1));
+        gathered = traced_next n fine of workers at.cut from until at.motes up short taken gathered outgoing nexts recounted took runs out goes v h (gathered_by t.0) gathers;
         waits = λ s. record {
           rest = out_to v s;
           all = gathers s ∙ ap (λ l. l ++ out_to v s) (sym (took v h s) ∙ ap (filter (is_from_sender s)) (sym (p.taken_after t.0 t.1)));
@@ -223,7 +223,7 @@ module _ (n : NetModel) (fine : RunsForward (system_of n)) (of : List ℕ) (from
   unfolding outgoing
   moved = record {
     motes = after;
-    led = led_next n fine of workers at.cut from until at.motes up short taken gathered outgoing nexts told took runs out goes at.led;
+    led = led_next n fine of workers at.cut from until at.motes up short taken gathered outgoing nexts recounted took runs out goes at.led;
     cut = subst (λ l. IsCut (length n.motes) (length l) of) (sym all.inboxes) at.cut;
     shares = ap length all.shares ∙ (map_long (λ (w : Worker). w.share) all.done ∙ (done_long ∙ sym (ap length all.inboxes)));
     settled = all.settled;

@@ -12,9 +12,9 @@ use Rattle.worker_window.specs.declared.share.Share.{Share}
 use Rattle.worker_window.specs.Share.{Keeps}
 use Rattle.worker_window.specs.Window.{RunsWindow}
 use Rattle.worker_cut.specs.Crossed.{IsExpected}
-use Rattle.all_workers.specs.declared.workers.Workers.{Workers}
+use Rattle.all_workers.specs.declared.workers.WorkerGroup.{WorkerGroup}
 use Rattle.all_workers.specs.declared.worker.Worker.{Worker}
-use Rattle.all_workers.specs.Workers.{IsAt, IsWorkerAt}
+use Rattle.all_workers.specs.WorkerGroup.{IsAt, IsWorkerAt}
 use Rattle.all_workers.specs.Worker.{make_worker}
 use Rattle.joined_workers.specs.Laws.{GroupRunsUntil}
 use Rattle.joined_workers.specs.Worker.{RunsWorker}
@@ -22,7 +22,7 @@ use Rattle.all_workers.proofs.Lookups.{there, read, mapped, paired, beside, as_l
 use Rattle.all_workers.proofs.Numbered.{numbered}
 use Rattle.joined_workers.proofs.Ready.{arrived_come}
 
-module _ (n : NetModel) (of : List ℕ) (from until : ℕ) (old new : Workers) (at : IsAt n of from old) (all : GroupRunsUntil n of until old new) where
+module _ (n : NetModel) (of : List ℕ) (from until : ℕ) (old new : WorkerGroup) (at : IsAt n of from old) (all : GroupRunsUntil n of until old new) where
   -- one worker of the window: its old state, and its new one
   pub record Piece (v : ℕ) : Type 0 where
     pub share : Share

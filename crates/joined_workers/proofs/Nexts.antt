@@ -7,7 +7,7 @@ use Rattle.window_laws.specs.Windows.{NoneBefore}
 use Rattle.window_laws.proofs.Lists.{every_append, every_weaker}
 use Rattle.worker_window.specs.declared.share.Share.{Share}
 use Rattle.all_workers.specs.declared.worker.Worker.{Worker}
-use Rattle.all_workers.specs.Workers.{IsNotBefore}
+use Rattle.all_workers.specs.WorkerGroup.{IsNotBefore}
 use Rattle.joined_workers.specs.Next.{FirstOfAll, IsNextOfAll}
 use Rattle.worker_window.specs.Next.{TellsNext}
 

@@ -17,12 +17,12 @@ use Rattle.copy_exchange.specs.Inboxes.{IsPlain}
 use Rattle.worker_window.specs.declared.share.Share.{Share}
 use Rattle.worker_window.specs.Share.{Motes}
 use Rattle.worker_cut.specs.Crossed.{is_own, IsExpected}
-use Rattle.all_workers.specs.declared.workers.Workers.{Workers}
-use Rattle.all_workers.specs.Workers.{IsAt, IsWorkerAt}
+use Rattle.all_workers.specs.declared.workers.WorkerGroup.{WorkerGroup}
+use Rattle.all_workers.specs.WorkerGroup.{IsAt, IsWorkerAt}
 use Rattle.all_workers.specs.Worker.{make_worker}
 use Rattle.all_workers.specs.Threads.{AllMade}
 use Rattle.joined_workers.specs.Worker.{IsReady}
-use Rattle.all_workers.specs.Workers.{IsNotBefore}
+use Rattle.all_workers.specs.WorkerGroup.{IsNotBefore}
 use Rattle.all_workers.proofs.Lookups.{there, inside, read, beside, as_long, each_at, each_zipped, same_found}
 use Rattle.all_workers.proofs.Sent.{every_of_each}
 use Rattle.all_workers.proofs.Numbered.{numbered}
@@ -63,7 +63,7 @@ module _ (n : NetModel) (of : List ℕ) (from : ℕ) (motes : Motes) (first : Op
   pub arrived_come : Each (IsExpected of v from) arrived
   arrived_come = every_weaker _ _ (λ c g. record { to = g.0.0; sender = g.0.1; later = g.1 }) _ (every_both (λ (c : RadioCopy). (is_own of v c.to ≡ true) × (is_own of v c.sender ≡ false)) (λ (c : RadioCopy). from ≤ c.at) arrived all_foreign all_later)
 
-module _ (n : NetModel) (of : List ℕ) (from until : ℕ) (old : Workers) (at : IsAt n of from old) (up : from ≤ until) (early : until ≤ 2 ^ 40) (plain : Each IsPlain old.takers.items) where
+module _ (n : NetModel) (of : List ℕ) (from until : ℕ) (old : WorkerGroup) (at : IsAt n of from old) (up : from ≤ until) (early : until ≤ 2 ^ 40) (plain : Each IsPlain old.takers.items) where
   one_ready : (endpoints : List Endpoint) → Together old.inboxes.items endpoints → AllZip StartsAs old.takers.items endpoints → (v : ℕ) (s : Share) (c : Endpoint) → slice_get old.shares.items v ≡ Some s → slice_get endpoints v ≡ Some c → IsReady n of old.inboxes.items until (make_worker (s, c))
   one_ready endpoints together starts v s c e f =
       let h : v < length old.inboxes.items = subst (λ l. v < l) at.shares (inside old.shares.items v s e) in

@@ -15,9 +15,9 @@ use Rattle.copy_exchange.proofs.Windows.{returns_from}
 use Rattle.worker_window.specs.declared.share.Share.{Share}
 use Rattle.worker_cut.specs.Crossed.{is_own}
 use Rattle.worker_window.specs.Window.{IsOutgoing}
-use Rattle.all_workers.specs.declared.workers.Workers.{Workers}
+use Rattle.all_workers.specs.declared.workers.WorkerGroup.{WorkerGroup}
 use Rattle.all_workers.specs.declared.worker.Worker.{Worker}
-use Rattle.all_workers.specs.Workers.{IsAt}
+use Rattle.all_workers.specs.WorkerGroup.{IsAt}
 use Rattle.all_workers.specs.Threads.{AreMade, HaveWorked}
 use Rattle.all_workers.specs.Worker.{make_worker}
 use Rattle.joined_workers.specs.Worker.{RunsWorker}
@@ -55,7 +55,7 @@ module _ (n : NetModel) (of : List ℕ) (until : ℕ) (inboxes : List InboxId) w
   all_back (t ∷ ts) (s ∷ ss) (c ∷ cs) [] starts long ran = absurd ran
   all_back (t ∷ ts) (s ∷ ss) (c ∷ cs) (d ∷ ds) starts long ran = (one_back t s c d starts.0 ran.0, all_back ts ss cs ds starts.1 (omega arith) ran.1)
 
-module _ (n : NetModel) (of : List ℕ) (from until : ℕ) (old : Workers) (at : IsAt n of from old) (done : List Worker)
+module _ (n : NetModel) (of : List ℕ) (from until : ℕ) (old : WorkerGroup) (at : IsAt n of from old) (done : List Worker)
     (worked : HaveWorked old.inboxes.items old.takers.items old.shares.items (RunsWorker n of old.inboxes.items until) done) where
   abbrev made : AreMade old.inboxes.items old.takers.items old.shares.items worked.first
   made = worked.are_made

@@ -5,10 +5,10 @@ use Rattle.mote_net.specs.Net.{NetModel}
 use Rattle.window_laws.specs.Forward.{RunsForward}
 use Rattle.window_laws.specs.Windows.{NoneBefore}
 use Rattle.net_agenda.specs.NetSystem.{system_of}
-use Rattle.all_workers.specs.declared.workers.Workers.{Workers}
-use Rattle.all_workers.specs.Workers.{IsAt}
+use Rattle.all_workers.specs.declared.workers.WorkerGroup.{WorkerGroup}
+use Rattle.all_workers.specs.WorkerGroup.{IsAt}
 use Rattle.joined_workers.specs.Run.{BeginsAt, start_of_window}
-use Rattle.joined_workers.proofs.Stands.{comes_no_sooner, stands}
+use Rattle.joined_workers.proofs.IsInState.{comes_no_sooner, in_state}
 
 no_sooner : (reached end : ℕ) (next : Option ℕ) → NoneBefore reached next → reached ≤ end + 1 → reached ≤ start_of_window end next
 no_sooner reached end None wakes low = low
@@ -18,12 +18,12 @@ quiet : (end : ℕ) (next : Option ℕ) → NoneBefore (start_of_window end next
 quiet end None = tt
 quiet end (Some moment) = min-le_left moment (end + 1)
 
-module _ (n : NetModel) (of : List ℕ) (reached end : ℕ) (group : Workers) (from : ℕ) (at : IsAt n of reached group) (low : reached ≤ end + 1) (begins : BeginsAt end group from) where
+module _ (n : NetModel) (of : List ℕ) (reached end : ℕ) (group : WorkerGroup) (from : ℕ) (at : IsAt n of reached group) (low : reached ≤ end + 1) (begins : BeginsAt end group from) where
   pub begins_later : reached ≤ from
   begins_later = subst (λ m. reached ≤ m) (sym begins.start) (no_sooner reached end begins.next (comes_no_sooner n of reached group begins.next at begins.is) low)
 
-  pub stands_there : RunsForward (system_of n) → IsAt n of from group
-  stands_there fine = stands n fine of reached from group begins.next at begins.is begins_later (subst (λ m. NoneBefore m begins.next) (sym begins.start) (quiet end begins.next))
+  pub in_state_there : RunsForward (system_of n) → IsAt n of from group
+  in_state_there fine = in_state n fine of reached from group begins.next at begins.is begins_later (subst (λ m. NoneBefore m begins.next) (sym begins.start) (quiet end begins.next))
 
-pub short_enough : (from width lookahead told until : ℕ) → until ≤ from + width → width ≤ lookahead → lookahead ≡ told → until ≤ from + told
-short_enough from width lookahead told until short within value = omega arith
+pub short_enough : (from width lookahead recounted until : ℕ) → until ≤ from + width → width ≤ lookahead → lookahead ≡ recounted → until ≤ from + recounted
+short_enough from width lookahead recounted until short within value = omega arith

@@ -8,16 +8,16 @@ use Rattle.net_agenda.specs.NetSystem.{system_of}
 use Rattle.copy_exchange.specs.declared.endpoint.Endpoint.{Endpoint}
 use Rattle.copy_exchange.specs.Endpoints.{Together, StartsAs, GathersDelivered}
 use Rattle.copy_exchange.specs.Inboxes.{Settled}
-use Rattle.all_workers.specs.declared.workers.Workers.{Workers}
+use Rattle.all_workers.specs.declared.workers.WorkerGroup.{WorkerGroup}
 use Rattle.all_workers.specs.declared.worker.Worker.{Worker}
 use Rattle.all_workers.specs.Worker.{make_worker}
-use Rattle.all_workers.specs.Workers.{IsAt}
+use Rattle.all_workers.specs.WorkerGroup.{IsAt}
 use Rattle.joined_workers.specs.Next.{IsNextOfAll, FirstOfAll}
 use Rattle.joined_workers.specs.Worker.{RunsWorker}
 
 -- The senders of all workers were made together, each worker ran through the window with its own, and then all senders
 -- were gathered.
-pub record GroupRunsUntil (n : NetModel) (of : List ℕ) (until : ℕ) (old new : Workers) : Type 0 where
+pub record GroupRunsUntil (n : NetModel) (of : List ℕ) (until : ℕ) (old new : WorkerGroup) : Type 0 where
   pub endpoints : List Endpoint
   pub done : List Worker
   pub together : Together old.inboxes.items endpoints
@@ -32,12 +32,12 @@ pub record GroupRunsUntil (n : NetModel) (of : List ℕ) (until : ℕ) (old new 
 
 -- a window that begins at the moment of the workers, and is no longer than the lookahead, leads to its end
 abbrev pub WindowMovesOn : Type 0
-WindowMovesOn = (n : NetModel) → RunsForward (system_of n) → (of : List ℕ) (from until : ℕ) (old new : Workers)
+WindowMovesOn = (n : NetModel) → RunsForward (system_of n) → (of : List ℕ) (from until : ℕ) (old new : WorkerGroup)
     → IsAt n of from old → from < until → until ≤ from + (system_of n).lookahead
     → GroupRunsUntil n of until old new → IsAt n of until new
 
 -- the first pending event isn't before the moment of the workers, and they are at each moment up to it
-abbrev pub StandsUntilNext : Type 0
-StandsUntilNext = (n : NetModel) → RunsForward (system_of n) → (of : List ℕ) (from : ℕ) (group : Workers)
+abbrev pub StaysUntilNext : Type 0
+StaysUntilNext = (n : NetModel) → RunsForward (system_of n) → (of : List ℕ) (from : ℕ) (group : WorkerGroup)
     → (next : Option ℕ) → IsAt n of from group → IsNextOfAll group.first_out group.shares.items next
     → NoneBefore from next × ((moment : ℕ) → from ≤ moment → NoneBefore moment next → IsAt n of moment group)

@@ -1,7 +1,7 @@
 -- The windows of a run: their first moments and their ends.
 use Rattle.std.specs.Prelude.{ℕ, zero, suc, ◌≡◌, ◌+◌, ◌<◌, ◌≤◌, min, List, Option, Some, None}
 use Rattle.mote_net.specs.Net.{NetModel}
-use Rattle.all_workers.specs.declared.workers.Workers.{Workers}
+use Rattle.all_workers.specs.declared.workers.WorkerGroup.{WorkerGroup}
 use Rattle.all_workers.specs.WindowLength.{end_of_window}
 use Rattle.joined_workers.specs.Next.{IsNextOfAll}
 use Rattle.joined_workers.specs.Laws.{GroupRunsUntil}
@@ -12,26 +12,26 @@ start_of_window end None = end + 1
 start_of_window end (Some moment) = min moment (end + 1)
 
 -- the first moment of the next window of these workers
-pub record BeginsAt (end : ℕ) (group : Workers) (from : ℕ) : Type 0 where
+pub record BeginsAt (end : ℕ) (group : WorkerGroup) (from : ℕ) : Type 0 where
   pub next : Option ℕ
   pub is : IsNextOfAll group.first_out group.shares.items next
   pub start : from ≡ start_of_window end next
 
 -- one window of all workers, which begins at the first pending event and is at most `width` long
-pub record GroupRunsNext (n : NetModel) (of : List ℕ) (width : ℕ) (old new : Workers) : Type 0 where
+pub record GroupRunsNext (n : NetModel) (of : List ℕ) (width : ℕ) (old new : WorkerGroup) : Type 0 where
   pub from : ℕ
   pub begins : BeginsAt n.end old from
   pub there : from ≤ n.end
   pub runs : GroupRunsUntil n of (end_of_window n.end width from) old new
 
 -- this many of these, one after another
-abbrev pub GroupRunsWindows : NetModel → List ℕ → (width windows : ℕ) → (old new : Workers) → Type 0
+abbrev pub GroupRunsWindows : NetModel → List ℕ → (width windows : ℕ) → (old new : WorkerGroup) → Type 0
 GroupRunsWindows n of width zero old new = new ≡ old
 GroupRunsWindows n of width (suc k) old new =
-    (between : Workers) × GroupRunsWindows n of width k old between × GroupRunsNext n of width between new
+    (between : WorkerGroup) × GroupRunsWindows n of width k old between × GroupRunsNext n of width between new
 
 -- all of them: then nothing is pending up to the end
-pub record GroupRunsToEnd (n : NetModel) (of : List ℕ) (width : ℕ) (old new : Workers) : Type 0 where
+pub record GroupRunsToEnd (n : NetModel) (of : List ℕ) (width : ℕ) (old new : WorkerGroup) : Type 0 where
   pub windows : ℕ
   pub runs : GroupRunsWindows n of width windows old new
   pub next : ℕ

@@ -13,7 +13,7 @@ use Rattle.copy_exchange.specs.Inboxes.{IsPlain}
 use Rattle.worker_cut.specs.Crossed.{is_own, IsExpected}
 use Rattle.worker_window.specs.Share.{Motes, Keeps}
 use Rattle.worker_window.specs.Window.{CanRun, RunsWindow, IsOutgoing}
-use Rattle.all_workers.specs.Workers.{IsCut, IsNotBefore}
+use Rattle.all_workers.specs.WorkerGroup.{IsCut, IsNotBefore}
 use Rattle.all_workers.specs.declared.worker.Worker.{Worker}
 
 -- A worker that can run through a window that ends at 2^40 or sooner: the cut fits, its share and its endpoint are

@@ -5,7 +5,7 @@ ghost use Rattle.worker_window.specs.Next.{TellsNext};
 ghost use Rattle.joined_workers.specs.Next.{IsNextOfAll, FirstOfAll};
 
 use crate::worker::sooner;
-use all_workers::{Worker, Workers};
+use all_workers::{Worker, WorkerGroup};
 use worker_window::Share;
 
 /// `Share::next`, as a function with one clause, for the loop's proof.
@@ -22,7 +22,7 @@ fn first_out_of(worker: &Worker) -> Option<u64>
     worker.first_out
 }
 
-/// When the first of the copies that these workers delivered arrives.
+/// The moment at which the first of the copies arrives that these workers delivered.
 pub fn first_of_all(workers: &[Worker]) -> Option<u64>
     ensures first_of_all { FirstOfAll workers.now result }
 {
@@ -45,7 +45,7 @@ fn next_of_all(first_out: Option<u64>, shares: &[Share]) -> Option<u64>
 }
 
 /// The moment of the first pending event, in the shares or the inboxes, if there is one.
-pub fn next_moment(group: &Workers) -> Option<u64>
+pub fn next_moment(group: &WorkerGroup) -> Option<u64>
     ensures is_next_of_all { IsNextOfAll group.now.first_out group.now.shares.items result }
 {
     next_of_all(group.first_out, &group.shares)

@@ -7,14 +7,14 @@ ghost use Rattle.mote_net.specs.Meaning.{net_of};
 ghost use Rattle.net_agenda.specs.NetSystem.{system_of};
 ghost use Rattle.std.specs.List.{AllByRecursion as Each};
 ghost use Rattle.copy_exchange.specs.Inboxes.{IsPlain};
-ghost use Rattle.all_workers.specs.Workers.{IsAt};
+ghost use Rattle.all_workers.specs.WorkerGroup.{IsAt};
 ghost use Rattle.joined_workers.specs.Run.{BeginsAt, GroupRunsToEnd};
 ghost use Rattle.all_workers.specs.WindowLength.{IsSound, length_of_window};
 
 use crate::next::next_moment;
 use crate::window::run_window;
-use all_workers::{Workers, lookahead_of, window_end, window_length};
-use fork_join::Refused;
+use all_workers::{WorkerGroup, lookahead_of, window_end, window_length};
+use fork_join::WorkerError;
 use mote_net::Net;
 use std::alloc::{AllocGlobal, Global};
 use std::random::RandomSource;
@@ -22,9 +22,9 @@ use std::sync::Wait;
 use std::thread::Threads;
 use worker_window::Gate;
 
-/// The first moment of the next window: that of the first pending event, or after the end, if nothing is pending up to
-/// the end.
-fn window_start(group: &Workers, end: u64) -> u64
+/// The first moment of the next window: that of the first pending event, or a moment after the end, if nothing is
+/// pending up to the end.
+fn window_start(group: &WorkerGroup, end: u64) -> u64
     requires end_bounded { end ≤ latest_end }
     ensures value { BeginsAt end group.now result }
     ensures within { result ≤ end + 1 }
@@ -36,13 +36,13 @@ fn window_start(group: &Workers, end: u64) -> u64
     }
 }
 
-/// Runs all workers window by window to the end of the net. A window begins at the moment of the first pending event
-/// and ends before the lesser of that moment plus the lookahead (or plus `longest`, if that is above 0 and less) and
-/// end + 1. `of` is the worker of each mote. The inboxes have no marks.
+/// and ends before the lesser of that moment plus the lookahead (or plus `longest`, if it is above 0 and shorter) and
+/// and ends before the lesser of that moment plus the lookahead (or plus `longest`, if it is above 0 and shorter) and
+/// shorter). `of` is the worker of each mote. The inboxes have no marks.
 ///
 /// # Errors
 /// `Memory`, or `Thread` if a thread couldn't be started, the gate refused a start, or the executor returned an error:
-/// that of the lowest worker that has one. It is never `Stopped`.
+/// that of the first worker, by number, that has one. It is never `Stopped`.
 pub fn run_by_joins<R, G>(
     rt: &R,
     alloc: Global,
@@ -50,8 +50,8 @@ pub fn run_by_joins<R, G>(
     of: &[u16],
     longest: u32,
     gate: &G,
-    group: Workers,
-) -> Result<Workers, Refused>
+    group: WorkerGroup,
+) -> Result<WorkerGroup, WorkerError>
 where
     R: Threads + Wait + RandomSource + AllocGlobal + Sync,
     G: Gate + Sync,

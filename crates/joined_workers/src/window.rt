@@ -5,14 +5,14 @@ ghost use Rattle.std.specs.List.{AllByRecursion as Each};
 ghost use Rattle.fork_join.specs.Gravest.{is_own};
 ghost use Rattle.mote_net.specs.Meaning.{net_of};
 ghost use Rattle.copy_exchange.specs.Inboxes.{IsPlain};
-ghost use Rattle.all_workers.specs.Workers.{IsAt};
+ghost use Rattle.all_workers.specs.WorkerGroup.{IsAt};
 ghost use Rattle.joined_workers.specs.Laws.{GroupRunsUntil};
 
 use crate::next::first_of_all;
 use crate::worker::{Runner, WorkersWindow};
-use all_workers::{Workers, run_threads, split_workers};
+use all_workers::{WorkerGroup, run_threads, split_workers};
 use copy_exchange::gather_window;
-use fork_join::Refused;
+use fork_join::WorkerError;
 use mote_net::Net;
 use std::alloc::{AllocGlobal, Global};
 use std::random::RandomSource;
@@ -21,7 +21,7 @@ use std::thread::Threads;
 use worker_window::Gate;
 
 /// One window: each worker takes in the copies that were sent to it, runs its motes up to `until`, and delivers the
-/// copies that they sent, all in threads of their own; then all senders are gathered.
+/// copies that they sent, each in its own thread; then all senders are gathered.
 ///
 /// # Errors
 /// That of the first worker that has one; `Thread` if a thread couldn't be started, or the gate refused it; and
@@ -33,20 +33,20 @@ pub(crate) fn run_window<'a, R, G>(
     of: &'a [u16],
     until: u64,
     gate: &'a G,
-    group: Workers,
-) -> Result<Workers, Refused>
+    group: WorkerGroup,
+) -> Result<WorkerGroup, WorkerError>
 where
     R: Threads + Wait + RandomSource + AllocGlobal + Sync,
     G: Gate + Sync,
     requires until_bounded { until ≤ 2 ^ 40 }
     requires inboxes_bounded { length group.inboxes.items ≤ 16 }
-    requires stands { (from : ℕ) × IsAt (net_of net.now) of.now from group × (from ≤ until) }
+    requires in_state { (from : ℕ) × IsAt (net_of net.now) of.now from group × (from ≤ until) }
     requires plain { Each IsPlain group.takers.items }
     ensures runs { IfOk result (GroupRunsUntil (net_of net.now) of.now until group) }
     ensures plain { IfOk result (λ done. Each IsPlain done.takers.items) }
     ensures failed { IfErr result (λ e. is_own e ≡ true) }
 {
-    let Workers {
+    let WorkerGroup {
         shares,
         inboxes,
         takers,
@@ -69,9 +69,9 @@ where
     let first_out = first_of_all(&done);
     let (shares, endpoints) = split_workers(alloc, done)?;
     let Ok(takers) = gather_window(rt, alloc, &inboxes, endpoints) else {
-        return Err(Refused::Memory);
+        return Err(WorkerError::Memory);
     };
-    Ok(Workers {
+    Ok(WorkerGroup {
         shares,
         inboxes,
         takers,

@@ -1,16 +1,16 @@
 //! One worker in one window.
 
 ghost use Rattle.std.specs.Prelude.{◌≢◌, ℕ, IfErr, IfOk};
-ghost use Rattle.fork_join.specs.declared.work.Refused.TheVariants.{Stopped};
+ghost use Rattle.fork_join.specs.declared.work.WorkerError.TheVariants.{Stopped};
 ghost use Rattle.mote_net.specs.Meaning.{net_of};
 ghost use Rattle.radio_packet.specs.declared.copy.RadioCopy.{RadioCopy};
 ghost use Rattle.window_laws.specs.Windows.{NoneBefore};
 ghost use Rattle.joined_workers.specs.Worker.{IsReady, RunsWorker, IsFirstOf};
-ghost use Rattle.all_workers.specs.Workers.{IsNotBefore};
+ghost use Rattle.all_workers.specs.WorkerGroup.{IsNotBefore};
 
 use all_workers::Worker;
 use copy_inbox::Inbox;
-use fork_join::{Refused, Watch, Work};
+use fork_join::{Watch, Work, WorkerError};
 use mote_net::Net;
 use radio_packet::RadioCopy;
 use std::random::RandomSource;
@@ -63,7 +63,7 @@ pub fn sooner(one: Option<u64>, other: Option<u64>) -> Option<u64>
     Some(moment.min(second))
 }
 
-/// When the first of these copies arrives.
+/// The moment at which the first of these copies arrives.
 fn first_of(copies: &[RadioCopy]) -> Option<u64>
     ensures is_first_of { IsFirstOf copies.now result }
 {
@@ -81,7 +81,7 @@ fn run_worker<R: Wait + RandomSource + AllocGlobal, G: Gate>(
     gate: &G,
     window: &WorkersWindow<'_>,
     worker: Worker,
-) -> Result<Worker, Refused>
+) -> Result<Worker, WorkerError>
     requires ready { IsReady (net_of window.now.net.now) window.now.of.now window.now.inboxes.now window.now.until
         worker }
     ensures runs { IfOk result (RunsWorker
@@ -95,12 +95,12 @@ fn run_worker<R: Wait + RandomSource + AllocGlobal, G: Gate>(
         first_out: _,
     } = worker;
     let Ok(arrived) = endpoint.collect(rt, window.inboxes) else {
-        return Err(Refused::Memory);
+        return Err(WorkerError::Memory);
     };
     let outgoing = share.run_window(rt, window.net, window.of, arrived, window.until, gate)?;
     let first_out = first_of(&outgoing);
     let Ok(()) = endpoint.deliver(rt, window.inboxes, window.of, &outgoing) else {
-        return Err(Refused::Memory);
+        return Err(WorkerError::Memory);
     };
     Ok(Worker {
         share,
@@ -123,7 +123,7 @@ impl<R: Wait + RandomSource + AllocGlobal, G: Gate> Work<Worker> for Runner<'_, 
         &self,
         worker: Worker,
         _watch: &mut Watch<'_, L>,
-    ) -> Result<Worker, Refused> {
+    ) -> Result<Worker, WorkerError> {
         run_worker(self.rt, self.gate, &self.window, worker)
     }
 

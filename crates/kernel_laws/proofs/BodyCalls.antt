@@ -29,7 +29,7 @@ use Rattle.process_kernel.specs.Processes.{is_running_state, has_process, is_bus
 use Rattle.process_kernel.specs.ProcessList.{put_remainder, with_fresh_body, enlist_of, exiting_of, leave_of}
 use Rattle.process_kernel.specs.Posts.{post_of}
 use Rattle.process_kernel.specs.Writes.{with_line, write_of, halted_of, spend_of}
-use Rattle.process_kernel.specs.Calls.{Calls, Answer, told, is_system_event, walk_of}
+use Rattle.process_kernel.specs.Calls.{Calls, Answer, own_event, is_system_event, walk_of}
 use Rattle.process_kernel.specs.Radio.{packet_of}
 use Rattle.process_kernel.specs.Reaction.{remainder_at, handler_of, resume_of, own_of, react_of}
 use Rattle.process_kernel.specs.Exit.{process_number, last_run_of, exit_of}
@@ -39,9 +39,9 @@ use Rattle.process_kernel.specs.Thread.{stepped_with, stepped_of}
 use Rattle.process_kernel.specs.Looks.{looks_of}
 use Rattle.process_kernel.specs.Operation.{posted, answered_with, answer_of, act_of, perform_of, after_step, run_of}
 use Rattle.process_kernel.specs.Call.{has_ended, answered, call_of, calls_of}
-use Rattle.kernel_laws.specs.Printed.{IsQuietApart, LivesSoFar, Told, HasStarted}
+use Rattle.kernel_laws.specs.Printed.{IsQuietApart, LivesSoFar, OnRecord, HasStarted}
 use Rattle.kernel_laws.specs.Telling as telling
-use Rattle.kernel_laws.specs.Telling.{Standing, standing_of, IsOut, Next, AtStart, AtCall, CanCome}
+use Rattle.kernel_laws.specs.Telling.{ProcessInMote, process_in_mote, IsOut, Next, AtStart, AtCall, CanCome}
 use Rattle.kernel_laws.proofs.EachStep as each
 use Rattle.kernel_laws.proofs.EachStep.{Whoever, Lead, AreJoined, AreRingSteps, lead_from, lead_bind, lead_if}
 use Rattle.kernel_laws.proofs.EachStep.{lead_goes, lead_still, bind_twice}
@@ -50,27 +50,27 @@ use Rattle.kernel_laws.proofs.Lives.{at_first}
 use Rattle.kernel_laws.proofs.QuietThreads.{IsQuietRest, fresh_quiet, poll_quiet as on_poll_quiet}
 use Rattle.kernel_laws.proofs.QuietThreads.{exit_quiet as on_exit_quiet, callback_quiet, IsNoPrintStep}
 use Rattle.kernel_laws.proofs.QuietThreads.{advances_quietly, answered_quietly}
-use Rattle.kernel_laws.proofs.Standing.{Always, etimer_other, ctimer_other, radio_other, own_other, always_if}
-use Rattle.kernel_laws.proofs.Standing.{halted_quiet, get_set, IsOther, IsQuiet, which, other_own, line_quiet}
-use Rattle.kernel_laws.proofs.Standing.{print_quiet, state_quiet, exiting_quiet, poll_quiet, variables_quiet}
-use Rattle.kernel_laws.proofs.Standing.{remainder_quiet, body_quiet, enlist_quiet, leave_quiet, post_quiet}
-use Rattle.kernel_laws.proofs.OwnSteps.{alike, state_stands, exiting_stands, leave_stands, body_stands, put_stands}
-use Rattle.kernel_laws.proofs.OwnSteps.{enlist_stands}
+use Rattle.kernel_laws.proofs.ProcessInMote.{Always, etimer_other, ctimer_other, radio_other, own_other, always_if}
+use Rattle.kernel_laws.proofs.ProcessInMote.{halted_quiet, get_set, IsOther, IsQuiet, which, other_own, line_quiet}
+use Rattle.kernel_laws.proofs.ProcessInMote.{print_quiet, state_quiet, exiting_quiet, poll_quiet, variables_quiet}
+use Rattle.kernel_laws.proofs.ProcessInMote.{remainder_quiet, body_quiet, enlist_quiet, leave_quiet, post_quiet}
+use Rattle.kernel_laws.proofs.OwnSteps.{alike, state_in_mote, exiting_in_mote, leave_in_mote, body_is_right, put_in_mote}
+use Rattle.kernel_laws.proofs.OwnSteps.{enlist_in_mote}
 use Rattle.kernel_laws.proofs.BodyRuns.{IfGives, gives_bind, from_always, IsAway, ComesHere, HasLived, SoFar, RanFrom}
 use Rattle.kernel_laws.proofs.BodyRuns.{BodyRuns, IsNoPrint, runs_on}
 
 -- after the earlier lines about the process
 module _ (program : Tree) (mote p : ℕ) (code : Code) (earlier : List Line) where
   -- on the process list, in a life that has come this far
-  abbrev pub IsIn : Next → Standing → Remainder → List ℕ → Type 0
-  IsIn next v r vars = telling.IsIn p code mote (earlier ++ v.told) next v r vars
+  abbrev pub IsIn : Next → ProcessInMote → Remainder → List ℕ → Type 0
+  IsIn next v r vars = telling.IsIn p code mote (earlier ++ v.recounted) next v r vars
 
   -- The process is at rest, and the lines about it are those of its lives.
-  abbrev pub Stands : Standing → Type 0
-  Stands v = telling.RestsAsTraced program mote p code (earlier ++ v.told) v
+  abbrev pub IsInState : ProcessInMote → Type 0
+  IsInState v = telling.RestsAsTraced program mote p code (earlier ++ v.recounted) v
 
   -- It can be called with this event: it is at rest, or has just started.
-  pub record IsReady (v : Standing) (e : Event) : Type 0 where
+  pub record IsReady (v : ProcessInMote) (e : Event) : Type 0 where
     pub of_program : v.program ≡ program
     pub of_mote : v.mote ≡ mote
     pub tables : v.room ≡ v.has
@@ -82,43 +82,43 @@ module _ (program : Tree) (mote p : ℕ) (code : Code) (earlier : List Line) whe
     pub coming : Next
     pub can : CanCome coming e v.moment
     pub is_in : IsIn coming v still left
-    pub so_far : SoFar program mote p code earlier v.told
+    pub so_far : SoFar program mote p code earlier v.recounted
 
   -- a process that is away is unchanged, and for one that is at rest the lines stay those of its lives
   pub record Keeps (s t : State) : Type 0 where
-    pub away : IsAway program mote (standing_of p s) → IsQuiet p s t
-    pub stands : Stands (standing_of p s) → Stands (standing_of p t)
+    pub away : IsAway program mote (process_in_mote p s) → IsQuiet p s t
+    pub in_state : IsInState (process_in_mote p s) → IsInState (process_in_mote p t)
 
   pub quiet_keeps : (s t : State) → IsQuiet p s t → Keeps s t
-  quiet_keeps s t e = record { away = λ a. e; stands = λ h. subst (λ x. Stands x) (sym e) h }
+  quiet_keeps s t e = record { away = λ a. e; in_state = λ h. subst (λ x. IsInState x) (sym e) h }
 
   keeps_joined : (a b c : State) → Keeps a b → Keeps b c → Keeps a c
   keeps_joined a b c h i = record {
     away = λ x. i.away (subst (λ v. IsAway program mote v) (sym (h.away x)) x) ∙ h.away x;
-    stands = λ x. i.stands (h.stands x);
+    in_state = λ x. i.in_state (h.in_state x);
   }
 
   -- and if the mote halts, the lines are those of lives so far
   abbrev pub Stopped : State → Type 0
-  Stopped t = SoFar program mote p code earlier (standing_of p t).told
+  Stopped t = SoFar program mote p code earlier (process_in_mote p t).recounted
 
   pub record Stops (s t : State) : Type 0 where
-    pub away : IsAway program mote (standing_of p s) → Stopped s → Stopped t
-    pub stands : Stands (standing_of p s) → Stopped t
+    pub away : IsAway program mote (process_in_mote p s) → Stopped s → Stopped t
+    pub in_state : IsInState (process_in_mote p s) → Stopped t
 
-  stands_so_far : (s : State) → Stands (standing_of p s) → Stopped s
-  stands_so_far s h = Told h.lived
+  in_state_so_far : (s : State) → IsInState (process_in_mote p s) → Stopped s
+  in_state_so_far s h = OnRecord h.lived
 
   quiet_stopped : (s t : State) → IsQuiet p s t → Stopped s → Stopped t
-  quiet_stopped s t e h = subst (λ v. SoFar program mote p code earlier v.told) (sym e) h
+  quiet_stopped s t e h = subst (λ v. SoFar program mote p code earlier v.recounted) (sym e) h
 
   quiet_stops : (s t : State) → IsQuiet p s t → Stops s t
-  quiet_stops s t e = record { away = λ a h. quiet_stopped s t e h; stands = λ h. quiet_stopped s t e (stands_so_far s h) }
+  quiet_stops s t e = record { away = λ a h. quiet_stopped s t e h; in_state = λ h. quiet_stopped s t e (in_state_so_far s h) }
 
   keeps_stops : (a b c : State) → Keeps a b → Stops b c → Stops a c
   keeps_stops a b c h i = record {
     away = λ x so. i.away (subst (λ v. IsAway program mote v) (sym (h.away x)) x) (quiet_stopped a b (h.away x) so);
-    stands = λ x. i.stands (h.stands x);
+    in_state = λ x. i.in_state (h.in_state x);
   }
 
   pub chain : AreJoined Keeps Stops
@@ -156,19 +156,19 @@ module _ (program : Tree) (mote p : ℕ) (code : Code) (earlier : List Line) whe
 
   -- the process is at rest again, if the mote continues
   abbrev pub Settles : {A : Type 0} → Outcome A → Type 0
-  Settles {A} o = IfGives Stopped (λ a t. Stands (standing_of p t)) o
+  Settles {A} o = IfGives Stopped (λ a t. IsInState (process_in_mote p t)) o
 
   -- from the two cases: the process is away, or it is at rest
-  pub lead_of : {A : Type 0} (s : State) (o : Outcome A) → (IsAway program mote (standing_of p s) → Always (λ t. IsQuiet p s t) o) → (Stands (standing_of p s) → Settles o) → Leads A s o
-  lead_of {A} s (Ends t) h i = record { leads = record { away = λ a so. quiet_stopped s t (h a) so; stands = i } }
-  lead_of {A} s (Goes a t) h i = record { leads = record { away = h; stands = i } }
+  pub lead_of : {A : Type 0} (s : State) (o : Outcome A) → (IsAway program mote (process_in_mote p s) → Always (λ t. IsQuiet p s t) o) → (IsInState (process_in_mote p s) → Settles o) → Leads A s o
+  lead_of {A} s (Ends t) h i = record { leads = record { away = λ a so. quiet_stopped s t (h a) so; in_state = i } }
+  lead_of {A} s (Goes a t) h i = record { leads = record { away = h; in_state = i } }
 
   -- if the program is known to be this one
-  pub knowing : {A : Type 0} (s : State) (o : Outcome A) → ((standing_of p s).program ≡ program → Leads A s o) → Leads A s o
-  knowing {A} s (Ends t) h = record { leads = record { away = λ x. (h x.of_program).leads.away x; stands = λ x. (h x.of_program).leads.stands x } }
-  knowing {A} s (Goes a t) h = record { leads = record { away = λ x. (h x.of_program).leads.away x; stands = λ x. (h x.of_program).leads.stands x } }
+  pub knowing : {A : Type 0} (s : State) (o : Outcome A) → ((process_in_mote p s).program ≡ program → Leads A s o) → Leads A s o
+  knowing {A} s (Ends t) h = record { leads = record { away = λ x. (h x.of_program).leads.away x; in_state = λ x. (h x.of_program).leads.in_state x } }
+  knowing {A} s (Goes a t) h = record { leads = record { away = λ x. (h x.of_program).leads.away x; in_state = λ x. (h x.of_program).leads.in_state x } }
 
-  pub lead_away : {A : Type 0} (s : State) (o : Outcome A) → Leads A s o → IsAway program mote (standing_of p s) → Stopped s → IfGives Stopped (λ a t. IsQuiet p s t) o
+  pub lead_away : {A : Type 0} (s : State) (o : Outcome A) → Leads A s o → IsAway program mote (process_in_mote p s) → Stopped s → IfGives Stopped (λ a t. IsQuiet p s t) o
   lead_away {A} s (Ends t) h a so = h.leads.away a so
   lead_away {A} s (Goes x t) h a so = h.leads.away a
 
@@ -178,10 +178,10 @@ module _ (program : Tree) (mote p : ℕ) (code : Code) (earlier : List Line) whe
   unfolding spend_of
   spend_quiet s = always_if (λ t. IsQuiet p s t) (s.units == 0) _ _ (halted_quiet p s) refl
 
-  -- spending a unit leaves the process standing like this
-  spent : (v : Standing) (s : State) → standing_of p s ≡ v → SoFar program mote p code earlier v.told → IfGives Stopped (λ a t. standing_of p t ≡ v) (spend_of s)
+  -- spending a unit leaves the process in the same state
+  spent : (v : ProcessInMote) (s : State) → process_in_mote p s ≡ v → SoFar program mote p code earlier v.recounted → IfGives Stopped (λ a t. process_in_mote p t ≡ v) (spend_of s)
   spent v s e so =
-      from_always (Unit {0}) Stopped (λ t. IsQuiet p s t) (λ t. standing_of p t ≡ v) (spend_of s) (spend_quiet s) (λ t same. subst (λ w. SoFar program mote p code earlier w.told) (sym (same ∙ e)) so) (λ t same. same ∙ e)
+      from_always (Unit {0}) Stopped (λ t. IsQuiet p s t) (λ t. process_in_mote p t ≡ v) (spend_of s) (spend_quiet s) (λ t same. subst (λ w. SoFar program mote p code earlier w.recounted) (sym (same ∙ e)) so) (λ t same. same ∙ e)
 
   writes : (s : State) (w : What) → IsQuiet p s (with_line s w) → Leads (Unit {0}) s (write_of s w)
   unfolding write_of
@@ -240,23 +240,23 @@ module _ (program : Tree) (mote p : ℕ) (code : Code) (earlier : List Line) whe
 
   -- an invariant of the calls of a process and the runs of a thread: threads of others, of its body, and of its other
   -- blocks
-  pub record AreTold (calls : Calls) : Type 0 where
+  pub record AreTraced (calls : Calls) : Type 0 where
     pub call : (s : State) (q : Proc) (e : Event) → Leads (Unit {0}) s (calls.call s q e)
-    pub ready : (s : State) (e : Event) → IsReady (standing_of p s) e → Settles (calls.call s (Own p) e)
+    pub ready : (s : State) (e : Event) → IsReady (process_in_mote p s) e → Settles (calls.call s (Own p) e)
     pub run : (s : State) (c : Code) (r : Remainder) (q : ℕ) (e : Event) → (q ≡ p → ⊥) → Leads Answer s (calls.run s c r q e)
     pub body : BodyRuns program mote p code earlier calls
     pub beside : (s : State) (r : Remainder) (e : Event) → IsQuietRest code r → Leads Answer s (calls.run s code r p e)
 
   -- the body has run, or only the parts that run before it
-  record Reacted (v : Standing) (a : PtState) (w : Standing) : Type 0 where
+  record Reacted (v : ProcessInMote) (a : PtState) (w : ProcessInMote) : Type 0 where
     left : List ℕ
     next : Remainder
-    same : w ≡ record v { rest = Some next; vars = Some left; told = w.told }
-    lived : HasLived program mote p code earlier w.told left
-    comes : has_ended a ≡ false → ComesHere program mote p code earlier w.told AtCall next left
+    same : w ≡ record v { rest = Some next; vars = Some left; recounted = w.recounted }
+    lived : HasLived program mote p code earlier w.recounted left
+    comes : has_ended a ≡ false → ComesHere program mote p code earlier w.recounted AtCall next left
 
   -- it is about to leave the list, which it may do by itself, without a last run
-  record IsLeaving (v : Standing) (by_itself : Bool) : Type 0 where
+  record IsLeaving (v : ProcessInMote) (by_itself : Bool) : Type 0 where
     of_program : v.program ≡ program
     of_mote : v.mote ≡ mote
     has : v.has ≡ true
@@ -266,10 +266,10 @@ module _ (program : Tree) (mote p : ℕ) (code : Code) (earlier : List Line) whe
     rest : v.rest ≡ Some now
     left : List ℕ
     vars : v.vars ≡ Some left
-    lived : HasLived program mote p code earlier v.told left
-    comes : by_itself ≡ false → ComesHere program mote p code earlier v.told AtCall now left
+    lived : HasLived program mote p code earlier v.recounted left
+    comes : by_itself ≡ false → ComesHere program mote p code earlier v.recounted AtCall now left
 
-  record IsGone (v : Standing) : Type 0 where
+  record IsGone (v : ProcessInMote) : Type 0 where
     of_program : v.program ≡ program
     of_mote : v.mote ≡ mote
     has : v.has ≡ true
@@ -279,25 +279,25 @@ module _ (program : Tree) (mote p : ℕ) (code : Code) (earlier : List Line) whe
     rest : v.rest ≡ Some now
     left : List ℕ
     vars : v.vars ≡ Some left
-    lived : HasLived program mote p code earlier v.told left
+    lived : HasLived program mote p code earlier v.recounted left
 
   some_is : {X : Type 0} (x y : X) → Some x ≡ Some y → x ≡ y
   some_is x y e = ap (λ o. unwrap_or o x) e
 
   -- the process has this position in this state
-  abbrev At : Standing → State → Type 0
-  At v t = standing_of p t ≡ v
+  abbrev At : ProcessInMote → State → Type 0
+  At v t = process_in_mote p t ≡ v
 
   module _ (is_code : slice_get program.codes p ≡ Some code) (apart : IsQuietApart code) where
-    code_there : (s : State) → (standing_of p s).program ≡ program → slice_get s.program.codes p ≡ Some code
+    code_there : (s : State) → (process_in_mote p s).program ≡ program → slice_get s.program.codes p ≡ Some code
     code_there s e = ap (λ t. slice_get t.codes p) e ∙ is_code
 
-    module _ (calls : Calls) (are : AreTold calls) where
+    module _ (calls : Calls) (are : AreTraced calls) where
       walk_led : (e : Event) (q : Proc) (ms : List Member) (s : State) → Leads (Unit {0}) s (walk_of calls e q ms s)
       walk_led e q [] s = still s tt
       walk_led e q (m ∷ ms) s = bind s _ _ (either s _ _ _ (are.call s m.process e) (still s tt)) (λ a t. walk_led e q ms t)
 
-      own_callback : (s : State) (c : Code) (e : Event) → slice_get s.program.codes p ≡ Some c → (standing_of p s).program ≡ program → Leads Answer s (calls.run s c (fresh_of c (Callback e.word)) p e)
+      own_callback : (s : State) (c : Code) (e : Event) → slice_get s.program.codes p ≡ Some c → (process_in_mote p s).program ≡ program → Leads Answer s (calls.run s c (fresh_of c (Callback e.word)) p e)
       own_callback s c e is of_program =
           let same : c ≡ code = some_is c code (sym is ∙ code_there s of_program) in
           subst (λ c. Leads Answer s (calls.run s c (fresh_of c (Callback e.word)) p e)) (sym same) (are.beside s _ e (fresh_quiet code (Callback e.word) (callback_quiet code e.word apart)))
@@ -323,40 +323,40 @@ module _ (program : Tree) (mote p : ℕ) (code : Code) (earlier : List Line) whe
           either s (is_system_event Poll e) _ _ (bind s _ _ (are.beside s _ e (fresh_quiet code OnPoll (on_poll_quiet code apart))) (λ a t. still t tt))
           (either s (is_system_event Exit e) _ _ (bind s _ _ (are.beside s _ e (fresh_quiet code OnExit (on_exit_quiet code apart))) (λ a t. still t tt)) (still s tt))
 
-      resumed : (s : State) (r : Remainder) (vars : List ℕ) (e : Event) (coming : Next) → IsAway program mote (standing_of p s) → (standing_of p s).vars ≡ Some vars → (standing_of p s).rest ≡ Some r → CanCome coming e s.moment → ComesHere program mote p code earlier (standing_of p s).told coming r vars → Stopped s
-          → IfGives Stopped (λ a t. Reacted (standing_of p s) a (standing_of p t)) (resume_of calls s code p e)
+      resumed : (s : State) (r : Remainder) (vars : List ℕ) (e : Event) (coming : Next) → IsAway program mote (process_in_mote p s) → (process_in_mote p s).vars ≡ Some vars → (process_in_mote p s).rest ≡ Some r → CanCome coming e s.moment → ComesHere program mote p code earlier (process_in_mote p s).recounted coming r vars → Stopped s
+          → IfGives Stopped (λ a t. Reacted (process_in_mote p s) a (process_in_mote p t)) (resume_of calls s code p e)
       unfolding resume_of put_remainder
       resumed s r vars e coming away has rest can here so =
           let s1 = with_fresh_body s p in
-          let same1 : standing_of p s1 ≡ record (standing_of p s) { rest = Some (fresh_of code Body) } = body_stands p s code r (code_there s away.of_program) rest in
-          let away1 : IsAway program mote (standing_of p s1) = record { of_program = away.of_program; of_mote = away.of_mote; not_running = away.not_running; busy = away.busy } in
-          gives_bind Answer PtState Stopped (RanFrom program mote p code earlier (standing_of p s1)) (λ a t. Reacted (standing_of p s) a (standing_of p t)) (calls.run s1 code (remainder_at s code p) p e) _
-          (subst (λ x. IfGives Stopped (RanFrom program mote p code earlier (standing_of p s1)) (calls.run s1 code x p e)) (ap (λ o. unwrap_or o (fresh_of code Body)) (sym rest)) (are.body s1 r vars e coming away1 has can here so))
+          let same1 : process_in_mote p s1 ≡ record (process_in_mote p s) { rest = Some (fresh_of code Body) } = body_is_right p s code r (code_there s away.of_program) rest in
+          let away1 : IsAway program mote (process_in_mote p s1) = record { of_program = away.of_program; of_mote = away.of_mote; not_running = away.not_running; busy = away.busy } in
+          gives_bind Answer PtState Stopped (RanFrom program mote p code earlier (process_in_mote p s1)) (λ a t. Reacted (process_in_mote p s) a (process_in_mote p t)) (calls.run s1 code (remainder_at s code p) p e) _
+          (subst (λ x. IfGives Stopped (RanFrom program mote p code earlier (process_in_mote p s1)) (calls.run s1 code x p e)) (ap (λ o. unwrap_or o (fresh_of code Body)) (sym rest)) (are.body s1 r vars e coming away1 has can here so))
           (λ a t ran. record {
             left = ran.left;
             next = a.1;
-            same = put_stands p t a.1 (fresh_of code Body) (ap (λ v. v.rest) ran.same ∙ ap (λ v. v.rest) same1) ∙ ap {A = Standing} (λ v. record v { rest = Some a.1 }) ran.same ∙ ap {A = Standing} (λ v. record v { rest = Some a.1; vars = Some ran.left; told = (standing_of p t).told }) same1;
+            same = put_in_mote p t a.1 (fresh_of code Body) (ap (λ v. v.rest) ran.same ∙ ap (λ v. v.rest) same1) ∙ ap {A = ProcessInMote} (λ v. record v { rest = Some a.1 }) ran.same ∙ ap {A = ProcessInMote} (λ v. record v { rest = Some a.1; vars = Some ran.left; recounted = (process_in_mote p t).recounted }) same1;
             lived = ran.lived;
             comes = ran.comes;
           })
 
-      reacts : (s : State) (r : Remainder) (vars : List ℕ) (e : Event) (coming : Next) → IsAway program mote (standing_of p s) → (standing_of p s).vars ≡ Some vars → (standing_of p s).rest ≡ Some r → CanCome coming e s.moment → ComesHere program mote p code earlier (standing_of p s).told coming r vars → Stopped s
-          → IfGives Stopped (λ a t. Reacted (standing_of p s) a (standing_of p t)) (react_of calls s (Own p) e)
+      reacts : (s : State) (r : Remainder) (vars : List ℕ) (e : Event) (coming : Next) → IsAway program mote (process_in_mote p s) → (process_in_mote p s).vars ≡ Some vars → (process_in_mote p s).rest ≡ Some r → CanCome coming e s.moment → ComesHere program mote p code earlier (process_in_mote p s).recounted coming r vars → Stopped s
+          → IfGives Stopped (λ a t. Reacted (process_in_mote p s) a (process_in_mote p t)) (react_of calls s (Own p) e)
       unfolding react_of own_of
       reacts s r vars e coming away has rest can here so =
-          subst (λ o. IfGives Stopped (λ a t. Reacted (standing_of p s) a (standing_of p t)) (elim o [ None ↦ Goes Ended s | Some c ↦ handler_of calls s c p e >>= λ _ s1. resume_of calls s1 c p e ])) (sym (code_there s away.of_program))
-          (gives_bind (Unit {0}) PtState Stopped (λ u t. IsQuiet p s t) (λ a t. Reacted (standing_of p s) a (standing_of p t)) (handler_of calls s code p e) _ (lead_away s _ (handled s e) away so) (λ u t same.
-          subst (λ v. IfGives Stopped (λ a w. Reacted v a (standing_of p w)) (resume_of calls t code p e)) same
-          (resumed t r vars e coming (subst (λ v. IsAway program mote v) (sym same) away) (ap (λ v. v.vars) same ∙ has) (ap (λ v. v.rest) same ∙ rest) (subst (λ v. CanCome coming e v.moment) (sym same) can) (subst (λ v. ComesHere program mote p code earlier v.told coming r vars) (sym same) here) (quiet_stopped s t same so))))
+          subst (λ o. IfGives Stopped (λ a t. Reacted (process_in_mote p s) a (process_in_mote p t)) (elim o [ None ↦ Goes Ended s | Some c ↦ handler_of calls s c p e >>= λ _ s1. resume_of calls s1 c p e ])) (sym (code_there s away.of_program))
+          (gives_bind (Unit {0}) PtState Stopped (λ u t. IsQuiet p s t) (λ a t. Reacted (process_in_mote p s) a (process_in_mote p t)) (handler_of calls s code p e) _ (lead_away s _ (handled s e) away so) (λ u t same.
+          subst (λ v. IfGives Stopped (λ a w. Reacted v a (process_in_mote p w)) (resume_of calls t code p e)) same
+          (resumed t r vars e coming (subst (λ v. IsAway program mote v) (sym same) away) (ap (λ v. v.vars) same ∙ has) (ap (λ v. v.rest) same ∙ rest) (subst (λ v. CanCome coming e v.moment) (sym same) can) (subst (λ v. ComesHere program mote p code earlier v.recounted coming r vars) (sym same) here) (quiet_stopped s t same so))))
 
       -- it leaves
 
-      gone : (s : State) → IsGone (standing_of p s) → Settles (leave_of s (Own p))
+      gone : (s : State) → IsGone (process_in_mote p s) → Settles (leave_of s (Own p))
       gone s h =
-          from_always (Unit {0}) Stopped (λ t. At (record (standing_of p s) { exiting = false; listed = false }) t) (λ t. Stands (standing_of p t)) (leave_of s (Own p)) (leave_stands p s h.room) (λ t same. stands_so_far t (left_list t same)) left_list
+          from_always (Unit {0}) Stopped (λ t. At (record (process_in_mote p s) { exiting = false; listed = false }) t) (λ t. IsInState (process_in_mote p t)) (leave_of s (Own p)) (leave_in_mote p s h.room) (λ t same. in_state_so_far t (left_list t same)) left_list
         where
-          left_list : (t : State) → At (record (standing_of p s) { exiting = false; listed = false }) t → Stands (standing_of p t)
-          left_list t same = subst (λ x. Stands x) (sym same) (record {
+          left_list : (t : State) → At (record (process_in_mote p s) { exiting = false; listed = false }) t → IsInState (process_in_mote p t)
+          left_list t same = subst (λ x. IsInState x) (sym same) (record {
             of_program = h.of_program;
             of_mote = h.of_mote;
             tables = h.room ∙ sym h.has;
@@ -370,19 +370,19 @@ module _ (program : Tree) (mote p : ℕ) (code : Code) (earlier : List Line) whe
           })
 
       -- while it is being exited
-      abbrev on_its_way : Standing → Standing
+      abbrev on_its_way : ProcessInMote → ProcessInMote
       on_its_way v = record v { state = Off; exiting = true }
 
-      way_is_away : (v : Standing) → v.program ≡ program → v.mote ≡ mote → IsAway program mote (on_its_way v)
+      way_is_away : (v : ProcessInMote) → v.program ≡ program → v.mote ≡ mote → IsAway program mote (on_its_way v)
       way_is_away v e f = record { of_program = e; of_mote = f; not_running = refl; busy = refl }
 
-      walked : (s : State) (b : Bool) (e : Event) (ms : List Member) → IsLeaving (standing_of p s) b → IfGives Stopped (λ a t. At (on_its_way (standing_of p s)) t) (walk_of calls e (Own p) ms (exiting_of s (Own p)))
+      walked : (s : State) (b : Bool) (e : Event) (ms : List Member) → IsLeaving (process_in_mote p s) b → IfGives Stopped (λ a t. At (on_its_way (process_in_mote p s)) t) (walk_of calls e (Own p) ms (exiting_of s (Own p)))
       walked s b e ms h =
-          let same = exiting_stands p s h.has h.room in
+          let same = exiting_in_mote p s h.has h.room in
           subst (λ v. IfGives Stopped (λ a t. At v t) (walk_of calls e (Own p) ms (exiting_of s (Own p)))) same
-          (lead_away (exiting_of s (Own p)) _ (walk_led e (Own p) ms (exiting_of s (Own p))) (subst (λ v. IsAway program mote v) (sym same) (way_is_away (standing_of p s) h.of_program h.of_mote)) (subst (λ v. SoFar program mote p code earlier v.told) (sym same) (Told h.lived)))
+          (lead_away (exiting_of s (Own p)) _ (walk_led e (Own p) ms (exiting_of s (Own p))) (subst (λ v. IsAway program mote v) (sym same) (way_is_away (process_in_mote p s) h.of_program h.of_mote)) (subst (λ v. SoFar program mote p code earlier v.recounted) (sym same) (OnRecord h.lived)))
 
-      last_gone : (v : Standing) (a : PtState) (w : Standing) → v.program ≡ program → v.mote ≡ mote → v.has ≡ true → v.room ≡ true → v.state ≡ Off → Reacted v a w → IsGone w
+      last_gone : (v : ProcessInMote) (a : PtState) (w : ProcessInMote) → v.program ≡ program → v.mote ≡ mote → v.has ≡ true → v.room ≡ true → v.state ≡ Off → Reacted v a w → IsGone w
       last_gone v a w of_program of_mote has room state r = record {
         of_program = ap (λ x. x.program) r.same ∙ of_program;
         of_mote = ap (λ x. x.mote) r.same ∙ of_mote;
@@ -396,28 +396,28 @@ module _ (program : Tree) (mote p : ℕ) (code : Code) (earlier : List Line) whe
         lived = r.lived;
       }
 
-      last_runs : (s t : State) → IsLeaving (standing_of p s) false → At (on_its_way (standing_of p s)) t → IfGives Stopped (λ a u. IsGone (standing_of p u)) (last_run_of calls t (Own p))
+      last_runs : (s t : State) → IsLeaving (process_in_mote p s) false → At (on_its_way (process_in_mote p s)) t → IfGives Stopped (λ a u. IsGone (process_in_mote p u)) (last_run_of calls t (Own p))
       unfolding last_run_of
       last_runs s t h same =
-          gives_bind (Unit {0}) (Unit {0}) Stopped (λ a u. At (on_its_way (standing_of p s)) u) (λ a u. IsGone (standing_of p u)) (spend_of t) _ (spent (on_its_way (standing_of p s)) t same (Told h.lived)) (λ a u there.
-          gives_bind PtState (Unit {0}) Stopped (λ a w. Reacted (standing_of p u) a (standing_of p w)) (λ a w. IsGone (standing_of p w)) (react_of calls u (Own p) (told Exit 0)) _
-          (reacts u h.now h.left (told Exit 0) AtCall (subst (λ v. IsAway program mote v) (sym there) (way_is_away (standing_of p s) h.of_program h.of_mote)) (ap (λ v. v.vars) there ∙ h.vars) (ap (λ v. v.rest) there ∙ h.rest) tt (subst (λ v. ComesHere program mote p code earlier v.told AtCall h.now h.left) (sym there) (h.comes refl)) (subst (λ v. SoFar program mote p code earlier v.told) (sym there) (Told h.lived)))
-          (λ a w r. last_gone (standing_of p u) a (standing_of p w) (ap (λ v. v.program) there ∙ h.of_program) (ap (λ v. v.mote) there ∙ h.of_mote) (ap (λ v. v.has) there ∙ h.has) (ap (λ v. v.room) there ∙ h.room) (ap (λ v. v.state) there) r))
+          gives_bind (Unit {0}) (Unit {0}) Stopped (λ a u. At (on_its_way (process_in_mote p s)) u) (λ a u. IsGone (process_in_mote p u)) (spend_of t) _ (spent (on_its_way (process_in_mote p s)) t same (OnRecord h.lived)) (λ a u there.
+          gives_bind PtState (Unit {0}) Stopped (λ a w. Reacted (process_in_mote p u) a (process_in_mote p w)) (λ a w. IsGone (process_in_mote p w)) (react_of calls u (Own p) (own_event Exit 0)) _
+          (reacts u h.now h.left (own_event Exit 0) AtCall (subst (λ v. IsAway program mote v) (sym there) (way_is_away (process_in_mote p s) h.of_program h.of_mote)) (ap (λ v. v.vars) there ∙ h.vars) (ap (λ v. v.rest) there ∙ h.rest) tt (subst (λ v. ComesHere program mote p code earlier v.recounted AtCall h.now h.left) (sym there) (h.comes refl)) (subst (λ v. SoFar program mote p code earlier v.recounted) (sym there) (OnRecord h.lived)))
+          (λ a w r. last_gone (process_in_mote p u) a (process_in_mote p w) (ap (λ v. v.program) there ∙ h.of_program) (ap (λ v. v.mote) there ∙ h.of_mote) (ap (λ v. v.has) there ∙ h.has) (ap (λ v. v.room) there ∙ h.room) (ap (λ v. v.state) there) r))
 
-      last : (s t : State) (b : Bool) → IsLeaving (standing_of p s) b → At (on_its_way (standing_of p s)) t → IfGives Stopped (λ a u. IsGone (standing_of p u)) (if b then Goes tt t else last_run_of calls t (Own p))
+      last : (s t : State) (b : Bool) → IsLeaving (process_in_mote p s) b → At (on_its_way (process_in_mote p s)) t → IfGives Stopped (λ a u. IsGone (process_in_mote p u)) (if b then Goes tt t else last_run_of calls t (Own p))
       last s t true h same = subst (λ v. IsGone v) (sym same) (record { of_program = h.of_program; of_mote = h.of_mote; has = h.has; room = h.room; state = refl; now = h.now; rest = h.rest; left = h.left; vars = h.vars; lived = h.lived })
       last s t false h same = last_runs s t h same
 
-      exits : (s : State) (f : Proc) → IsLeaving (standing_of p s) (is_same (Own p) f) → Settles (exit_of calls s (Own p) f)
+      exits : (s : State) (f : Proc) → IsLeaving (process_in_mote p s) (is_same (Own p) f) → Settles (exit_of calls s (Own p) f)
       unfolding exit_of
       exits s f h =
-          subst (λ b. Settles (if b then (walk_of calls (told Exited (process_number (Own p))) (Own p) s.members (exiting_of s (Own p)) >>= λ _ s1. (if is_same (Own p) f then Goes tt s1 else last_run_of calls s1 (Own p)) >>= λ _ s2. leave_of s2 (Own p)) else Goes tt s)) (sym h.listed)
-          (gives_bind (Unit {0}) (Unit {0}) Stopped (λ a t. At (on_its_way (standing_of p s)) t) (λ a t. Stands (standing_of p t)) (walk_of calls (told Exited (process_number (Own p))) (Own p) s.members (exiting_of s (Own p))) _ (walked s _ _ s.members h) (λ a t same.
-          gives_bind (Unit {0}) (Unit {0}) Stopped (λ a u. IsGone (standing_of p u)) (λ a u. Stands (standing_of p u)) (if is_same (Own p) f then Goes tt t else last_run_of calls t (Own p)) _ (last s t (is_same (Own p) f) h same) (λ b u g. gone u g)))
+          subst (λ b. Settles (if b then (walk_of calls (own_event Exited (process_number (Own p))) (Own p) s.members (exiting_of s (Own p)) >>= λ _ s1. (if is_same (Own p) f then Goes tt s1 else last_run_of calls s1 (Own p)) >>= λ _ s2. leave_of s2 (Own p)) else Goes tt s)) (sym h.listed)
+          (gives_bind (Unit {0}) (Unit {0}) Stopped (λ a t. At (on_its_way (process_in_mote p s)) t) (λ a t. IsInState (process_in_mote p t)) (walk_of calls (own_event Exited (process_number (Own p))) (Own p) s.members (exiting_of s (Own p))) _ (walked s _ _ s.members h) (λ a t same.
+          gives_bind (Unit {0}) (Unit {0}) Stopped (λ a u. IsGone (process_in_mote p u)) (λ a u. IsInState (process_in_mote p u)) (if is_same (Own p) f then Goes tt t else last_run_of calls t (Own p)) _ (last s t (is_same (Own p) f) h same) (λ b u g. gone u g)))
 
       -- it is called
 
-      answers_so : (s : State) (v : Standing) (e : Event) (a : PtState) (exit : Bool) → IsReady v e → Reacted (record v { state = Called }) a (standing_of p s) → Settles (answered calls s (Own p) (has_ended a || exit))
+      answers_so : (s : State) (v : ProcessInMote) (e : Event) (a : PtState) (exit : Bool) → IsReady v e → Reacted (record v { state = Called }) a (process_in_mote p s) → Settles (answered calls s (Own p) (has_ended a || exit))
       unfolding answered
       answers_so s v e a exit h r = by (has_ended a || exit) refl
         where
@@ -440,8 +440,8 @@ module _ (program : Tree) (mote p : ℕ) (code : Code) (earlier : List Line) whe
             comes = λ q. absurd (let f : true ≡ false = sym (alike (place_of (Own p))) ∙ q in cc);
           })
           by false e =
-              let has : (standing_of p s).has ≡ true = ap (λ x. x.has) r.same ∙ h.is_in.has in
-              subst (λ x. Stands x) (sym (state_stands p s Running has)) (record {
+              let has : (process_in_mote p s).has ≡ true = ap (λ x. x.has) r.same ∙ h.is_in.has in
+              subst (λ x. IsInState x) (sym (state_in_mote p s Running has)) (record {
                 of_program = ap (λ x. x.program) r.same ∙ h.of_program;
                 of_mote = ap (λ x. x.mote) r.same ∙ h.of_mote;
                 tables = ap (λ x. x.room) r.same ∙ h.tables ∙ sym (ap (λ x. x.has) r.same);
@@ -454,24 +454,24 @@ module _ (program : Tree) (mote p : ℕ) (code : Code) (earlier : List Line) whe
                 where_it_is = inr (record { has = has; state = refl; listed = ap (λ x. x.listed) r.same ∙ h.is_in.listed; comes = r.comes (not_ended (has_ended a) exit e) });
               })
 
-      is_called : (s : State) (e : Event) → IsReady (standing_of p s) e → Settles (call_of calls s (Own p) e)
+      is_called : (s : State) (e : Event) → IsReady (process_in_mote p s) e → Settles (call_of calls s (Own p) e)
       unfolding call_of
       is_called s e h =
           let runs : is_running s (Own p) ≡ true = ap is_running_state h.is_in.state in
           subst (λ b. Settles (if b then (spend_of s >>= λ _ s1. react_of calls (with_state s1 (Own p) Called) (Own p) e >>= λ answer s2. answered calls s2 (Own p) (has_ended answer || is_system_event Exit e)) else Goes tt s)) (sym runs)
-          (gives_bind (Unit {0}) (Unit {0}) Stopped (λ a t. IsQuiet p s t) (λ a t. Stands (standing_of p t)) (spend_of s) _ (spent (standing_of p s) s refl h.so_far) (λ u t same.
+          (gives_bind (Unit {0}) (Unit {0}) Stopped (λ a t. IsQuiet p s t) (λ a t. IsInState (process_in_mote p t)) (spend_of s) _ (spent (process_in_mote p s) s refl h.so_far) (λ u t same.
           let s2 = with_state t (Own p) Called in
-          let same2 : standing_of p s2 ≡ record (standing_of p s) { state = Called } = state_stands p t Called (ap (λ v. v.has) same ∙ h.is_in.has) ∙ ap {A = Standing} (λ v. record v { state = Called }) same in
-          let away : IsAway program mote (standing_of p s2) = subst (λ v. IsAway program mote v) (sym same2) (record { of_program = h.of_program; of_mote = h.of_mote; not_running = refl; busy = refl }) in
-          gives_bind PtState (Unit {0}) Stopped (λ a w. Reacted (record (standing_of p s) { state = Called }) a (standing_of p w)) (λ a w. Stands (standing_of p w)) (react_of calls s2 (Own p) e) _
-          (subst (λ v. IfGives Stopped (λ a w. Reacted v a (standing_of p w)) (react_of calls s2 (Own p) e)) same2
-          (reacts s2 h.still h.left e h.coming away (ap (λ v. v.vars) same2 ∙ h.vars) (ap (λ v. v.rest) same2 ∙ h.rest) (subst (λ v. CanCome h.coming e v.moment) (sym same2) h.can) (subst (λ v. ComesHere program mote p code earlier v.told h.coming h.still h.left) (sym same2) h.is_in.comes) (subst (λ v. SoFar program mote p code earlier v.told) (sym same2) h.so_far)))
-          (λ a w r. answers_so w (standing_of p s) e a (is_system_event Exit e) h r)))
+          let same2 : process_in_mote p s2 ≡ record (process_in_mote p s) { state = Called } = state_in_mote p t Called (ap (λ v. v.has) same ∙ h.is_in.has) ∙ ap {A = ProcessInMote} (λ v. record v { state = Called }) same in
+          let away : IsAway program mote (process_in_mote p s2) = subst (λ v. IsAway program mote v) (sym same2) (record { of_program = h.of_program; of_mote = h.of_mote; not_running = refl; busy = refl }) in
+          gives_bind PtState (Unit {0}) Stopped (λ a w. Reacted (record (process_in_mote p s) { state = Called }) a (process_in_mote p w)) (λ a w. IsInState (process_in_mote p w)) (react_of calls s2 (Own p) e) _
+          (subst (λ v. IfGives Stopped (λ a w. Reacted v a (process_in_mote p w)) (react_of calls s2 (Own p) e)) same2
+          (reacts s2 h.still h.left e h.coming away (ap (λ v. v.vars) same2 ∙ h.vars) (ap (λ v. v.rest) same2 ∙ h.rest) (subst (λ v. CanCome h.coming e v.moment) (sym same2) h.can) (subst (λ v. ComesHere program mote p code earlier v.recounted h.coming h.still h.left) (sym same2) h.is_in.comes) (subst (λ v. SoFar program mote p code earlier v.recounted) (sym same2) h.so_far)))
+          (λ a w r. answers_so w (process_in_mote p s) e a (is_system_event Exit e) h r)))
 
       -- starts and kills
 
-      ready_first : (v w : Standing) (h : Stands v) → v.has ≡ true → w ≡ record v { state = Running; listed = true; rest = Some (fresh_of code Body); told = v.told ++ record { at = v.moment; what = what.Start (Own p) } ∷ [] } → IsReady w (told Init 0)
-      ready_first v w h has same = subst (λ x. IsReady x (told Init 0)) (sym same) (record {
+      ready_first : (v w : ProcessInMote) (h : IsInState v) → v.has ≡ true → w ≡ record v { state = Running; listed = true; rest = Some (fresh_of code Body); recounted = v.recounted ++ record { at = v.moment; what = what.Start (Own p) } ∷ [] } → IsReady w (own_event Init 0)
+      ready_first v w h has same = subst (λ x. IsReady x (own_event Init 0)) (sym same) (record {
         of_program = h.of_program;
         of_mote = h.of_mote;
         tables = h.tables;
@@ -487,25 +487,25 @@ module _ (program : Tree) (mote p : ℕ) (code : Code) (earlier : List Line) whe
           state = refl;
           listed = refl;
           comes = record {
-            before = earlier ++ v.told;
+            before = earlier ++ v.recounted;
             start = h.left;
             lived = h.lived;
             lines = record { at = v.moment; what = what.Start (Own p) } ∷ [];
             comes = at_first p code mote h.left v.moment;
-            is_told = sym (append_assoc earlier v.told (record { at = v.moment; what = what.Start (Own p) } ∷ []));
+            is_traced = sym (append_assoc earlier v.recounted (record { at = v.moment; what = what.Start (Own p) } ∷ []));
           };
         };
-        so_far = subst (λ l. LivesSoFar code (Own p) mote code.starts l) (append_assoc earlier v.told (record { at = v.moment; what = what.Start (Own p) } ∷ [])) (HasStarted h.lived v.moment);
+        so_far = subst (λ l. LivesSoFar code (Own p) mote code.starts l) (append_assoc earlier v.recounted (record { at = v.moment; what = what.Start (Own p) } ∷ [])) (HasStarted h.lived v.moment);
       })
 
-      starts_up : (s : State) → Stands (standing_of p s) → has_process s (Own p) ≡ true → Settles (enlist_of s (Own p) >>= λ _ s1. calls.call s1 (Own p) (told Init 0))
+      starts_up : (s : State) → IsInState (process_in_mote p s) → has_process s (Own p) ≡ true → Settles (enlist_of s (Own p) >>= λ _ s1. calls.call s1 (Own p) (own_event Init 0))
       starts_up s h has =
-          gives_bind (Unit {0}) (Unit {0}) Stopped (λ a t. IsReady (standing_of p t) (told Init 0)) (λ a t. Stands (standing_of p t)) (enlist_of s (Own p)) _
-          (from_always (Unit {0}) Stopped _ (λ t. IsReady (standing_of p t) (told Init 0)) (enlist_of s (Own p)) (enlist_stands p s code h.still (code_there s h.of_program) has h.rest) (λ t same. (ready_first (standing_of p s) (standing_of p t) h has same).so_far) (λ t same. ready_first (standing_of p s) (standing_of p t) h has same))
-          (λ a t ready. are.ready t (told Init 0) ready)
+          gives_bind (Unit {0}) (Unit {0}) Stopped (λ a t. IsReady (process_in_mote p t) (own_event Init 0)) (λ a t. IsInState (process_in_mote p t)) (enlist_of s (Own p)) _
+          (from_always (Unit {0}) Stopped _ (λ t. IsReady (process_in_mote p t) (own_event Init 0)) (enlist_of s (Own p)) (enlist_in_mote p s code h.still (code_there s h.of_program) has h.rest) (λ t same. (ready_first (process_in_mote p s) (process_in_mote p t) h has same).so_far) (λ t same. ready_first (process_in_mote p s) (process_in_mote p t) h has same))
+          (λ a t ready. are.ready t (own_event Init 0) ready)
 
-      own_start_if : (s : State) (b : Bool) → Stands (standing_of p s) → (has_process s (Own p) && not (is_listed s (Own p))) ≡ b
-          → Settles (if b then (enlist_of s (Own p) >>= λ _ s1. calls.call s1 (Own p) (told Init 0)) else Goes tt s)
+      own_start_if : (s : State) (b : Bool) → IsInState (process_in_mote p s) → (has_process s (Own p) && not (is_listed s (Own p))) ≡ b
+          → Settles (if b then (enlist_of s (Own p) >>= λ _ s1. calls.call s1 (Own p) (own_event Init 0)) else Goes tt s)
       own_start_if s true h e = starts_up s h (has (has_process s (Own p)) _ e)
         where
           has : (b c : Bool) → (b && c) ≡ true → b ≡ true
@@ -513,25 +513,25 @@ module _ (program : Tree) (mote p : ℕ) (code : Code) (earlier : List Line) whe
           has false c e = absurd (cc)
       own_start_if s false h e = h
 
-      busy_away : (s : State) → IsAway program mote (standing_of p s) → is_busy s (Own p) ≡ false → ⊥
+      busy_away : (s : State) → IsAway program mote (process_in_mote p s) → is_busy s (Own p) ≡ false → ⊥
       busy_away s a e = let f : true ≡ false = sym a.busy ∙ e in cc
 
       own_start : (s : State) → Leads (Unit {0}) s (start_of calls s (Own p))
       unfolding start_of
       own_start s = by (is_busy s (Own p)) refl
         where
-          by : (b : Bool) → is_busy s (Own p) ≡ b → Leads (Unit {0}) s (if b then write_of s (what.Busy (Own p)) else (if has_process s (Own p) && not (is_listed s (Own p)) then (enlist_of s (Own p) >>= λ _ s1. calls.call s1 (Own p) (told Init 0)) else Goes tt s))
+          by : (b : Bool) → is_busy s (Own p) ≡ b → Leads (Unit {0}) s (if b then write_of s (what.Busy (Own p)) else (if has_process s (Own p) && not (is_listed s (Own p)) then (enlist_of s (Own p) >>= λ _ s1. calls.call s1 (Own p) (own_event Init 0)) else Goes tt s))
           by true e = writes s _ (line_quiet p s (what.Busy (Own p)) refl)
           by false e = lead_of s _ (λ a. absurd (busy_away s a e)) (λ h. own_start_if s _ h refl)
 
-      unlisted_exit : (s : State) (f : Proc) → Stands (standing_of p s) → is_listed s (Own p) ≡ false → Settles (exit_of calls s (Own p) f)
+      unlisted_exit : (s : State) (f : Proc) → IsInState (process_in_mote p s) → is_listed s (Own p) ≡ false → Settles (exit_of calls s (Own p) f)
       unfolding exit_of
       unlisted_exit s f h e = rw e h
 
-      own_exit : (s : State) (f : Proc) → Stands (standing_of p s) → Settles (exit_of calls s (Own p) f)
+      own_exit : (s : State) (f : Proc) → IsInState (process_in_mote p s) → Settles (exit_of calls s (Own p) f)
       own_exit s f h = by h.where_it_is
         where
-          by : IsOut (standing_of p s) ⊎ IsIn AtCall (standing_of p s) h.still h.left → Settles (exit_of calls s (Own p) f)
+          by : IsOut (process_in_mote p s) ⊎ IsIn AtCall (process_in_mote p s) h.still h.left → Settles (exit_of calls s (Own p) f)
           by (inl out) = unlisted_exit s f h out.listed
           by (inr is_in) = exits s f (record {
             of_program = h.of_program;
@@ -582,8 +582,8 @@ module _ (program : Tree) (mote p : ℕ) (code : Code) (earlier : List Line) whe
       run_led : (s : State) (c : Code) (r : Remainder) (q : ℕ) (e : Event) → (q ≡ p → ⊥) → Leads Answer s (run_of calls s c r q e)
       run_led s c r q e n = each.one_run_led Keeps Stops chain Whoever Others steps calls led start_led (λ t k current l. kill_led t k current) s c r q e n
 
-      body_runs : (s : State) (r : Remainder) (vars : List ℕ) (e : Event) (coming : Next) → IsAway program mote (standing_of p s) → (standing_of p s).vars ≡ Some vars → CanCome coming e s.moment → ComesHere program mote p code earlier (standing_of p s).told coming r vars → Stopped s
-          → IfGives Stopped (RanFrom program mote p code earlier (standing_of p s)) (run_of calls s code r p e)
+      body_runs : (s : State) (r : Remainder) (vars : List ℕ) (e : Event) (coming : Next) → IsAway program mote (process_in_mote p s) → (process_in_mote p s).vars ≡ Some vars → CanCome coming e s.moment → ComesHere program mote p code earlier (process_in_mote p s).recounted coming r vars → Stopped s
+          → IfGives Stopped (RanFrom program mote p code earlier (process_in_mote p s)) (run_of calls s code r p e)
       body_runs s r vars e coming away has can here so =
           runs_on program mote p code earlier calls s r vars e coming away has can here so are.body (λ t o f a so. lead_away t _ (act_led t p o f) a so)
 
@@ -594,16 +594,16 @@ module _ (program : Tree) (mote p : ℕ) (code : Code) (earlier : List Line) whe
       answered_beside u r e answer None there h = are.beside u r e h
       answered_beside u r e answer (Some vs) there h =
           let a = answered_quietly code r vs answer h in
-          from u _ _ (ap (λ o. record (standing_of p u) { vars = o }) (get_set u.variables p (answered_of r vs answer).variables vs there ∙ ap Some a.1 ∙ sym there)) (are.beside _ _ e a.0)
+          from u _ _ (ap (λ o. record (process_in_mote p u) { vars = o }) (get_set u.variables p (answered_of r vs answer).variables vs there ∙ ap Some a.1 ∙ sym there)) (are.beside _ _ e a.0)
 
-      told_beside : (u : State) (r : Remainder) (e : Event) (full : Bool) → IsQuietRest code r → Leads Answer u (answer_of u r p full >>= λ r1 s1. calls.run s1 code r1 p e)
+      traced_next_to : (u : State) (r : Remainder) (e : Event) (full : Bool) → IsQuietRest code r → Leads Answer u (answer_of u r p full >>= λ r1 s1. calls.run s1 code r1 p e)
       unfolding answer_of
-      told_beside u r e full h = answered_beside u r e _ (slice_get u.variables p) refl h
+      traced_next_to u r e full h = answered_beside u r e _ (slice_get u.variables p) refl h
 
       performed_beside : (s : State) (r : Remainder) (e : Event) (o : Op) → IsNoPrint o → IsQuietRest code r → Leads Answer s (perform_of calls s r p o >>= λ r1 s1. calls.run s1 code r1 p e)
       unfolding perform_of
       performed_beside s r e (op.Post t number word) f h =
-          bind_twice Keeps Stops chain _ _ _ s (post_of s t (posted number word)) _ _ (bind s _ _ (quietly s _ (post_quiet p s t (posted number word))) (λ full u. told_beside u r e full h))
+          bind_twice Keeps Stops chain _ _ _ s (post_of s t (posted number word)) _ _ (bind s _ _ (quietly s _ (post_quiet p s t (posted number word))) (λ full u. traced_next_to u r e full h))
       performed_beside s r e o f h = bind_twice Keeps Stops chain _ _ _ s (act_of calls s p o) _ _ (bind s _ _ (act_led s p o f) (λ a u. are.beside u r e h))
 
       after_beside : (s : State) (r : Remainder) (e : Event) (x : Step) → IsNoPrintStep x → IsQuietRest code r → Leads Answer s (after_step calls code p e x r s)
@@ -617,7 +617,7 @@ module _ (program : Tree) (mote p : ℕ) (code : Code) (earlier : List Line) whe
       stepped_beside s r e (Some vs) there h =
           let a = advances_quietly code e (looks_of s) r vs s.units h in
           let next = advanced_of code e (looks_of s) r vs s.units in
-          from s _ _ (ap (λ o. record (standing_of p s) { vars = o }) (get_set s.variables p next.variables vs there ∙ ap Some a.variables ∙ sym there)) (after_beside _ next.remainder e next.step a.step a.rest)
+          from s _ _ (ap (λ o. record (process_in_mote p s) { vars = o }) (get_set s.variables p next.variables vs there ∙ ap Some a.variables ∙ sym there)) (after_beside _ next.remainder e next.step a.step a.rest)
 
       runs_beside : (s : State) (r : Remainder) (e : Event) → IsQuietRest code r → Leads Answer s (run_of calls s code r p e)
       unfolding run_of stepped_of
@@ -632,9 +632,9 @@ module _ (program : Tree) (mote p : ℕ) (code : Code) (earlier : List Line) whe
       own_called : (s : State) (e : Event) → Leads (Unit {0}) s (call_of calls s (Own p) e)
       own_called s e = lead_of s _ (λ a. subst (λ o. Always (λ t. IsQuiet p s t) o) (sym (lost s e a.not_running)) refl) (λ h. by h h.where_it_is)
         where
-          by : (h : Stands (standing_of p s)) → IsOut (standing_of p s) ⊎ IsIn AtCall (standing_of p s) h.still h.left → Settles (call_of calls s (Own p) e)
+          by : (h : IsInState (process_in_mote p s)) → IsOut (process_in_mote p s) ⊎ IsIn AtCall (process_in_mote p s) h.still h.left → Settles (call_of calls s (Own p) e)
           by h (inl out) = subst (λ o. Settles o) (sym (lost s e (ap is_running_state out.state))) h
-          by h (inr is_in) = is_called s e (record { of_program = h.of_program; of_mote = h.of_mote; tables = h.tables; free = h.free; still = h.still; rest = h.rest; left = h.left; vars = h.vars; coming = AtCall; can = tt; is_in = is_in; so_far = Told h.lived })
+          by h (inr is_in) = is_called s e (record { of_program = h.of_program; of_mote = h.of_mote; tables = h.tables; free = h.free; still = h.still; rest = h.rest; left = h.left; vars = h.vars; coming = AtCall; can = tt; is_in = is_in; so_far = OnRecord h.lived })
 
       call_led : (s : State) (q : Proc) (e : Event) → Leads (Unit {0}) s (call_of calls s q e)
       call_led s q e = by (which p q)
@@ -643,19 +643,19 @@ module _ (program : Tree) (mote p : ℕ) (code : Code) (earlier : List Line) whe
           by (inl i) = subst (λ k. Leads (Unit {0}) s (call_of calls s k e)) (sym i) (own_called s e)
           by (inr n) = each.call_led Keeps Stops chain Whoever Others steps calls led s q e (is_ours q n) (λ z. tt)
 
-    pub calls_told : (k : ℕ) → AreTold (calls_of k)
+    pub all_calls_traced : (k : ℕ) → AreTraced (calls_of k)
     unfolding calls_of
-    calls_told zero = record {
+    all_calls_traced zero = record {
       call = λ s q e. halts s;
       ready = λ s e h. quiet_stopped s (halted_of s) (halted_quiet p s) h.so_far;
       run = λ s c r q e n. halts s;
       body = λ s r vars e coming away has can here so. quiet_stopped s (halted_of s) (halted_quiet p s) so;
       beside = λ s r e h. halts s;
     }
-    calls_told (suc k) = record {
-      call = call_led (calls_of k) (calls_told k);
-      ready = is_called (calls_of k) (calls_told k);
-      run = run_led (calls_of k) (calls_told k);
-      body = body_runs (calls_of k) (calls_told k);
-      beside = runs_beside (calls_of k) (calls_told k);
+    all_calls_traced (suc k) = record {
+      call = call_led (calls_of k) (all_calls_traced k);
+      ready = is_called (calls_of k) (all_calls_traced k);
+      run = run_led (calls_of k) (all_calls_traced k);
+      body = body_runs (calls_of k) (all_calls_traced k);
+      beside = runs_beside (calls_of k) (all_calls_traced k);
     }

@@ -17,7 +17,7 @@ use Rattle.process_kernel.specs.declared.process.ProcessState.{ProcessState}
 use Rattle.process_kernel.specs.declared.process.ProcessState.TheVariants.{Off, Running, Called}
 use Rattle.process_kernel.specs.Members.{place_of}
 use Rattle.process_kernel.specs.State.{State, Outcome, Ends, Goes}
-use Rattle.process_kernel.specs.Calls.{Calls, told}
+use Rattle.process_kernel.specs.Calls.{Calls, own_event}
 use Rattle.process_kernel.specs.Call.{calls_of}
 use Rattle.process_kernel.specs.Run.{begun_of, kernel_of, most_units}
 use Rattle.process_kernel.specs.Boot.{boot_of}
@@ -27,19 +27,19 @@ use Rattle.kernel_laws.specs.Going.{IsNote}
 use Rattle.kernel_laws.specs.InStep.{AreInStep, state_at_place, exiting_at, listed_in}
 use Rattle.kernel_laws.specs.Traces.{KernelCall, RunAt, PollOf, Accepts, Notes, Traced, after_call, after_calls}
 use Rattle.kernel_laws.specs.Traces.{booted_at}
-use Rattle.kernel_laws.specs.Printed.{IsQuietApart, starts_or_prints, starts_and_prints, Unborn, LivesSoFar, Told}
+use Rattle.kernel_laws.specs.Printed.{IsQuietApart, starts_or_prints, starts_and_prints, Unborn, LivesSoFar, OnRecord}
 use Rattle.kernel_laws.specs.Printed.{PrintsAreTheReading, PrintsSoFarAreTheReading}
-use Rattle.kernel_laws.specs.Telling.{Standing, standing_of, RestsAsTraced, TellsSoFar, IsProcess, TellingIsOfLives}
+use Rattle.kernel_laws.specs.Telling.{ProcessInMote, process_in_mote, RestsAsTraced, TellsSoFar, IsProcess, TellingIsOfLives}
 use Rattle.kernel_laws.specs.Telling.{TellingIsOfLivesSoFar, NoLinesTellFirst, BootTells, RunTells, PollTells}
 use Rattle.kernel_laws.specs.Telling.{PacketTells, NoteTells}
 use Rattle.kernel_laws.proofs.Resting.{numbered_listed, first_rests}
-use Rattle.kernel_laws.proofs.Standing.{IsQuiet, told_more, line_quiet, needs_poll_quiet, poll_quiet}
+use Rattle.kernel_laws.proofs.ProcessInMote.{IsQuiet, traced_more, line_quiet, needs_poll_quiet, poll_quiet}
 use Rattle.kernel_laws.proofs.EachStep.{Lead, AreRunSteps, kernel_led, boot_led, unless_halts}
-use Rattle.kernel_laws.proofs.BodyCalls.{Keeps, Stops, chain, quiet_keeps, Leads, AreTold, start_led, calls_told}
+use Rattle.kernel_laws.proofs.BodyCalls.{Keeps, Stops, chain, quiet_keeps, Leads, AreTraced, start_led, all_calls_traced}
 
 module _ (program : Tree) (mote p : ℕ) (code : Code) (is_code : slice_get program.codes p ≡ Some code) (apart : IsQuietApart code) where
   -- boots and kernel runs
-  module _ (earlier : List Line) (calls : Calls) (are : AreTold program mote p code earlier calls) where
+  module _ (earlier : List Line) (calls : Calls) (are : AreTraced program mote p code earlier calls) where
     abbrev K : State → State → Type 0
     K s t = Keeps program mote p code earlier s t
 
@@ -67,12 +67,12 @@ module _ (program : Tree) (mote p : ℕ) (code : Code) (is_code : slice_get prog
 -- between the calls of a kernel
 
 module _ (program : Tree) (mote p : ℕ) (code : Code) where
-  told_twice : (xs ys : List Line) → starts_and_prints (Own p) (xs ++ ys) ≡ starts_and_prints (Own p) xs ++ starts_and_prints (Own p) ys
-  told_twice xs ys = filter-append (λ l. starts_or_prints (Own p) l.what) xs ys
+  traced_twice : (xs ys : List Line) → starts_and_prints (Own p) (xs ++ ys) ≡ starts_and_prints (Own p) xs ++ starts_and_prints (Own p) ys
+  traced_twice xs ys = filter-append (λ l. starts_or_prints (Own p) l.what) xs ys
 
   -- whatever the lines of the run under way tell
-  retold : (told : List Line) (v : Standing) (moment : ℕ) (now : List Line) → RestsAsTraced program mote p code told v → RestsAsTraced program mote p code told (record v { moment = moment; told = now })
-  retold told v moment now h = record {
+  traced_again : (recounted : List Line) (v : ProcessInMote) (moment : ℕ) (now : List Line) → RestsAsTraced program mote p code recounted v → RestsAsTraced program mote p code recounted (record v { moment = moment; recounted = now })
+  traced_again recounted v moment now h = record {
     of_program = h.of_program;
     of_mote = h.of_mote;
     tables = h.tables;
@@ -85,39 +85,39 @@ module _ (program : Tree) (mote p : ℕ) (code : Code) where
     where_it_is = elim h.where_it_is [ inl out ↦ inl (record { state = out.state; listed = out.listed }) | inr here ↦ inr (record { has = here.has; state = here.state; listed = here.listed; comes = here.comes }) ];
   }
 
-  begun_stands : (m : Mote) (moment : ℕ) (before : List Line) (sends : List Sent) → standing_of p (begun m moment before sends) ≡ record (standing_of p m.state) { moment = moment; told = starts_and_prints (Own p) before }
+  begun_in_state : (m : Mote) (moment : ℕ) (before : List Line) (sends : List Sent) → process_in_mote p (begun m moment before sends) ≡ record (process_in_mote p m.state) { moment = moment; recounted = starts_and_prints (Own p) before }
   unfolding begun_of
-  begun_stands m moment before sends = ap (λ b. record (standing_of p m.state) { moment = moment; listed = b; told = starts_and_prints (Own p) before }) (numbered_listed 0 m.state.members (place_of (Own p)))
+  begun_in_state m moment before sends = ap (λ b. record (process_in_mote p m.state) { moment = moment; listed = b; recounted = starts_and_prints (Own p) before }) (numbered_listed 0 m.state.members (place_of (Own p)))
 
-  begins : (earlier : List Line) (m : Mote) (moment : ℕ) (before : List Line) (sends : List Sent) → RestsAsTraced program mote p code (starts_and_prints (Own p) (earlier ++ before)) (standing_of p m.state)
-      → let s = begun m moment before sends in RestsAsTraced program mote p code (starts_and_prints (Own p) earlier ++ (standing_of p s).told) (standing_of p s)
+  begins : (earlier : List Line) (m : Mote) (moment : ℕ) (before : List Line) (sends : List Sent) → RestsAsTraced program mote p code (starts_and_prints (Own p) (earlier ++ before)) (process_in_mote p m.state)
+      → let s = begun m moment before sends in RestsAsTraced program mote p code (starts_and_prints (Own p) earlier ++ (process_in_mote p s).recounted) (process_in_mote p s)
   begins earlier m moment before sends h =
-      subst (λ v. RestsAsTraced program mote p code (starts_and_prints (Own p) earlier ++ v.told) v) (sym (begun_stands m moment before sends))
-      (subst (λ l. RestsAsTraced program mote p code l (record (standing_of p m.state) { moment = moment; told = starts_and_prints (Own p) before })) (told_twice earlier before) (retold _ (standing_of p m.state) moment _ h))
+      subst (λ v. RestsAsTraced program mote p code (starts_and_prints (Own p) earlier ++ v.recounted) v) (sym (begun_in_state m moment before sends))
+      (subst (λ l. RestsAsTraced program mote p code l (record (process_in_mote p m.state) { moment = moment; recounted = starts_and_prints (Own p) before })) (traced_twice earlier before) (traced_again _ (process_in_mote p m.state) moment _ h))
 
   -- the lines that a boot or a run that continues adds
-  given_told : (earlier : List Line) (m : Mote) (moment : ℕ) (before : List Line) (sends : List Sent) (o : Outcome ℕ) → RestsAsTraced program mote p code (starts_and_prints (Own p) (earlier ++ before)) (standing_of p m.state)
+  given_traced : (earlier : List Line) (m : Mote) (moment : ℕ) (before : List Line) (sends : List Sent) (o : Outcome ℕ) → RestsAsTraced program mote p code (starts_and_prints (Own p) (earlier ++ before)) (process_in_mote p m.state)
       → Leads program mote p code (starts_and_prints (Own p) earlier) ℕ (begun m moment before sends) o → TellsSoFar program mote p code (earlier ++ (given o).lines) (given o).mote
-  given_told earlier m moment before sends (Ends t) h leads = record {
+  given_traced earlier m moment before sends (Ends t) h leads = record {
     going = λ on. absurd (cc);
-    halted = λ off. subst (λ l. LivesSoFar code (Own p) mote code.starts l) (sym (told_twice earlier t.lines)) (leads.leads.stands (begins earlier m moment before sends h));
+    halted = λ off. subst (λ l. LivesSoFar code (Own p) mote code.starts l) (sym (traced_twice earlier t.lines)) (leads.leads.in_state (begins earlier m moment before sends h));
   }
-  given_told earlier m moment before sends (Goes a t) h leads = record {
-    going = λ on. subst (λ l. RestsAsTraced program mote p code l (record (standing_of p t) { told = [] })) (sym (told_twice earlier t.lines)) (retold _ (standing_of p t) t.moment [] (leads.leads.stands (begins earlier m moment before sends h)));
+  given_traced earlier m moment before sends (Goes a t) h leads = record {
+    going = λ on. subst (λ l. RestsAsTraced program mote p code l (record (process_in_mote p t) { recounted = [] })) (sym (traced_twice earlier t.lines)) (traced_again _ (process_in_mote p t) t.moment [] (leads.leads.in_state (begins earlier m moment before sends h)));
     halted = λ off. absurd (cc);
   }
 
 pub run_tells : RunTells
 unfolding run_given
 run_tells program mote p code earlier m moment before sends is h =
-    let told = starts_and_prints (Own p) earlier in
-    unless_halts (λ g. TellsSoFar program mote p code (earlier ++ g.lines) g.mote) m before sends _ (λ off. h) (λ on. given_told program mote p code earlier m moment before sends _ (h.going on) (run_leads program mote p code is.is_code is.quiet told (calls_of (most_units + 1)) (calls_told program mote p code told is.is_code is.quiet (most_units + 1)) (begun m moment before sends)))
+    let recounted = starts_and_prints (Own p) earlier in
+    unless_halts (λ g. TellsSoFar program mote p code (earlier ++ g.lines) g.mote) m before sends _ (λ off. h) (λ on. given_traced program mote p code earlier m moment before sends _ (h.going on) (run_leads program mote p code is.is_code is.quiet recounted (calls_of (most_units + 1)) (all_calls_traced program mote p code recounted is.is_code is.quiet (most_units + 1)) (begun m moment before sends)))
 
 pub boot_tells : BootTells
 unfolding boot_given
 boot_tells program mote p code earlier m moment before sends is h =
-    let told = starts_and_prints (Own p) earlier in
-    unless_halts (λ g. TellsSoFar program mote p code (earlier ++ g.lines) g.mote) m before sends _ (λ off. h) (λ on. given_told program mote p code earlier m moment before sends _ (h.going on) (boot_leads program mote p code is.is_code is.quiet told (calls_of (most_units + 1)) (calls_told program mote p code told is.is_code is.quiet (most_units + 1)) (begun m moment before sends)))
+    let recounted = starts_and_prints (Own p) earlier in
+    unless_halts (λ g. TellsSoFar program mote p code (earlier ++ g.lines) g.mote) m before sends _ (λ off. h) (λ on. given_traced program mote p code earlier m moment before sends _ (h.going on) (boot_leads program mote p code is.is_code is.quiet recounted (calls_of (most_units + 1)) (all_calls_traced program mote p code recounted is.is_code is.quiet (most_units + 1)) (begun m moment before sends)))
 
 pub poll_tells : PollTells
 unfolding with_poll
@@ -147,12 +147,12 @@ note_apart p (what.Send n v) h = absurd h
 note_apart p (what.Deaf f n) h = absurd h
 
 note_silent : (p : ℕ) (lines : List Line) (l : Line) → IsNote l.what → starts_and_prints (Own p) (lines ++ l ∷ []) ≡ starts_and_prints (Own p) lines
-note_silent p lines l n = told_more (Own p) lines l ∙ ap (λ b. starts_and_prints (Own p) lines ++ (if b then l ∷ [] else [])) (note_apart p l.what n) ∙ append-nil _
+note_silent p lines l n = traced_more (Own p) lines l ∙ ap (λ b. starts_and_prints (Own p) lines ++ (if b then l ∷ [] else [])) (note_apart p l.what n) ∙ append-nil _
 
 pub note_tells : NoteTells
 note_tells program mote p code lines m l n h = record {
-  going = λ on. subst (λ told. RestsAsTraced program mote p code told (standing_of p m.state)) (sym (note_silent p lines l n)) (h.going on);
-  halted = λ off. subst (λ told. LivesSoFar code (Own p) mote code.starts told) (sym (note_silent p lines l n)) (h.halted off);
+  going = λ on. subst (λ recounted. RestsAsTraced program mote p code recounted (process_in_mote p m.state)) (sym (note_silent p lines l n)) (h.going on);
+  halted = λ off. subst (λ recounted. LivesSoFar code (Own p) mote code.starts recounted) (sym (note_silent p lines l n)) (h.halted off);
 }
 
 -- before the boot
@@ -162,9 +162,9 @@ is_off Off e l h q = refl
 is_off Running e l h q = absurd (let f : true ≡ false = sym h.1 ∙ q in cc)
 is_off Called e l h q = absurd (let f : true ≡ false = sym h.1 ∙ q in cc)
 
-first_stands : (program : Tree) (mote p : ℕ) (code : Code) (queue : ℕ) → IsProcess program p code → RestsAsTraced program mote p code [] (standing_of p (unbooted program mote queue).state)
+first_in_state : (program : Tree) (mote p : ℕ) (code : Code) (queue : ℕ) → IsProcess program p code → RestsAsTraced program mote p code [] (process_in_mote p (unbooted program mote queue).state)
 unfolding unbooted
-first_stands program mote p code queue is =
+first_in_state program mote p code queue is =
     let s = (unbooted program mote queue).state in
     let n = length program.processes + 3 in
     let r = first_rests program mote queue in
@@ -183,7 +183,7 @@ first_stands program mote p code queue is =
 
 pub no_lines_tell_first : NoLinesTellFirst
 unfolding unbooted
-no_lines_tell_first program mote p code queue is = record { going = λ on. first_stands program mote p code queue is; halted = λ off. absurd (cc) }
+no_lines_tell_first program mote p code queue is = record { going = λ on. first_in_state program mote p code queue is; halted = λ off. absurd (cc) }
 
 pub telling_is_of_lives : TellingIsOfLives
 telling_is_of_lives program mote p code lines m h on = let k = h.going on in (k.left, k.vars, k.lived)
@@ -193,7 +193,7 @@ telling_is_of_lives_so_far program mote p code lines m h = by m.halted refl
   where
     by : (b : Bool) → m.halted ≡ b → LivesSoFar code (Own p) mote code.starts (starts_and_prints (Own p) lines)
     by true e = h.halted e
-    by false e = Told (h.going e).lived
+    by false e = OnRecord (h.going e).lived
 
 -- over any calls of a kernel
 

@@ -17,7 +17,7 @@ use Rattle.protothread.specs.declared.step.Step.TheVariants as step
 use Rattle.protothread.specs.State.{state_number}
 use Rattle.protothread.specs.Remainder.{Remainder}
 use Rattle.protothread.specs.Step.{advanced_of, answered_of}
-use Rattle.protothread.specs.Reading.{Sight, operates, Completion, stands}
+use Rattle.protothread.specs.Reading.{Sight, operates, Completion, in_state}
 use Rattle.protothread.specs.Runs.{Steps}
 use Rattle.trace_lines.specs.declared.line.Line.{Line}
 use Rattle.trace_lines.specs.declared.line.What.TheVariants as what
@@ -31,13 +31,13 @@ use Rattle.process_kernel.specs.Call.{has_ended}
 use Rattle.process_kernel.specs.Thread.{stepped_with, stepped_of}
 use Rattle.process_kernel.specs.Operation.{posted, act_of, answered_with, answer_of, perform_of, after_step, run_of}
 use Rattle.kernel_laws.specs.Printed.{printed, left_by, starts_and_prints, starts_or_prints, lines_of, Lives}
-use Rattle.kernel_laws.specs.Printed.{LivesAgain, LivesSoFar, Told}
+use Rattle.kernel_laws.specs.Printed.{LivesAgain, LivesSoFar, OnRecord}
 use Rattle.kernel_laws.specs.Telling as telling
-use Rattle.kernel_laws.specs.Telling.{Standing, standing_of, Next, AtStart, InCall, AtCall, CanCome, IsAnswered}
+use Rattle.kernel_laws.specs.Telling.{ProcessInMote, process_in_mote, Next, AtStart, InCall, AtCall, CanCome, IsAnswered}
 use Rattle.kernel_laws.specs.Telling.{HasLife}
-use Rattle.kernel_laws.proofs.Lives.{operates_on, performs_there, gives_up_on, stands_there, exits_there, ends_there}
-use Rattle.kernel_laws.proofs.Untold.{IsUntold, StepUntold, step_untold, answer_untold}
-use Rattle.kernel_laws.proofs.Standing.{Always, get_set, told_more, halted_quiet, post_quiet}
+use Rattle.kernel_laws.proofs.Lives.{operates_on, performs_there, gives_up_on, in_state_there, exits_there, ends_there}
+use Rattle.kernel_laws.proofs.Unanswered.{IsUnanswered, StepUnanswered, step_unanswered, answer_is_unused}
+use Rattle.kernel_laws.proofs.ProcessInMote.{Always, get_set, traced_more, halted_quiet, post_quiet}
 
 -- a property of the answer and the state of an outcome that continues, and of the state in which it ends
 abbrev pub IfGives : {A : Type 0} → (State → Type 0) → (A → State → Type 0) → Outcome A → Type 0
@@ -57,7 +57,7 @@ from_always A E P Q (Ends t) h i j = i t h
 from_always A E P Q (Goes a t) h i j = j t h
 
 -- the process is called or being exited, so that nothing calls, starts or kills it
-pub record IsAway (program : Tree) (mote : ℕ) (v : Standing) : Type 0 where
+pub record IsAway (program : Tree) (mote : ℕ) (v : ProcessInMote) : Type 0 where
   pub of_program : v.program ≡ program
   pub of_mote : v.mote ≡ mote
   pub not_running : is_running_state v.state ≡ false
@@ -82,50 +82,50 @@ IsNoPrint o = Unit {0}
 module _ (program : Tree) (mote p : ℕ) (code : Code) (earlier : List Line) where
   -- In the life that began with its last start it has come this far.
   abbrev pub ComesHere : List Line → Next → Remainder → List ℕ → Type 0
-  ComesHere told next r vars = telling.ComesHere p code mote (earlier ++ told) next r vars
+  ComesHere recounted next r vars = telling.ComesHere p code mote (earlier ++ recounted) next r vars
 
   -- The lines are those of lives that end with these variables.
   abbrev pub HasLived : List Line → List ℕ → Type 0
-  HasLived told vars = Lives code (Own p) mote code.starts (earlier ++ told) vars
+  HasLived recounted vars = Lives code (Own p) mote code.starts (earlier ++ recounted) vars
 
   -- The lines are those of lives so far.
   abbrev pub SoFar : List Line → Type 0
-  SoFar told = LivesSoFar code (Own p) mote code.starts (earlier ++ told)
+  SoFar recounted = LivesSoFar code (Own p) mote code.starts (earlier ++ recounted)
 
   abbrev pub Stopped : State → Type 0
-  Stopped t = SoFar (standing_of p t).told
+  Stopped t = SoFar (process_in_mote p t).recounted
 
   -- A run of the body has answered: of the process, only its variables and the lines about it have changed.
-  pub record Ran (v : Standing) (a : PtState) (r : Remainder) (w : Standing) : Type 0 where
+  pub record Ran (v : ProcessInMote) (a : PtState) (r : Remainder) (w : ProcessInMote) : Type 0 where
     pub left : List ℕ
-    pub same : w ≡ record v { vars = Some left; told = w.told }
-    pub lived : HasLived w.told left
-    pub comes : has_ended a ≡ false → ComesHere w.told AtCall r left
+    pub same : w ≡ record v { vars = Some left; recounted = w.recounted }
+    pub lived : HasLived w.recounted left
+    pub comes : has_ended a ≡ false → ComesHere w.recounted AtCall r left
 
-  abbrev pub RanFrom : Standing → Answer → State → Type 0
-  RanFrom v a t = Ran v a.0 a.1 (standing_of p t)
+  abbrev pub RanFrom : ProcessInMote → Answer → State → Type 0
+  RanFrom v a t = Ran v a.0 a.1 (process_in_mote p t)
 
   -- the body runs
   abbrev pub BodyRuns : Calls → Type 0
   BodyRuns calls =
-      (s : State) (r : Remainder) (vars : List ℕ) (e : Event) (next : Next) → IsAway program mote (standing_of p s) → (standing_of p s).vars ≡ Some vars → CanCome next e s.moment → ComesHere (standing_of p s).told next r vars → Stopped s
-      → IfGives Stopped (RanFrom (standing_of p s)) (calls.run s code r p e)
+      (s : State) (r : Remainder) (vars : List ℕ) (e : Event) (next : Next) → IsAway program mote (process_in_mote p s) → (process_in_mote p s).vars ≡ Some vars → CanCome next e s.moment → ComesHere (process_in_mote p s).recounted next r vars → Stopped s
+      → IfGives Stopped (RanFrom (process_in_mote p s)) (calls.run s code r p e)
 
   -- while the process is away, its operations other than prints leave it unchanged
   abbrev pub ActsAside : Calls → Type 0
   ActsAside calls =
-      (s : State) (o : Op) → IsNoPrint o → IsAway program mote (standing_of p s) → Stopped s → IfGives Stopped (λ a t. standing_of p t ≡ standing_of p s) (act_of calls s p o)
+      (s : State) (o : Op) → IsNoPrint o → IsAway program mote (process_in_mote p s) → Stopped s → IfGives Stopped (λ a t. process_in_mote p t ≡ process_in_mote p s) (act_of calls s p o)
 
-  told_next : (told before lines more : List Line) → earlier ++ told ≡ before ++ lines → earlier ++ (told ++ more) ≡ before ++ (lines ++ more)
-  told_next told before lines more e = sym (append_assoc earlier told more) ∙ ap (λ l. l ++ more) e ∙ append_assoc before lines more
+  traced_next : (recounted before lines more : List Line) → earlier ++ recounted ≡ before ++ lines → earlier ++ (recounted ++ more) ≡ before ++ (lines ++ more)
+  traced_next recounted before lines more e = sym (append_assoc earlier recounted more) ∙ ap (λ l. l ++ more) e ∙ append_assoc before lines more
 
-  lived_more : (told before : List Line) (start : List ℕ) (lines : List Line) (out : Completion) → Lives code (Own p) mote code.starts before start → HasLife p code mote start lines out → earlier ++ told ≡ before ++ lines
-      → HasLived told (left_by out)
-  lived_more told before start lines out lived h e =
+  lived_more : (recounted before : List Line) (start : List ℕ) (lines : List Line) (out : Completion) → Lives code (Own p) mote code.starts before start → HasLife p code mote start lines out → earlier ++ recounted ≡ before ++ lines
+      → HasLived recounted (left_by out)
+  lived_more recounted before start lines out lived h e =
       subst (λ l. Lives code (Own p) mote code.starts l (left_by out)) (ap (λ l. before ++ l) h.has_lines ∙ sym e)
       (subst (λ o. Lives code (Own p) mote code.starts (before ++ lines_of (Own p) h.life) (left_by o)) h.became_so (LivesAgain lived h.life))
 
-  module _ (calls : Calls) (s : State) (r : Remainder) (vars : List ℕ) (e : Event) (next : Next) (away : IsAway program mote (standing_of p s)) (has : (standing_of p s).vars ≡ Some vars) (can : CanCome next e s.moment) (here : ComesHere (standing_of p s).told next r vars) (so_far : Stopped s) where
+  module _ (calls : Calls) (s : State) (r : Remainder) (vars : List ℕ) (e : Event) (next : Next) (away : IsAway program mote (process_in_mote p s)) (has : (process_in_mote p s).vars ≡ Some vars) (can : CanCome next e s.moment) (here : ComesHere (process_in_mote p s).recounted next r vars) (so_far : Stopped s) where
     -- its sight
     abbrev now : Sight
     now = record { answer = answer_in next; event = e; looks = looks_of s }
@@ -135,33 +135,33 @@ module _ (program : Tree) (mote p : ℕ) (code : Code) (earlier : List Line) whe
     Takes x after changed = Steps code now r vars x after changed
 
     -- it gives up control, or has come to an end
-    rests : (a : PtState) (after : Remainder) (changed : List ℕ) → Takes (step.Done a) after changed → state_number a < 2 → (w : Standing) → w ≡ record (standing_of p s) { vars = Some changed } → Ran (standing_of p s) a after w
+    rests : (a : PtState) (after : Remainder) (changed : List ℕ) → Takes (step.Done a) after changed → state_number a < 2 → (w : ProcessInMote) → w ≡ record (process_in_mote p s) { vars = Some changed } → Ran (process_in_mote p s) a after w
     rests a after changed takes small w same = record {
       left = changed;
-      same = same ∙ ap (λ l. record (standing_of p s) { vars = Some changed; told = l }) (sym (ap (λ v. v.told) same));
-      lived = lived_more w.told here.before here.start here.lines (stands changed) here.lived (stands_there p code mote here.start here.lines next r after vars changed now can (is_answered next) away.of_mote here.comes a takes small) now_told;
+      same = same ∙ ap (λ l. record (process_in_mote p s) { vars = Some changed; recounted = l }) (sym (ap (λ v. v.recounted) same));
+      lived = lived_more w.recounted here.before here.start here.lines (in_state changed) here.lived (in_state_there p code mote here.start here.lines next r after vars changed now can (is_answered next) away.of_mote here.comes a takes small) now_traced;
       comes = λ q. record {
         before = here.before;
         start = here.start;
         lived = here.lived;
         lines = here.lines;
         comes = gives_up_on p code mote here.start here.lines next r after vars changed now can (is_answered next) away.of_mote here.comes a takes small;
-        is_told = now_told;
+        is_traced = now_traced;
       };
     }
       where
-        now_told : earlier ++ w.told ≡ here.before ++ here.lines
-        now_told = ap (λ v. earlier ++ v.told) same ∙ here.is_told
+        now_traced : earlier ++ w.recounted ≡ here.before ++ here.lines
+        now_traced = ap (λ v. earlier ++ v.recounted) same ∙ here.is_traced
 
-    ends : (a : PtState) (after : Remainder) (changed : List ℕ) (out : Completion) → HasLife p code mote here.start here.lines out → left_by out ≡ changed → has_ended a ≡ true → (w : Standing) → w ≡ record (standing_of p s) { vars = Some changed } → Ran (standing_of p s) a after w
+    ends : (a : PtState) (after : Remainder) (changed : List ℕ) (out : Completion) → HasLife p code mote here.start here.lines out → left_by out ≡ changed → has_ended a ≡ true → (w : ProcessInMote) → w ≡ record (process_in_mote p s) { vars = Some changed } → Ran (process_in_mote p s) a after w
     ends a after changed out life is ended w same = record {
       left = changed;
-      same = same ∙ ap (λ l. record (standing_of p s) { vars = Some changed; told = l }) (sym (ap (λ v. v.told) same));
-      lived = subst (λ l. HasLived w.told l) is (lived_more w.told here.before here.start here.lines out here.lived life (ap (λ v. earlier ++ v.told) same ∙ here.is_told));
+      same = same ∙ ap (λ l. record (process_in_mote p s) { vars = Some changed; recounted = l }) (sym (ap (λ v. v.recounted) same));
+      lived = subst (λ l. HasLived w.recounted l) is (lived_more w.recounted here.before here.start here.lines out here.lived life (ap (λ v. earlier ++ v.recounted) same ∙ here.is_traced));
       comes = λ q. absurd (let f : true ≡ false = sym ended ∙ q in cc);
     }
 
-    done_so : (a : PtState) (after : Remainder) (changed : List ℕ) → Takes (step.Done a) after changed → (w : Standing) → w ≡ record (standing_of p s) { vars = Some changed } → Ran (standing_of p s) a after w
+    done_so : (a : PtState) (after : Remainder) (changed : List ℕ) → Takes (step.Done a) after changed → (w : ProcessInMote) → w ≡ record (process_in_mote p s) { vars = Some changed } → Ran (process_in_mote p s) a after w
     done_so Waiting after changed takes w same = rests Waiting after changed takes (omega arith) w same
     done_so Yielded after changed takes w same = rests Yielded after changed takes (omega arith) w same
     done_so Exited after changed takes w same =
@@ -171,118 +171,118 @@ module _ (program : Tree) (mote p : ℕ) (code : Code) (earlier : List Line) whe
 
     -- an operation was performed, and the run continues
     abbrev IsBehind : Op → List ℕ → State → Type 0
-    IsBehind o changed t = standing_of p t ≡ record (standing_of p s) { vars = Some changed; told = (standing_of p s).told ++ printed (Own p) now (operates o) }
+    IsBehind o changed t = process_in_mote p t ≡ record (process_in_mote p s) { vars = Some changed; recounted = (process_in_mote p s).recounted ++ printed (Own p) now (operates o) }
 
-    still_away : (o : Op) (changed : List ℕ) (t : State) → IsBehind o changed t → IsAway program mote (standing_of p t)
+    still_away : (o : Op) (changed : List ℕ) (t : State) → IsBehind o changed t → IsAway program mote (process_in_mote p t)
     still_away o changed t same = subst (λ v. IsAway program mote v) (sym same) (record { of_program = away.of_program; of_mote = away.of_mote; not_running = away.not_running; busy = away.busy })
 
-    ran_on : (o : Op) (changed : List ℕ) (t : State) → IsBehind o changed t → (a : Answer) (u : State) → RanFrom (standing_of p t) a u → RanFrom (standing_of p s) a u
+    ran_on : (o : Op) (changed : List ℕ) (t : State) → IsBehind o changed t → (a : Answer) (u : State) → RanFrom (process_in_mote p t) a u → RanFrom (process_in_mote p s) a u
     ran_on o changed t same a u ran = record {
       left = ran.left;
-      same = ran.same ∙ ap {A = Standing} (λ v. record v { vars = Some ran.left; told = (standing_of p u).told }) same;
+      same = ran.same ∙ ap {A = ProcessInMote} (λ v. record v { vars = Some ran.left; recounted = (process_in_mote p u).recounted }) same;
       lived = ran.lived;
       comes = ran.comes;
     }
 
     module _ (runs : BodyRuns calls) where
-      goes_on : (o : Op) (after : Remainder) (changed : List ℕ) (told : ℕ) → told < 2 → Takes (step.Op o) after changed
-          → (t : State) → IsBehind o (answered_of after changed told).variables t
-          → IfGives Stopped (RanFrom (standing_of p s)) (calls.run t code (answered_of after changed told).remainder p e)
-      goes_on o after changed told small takes t same =
-          gives_weaker _ Stopped _ _ _ (runs t (answered_of after changed told).remainder (answered_of after changed told).variables e (InCall told e s.moment) (still_away o _ t same) (ap (λ v. v.vars) same) (refl, ap (λ v. v.moment) same) (record {
+      goes_on : (o : Op) (after : Remainder) (changed : List ℕ) (recounted : ℕ) → recounted < 2 → Takes (step.Op o) after changed
+          → (t : State) → IsBehind o (answered_of after changed recounted).variables t
+          → IfGives Stopped (RanFrom (process_in_mote p s)) (calls.run t code (answered_of after changed recounted).remainder p e)
+      goes_on o after changed recounted small takes t same =
+          gives_weaker _ Stopped _ _ _ (runs t (answered_of after changed recounted).remainder (answered_of after changed recounted).variables e (InCall recounted e s.moment) (still_away o _ t same) (ap (λ v. v.vars) same) (refl, ap (λ v. v.moment) same) (record {
             before = here.before;
             start = here.start;
             lived = here.lived;
             lines = here.lines ++ printed (Own p) now (operates o);
-            comes = operates_on p code mote here.start here.lines next r after vars changed now can (is_answered next) away.of_mote here.comes told o small takes;
-            is_told = now_told;
-          }) (Told (lived_more (standing_of p t).told here.before here.start (here.lines ++ printed (Own p) now (operates o)) (stands changed) here.lived (performs_there p code mote here.start here.lines next r after vars changed now can (is_answered next) away.of_mote here.comes o takes) now_told))) (ran_on o _ t same)
+            comes = operates_on p code mote here.start here.lines next r after vars changed now can (is_answered next) away.of_mote here.comes recounted o small takes;
+            is_traced = now_traced;
+          }) (OnRecord (lived_more (process_in_mote p t).recounted here.before here.start (here.lines ++ printed (Own p) now (operates o)) (in_state changed) here.lived (performs_there p code mote here.start here.lines next r after vars changed now can (is_answered next) away.of_mote here.comes o takes) now_traced))) (ran_on o _ t same)
         where
-          now_told : earlier ++ (standing_of p t).told ≡ here.before ++ (here.lines ++ printed (Own p) now (operates o))
-          now_told = ap (λ v. earlier ++ v.told) same ∙ told_next (standing_of p s).told here.before here.lines (printed (Own p) now (operates o)) here.is_told
+          now_traced : earlier ++ (process_in_mote p t).recounted ≡ here.before ++ (here.lines ++ printed (Own p) now (operates o))
+          now_traced = ap (λ v. earlier ++ v.recounted) same ∙ traced_next (process_in_mote p s).recounted here.before here.lines (printed (Own p) now (operates o)) here.is_traced
 
       -- if the thread gets no answer to the operation
-      goes_untold : (o : Op) (after : Remainder) (changed : List ℕ) → Takes (step.Op o) after changed → after.mark ≡ UnderWay None
-          → (t : State) → IsBehind o changed t → IfGives Stopped (RanFrom (standing_of p s)) (calls.run t code after p e)
-      goes_untold o after changed takes mark t same =
-          let untold = answer_untold after changed 0 mark in
-          subst (λ x. IfGives Stopped (RanFrom (standing_of p s)) (calls.run t code x p e)) untold.0 (goes_on o after changed 0 (omega arith) takes t (subst (λ vs. IsBehind o vs t) (sym untold.1) same))
+      goes_unanswered : (o : Op) (after : Remainder) (changed : List ℕ) → Takes (step.Op o) after changed → after.mark ≡ UnderWay None
+          → (t : State) → IsBehind o changed t → IfGives Stopped (RanFrom (process_in_mote p s)) (calls.run t code after p e)
+      goes_unanswered o after changed takes mark t same =
+          let unanswered = answer_is_unused after changed 0 mark in
+          subst (λ x. IfGives Stopped (RanFrom (process_in_mote p s)) (calls.run t code x p e)) unanswered.0 (goes_on o after changed 0 (omega arith) takes t (subst (λ vs. IsBehind o vs t) (sym unanswered.1) same))
 
       -- the state after a step
       abbrev stepped : (changed : List ℕ) → (left : ℕ) → State
       stepped changed left = record s { variables = slice_set s.variables p changed; units = left }
 
-      stepped_stands : (changed : List ℕ) (left : ℕ) → standing_of p (stepped changed left) ≡ record (standing_of p s) { vars = Some changed }
-      stepped_stands changed left = ap (λ o. record (standing_of p s) { vars = o }) (get_set s.variables p changed vars has)
+      stepped_in_mote : (changed : List ℕ) (left : ℕ) → process_in_mote p (stepped changed left) ≡ record (process_in_mote p s) { vars = Some changed }
+      stepped_in_mote changed left = ap (λ o. record (process_in_mote p s) { vars = o }) (get_set s.variables p changed vars has)
 
-      stepped_away : (changed : List ℕ) (left : ℕ) → IsAway program mote (standing_of p (stepped changed left))
-      stepped_away changed left = subst (λ v. IsAway program mote v) (sym (stepped_stands changed left)) (record { of_program = away.of_program; of_mote = away.of_mote; not_running = away.not_running; busy = away.busy })
+      stepped_away : (changed : List ℕ) (left : ℕ) → IsAway program mote (process_in_mote p (stepped changed left))
+      stepped_away changed left = subst (λ v. IsAway program mote v) (sym (stepped_in_mote changed left)) (record { of_program = away.of_program; of_mote = away.of_mote; not_running = away.not_running; busy = away.busy })
 
-      stepped_so_far : (changed : List ℕ) (left : ℕ) (t : State) → standing_of p t ≡ standing_of p (stepped changed left) → Stopped t
-      stepped_so_far changed left t same = subst (λ v. SoFar v.told) (sym (same ∙ stepped_stands changed left)) so_far
+      stepped_so_far : (changed : List ℕ) (left : ℕ) (t : State) → process_in_mote p t ≡ process_in_mote p (stepped changed left) → Stopped t
+      stepped_so_far changed left t same = subst (λ v. SoFar v.recounted) (sym (same ∙ stepped_in_mote changed left)) so_far
 
       -- it learned whether the queue was full
       abbrev IsFirstFault : Remainder → List ℕ → Remainder → State → Type 0
       IsFirstFault after changed r1 t =
-          (told : ℕ) × (told < 2) × (r1 ≡ (answered_of after changed told).remainder) × (standing_of p t ≡ record (standing_of p s) { vars = Some (answered_of after changed told).variables })
+          (recounted : ℕ) × (recounted < 2) × (r1 ≡ (answered_of after changed recounted).remainder) × (process_in_mote p t ≡ record (process_in_mote p s) { vars = Some (answered_of after changed recounted).variables })
 
       is_small : (full : Bool) → (if full then 1 else 0) < 2
       is_small true = omega arith
       is_small false = omega arith
 
-      answer_told : (after : Remainder) (changed : List ℕ) (u : State) (full : Bool) → standing_of p u ≡ record (standing_of p s) { vars = Some changed } → IfGives Stopped (IsFirstFault after changed) (answer_of u after p full)
+      answer_passed : (after : Remainder) (changed : List ℕ) (u : State) (full : Bool) → process_in_mote p u ≡ record (process_in_mote p s) { vars = Some changed } → IfGives Stopped (IsFirstFault after changed) (answer_of u after p full)
       unfolding answer_of
-      answer_told after changed u full same =
+      answer_passed after changed u full same =
           let there : slice_get u.variables p ≡ Some changed = ap (λ v. v.vars) same in
           let n = if full then 1 else 0 in
           subst (λ o. IfGives Stopped (IsFirstFault after changed) (answered_with o u after p n)) (sym there)
-          (n, is_small full, refl, ap (λ o. record (standing_of p u) { vars = o }) (get_set u.variables p (answered_of after changed n).variables changed there) ∙ ap {A = Standing} (λ v. record v { vars = Some (answered_of after changed n).variables }) same)
+          (n, is_small full, refl, ap (λ o. record (process_in_mote p u) { vars = o }) (get_set u.variables p (answered_of after changed n).variables changed there) ∙ ap {A = ProcessInMote} (λ v. record v { vars = Some (answered_of after changed n).variables }) same)
 
       posted_on : (after : Remainder) (changed : List ℕ) (left : ℕ) (t : Target) (number word : ℕ) → Takes (step.Op (op.Post t number word)) after changed
-          → IfGives Stopped (RanFrom (standing_of p s)) (perform_of calls (stepped changed left) after p (op.Post t number word) >>= λ r1 s1. calls.run s1 code r1 p e)
+          → IfGives Stopped (RanFrom (process_in_mote p s)) (perform_of calls (stepped changed left) after p (op.Post t number word) >>= λ r1 s1. calls.run s1 code r1 p e)
       unfolding perform_of
       posted_on after changed left t number word takes =
           gives_bind _ _ Stopped (IsFirstFault after changed) _ (perform_of calls (stepped changed left) after p (op.Post t number word)) _
-          (gives_bind _ _ Stopped (λ full u. standing_of p u ≡ standing_of p (stepped changed left)) _ (post_of (stepped changed left) t (posted number word)) _ (from_always Bool Stopped (λ u. standing_of p u ≡ standing_of p (stepped changed left)) (λ u. standing_of p u ≡ standing_of p (stepped changed left)) (post_of (stepped changed left) t (posted number word)) (post_quiet p (stepped changed left) t (posted number word)) (λ u same. stepped_so_far changed left u same) (λ u same. same))
-          (λ full u same. answer_told after changed u full (same ∙ stepped_stands changed left)))
-          (λ r1 u h. subst (λ x. IfGives Stopped (RanFrom (standing_of p s)) (calls.run u code x p e)) (sym h.2) (goes_on (op.Post t number word) after changed h.0 h.1 takes u (h.3 ∙ ap (λ l. record (standing_of p s) { vars = Some (answered_of after changed h.0).variables; told = l }) (sym (append-nil (standing_of p s).told)))))
+          (gives_bind _ _ Stopped (λ full u. process_in_mote p u ≡ process_in_mote p (stepped changed left)) _ (post_of (stepped changed left) t (posted number word)) _ (from_always Bool Stopped (λ u. process_in_mote p u ≡ process_in_mote p (stepped changed left)) (λ u. process_in_mote p u ≡ process_in_mote p (stepped changed left)) (post_of (stepped changed left) t (posted number word)) (post_quiet p (stepped changed left) t (posted number word)) (λ u same. stepped_so_far changed left u same) (λ u same. same))
+          (λ full u same. answer_passed after changed u full (same ∙ stepped_in_mote changed left)))
+          (λ r1 u h. subst (λ x. IfGives Stopped (RanFrom (process_in_mote p s)) (calls.run u code x p e)) (sym h.2) (goes_on (op.Post t number word) after changed h.0 h.1 takes u (h.3 ∙ ap (λ l. record (process_in_mote p s) { vars = Some (answered_of after changed h.0).variables; recounted = l }) (sym (append-nil (process_in_mote p s).recounted)))))
 
       same_own : starts_or_prints (Own p) (what.Print (Own p) zero) ≡ true
       same_own = grind (arith, nat_tests)
 
       printed_on : (after : Remainder) (changed : List ℕ) (left v : ℕ) → Takes (step.Op (op.Print v)) after changed → after.mark ≡ UnderWay None
-          → IfGives Stopped (RanFrom (standing_of p s)) (perform_of calls (stepped changed left) after p (op.Print v) >>= λ r1 s1. calls.run s1 code r1 p e)
+          → IfGives Stopped (RanFrom (process_in_mote p s)) (perform_of calls (stepped changed left) after p (op.Print v) >>= λ r1 s1. calls.run s1 code r1 p e)
       unfolding perform_of act_of write_of
       printed_on after changed left v takes mark =
-          goes_untold (op.Print v) after changed takes mark (with_line (stepped changed left) (what.Print (Own p) v))
-          (ap (λ l. record (standing_of p (stepped changed left)) { told = l }) (told_more (Own p) s.lines (record { at = s.moment; what = what.Print (Own p) v }) ∙ ap (λ b. starts_and_prints (Own p) s.lines ++ (if b then record { at = s.moment; what = what.Print (Own p) v } ∷ [] else [])) same_own)
-          ∙ ap {A = Standing} (λ w. record w { told = (standing_of p s).told ++ record { at = s.moment; what = what.Print (Own p) v } ∷ [] }) (stepped_stands changed left))
+          goes_unanswered (op.Print v) after changed takes mark (with_line (stepped changed left) (what.Print (Own p) v))
+          (ap (λ l. record (process_in_mote p (stepped changed left)) { recounted = l }) (traced_more (Own p) s.lines (record { at = s.moment; what = what.Print (Own p) v }) ∙ ap (λ b. starts_and_prints (Own p) s.lines ++ (if b then record { at = s.moment; what = what.Print (Own p) v } ∷ [] else [])) same_own)
+          ∙ ap {A = ProcessInMote} (λ w. record w { recounted = (process_in_mote p s).recounted ++ record { at = s.moment; what = what.Print (Own p) v } ∷ [] }) (stepped_in_mote changed left))
 
       module _ (acts : ActsAside calls) where
         acted_on : (after : Remainder) (changed : List ℕ) (left : ℕ) (o : Op) → IsNoPrint o → printed (Own p) now (operates o) ≡ [] → Takes (step.Op o) after changed → after.mark ≡ UnderWay None
-            → IfGives Stopped (RanFrom (standing_of p s)) ((act_of calls (stepped changed left) p o >>= λ _ s1. Goes after s1) >>= λ r1 s1. calls.run s1 code r1 p e)
+            → IfGives Stopped (RanFrom (process_in_mote p s)) ((act_of calls (stepped changed left) p o >>= λ _ s1. Goes after s1) >>= λ r1 s1. calls.run s1 code r1 p e)
         acted_on after changed left o aside nothing takes mark =
-            gives_bind _ _ Stopped (λ r1 u. (r1 ≡ after) × (standing_of p u ≡ standing_of p (stepped changed left))) _ (act_of calls (stepped changed left) p o >>= λ _ s1. Goes after s1) _
-            (gives_bind _ _ Stopped (λ a u. standing_of p u ≡ standing_of p (stepped changed left)) _ (act_of calls (stepped changed left) p o) _ (acts (stepped changed left) o aside (stepped_away changed left) (stepped_so_far changed left (stepped changed left) refl)) (λ a u same. (refl, same)))
-            (λ r1 u h. subst (λ x. IfGives Stopped (RanFrom (standing_of p s)) (calls.run u code x p e)) (sym h.0) (goes_untold o after changed takes mark u
-            (h.1 ∙ stepped_stands changed left ∙ ap (λ l. record (standing_of p s) { vars = Some changed; told = l }) (sym (append-nil (standing_of p s).told) ∙ ap (λ l. (standing_of p s).told ++ l) (sym nothing)))))
+            gives_bind _ _ Stopped (λ r1 u. (r1 ≡ after) × (process_in_mote p u ≡ process_in_mote p (stepped changed left))) _ (act_of calls (stepped changed left) p o >>= λ _ s1. Goes after s1) _
+            (gives_bind _ _ Stopped (λ a u. process_in_mote p u ≡ process_in_mote p (stepped changed left)) _ (act_of calls (stepped changed left) p o) _ (acts (stepped changed left) o aside (stepped_away changed left) (stepped_so_far changed left (stepped changed left) refl)) (λ a u same. (refl, same)))
+            (λ r1 u h. subst (λ x. IfGives Stopped (RanFrom (process_in_mote p s)) (calls.run u code x p e)) (sym h.0) (goes_unanswered o after changed takes mark u
+            (h.1 ∙ stepped_in_mote changed left ∙ ap (λ l. record (process_in_mote p s) { vars = Some changed; recounted = l }) (sym (append-nil (process_in_mote p s).recounted) ∙ ap (λ l. (process_in_mote p s).recounted ++ l) (sym nothing)))))
 
-        performed_on : (after : Remainder) (changed : List ℕ) (left : ℕ) (o : Op) → Takes (step.Op o) after changed → IsUntold o after.mark
-            → IfGives Stopped (RanFrom (standing_of p s)) (perform_of calls (stepped changed left) after p o >>= λ r1 s1. calls.run s1 code r1 p e)
+        performed_on : (after : Remainder) (changed : List ℕ) (left : ℕ) (o : Op) → Takes (step.Op o) after changed → IsUnanswered o after.mark
+            → IfGives Stopped (RanFrom (process_in_mote p s)) (perform_of calls (stepped changed left) after p o >>= λ r1 s1. calls.run s1 code r1 p e)
         unfolding perform_of
         performed_on after changed left (op.Post t number word) takes mark = posted_on after changed left t number word takes
         performed_on after changed left (op.Print v) takes mark = printed_on after changed left v takes mark
         performed_on after changed left o takes mark = acted_on after changed left o tt refl takes mark
 
-        stepped_on : (x : Step) (after : Remainder) (changed : List ℕ) (left : ℕ) → Takes x after changed → StepUntold x after.mark
-            → IfGives Stopped (RanFrom (standing_of p s)) (after_step calls code p e x after (stepped changed left))
+        stepped_on : (x : Step) (after : Remainder) (changed : List ℕ) (left : ℕ) → Takes x after changed → StepUnanswered x after.mark
+            → IfGives Stopped (RanFrom (process_in_mote p s)) (after_step calls code p e x after (stepped changed left))
         stepped_on (step.Op o) after changed left takes mark = performed_on after changed left o takes mark
-        stepped_on (step.Done a) after changed left takes mark = done_so a after changed takes (standing_of p (stepped changed left)) (stepped_stands changed left)
+        stepped_on (step.Done a) after changed left takes mark = done_so a after changed takes (process_in_mote p (stepped changed left)) (stepped_in_mote changed left)
         stepped_on step.Runaway after changed left takes mark = stepped_so_far changed left (halted_of (stepped changed left)) (halted_quiet p (stepped changed left))
 
-        pub runs_on : IfGives Stopped (RanFrom (standing_of p s)) (run_of calls s code r p e)
+        pub runs_on : IfGives Stopped (RanFrom (process_in_mote p s)) (run_of calls s code r p e)
         unfolding run_of stepped_of
         runs_on =
             let a = advanced_of code e (looks_of s) r vars s.units in
-            subst (λ o. IfGives Stopped (RanFrom (standing_of p s)) (let m = stepped_with o s code r p e in after_step calls code p e m.step m.remainder m.state)) (sym has)
-            (stepped_on a.step a.remainder a.variables a.units (s.units, a.units, refl) (step_untold code e (looks_of s) r vars s.units))
+            subst (λ o. IfGives Stopped (RanFrom (process_in_mote p s)) (let m = stepped_with o s code r p e in after_step calls code p e m.step m.remainder m.state)) (sym has)
+            (stepped_on a.step a.remainder a.variables a.units (s.units, a.units, refl) (step_unanswered code e (looks_of s) r vars s.units))

@@ -19,12 +19,12 @@ use Rattle.event_queue.specs.declared.queue.Posted.{Posted}
 use Rattle.trace_lines.specs.declared.line.Line.{Line}
 use Rattle.trace_lines.specs.declared.line.What.TheVariants as what
 use Rattle.process_kernel.specs.declared.process.Member.{Member}
-use Rattle.process_kernel.specs.Members.{place_of, holds_member, stands_in}
+use Rattle.process_kernel.specs.Members.{place_of, holds_member, is_found_in}
 use Rattle.process_kernel.specs.State.{State, Outcome, Ends, Goes, ◌>>=◌}
 use Rattle.process_kernel.specs.Processes.{with_needs_poll, has_process, is_busy, is_listed, is_on_list}
 use Rattle.process_kernel.specs.ProcessList.{numbered_from, enlist_of}
 use Rattle.process_kernel.specs.Writes.{with_line, write_of}
-use Rattle.process_kernel.specs.Calls.{Calls, told}
+use Rattle.process_kernel.specs.Calls.{Calls, own_event}
 use Rattle.process_kernel.specs.Polls.{polls_due_of}
 use Rattle.process_kernel.specs.Delivery.{give_of, visit_of, walk_broadcast, deliver_to, deliver_of}
 use Rattle.process_kernel.specs.Run.{begun_of, deliver_front, kernel_of}
@@ -104,7 +104,7 @@ rests_unit : (A : Type 0) (m : DeliveryMachine) (s : State) (o : Outcome A) → 
 rests_unit A m s (Ends t) r = r
 rests_unit A m s (Goes a t) r = r
 
-some_listed : (ms : List Member) → stands_in ms Etimer ≡ true → map seen_member ms ≡ [] → ⊥
+some_listed : (ms : List Member) → is_found_in ms Etimer ≡ true → map seen_member ms ≡ [] → ⊥
 some_listed [] h e = absurd (cc)
 some_listed (m ∷ ms) h e = cc
 
@@ -118,9 +118,9 @@ small_numbers : (k n : ℕ) (ms : List Member) → k + length ms ≡ n → All (
 small_numbers k n [] e = All-nil _
 small_numbers k n (m ∷ ms) e = All-cons (λ i. i.number < n) _ _ (omega arith) (small_numbers (k + 1) n ms (omega arith))
 
-pub listed_anew : (k : ℕ) (ms : List Member) (p : Proc) → stands_in (numbered_from k ms) p ≡ stands_in ms p
-listed_anew k [] p = refl
-listed_anew k (m ∷ ms) p = rw (listed_anew (k + 1) ms p) refl
+pub listed_again : (k : ℕ) (ms : List Member) (p : Proc) → is_found_in (numbered_from k ms) p ≡ is_found_in ms p
+listed_again k [] p = refl
+listed_again k (m ∷ ms) p = rw (listed_again (k + 1) ms p) refl
 
 pub begun_run : (s : State) (moment walked : ℕ) → DeliveryRuns (machine_of s walked []) [] (machine_of (begun_of s moment) walked [])
 unfolding begun_of
@@ -132,7 +132,7 @@ begun_lines s moment = sym (append-nil s.lines)
 
 pub begun_sound : (s : State) (moment : ℕ) → SystemStays s → SystemStays (begun_of s moment)
 unfolding begun_of
-begun_sound s moment h = record { stays = listed_anew 0 s.members Etimer ∙ h.stays; fits = h.fits }
+begun_sound s moment h = record { stays = listed_again 0 s.members Etimer ∙ h.stays; fits = h.fits }
 
 module _ (calls : Calls) (are : AreRuns calls) where
   pub polls_due_run : (s : State) → Reach (Unit {0}) s (polls_due_of calls s)
@@ -196,7 +196,7 @@ module _ (calls : Calls) (are : AreRuns calls) where
   starts_run (p ∷ ps) s walked h = rests_after (Unit {0}) (Unit {0}) s walked [] _ _ (start_all GoesOn Stops chain IsOwn steps calls are s p) h (λ a t i. starts_run ps t walked i)
 
   -- the etimer process starts on an empty list
-  pub first_start : (s : State) → is_busy s Etimer ≡ false → has_process s Etimer ≡ true → is_listed s Etimer ≡ false → start_of calls s Etimer ≡ (enlist_of s Etimer >>= λ _ s1. calls.call s1 Etimer (told Init 0))
+  pub first_start : (s : State) → is_busy s Etimer ≡ false → has_process s Etimer ≡ true → is_listed s Etimer ≡ false → start_of calls s Etimer ≡ (enlist_of s Etimer >>= λ _ s1. calls.call s1 Etimer (own_event Init 0))
   unfolding start_of
   first_start s b t n = rw (b, t, n) refl
 
@@ -207,8 +207,8 @@ module _ (calls : Calls) (are : AreRuns calls) where
       let l : is_listed s Etimer ≡ false = rw m refl in
       let f = first_start s b t l in
       let others = Ctimer ∷ Radio ∷ map Own s.program.autostart in
-      let r : RestsAt (machine_of s walked []) s ((enlist_of s Etimer >>= λ _ s1. calls.call s1 Etimer (told Init 0)) >>= λ _ s1. starts_of calls others s1) =
+      let r : RestsAt (machine_of s walked []) s ((enlist_of s Etimer >>= λ _ s1. calls.call s1 Etimer (own_event Init 0)) >>= λ _ s1. starts_of calls others s1) =
       rests_twice (Unit {0}) (Unit {0}) (Unit {0}) (machine_of s walked []) s (enlist_of s Etimer) _ _ (rests_first (Unit {0}) (Unit {0}) s walked [] (enlist_of s Etimer) _ (enlist_led GoesOn Stops chain IsOwn Every steps s Etimer tt b t l) (λ a t g i.
-      rests_after (Unit {0}) (Unit {0}) t walked [] _ _ (are.call t Etimer (told Init 0) (fits_other Etimer _ refl)) (first_sound s a t q g) (λ b u j. starts_run others u walked j))) in
+      rests_after (Unit {0}) (Unit {0}) t walked [] _ _ (are.call t Etimer (own_event Init 0) (fits_other Etimer _ refl)) (first_sound s a t q g) (λ b u j. starts_run others u walked j))) in
       let r' : RestsAt (machine_of s walked []) s (start_of calls s Etimer >>= λ _ s1. starts_of calls others s1) = rw f r in
       rests_then (Unit {0}) ℕ (machine_of s walked []) s _ _ r' (λ a t w i. rests_now t w i)

@@ -14,7 +14,7 @@ use Rattle.trace_lines.specs.declared.line.Line.{Line}
 use Rattle.radio_packet.specs.declared.sent.Sent.{Sent}
 use Rattle.process_kernel.specs.State.{State, Outcome, Ends, Goes, ◌>>=◌}
 use Rattle.process_kernel.specs.Processes.{process_needs_poll, is_listed, has_process, with_needs_poll}
-use Rattle.process_kernel.specs.Calls.{Calls, told}
+use Rattle.process_kernel.specs.Calls.{Calls, own_event}
 use Rattle.process_kernel.specs.Call.{calls_of}
 use Rattle.process_kernel.specs.Polls.{walk_polls}
 use Rattle.process_kernel.specs.Run.{begun_of, kernel_of, most_units}
@@ -29,7 +29,7 @@ use Rattle.kernel_laws.specs.Poll.{PollWaits, CanBePolled, members_before}
 use Rattle.kernel_laws.specs.Due.{IsDueFor, ForgetsNone, IsAtRest, HasTelling, TellsDue, PollsEtimer, BootForgetsNone, RunForgetsNone, RunTellsDue}
 use Rattle.kernel_laws.proofs.Packets.{IfGoes}
 use Rattle.kernel_laws.proofs.Steps.{calls_run}
-use Rattle.kernel_laws.proofs.Delivers.{RestsAt, machine_of, listed_anew, begun_sound}
+use Rattle.kernel_laws.proofs.Delivers.{RestsAt, machine_of, listed_again, begun_sound}
 use Rattle.kernel_laws.proofs.Motes.{run_rests, boot_rests}
 use Rattle.kernel_laws.proofs.Traces.{no_lines_first}
 use Rattle.kernel_laws.proofs.InStep as tables
@@ -42,7 +42,7 @@ use Rattle.process_kernel.specs.declared.process.ProcessState.TheVariants.{Off}
 use Rattle.kernel_laws.proofs.Alive.{alive_has}
 use Rattle.kernel_laws.proofs.PollTurns.{splits, walk_splits, turn_calls, before_led, polls_are}
 use Rattle.kernel_laws.proofs.WatchedBoot.{boot_good}
-use Rattle.kernel_laws.proofs.WatchedRuns.{Stands, unrequested, Good, AreWatched, Comes, comes, cleared_stands, cleared_moment, etimer_runs, kernel_good}
+use Rattle.kernel_laws.proofs.WatchedRuns.{IsInState, unrequested, Good, AreWatched, Comes, comes, cleared_in_state, cleared_moment, etimer_runs, kernel_good}
 
 are_watched : (k : ℕ) → AreWatched (calls_of (suc k))
 unfolding calls_of
@@ -75,7 +75,7 @@ module _ (m : Mote) (moment : ℕ) (lines : List Line) (sends : List Sent) where
 
   begun_listed : (p : Proc) → is_listed m.state p ≡ true → is_listed (begun m moment lines sends) p ≡ true
   unfolding begun_of
-  begun_listed p h = listed_anew 0 m.state.members p ∙ h
+  begun_listed p h = listed_again 0 m.state.members p ∙ h
 
   begun_room : has_process m.state Radio ≡ true → nat_lt 2 (length m.state.needs_poll) ≡ true → (has_process (begun m moment lines sends) Radio ≡ true) × (nat_lt 2 (length (begun m moment lines sends).needs_poll) ≡ true)
   unfolding begun_of
@@ -94,14 +94,14 @@ module _ (m : Mote) (moment : ℕ) (lines : List Line) (sends : List Sent) where
   unfolding begun_of
   begun_lines = refl
 
-  pub begun_stands : IsAtRest m.state → Stands true (begun m moment lines sends)
-  begun_stands h =
+  pub begun_in_state : IsAtRest m.state → IsInState true (begun m moment lines sends)
+  begun_in_state h =
       let r = begun_rests h.step h.idle in
       let q = begun_room (alive_has Radio m.state h.radio.alive) h.radio.can_need_poll in
       record { can = begun_can Etimer h.can; step = r.step; idle = r.idle; listed = begun_listed Etimer h.sound.stays; radio_state = q.0; radio_can_need_poll = q.1; radio = λ e. record { can = begun_can Radio h.radio; listed = begun_listed Radio h.radio_stays } }
 
   begun_good : IsAtRest m.state → ForgetsNone moment m.state → Good true moment (begun m moment lines sends)
-  begun_good h f = record { now_is = begun_moment; stands = begun_stands h; forgets = begun_forgets f }
+  begun_good h f = record { now_is = begun_moment; in_state = begun_in_state h; forgets = begun_forgets f }
 
   sound_now : SystemStays m.state → SystemStays (begun m moment lines sends)
   sound_now h = begun_sound (record m.state { lines = lines; sends = sends }) moment (record { stays = h.stays; fits = h.fits })
@@ -113,11 +113,11 @@ leaves_good moment walked s b (Ends t) g r h = absurd (cc)
 leaves_good moment walked s b (Goes a t) g r h = (
   record {
     sound = record { stays = r.sound.stays; fits = r.sound.fits };
-    step = (tables.keeps_still t _ (record { states = refl; exiting = refl; members = refl }) g.stands.step).step;
-    idle = record { called = g.stands.idle.called; exiting = g.stands.idle.exiting };
-    can = record { alive = g.stands.can.alive; can_need_poll = g.stands.can.can_need_poll };
-    radio = let q = g.stands.radio refl in record { alive = q.can.alive; can_need_poll = q.can.can_need_poll };
-    radio_stays = (g.stands.radio refl).listed;
+    step = (tables.keeps_still t _ (record { states = refl; exiting = refl; members = refl }) g.in_state.step).step;
+    idle = record { called = g.in_state.idle.called; exiting = g.in_state.idle.exiting };
+    can = record { alive = g.in_state.can.alive; can_need_poll = g.in_state.can.can_need_poll };
+    radio = let q = g.in_state.radio refl in record { alive = q.can.alive; can_need_poll = q.can.can_need_poll };
+    radio_stays = (g.in_state.radio refl).listed;
   },
   again g.forgets,
 )
@@ -232,18 +232,18 @@ module _ (calls : Calls) (are : AreWatched calls) (written : stamps.AreKept call
   unfolding with_needs_poll
   cleared_lines u = (refl, refl)
 
-  served : (moment : ℕ) (u v : State) → u.moment ≡ moment → Stands true u → calls.call (with_needs_poll u Etimer false) Etimer (told Poll 0) ≡ Goes tt v → (i : Adds u v)
+  served : (moment : ℕ) (u v : State) → u.moment ≡ moment → IsInState true u → calls.call (with_needs_poll u Etimer false) Etimer (own_event Poll 0) ≡ Goes tt v → (i : Adds u v)
       → (timer : ℕ) (owner : Proc) → IsDueFor moment u.timers timer owner → HasTelling moment i.more (One owner) (system_number Timer) timer
   served moment u v e h goes i timer owner d =
       let u' = with_needs_poll u Etimer false in
-      let h' = cleared_stands true u Etimer h in
+      let h' = cleared_in_state true u Etimer h in
       let same = cleared_lines u in
       let now : u'.moment ≡ moment = cleared_moment u Etimer ∙ e in
       let k : Serves u' v = subst (IfGoes (Serves u')) goes (are.serves u' (etimer_runs true u' h') h'.can) in
       let due : IsDueFor u'.moment u'.timers timer owner = subst (λ l. IsDueFor u'.moment l timer owner) (sym same.1) (subst (λ n. IsDueFor n u.timers timer owner) (sym now) d) in
       telling_of moment u' v u.lines i.more (One owner) (system_number Timer) timer same.0 now i.wrote (k.tells timer owner due)
 
-  polled : (moment : ℕ) (s t : State) → s.moment ≡ moment → Stands true s → process_needs_poll s Etimer ≡ true → walk_polls calls s.members s ≡ Goes tt t → Polled calls moment s t
+  polled : (moment : ℕ) (s t : State) → s.moment ≡ moment → IsInState true s → process_needs_poll s Etimer ≡ true → walk_polls calls s.members s ≡ Goes tt t → Polled calls moment s t
   polled moment s t e h needs_poll goes =
       let k = splits Etimer s.members h.listed in
       let a = through _ _ _ _ _ _ (sym (walk_splits Etimer calls s.members k.member k.after s k.split) ∙ goes) in
@@ -251,12 +251,12 @@ module _ (calls : Calls) (are : AreWatched calls) (written : stamps.AreKept call
       let c : Comes true moment k.member a.midst = subst (IfGoes (Comes true moment k.member)) a.first (comes calls are true moment k.member s e h k.is_it k.holds (inr needs_poll)) in
       let m = still_needs_poll s a.midst a.first needs_poll in
       let call = sym (turn_calls Etimer calls a.midst k.member k.is_it c.there m) ∙ b.first in
-      let i = adds_by _ a.midst b.midst tt _ call (lead_from stamps.Keeps stamps.Keeps stamps.chain _ a.midst _ _ (stamps.run_steps.cleared a.midst Etimer) (written.call _ Etimer (told Poll 0) (λ q. tt))) in
+      let i = adds_by _ a.midst b.midst tt _ call (lead_from stamps.Keeps stamps.Keeps stamps.chain _ a.midst _ _ (stamps.run_steps.cleared a.midst Etimer) (written.call _ Etimer (own_event Poll 0) (λ q. tt))) in
       record {
         at_turn = a.midst;
         comes = a.first;
         tells = tells_within moment s a.midst b.midst t (adds_by _ s a.midst tt _ a.first (polls_led stamps.Keeps stamps.Keeps stamps.chain calls stamps.run_steps.unrequested stamps.run_steps.cleared (λ v q. written.call v q _ (λ x. tt)) (members_before Etimer s.members) s)) i
-            (adds_by _ b.midst t tt _ b.second (polls_led stamps.Keeps stamps.Keeps stamps.chain calls stamps.run_steps.unrequested stamps.run_steps.cleared (λ v q. written.call v q _ (λ x. tt)) k.after b.midst)) (served moment a.midst b.midst c.now_is c.stands call i);
+            (adds_by _ b.midst t tt _ b.second (polls_led stamps.Keeps stamps.Keeps stamps.chain calls stamps.run_steps.unrequested stamps.run_steps.cleared (λ v q. written.call v q _ (λ x. tt)) k.after b.midst)) (served moment a.midst b.midst c.now_is c.in_state call i);
       }
 
   tells_on : (moment : ℕ) (u s t v : State) → TellsDue moment u s.lines t.lines → Adds t v → TellsDue moment u s.lines v.lines
@@ -268,7 +268,7 @@ module _ (calls : Calls) (are : AreWatched calls) (written : stamps.AreKept call
         record { telling = k.telling; tells = k.tells; before = k.before; after = k.after ++ i.more; split = rw (k.split) (append_assoc k.before _ i.more) };
   }
 
-  run_polled : (moment : ℕ) (s t : State) (n : ℕ) → s.moment ≡ moment → Stands true s → PollWaits Etimer s → kernel_of calls s ≡ Goes n t → Polled calls moment (record s { poll_requested = false }) t
+  run_polled : (moment : ℕ) (s t : State) (n : ℕ) → s.moment ≡ moment → IsInState true s → PollWaits Etimer s → kernel_of calls s ≡ Goes n t → Polled calls moment (record s { poll_requested = false }) t
   unfolding kernel_of
   run_polled moment s t n e h w goes =
       let a = through _ _ _ _ _ _ goes in
@@ -284,7 +284,7 @@ given_polled : (moment : ℕ) (m : Mote) (lines : List Line) (sends : List Sent)
 unfolding begun_of
 given_polled moment m lines sends (Ends t) rest w e h = absurd (cc)
 given_polled moment m lines sends (Goes n t) rest w e h =
-    let p = run_polled (calls_of (most_units + 1)) all_watched (stamps.calls_kept (most_units + 1)) moment (begun m moment lines sends) t n (begun_moment m moment lines sends) (begun_stands m moment lines sends rest) (begun_waits w) e in
+    let p = run_polled (calls_of (most_units + 1)) all_watched (stamps.calls_kept (most_units + 1)) moment (begun m moment lines sends) t n (begun_moment m moment lines sends) (begun_in_state m moment lines sends rest) (begun_waits w) e in
     record { at_turn = p.at_turn; comes = p.comes; tells = subst (λ l. TellsDue moment p.at_turn l t.lines) (begun_lines m moment lines sends) p.tells }
   where
     begun_waits : PollWaits Etimer m.state → PollWaits Etimer (begun m moment lines sends)

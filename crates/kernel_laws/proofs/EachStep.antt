@@ -37,7 +37,7 @@ use Rattle.process_kernel.specs.Posts.{post_of, poll_of, send_of}
 use Rattle.process_kernel.specs.Operation.{take_of, signal_of}
 use Rattle.process_kernel.specs.TimerOperations.{has_timer, timer_is_set, set_of, reset_of, restart_of, stop_of}
 use Rattle.process_kernel.specs.Writes.{with_line, write_of, halted_of, spend_of}
-use Rattle.process_kernel.specs.Calls.{Calls, Answer, told, is_system_event, walk_of}
+use Rattle.process_kernel.specs.Calls.{Calls, Answer, own_event, is_system_event, walk_of}
 use Rattle.process_kernel.specs.Etimer.{fired_of, purge_of, post_due, walk_timers, walks_of, pass_of, etimer_of}
 use Rattle.process_kernel.specs.Ctimer.{callback_of, waits_for, ctimer_of}
 use Rattle.process_kernel.specs.Radio.{packet_of, hand_to, empty_ring, radio_of}
@@ -290,7 +290,7 @@ module _ (Keeps Stops : State → State → Type 0) where
 
     -- the polls, if a call with POLL is made of steps
     module _ (Holds : State → Type 0) (on : (s t : State) → Keeps s t → Holds s → Holds t) (unrequested : (s : State) → Keeps s (record s { poll_requested = false })) (cleared : (s : State) (p : Proc) → Keeps s (with_needs_poll s p false))
-        (a b : Calls) (polled : (s : State) (p : Proc) → Both Holds (Unit {0}) s (a.call s p (told Poll 0)) (b.call s p (told Poll 0))) where
+        (a b : Calls) (polled : (s : State) (p : Proc) → Both Holds (Unit {0}) s (a.call s p (own_event Poll 0)) (b.call s p (own_event Poll 0))) where
       pub polls_both : (ms : List Member) (s : State) → Both Holds (Unit {0}) s (walk_polls a ms s) (walk_polls b ms s)
       unfolding poll_turn_of
       polls_both [] s = both_still Holds _ s tt
@@ -351,11 +351,11 @@ module _ (Keeps Stops : State → State → Type 0) where
 
     -- over one set of calls
     module _ (calls : Calls) where
-      pub polls_led : ((s : State) → Keeps s (record s { poll_requested = false })) → ((s : State) (p : Proc) → Keeps s (with_needs_poll s p false)) → ((s : State) (p : Proc) → Lead (Unit {0}) s (calls.call s p (told Poll 0)))
+      pub polls_led : ((s : State) → Keeps s (record s { poll_requested = false })) → ((s : State) (p : Proc) → Keeps s (with_needs_poll s p false)) → ((s : State) (p : Proc) → Lead (Unit {0}) s (calls.call s p (own_event Poll 0)))
           → (ms : List Member) (s : State) → Lead (Unit {0}) s (walk_polls calls ms s)
       polls_led unrequested cleared polled ms s = single _ s _ (polls_both Anywhere anywhere unrequested cleared calls calls (λ t p. both_plain Anywhere _ t _ (polled t p)) ms s).leads
 
-      pub polls_due_led : ((s : State) → Keeps s (record s { poll_requested = false })) → ((s : State) (p : Proc) → Keeps s (with_needs_poll s p false)) → ((s : State) (p : Proc) → Lead (Unit {0}) s (calls.call s p (told Poll 0)))
+      pub polls_due_led : ((s : State) → Keeps s (record s { poll_requested = false })) → ((s : State) (p : Proc) → Keeps s (with_needs_poll s p false)) → ((s : State) (p : Proc) → Lead (Unit {0}) s (calls.call s p (own_event Poll 0)))
           → (s : State) → Lead (Unit {0}) s (polls_due_of calls s)
       polls_due_led unrequested cleared polled s = single _ s _ (polls_due_both Anywhere anywhere unrequested cleared calls calls (λ t p. both_plain Anywhere _ t _ (polled t p)) s).leads
 
@@ -537,7 +537,7 @@ module _ (Keeps Stops : State → State → Type 0) where
         due_led : (again on : State → Went) → ((s : State) → Lead (Unit {0}) s (again s)) → ((s : State) → Lead (Unit {0}) s (on s)) → (s : State) (timer : ℕ) (owner : Option Proc) → Lead (Unit {0}) s (post_due again on s timer owner)
         due_led again on h i s timer None = i s
         due_led again on h i s timer (Some owner) =
-            lead_bind _ _ s _ _ (post_led s _ (told Timer timer) (λ q. absurd (grind (arith, nat_tests)))) (λ full t. lead_if _ t full _ _ (lead_from _ t _ _ (steps.polled t Etimer) (i _)) (lead_from _ t _ _ (fired_kept t timer) (h _)))
+            lead_bind _ _ s _ _ (post_led s _ (own_event Timer timer) (λ q. absurd (grind (arith, nat_tests)))) (λ full t. lead_if _ t full _ _ (lead_from _ t _ _ (steps.polled t Etimer) (i _)) (lead_from _ t _ _ (fired_kept t timer) (h _)))
 
         pub walk_timers_led : (again : State → Went) → ((s : State) → Lead (Unit {0}) s (again s)) → (ts : List ℕ) (s : State) → Lead (Unit {0}) s (walk_timers again ts s)
         walk_timers_led again h [] s = lead_still _ s tt
@@ -607,8 +607,8 @@ module _ (Keeps Stops : State → State → Type 0) where
           last_run_both s p o = both_bind Holds on _ _ s _ _ _ _ (both_plain Holds _ _ _ (spend_led s)) (λ u t. both_bind Holds on _ _ t _ _ _ _ (react_both t p _ o) (λ a v. both_still Holds _ v tt))
 
           -- the walk and the last run of a process that is being exited
-          exiting_both : (s : State) (p f : Proc) (ms : List Member) → IsOurs p → Both Holds (Unit {0}) s (walk_of a (told Exited (process_number p)) p ms s >>= λ _ t. if is_same p f then Goes tt t else last_run_of a t p) (walk_of b (told Exited (process_number p)) p ms s >>= λ _ t. if is_same p f then Goes tt t else last_run_of b t p)
-          exiting_both s p f ms o = both_bind Holds on _ _ s _ _ _ _ (walk_both (told Exited (process_number p)) refl p ms s) (λ a t. both_if Holds _ t (is_same p f) _ _ _ _ (both_still Holds _ t tt) (last_run_both t p o))
+          exiting_both : (s : State) (p f : Proc) (ms : List Member) → IsOurs p → Both Holds (Unit {0}) s (walk_of a (own_event Exited (process_number p)) p ms s >>= λ _ t. if is_same p f then Goes tt t else last_run_of a t p) (walk_of b (own_event Exited (process_number p)) p ms s >>= λ _ t. if is_same p f then Goes tt t else last_run_of b t p)
+          exiting_both s p f ms o = both_bind Holds on _ _ s _ _ _ _ (walk_both (own_event Exited (process_number p)) refl p ms s) (λ a t. both_if Holds _ t (is_same p f) _ _ _ _ (both_still Holds _ t tt) (last_run_both t p o))
 
           left_led : (s t : State) (p : Proc) (o : Went) → Leads t o → ((u : State) → Keeps t u → Keeps s (without_process u p)) → ((u : State) → Stops t u → Stops s u) → Leads s (o >>= λ _ u. leave_of u p)
           unfolding leave_of write_of
@@ -617,9 +617,9 @@ module _ (Keeps Stops : State → State → Type 0) where
 
           -- an exit that began in a state t, and that is a step from s on
           leaves_both : (s t : State) (p f : Proc) (ms : List Member) → IsOurs p → (Holds s → Holds t) → ((u : State) → Keeps t u → Keeps s (without_process u p)) → ((u : State) → Stops t u → Stops s u)
-              → Both Holds (Unit {0}) s (walk_of a (told Exited (process_number p)) p ms t >>= λ _ u. ((if is_same p f then Goes tt u else last_run_of a u p) >>= λ _ v. leave_of v p)) (walk_of b (told Exited (process_number p)) p ms t >>= λ _ u. ((if is_same p f then Goes tt u else last_run_of b u p) >>= λ _ v. leave_of v p))
+              → Both Holds (Unit {0}) s (walk_of a (own_event Exited (process_number p)) p ms t >>= λ _ u. ((if is_same p f then Goes tt u else last_run_of a u p) >>= λ _ v. leave_of v p)) (walk_of b (own_event Exited (process_number p)) p ms t >>= λ _ u. ((if is_same p f then Goes tt u else last_run_of b u p) >>= λ _ v. leave_of v p))
           leaves_both s t p f ms o holds kept stopped =
-              both_nested Holds (Unit {0}) (Unit {0}) (Unit {0}) s (walk_of a (told Exited (process_number p)) p ms t) (walk_of b (told Exited (process_number p)) p ms t) (λ _ u. if is_same p f then Goes tt u else last_run_of a u p) (λ _ u. if is_same p f then Goes tt u else last_run_of b u p) (λ _ v. leave_of v p) (λ _ v. leave_of v p)
+              both_nested Holds (Unit {0}) (Unit {0}) (Unit {0}) s (walk_of a (own_event Exited (process_number p)) p ms t) (walk_of b (own_event Exited (process_number p)) p ms t) (λ _ u. if is_same p f then Goes tt u else last_run_of a u p) (λ _ u. if is_same p f then Goes tt u else last_run_of b u p) (λ _ v. leave_of v p) (λ _ v. leave_of v p)
               (let h = exiting_both t p f ms o in record { leads = left_led s t p _ h.leads kept stopped; same = λ x. ap (λ y. y >>= λ _ v. leave_of v p) (h.same (holds x)) })
 
           pub exit_both : (s : State) (p f : Proc) → IsOurs p → Leaves p → is_busy s p ≡ false → Both Holds (Unit {0}) s (exit_of a s p f) (exit_of b s p f)

@@ -11,7 +11,7 @@ use Rattle.radio_packet.specs.declared.sent.Sent.{Sent}
 use Rattle.process_kernel.specs.declared.kernel.Ran.TheVariants as ran
 use Rattle.process_kernel.specs.State.{State, Outcome, Went, Ends, Goes, ◌>>=◌}
 use Rattle.process_kernel.specs.Processes.{is_running, process_needs_poll, process_state, with_state, with_needs_poll}
-use Rattle.process_kernel.specs.Calls.{Calls, told, is_system_event}
+use Rattle.process_kernel.specs.Calls.{Calls, own_event, is_system_event}
 use Rattle.process_kernel.specs.Radio.{radio_of}
 use Rattle.process_kernel.specs.Reaction.{react_of}
 use Rattle.process_kernel.specs.Call.{has_ended, answered, call_of, calls_of}
@@ -33,8 +33,8 @@ use Rattle.kernel_laws.proofs.Ring.{HearsNone, run_tells_packets}
 use Rattle.kernel_laws.proofs.Watch.{Watches, chain, steps}
 use Rattle.kernel_laws.proofs.PollTurns.{splits, walk_splits, turn_calls, before_led, polls_are}
 use Rattle.kernel_laws.proofs.Passes.{spent}
-use Rattle.kernel_laws.proofs.WatchedRuns.{Stands, unrequested, runs_now}
-use Rattle.kernel_laws.proofs.Due.{through, begun_stands}
+use Rattle.kernel_laws.proofs.WatchedRuns.{IsInState, unrequested, runs_now}
+use Rattle.kernel_laws.proofs.Due.{through, begun_in_state}
 
 -- if no packet arrives, an empty ring stays empty
 
@@ -55,29 +55,29 @@ emptied_by : (s : State) (o : Went) → IfGoes (Empties s.program.receiver s.rin
 emptied_by s (Ends t) h = tt
 emptied_by s (Goes a t) h = h.empty
 
-radio_empties : (s : State) → IfGoes (λ t. t.ring ≡ []) (radio_of s (told Poll 0))
+radio_empties : (s : State) → IfGoes (λ t. t.ring ≡ []) (radio_of s (own_event Poll 0))
 unfolding radio_of
 radio_empties s = emptied_by s _ (ring_empties s.program.receiver s.ring s refl)
 
-answers_empty : (calls : Calls) (o : Went) → IfGoes (λ t. t.ring ≡ []) o → IfGoes (λ t. t.ring ≡ []) ((o >>= λ _ s1. Goes Yielded s1) >>= λ answer s2. answered calls s2 Radio (has_ended answer || is_system_event Exit (told Poll 0)))
+answers_empty : (calls : Calls) (o : Went) → IfGoes (λ t. t.ring ≡ []) o → IfGoes (λ t. t.ring ≡ []) ((o >>= λ _ s1. Goes Yielded s1) >>= λ answer s2. answered calls s2 Radio (has_ended answer || is_system_event Exit (own_event Poll 0)))
 unfolding answered with_state
 answers_empty calls (Ends t) h = tt
 answers_empty calls (Goes a t) h = h
 
-call_empties : (calls : Calls) (s : State) → is_running s Radio ≡ true → IfGoes (λ t. t.ring ≡ []) (call_of calls s Radio (told Poll 0))
+call_empties : (calls : Calls) (s : State) → is_running s Radio ≡ true → IfGoes (λ t. t.ring ≡ []) (call_of calls s Radio (own_event Poll 0))
 unfolding call_of spend_of react_of
 call_empties calls s running = rw running (by (s.units == 0))
   where
-    by : (b : Bool) → IfGoes (λ t. t.ring ≡ []) (spent s b >>= λ _ s1. react_of calls (with_state s1 Radio Called) Radio (told Poll 0) >>= λ answer s2. answered calls s2 Radio (has_ended answer || is_system_event Exit (told Poll 0)))
+    by : (b : Bool) → IfGoes (λ t. t.ring ≡ []) (spent s b >>= λ _ s1. react_of calls (with_state s1 Radio Called) Radio (own_event Poll 0) >>= λ answer s2. answered calls s2 Radio (has_ended answer || is_system_event Exit (own_event Poll 0)))
     by true = tt
-    by false = let t = with_state (record s { units = s.units - 1 }) Radio Called in answers_empty calls (radio_of t (told Poll 0)) (radio_empties t)
+    by false = let t = with_state (record s { units = s.units - 1 }) Radio Called in answers_empty calls (radio_of t (own_event Poll 0)) (radio_empties t)
 
 -- the properties of the calls that nest less deep
 record AreHeard (calls : Calls) : Type 0 where
   led : AreLed (Watches Radio) Whatever (chain Radio) IsOwn Every calls
   kept : tables.AreKept calls
   rings : AreLed RingGoes RingHalts ring.chain Whoever Every calls
-  empties : (s : State) → is_running s Radio ≡ true → IfGoes (λ t. t.ring ≡ []) (calls.call s Radio (told Poll 0))
+  empties : (s : State) → is_running s Radio ≡ true → IfGoes (λ t. t.ring ≡ []) (calls.call s Radio (own_event Poll 0))
 
 are_heard : (k : ℕ) → AreHeard (calls_of (suc k))
 unfolding calls_of
@@ -97,14 +97,14 @@ module _ (calls : Calls) (are : AreHeard calls) where
   comes : (s u : State) → walk_polls calls (members_before Radio s.members) s ≡ Goes tt u → Watches Radio s u
   comes s u e = let h : Lead (Watches Radio) Whatever (Unit {0}) s (Goes tt u) = subst (λ (o : Went). Lead (Watches Radio) Whatever (Unit {0}) s o) e (before_led Radio calls are.led s.members s) in h.leads
 
-  kept : (s u : State) → walk_polls calls (members_before Radio s.members) s ≡ Goes tt u → Stands true s → tables.Keeps s u
+  kept : (s u : State) → walk_polls calls (members_before Radio s.members) s ≡ Goes tt u → IsInState true s → tables.Keeps s u
   kept s u e h = let k : tables.Kept (Unit {0}) s (Goes tt u) = subst (λ (o : Went). tables.Kept (Unit {0}) s o) e (tables.polls_kept calls are.kept (members_before Radio s.members) s) in k.leads.kept h.step
 
   cleared_runs : (u : State) → is_running u Radio ≡ true → is_running (with_needs_poll u Radio false) Radio ≡ true
   unfolding with_needs_poll
   cleared_runs u h = h
 
-  polled : (s t : State) → Stands true s → process_needs_poll s Radio ≡ true → walk_polls calls s.members s ≡ Goes tt t → t.ring ≡ []
+  polled : (s t : State) → IsInState true s → process_needs_poll s Radio ≡ true → walk_polls calls s.members s ≡ Goes tt t → t.ring ≡ []
   polled s t h needs_poll goes =
       let q = h.radio refl in
       let k = splits Radio s.members q.listed in
@@ -118,7 +118,7 @@ module _ (calls : Calls) (are : AreHeard calls) where
       let none : b.midst.ring ≡ [] = subst (IfGoes (λ v. v.ring ≡ [])) call (are.empties (with_needs_poll u Radio false) running) in
       empty_by _ b.midst t tt _ b.second (polls_led RingGoes RingHalts ring.chain calls ring.run_steps.unrequested ring.run_steps.cleared (λ v q. are.rings.call v q _ (λ x. tt)) k.after b.midst) none
 
-  run_emptied : (s t : State) (n : ℕ) → Stands true s → PollWaits Radio s → kernel_of calls s ≡ Goes n t → t.ring ≡ []
+  run_emptied : (s t : State) (n : ℕ) → IsInState true s → PollWaits Radio s → kernel_of calls s ≡ Goes n t → t.ring ≡ []
   unfolding kernel_of
   run_emptied s t n h w goes =
       let a = through _ _ _ _ _ _ goes in
@@ -131,7 +131,7 @@ given_emptied : (moment : ℕ) (m : Mote) (lines : List Line) (sends : List Sent
 unfolding begun_of
 given_emptied moment m lines sends (Ends t) rest w e h = absurd (cc)
 given_emptied moment m lines sends (Goes n t) rest w e h =
-    run_emptied (calls_of (most_units + 1)) all_heard (begun m moment lines sends) t n (begun_stands m moment lines sends rest) (record { needs_poll = w.needs_poll; poll_requested = w.poll_requested }) e
+    run_emptied (calls_of (most_units + 1)) all_heard (begun m moment lines sends) t n (begun_in_state m moment lines sends rest) (record { needs_poll = w.needs_poll; poll_requested = w.poll_requested }) e
 
 polled_emptied : (moment : ℕ) (m : Mote) (lines : List Line) (sends : List Sent) → m.halted ≡ false → IsAtRest m.state → PollWaits Radio m.state → let g = run_given moment m lines sends in g.mote.halted ≡ false → g.mote.state.ring ≡ []
 unfolding run_given

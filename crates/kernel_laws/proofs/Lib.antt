@@ -20,12 +20,12 @@ pub mod QuietThreads
 pub mod Resting
 pub mod Ring
 pub mod Stamps
-pub mod Standing
+pub mod ProcessInMote
 pub mod Steps
 pub mod Tables
 pub mod Timers
 pub mod Traces
-pub mod Untold
+pub mod Unanswered
 pub mod Watch
 pub mod WatchedBoot
 pub mod WatchedRuns

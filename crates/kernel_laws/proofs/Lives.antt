@@ -10,7 +10,7 @@ use Rattle.protothread.specs.declared.step.Step.TheVariants as step
 use Rattle.protothread.specs.State.{state_number}
 use Rattle.protothread.specs.Remainder.{Remainder, fresh_of}
 use Rattle.protothread.specs.Step.{answered_of}
-use Rattle.protothread.specs.Reading.{Sight, Happening, operates, gives_up, Completion, done, exits, stands}
+use Rattle.protothread.specs.Reading.{Sight, Happening, operates, gives_up, Completion, done, exits, in_state}
 use Rattle.protothread.specs.Runs.{Steps, Runs, operated, operated_last, gave_up, gave_up_last, has_exited, has_ended}
 use Rattle.protothread.proofs.Splits.{reads_the_text}
 use Rattle.trace_lines.specs.declared.line.Line.{Line}
@@ -41,9 +41,9 @@ module _ (p : ℕ) (code : Code) (mote : ℕ) (start : List ℕ) where
   -- in a sight that can come
   module _ (lines : List Line) (next : Next) (r after : Remainder) (vars changed : List ℕ) (now : Sight) (can : CanCome next now.event now.looks.moment) (answered : IsAnswered next now.answer) (of_mote : now.looks.mote ≡ mote) (c : ComesTo lines next r vars) where
     -- an operation, whose answer the process gets next
-    pub operates_on : (told : ℕ) (o : Op) → told < 2 → Steps code now r vars (step.Op o) after changed
-        → ComesTo (lines ++ printed (Own p) now (operates o)) (InCall told now.event now.looks.moment) (answered_of after changed told).remainder (answered_of after changed told).variables
-    operates_on told o small steps = record {
+    pub operates_on : (recounted : ℕ) (o : Op) → recounted < 2 → Steps code now r vars (step.Op o) after changed
+        → ComesTo (lines ++ printed (Own p) now (operates o)) (InCall recounted now.event now.looks.moment) (answered_of after changed recounted).remainder (answered_of after changed recounted).variables
+    operates_on recounted o small steps = record {
       on = λ resumed later more out same answer shown runs.
           then_more lines (prints (Own p) (resumed ∷ later) more) now (operates o) out
           (c.on now (resumed ∷ later) (operates o ∷ more) out can answered (of_mote, record { event = same.0; moment = same.1; answer = subst (λ n. n < 2) (sym answer) small }, shown)
@@ -51,9 +51,9 @@ module _ (p : ℕ) (code : Code) (mote : ℕ) (start : List ℕ) where
           (subst (λ n. Runs code (answered_of after changed n).remainder (answered_of after changed n).variables resumed later more out) (sym answer) runs)));
     }
 
-    pub performs_there : (o : Op) → Steps code now r vars (step.Op o) after changed → HasLife (lines ++ printed (Own p) now (operates o)) (stands changed)
+    pub performs_there : (o : Op) → Steps code now r vars (step.Op o) after changed → HasLife (lines ++ printed (Own p) now (operates o)) (in_state changed)
     performs_there o steps =
-        subst (λ l. HasLife (lines ++ l) (stands changed)) (append-nil (printed (Own p) now (operates o))) (c.on now [] (operates o ∷ []) (stands changed) can answered of_mote (operated_last r after vars changed now o steps))
+        subst (λ l. HasLife (lines ++ l) (in_state changed)) (append-nil (printed (Own p) now (operates o))) (c.on now [] (operates o ∷ []) (in_state changed) can answered of_mote (operated_last r after vars changed now o steps))
 
     -- the thread waits or yields: the answer is 0 or 1
     pub gives_up_on : (a : PtState) → Steps code now r vars (step.Done a) after changed → state_number a < 2 → ComesTo lines AtCall after changed
@@ -62,9 +62,9 @@ module _ (p : ℕ) (code : Code) (mote : ℕ) (start : List ℕ) where
           c.on now (resumed ∷ later) (gives_up a ∷ more) out can answered (of_mote, tt, shown) (gave_up r after vars changed now resumed later a more out steps small runs);
     }
 
-    pub stands_there : (a : PtState) → Steps code now r vars (step.Done a) after changed → state_number a < 2 → HasLife lines (stands changed)
-    stands_there a steps small =
-        subst (λ l. HasLife l (stands changed)) (append-nil lines) (c.on now [] (gives_up a ∷ []) (stands changed) can answered of_mote (gave_up_last r after vars changed now a steps small))
+    pub in_state_there : (a : PtState) → Steps code now r vars (step.Done a) after changed → state_number a < 2 → HasLife lines (in_state changed)
+    in_state_there a steps small =
+        subst (λ l. HasLife l (in_state changed)) (append-nil lines) (c.on now [] (gives_up a ∷ []) (in_state changed) can answered of_mote (gave_up_last r after vars changed now a steps small))
 
     -- the thread exits or ends: the answer is 2 or 3
     pub exits_there : Steps code now r vars (step.Done Exited) after changed → HasLife lines (exits now [] changed)

@@ -17,7 +17,7 @@ use Rattle.process_kernel.specs.State.{State, Outcome, Went, Ends, Goes, ◌>>=�
 use Rattle.process_kernel.specs.Processes.{is_running, with_state}
 use Rattle.process_kernel.specs.Posts.{post_of, poll_of}
 use Rattle.process_kernel.specs.Writes.{write_of, spend_of, halted_of}
-use Rattle.process_kernel.specs.Calls.{Calls, told, is_system_event}
+use Rattle.process_kernel.specs.Calls.{Calls, own_event, is_system_event}
 use Rattle.process_kernel.specs.Etimer.{fired_of, post_due, walk_timers, walks_of, pass_of, etimer_of}
 use Rattle.process_kernel.specs.Reaction.{react_of}
 use Rattle.process_kernel.specs.Call.{has_ended, answered, call_of}
@@ -26,7 +26,7 @@ use Rattle.kernel_laws.specs.Polled.{TellsOfPost}
 use Rattle.kernel_laws.specs.Poll.{PollWaits, CanBePolled}
 use Rattle.kernel_laws.specs.Due.{IsDueFor, ForgetsNone, CallsForgetNone}
 use Rattle.kernel_laws.proofs.Packets.{IfGoes, goes_if, goes_bind}
-use Rattle.kernel_laws.proofs.Timers.{further, fewer, goes_cases, timers_are_told, first_member, later_member}
+use Rattle.kernel_laws.proofs.Timers.{further, fewer, goes_cases, timers_are_traced, first_member, later_member}
 use Rattle.kernel_laws.proofs.EachStep.{Every, Whatever, Lead, calls_led, walk_timers_led, walks_led}
 use Rattle.kernel_laws.proofs.Alive.{alive_state}
 use Rattle.kernel_laws.proofs.Watch.{Watches, chain, steps, IsStill, watches_still, forgets_on, still_waits, waits_now, etimer_system}
@@ -92,7 +92,7 @@ module _ (few : ℕ) (again : State → Went) (led : (s : State) → Watched (Un
       → (owner ≡ None → IfGoes Forgets (walk_timers again ts s)) → IfGoes Forgets (post_due again (walk_timers again ts) s x owner)
   due_forgets s x ts None o can within listed later = later refl
   due_forgets s x ts (Some p) o can within listed later =
-      goes_bind Bool (Unit {0}) (IsStill s) Forgets (post_of s (One p) (told Timer x)) _ (post_still s (One p) (told Timer x))
+      goes_bind Bool (Unit {0}) (IsStill s) Forgets (post_of s (One p) (own_event Timer x)) _ (post_still s (One p) (own_event Timer x))
       (λ full u q. offered (walk_timers again ts) (walk_timers_led (Watches Etimer) Whatever (chain Etimer) IsOwn Every (steps Etimer) again led ts) s u x full q can within (listed x (first_member x ts)))
 
   walk_forgets : (ts : List ℕ) (s : State) → CanBePolled Etimer s → length s.timers.listed ≤ suc few → AreListed ts s → AreAhead ts s → IfGoes Forgets (walk_timers again ts s)
@@ -119,12 +119,12 @@ pub record Serves (s t : State) : Type 0 where
   pub forgets : ForgetsNone t.moment t
   pub tells : (timer : ℕ) (owner : Proc) → IsDueFor s.moment s.timers timer owner → TellsOfPost s t (One owner) (system_number Timer) timer
 
-pass_serves : (s : State) (o : Went) → CanBePolled Etimer s → etimer_of s (told Poll 0) ≡ o → IfGoes (Serves s) o
+pass_serves : (s : State) (o : Went) → CanBePolled Etimer s → etimer_of s (own_event Poll 0) ≡ o → IfGoes (Serves s) o
 unfolding etimer_of pass_of
 pass_serves s (Ends t) can e = tt
 pass_serves s (Goes a t) can e = record {
   forgets = subst (IfGoes Forgets) e (walks_forget (length s.timers.listed) s can (omega arith));
-  tells = λ timer owner d. timers_are_told s t (told Poll 0) timer owner refl e d.listed d.due d.owned;
+  tells = λ timer owner d. timers_are_traced s t (own_event Poll 0) timer owner refl e d.listed d.due d.owned;
 }
 
 -- a call changes more before etimer reacts, and after it
@@ -142,7 +142,7 @@ serves_like s s' t lines moment timers h = record {
     again (inr w) = inr (record { needs_poll = w.needs_poll; poll_requested = w.poll_requested })
 
 answers_serve : (calls : Calls) (s s' : State) (o : Went) → s'.lines ≡ s.lines → s'.moment ≡ s.moment → s'.timers ≡ s.timers → IfGoes (Serves s') o
-    → IfGoes (Serves s) ((o >>= λ _ s1. Goes Yielded s1) >>= λ answer s2. answered calls s2 Etimer (has_ended answer || is_system_event Exit (told Poll 0)))
+    → IfGoes (Serves s) ((o >>= λ _ s1. Goes Yielded s1) >>= λ answer s2. answered calls s2 Etimer (has_ended answer || is_system_event Exit (own_event Poll 0)))
 unfolding answered
 answers_serve calls s s' (Ends t) lines moment timers h = tt
 answers_serve calls s s' (Goes a t) lines moment timers h = serves_like s s' t lines moment timers h
@@ -151,12 +151,12 @@ answers_serve calls s s' (Goes a t) lines moment timers h = serves_like s s' t l
 abbrev pub spent : State → (none : Bool) → Went
 spent s none = if none then Ends (halted_of s) else Goes tt (record s { units = s.units - 1 })
 
-pub call_serves : (calls : Calls) (s : State) → is_running s Etimer ≡ true → CanBePolled Etimer s → IfGoes (Serves s) (call_of calls s Etimer (told Poll 0))
+pub call_serves : (calls : Calls) (s : State) → is_running s Etimer ≡ true → CanBePolled Etimer s → IfGoes (Serves s) (call_of calls s Etimer (own_event Poll 0))
 unfolding call_of spend_of react_of with_state
 call_serves calls s running can = rw running (by (s.units == 0))
   where
-    by : (b : Bool) → IfGoes (Serves s) (spent s b >>= λ _ s1. react_of calls (with_state s1 Etimer Called) Etimer (told Poll 0) >>= λ answer s2. answered calls s2 Etimer (has_ended answer || is_system_event Exit (told Poll 0)))
+    by : (b : Bool) → IfGoes (Serves s) (spent s b >>= λ _ s1. react_of calls (with_state s1 Etimer Called) Etimer (own_event Poll 0) >>= λ answer s2. answered calls s2 Etimer (has_ended answer || is_system_event Exit (own_event Poll 0)))
     by true = tt
     by false =
         let s' = with_state (record s { units = s.units - 1 }) Etimer Called in
-        answers_serve calls s s' (etimer_of s' (told Poll 0)) refl refl refl (pass_serves s' _ ((alive_state Etimer etimer_system (record s { units = s.units - 1 }) Etimer Called refl).can (record { alive = can.alive; can_need_poll = can.can_need_poll })) refl)
+        answers_serve calls s s' (etimer_of s' (own_event Poll 0)) refl refl refl (pass_serves s' _ ((alive_state Etimer etimer_system (record s { units = s.units - 1 }) Etimer Called refl).can (record { alive = can.alive; can_need_poll = can.can_need_poll })) refl)

@@ -5,10 +5,10 @@ use Rattle.program_tree.specs.declared.event.Proc.{Proc}
 use Rattle.program_tree.specs.declared.event.Proc.TheVariants.{Own, Etimer, Ctimer, Radio}
 use Rattle.program_tree.specs.declared.event.SystemEvent.TheVariants.{Poll}
 use Rattle.process_kernel.specs.declared.process.Member.{Member}
-use Rattle.process_kernel.specs.Members.{place_of, is_same, stands_in, holds_member}
+use Rattle.process_kernel.specs.Members.{place_of, is_same, is_found_in, holds_member}
 use Rattle.process_kernel.specs.State.{State, Went, Ends, Goes, ◌>>=◌}
 use Rattle.process_kernel.specs.Processes.{process_needs_poll, is_on_list, with_needs_poll}
-use Rattle.process_kernel.specs.Calls.{Calls, told}
+use Rattle.process_kernel.specs.Calls.{Calls, own_event}
 use Rattle.process_kernel.specs.Polls.{walk_polls, polls_of, polls_due_of, poll_turn_of}
 use Rattle.kernel_laws.specs.Own.{IsOwn}
 use Rattle.kernel_laws.specs.Poll.{members_before}
@@ -62,15 +62,15 @@ module _ (p : Proc) where
     pub is_it : member.process ≡ p
     pub holds : holds_member ms member ≡ true
 
-  pub splits : (ms : List Member) → stands_in ms p ≡ true → Splits ms
+  pub splits : (ms : List Member) → is_found_in ms p ≡ true → Splits ms
   splits [] h = absurd (cc)
   splits (m ∷ ms) h = by (is_same m.process p) refl (splits ms)
     where
-      by : (b : Bool) → is_same m.process p ≡ b → (stands_in ms p ≡ true → Splits ms) → Splits (m ∷ ms)
+      by : (b : Bool) → is_same m.process p ≡ b → (is_found_in ms p ≡ true → Splits ms) → Splits (m ∷ ms)
       by true e later = record { member = m; after = ms; split = rw e refl; is_it = place_is m.process p e; holds = holds_first m ms }
       by false e later =
           let back = same_back m.process p e in
-          let k = later (subst (λ b. (b || stands_in ms p) ≡ true) back h) in
+          let k = later (subst (λ b. (b || is_found_in ms p) ≡ true) back h) in
           record { member = k.member; after = k.after; split = rw e (ap (λ l. m ∷ l) k.split); is_it = k.is_it; holds = any_or _ (holds_member ms k.member) k.holds }
 
   -- the polls: those before it, its own, and those after it
@@ -79,15 +79,15 @@ module _ (p : Proc) where
   walk_splits calls ms x after s e = subst (λ l. walk_polls calls l s ≡ (walk_polls calls (members_before p ms) s >>= λ _ t. walk_polls calls (x ∷ after) t)) (sym e) (walk_joined calls (members_before p ms) (x ∷ after) s)
 
   -- at its turn it is called, if it is on the list and needs a poll
-  pub turn_calls : (calls : Calls) (u : State) (x : Member) → x.process ≡ p → is_on_list u x ≡ true → process_needs_poll u p ≡ true → poll_turn_of calls u x ≡ calls.call (with_needs_poll u p false) p (told Poll 0)
+  pub turn_calls : (calls : Calls) (u : State) (x : Member) → x.process ≡ p → is_on_list u x ≡ true → process_needs_poll u p ≡ true → poll_turn_of calls u x ≡ calls.call (with_needs_poll u p false) p (own_event Poll 0)
   unfolding poll_turn_of
   turn_calls calls u x e there needs_poll = rw (there, e, needs_poll) refl
 
   -- before its turn it still needs a poll
   module _ (calls : Calls) (led : AreLed (Watches p) Whatever (chain p) IsOwn Every calls) where
-    pub other_led : (s : State) (q : Proc) → (place_of p ≡ place_of q → ⊥) → Lead (Watches p) Whatever (Unit {0}) s (calls.call (with_needs_poll s q false) q (told Poll 0))
+    pub other_led : (s : State) (q : Proc) → (place_of p ≡ place_of q → ⊥) → Lead (Watches p) Whatever (Unit {0}) s (calls.call (with_needs_poll s q false) q (own_event Poll 0))
     other_led s q n =
-        lead_from (Watches p) Whatever (chain p) _ s _ _ (watches_cleared p s q n) (led.call _ q (told Poll 0) (fits_no_exit (Watches p) Whatever (chain p) IsOwn Every q (told Poll 0).number refl))
+        lead_from (Watches p) Whatever (chain p) _ s _ _ (watches_cleared p s q n) (led.call _ q (own_event Poll 0) (fits_no_exit (Watches p) Whatever (chain p) IsOwn Every q (own_event Poll 0).number refl))
 
     turn_led : (s : State) (x : Member) → is_same x.process p ≡ false → Lead (Watches p) Whatever (Unit {0}) s (poll_turn_of calls s x)
     unfolding poll_turn_of

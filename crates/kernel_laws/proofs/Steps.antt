@@ -7,7 +7,7 @@ use Rattle.std.proofs.lemmas.Bool.Decides.{nat_tests}
 use Rattle.delivery_laws.specs.HandedOn as handed
 use Rattle.delivery_laws.specs.HandedOn.{without}
 use Rattle.delivery_laws.proofs.Views as views
-use Rattle.delivery_laws.proofs.Views.{Moves, stands_still, moves_joined, stops_joined, other_moves, start_moves, leave_moves, post_moves, halt_stops}
+use Rattle.delivery_laws.proofs.Views.{Moves, in_state_still, moves_joined, stops_joined, other_moves, start_moves, leave_moves, post_moves, halt_stops}
 use Rattle.program_tree.specs.declared.event.Proc.{Proc}
 use Rattle.program_tree.specs.declared.event.Proc.TheVariants.{Own, Etimer, Ctimer, Radio}
 use Rattle.program_tree.specs.declared.event.Target.{Target}
@@ -20,7 +20,7 @@ use Rattle.trace_lines.specs.declared.line.Line.{Line}
 use Rattle.trace_lines.specs.declared.line.What.{What}
 use Rattle.trace_lines.specs.declared.line.What.TheVariants as what
 use Rattle.process_kernel.specs.declared.process.Member.{Member}
-use Rattle.process_kernel.specs.Members.{place_of, is_same, stands_in}
+use Rattle.process_kernel.specs.Members.{place_of, is_same, is_found_in}
 use Rattle.process_kernel.specs.State.{State, Outcome, Goes}
 use Rattle.process_kernel.specs.Processes.{is_listed, with_state, with_exiting, with_needs_poll}
 use Rattle.process_kernel.specs.ProcessList.{put_remainder, enlist_of, exiting_of, unlisted_of}
@@ -70,7 +70,7 @@ pub quiet : (s t : State) → IsQuiet s t → GoesOn s t
 quiet s t q = record {
   added = [];
   wrote = q.lines ∙ sym (append-nil s.lines);
-  moves = rw (q.members, q.started, q.queue) (stands_still (view_of s));
+  moves = rw (q.members, q.started, q.queue) (in_state_still (view_of s));
   sound = λ h. record { stays = rw (q.members) h.stays; fits = rw (q.queue) h.fits };
 }
 
@@ -122,7 +122,7 @@ poll_quiet s p = polled_or_not (IsQuiet s) s p (record { lines = refl; members =
 
 -- the process list
 
-pub listed_alike : (ms : List Member) (p : Proc) → stands_in ms p ≡ handed.is_listed (map seen_member ms) (place_of p)
+pub listed_alike : (ms : List Member) (p : Proc) → is_found_in ms p ≡ handed.is_listed (map seen_member ms) (place_of p)
 listed_alike [] p = refl
 listed_alike (m ∷ ms) p = grind (arith, nat_tests, listed_alike ms p)
 
@@ -154,7 +154,7 @@ left_members (m ∷ ms) p = left_first (not (is_same m.process p)) m ms p (left_
     left_first true m ms p e = ap (λ x. seen_member m ∷ x) e
     left_first false m ms p e = e
 
-pub others_stay : (ms : List Member) (p q : Proc) → (place_of q == place_of p) ≡ false → stands_in (filter (λ m. not (is_same m.process p)) ms) q ≡ stands_in ms q
+pub others_stay : (ms : List Member) (p q : Proc) → (place_of q == place_of p) ≡ false → is_found_in (filter (λ m. not (is_same m.process p)) ms) q ≡ is_found_in ms q
 others_stay [] p q e = refl
 others_stay (m ∷ ms) p q e = grind (arith, nat_tests, others_stay ms p q e)
 

@@ -16,7 +16,7 @@ use Rattle.mote_timers.specs.TimerLists.{TimerLists, timer_at, stop_timer}
 use Rattle.mote_timers.proofs.NumberLists.{is_member-filter}
 use Rattle.trace_lines.specs.declared.line.Line.{Line}
 use Rattle.process_kernel.specs.State.{State, Went, Ends, Goes}
-use Rattle.process_kernel.specs.Calls.{told, is_system_event}
+use Rattle.process_kernel.specs.Calls.{own_event, is_system_event}
 use Rattle.process_kernel.specs.Etimer.{fired_of, post_due, walk_timers, walks_of, pass_of, etimer_of}
 use Rattle.process_kernel.specs.Posts.{post_of, poll_of}
 use Rattle.process_kernel.specs.Processes.{is_alive, process_state, with_needs_poll}
@@ -117,9 +117,9 @@ module _ (id : ℕ) (owner : Proc) where
   goes_behind s u added (Goes a t) e m h = tells_behind s u t added e m h
 
   -- its line was written, and then others after it
-  told_first : (s v u : State) (o : Went) → (w : WritesOne s v) → TellsPost (One owner) (system_number Timer) id w.telling → u.lines ≡ v.lines → Reaches u o → IfGoes (Tells s) o
-  told_first s v u (Ends t) w h e r = tt
-  told_first s v u (Goes a t) w h e r = record {
+  traced_first : (s v u : State) (o : Went) → (w : WritesOne s v) → TellsPost (One owner) (system_number Timer) id w.telling → u.lines ≡ v.lines → Reaches u o → IfGoes (Tells s) o
+  traced_first s v u (Ends t) w h e r = tt
+  traced_first s v u (Goes a t) w h e r = record {
     telling = w.telling;
     tells = h;
     before = [];
@@ -161,12 +161,12 @@ module _ (id : ℕ) (owner : Proc) where
   offered few again on goes_again again_tells goes_on s u x q true h w there own on_tells = by (id == x) refl
     where
       by : (b : Bool) → (id == x) ≡ b → IfGoes (Tells s) (on (poll_of u Etimer))
-      by true e = told_first s u (poll_of u Etimer) _ h.0 (subst (λ j. TellsPost (One owner) (system_number Timer) j h.0.telling) (sym (eqb-true id x e)) (subst (λ p. TellsPost (One p) (system_number Timer) x h.0.telling) (own e) h.1)) (poll_lines u) (goes_on (poll_of u Etimer)).leads
+      by true e = traced_first s u (poll_of u Etimer) _ h.0 (subst (λ j. TellsPost (One owner) (system_number Timer) j h.0.telling) (sym (eqb-true id x e)) (subst (λ p. TellsPost (One p) (system_number Timer) x h.0.telling) (own e) h.1)) (poll_lines u) (goes_on (poll_of u Etimer)).leads
       by false e = goes_behind s (poll_of u Etimer) _ _ (poll_lines u ∙ h.0.wrote) (poll_moment u ∙ h.0.moment) (on_tells e)
   offered few again on goes_again again_tells goes_on s u x q false h w there own on_tells = by (id == x) refl
     where
       by : (b : Bool) → (id == x) ≡ b → IfGoes (Tells s) (again (fired_of u x))
-      by true e = told_first s u (fired_of u x) _ h.0 (subst (λ j. TellsPost (One owner) (system_number Timer) j h.0.telling) (sym (eqb-true id x e)) (subst (λ p. TellsPost (One p) (system_number Timer) x h.0.telling) (own e) h.1)) (fired_lines u x) (goes_again (fired_of u x)).leads
+      by true e = traced_first s u (fired_of u x) _ h.0 (subst (λ j. TellsPost (One owner) (system_number Timer) j h.0.telling) (sym (eqb-true id x e)) (subst (λ p. TellsPost (One p) (system_number Timer) x h.0.telling) (own e) h.1)) (fired_lines u x) (goes_again (fired_of u x)).leads
       by false e =
           goes_behind s (fired_of u x) _ _ (fired_lines u x ∙ h.0.wrote) (fired_moment u x ∙ h.0.moment) (again_tells (fired_of u x) (fired_waits few x u e (rw (h.0.timers) there) (waits_same (suc few) s u h.0.timers h.0.moment w)))
 
@@ -191,7 +191,7 @@ module _ (id : ℕ) (owner : Proc) where
     due_tells s x ts None o w there all later =
         later s w (further id x ts there (not_owned s _ x w o (id == x) refl)) (λ j h. all j (later_member j x ts h))
     due_tells s x ts (Some q) o w there all later =
-        goes_bind Bool (Unit {0}) (Offered (One q) (system_number Timer) x s) (Tells s) (post_of s (One q) (told Timer x)) _ (post_offers s (One q) (told Timer x))
+        goes_bind Bool (Unit {0}) (Offered (One q) (system_number Timer) x s) (Tells s) (post_of s (One q) (own_event Timer x)) _ (post_offers s (One q) (own_event Timer x))
         (λ full u h. offered few again (walk_timers again ts) goes_again again_tells (walk_timers_led GoesOn Stops chain IsOwn Every steps again goes_again ts) s u x q full h w (all x (first_member x ts)) (same_owner s _ x q w o)
         (λ e. later (poll_of u Etimer) (waits_same (suc few) s _ (poll_timers u ∙ h.0.timers) (poll_moment u ∙ h.0.moment) w) (further id x ts there e) (λ j k. rw (poll_timers u ∙ h.0.timers) (all j (later_member j x ts k)))))
 
@@ -217,6 +217,6 @@ passed : (s t : State) (e : Event) → is_system_event Poll e ≡ true → etime
 unfolding etimer_of pass_of
 passed s t e poll goes = sym (rw poll refl) ∙ goes
 
-pub timers_are_told : DueTimersArePosted
-timers_are_told s t e timer owner poll goes listed due owned =
+pub timers_are_traced : DueTimersArePosted
+timers_are_traced s t e timer owner poll goes listed due owned =
     subst (IfGoes (λ u. TellsOfPost s u (One owner) (system_number Timer) timer)) (passed s t e poll goes) (walks_tell timer owner (length s.timers.listed) s (record { listed = listed; due = due; owned = owned; within = omega arith }))

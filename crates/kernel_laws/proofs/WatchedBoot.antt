@@ -11,7 +11,7 @@ use Rattle.process_kernel.specs.State.{State, Went, Ends, Goes}
 use Rattle.process_kernel.specs.Processes.{is_alive, is_listed, is_busy, has_process, with_state}
 use Rattle.process_kernel.specs.ProcessList.{with_fresh_process, enlist_of}
 use Rattle.process_kernel.specs.Writes.{with_line, write_of}
-use Rattle.process_kernel.specs.Calls.{Calls, told}
+use Rattle.process_kernel.specs.Calls.{Calls, own_event}
 use Rattle.process_kernel.specs.Start.{start_of}
 use Rattle.process_kernel.specs.Boot.{starts_of, boot_of}
 use Rattle.kernel_laws.specs.Own.{IsOwn}
@@ -78,7 +78,7 @@ module _ (calls : Calls) (are : AreWatched calls) where
 
   -- etimer first
 
-  first_goes : (s : State) → is_busy s Etimer ≡ false → has_process s Etimer ≡ true → is_listed s Etimer ≡ false → start_of calls s Etimer ≡ calls.call (enlisted s Etimer) Etimer (told Init 0)
+  first_goes : (s : State) → is_busy s Etimer ≡ false → has_process s Etimer ≡ true → is_listed s Etimer ≡ false → start_of calls s Etimer ≡ calls.call (enlisted s Etimer) Etimer (own_event Init 0)
   unfolding enlisted enlist_of write_of
   first_goes s b t n = first_start calls are.reach s b t n
 
@@ -92,7 +92,7 @@ module _ (calls : Calls) (are : AreWatched calls) where
       let kept = k.leads.kept h.step in
       record {
         now_is = later;
-        stands = record {
+        in_state = record {
           can = w.leads.etimer.can can;
           step = kept.step;
           idle = record { called = λ j. kept.busy.called j ∙ h.idle.called j; exiting = λ j. kept.busy.exiting j ∙ h.idle.exiting j };
@@ -108,7 +108,7 @@ module _ (calls : Calls) (are : AreWatched calls) where
   first_good moment s h =
       let q = first_goes s h.busy h.there (rw (h.members) refl) in
       let room = enlisted_room s h.radio_state h.radio_can_need_poll in
-      let call = are.led.call (enlisted s Etimer) Etimer (told Init 0) (fits_no_exit (Watches Etimer) Whatever (chain Etimer) IsOwn Every Etimer (told Init 0).number refl) in
+      let call = are.led.call (enlisted s Etimer) Etimer (own_event Init 0) (fits_no_exit (Watches Etimer) Whatever (chain Etimer) IsOwn Every Etimer (own_event Init 0).number refl) in
       first_by moment s (enlisted s Etimer) _ h (enlisted_moment s) (enlisted_can s h.there h.can_need_poll) (enlisted_listed s) room.0 room.1
       (subst (λ o. Lead (Watches Etimer) Whatever (Unit {0}) (enlisted s Etimer) o) (sym q) call) (start_all tables.KeepsStep Whatever tables.chain Whoever tables.steps calls are.kept s Etimer)
 
@@ -122,17 +122,17 @@ module _ (calls : Calls) (are : AreWatched calls) where
   unfolding start_of enlist_of write_of enlisted
   radio_listed s busy there = rw (busy, there) (by (is_listed s Radio) refl)
     where
-      by : (b : Bool) → is_listed s Radio ≡ b → IfGoes (λ t. is_listed t Radio ≡ true) (if not b then calls.call (enlisted s Radio) Radio (told Init 0) else Goes tt s)
+      by : (b : Bool) → is_listed s Radio ≡ b → IfGoes (λ t. is_listed t Radio ≡ true) (if not b then calls.call (enlisted s Radio) Radio (own_event Init 0) else Goes tt s)
       by true e = e
-      by false e = still_listed (enlisted s Radio) _ (enlisted_radio s) (are.led.call (enlisted s Radio) Radio (told Init 0) (fits_no_exit (Watches Etimer) Whatever (chain Etimer) IsOwn Every Radio (told Init 0).number refl))
+      by false e = still_listed (enlisted s Radio) _ (enlisted_radio s) (are.led.call (enlisted s Radio) Radio (own_event Init 0) (fits_no_exit (Watches Etimer) Whatever (chain Etimer) IsOwn Every Radio (own_event Init 0).number refl))
 
   now_radio : (moment : ℕ) (o : Went) → IfGoes (Good false moment) o → IfGoes (λ t. is_listed t Radio ≡ true) o → IfGoes (Good true moment) o
   now_radio moment (Ends t) g l = tt
   now_radio moment (Goes a t) g l =
-      let h = g.stands in
+      let h = g.in_state in
       record {
         now_is = g.now_is;
-        stands = record {
+        in_state = record {
           can = h.can;
           step = h.step;
           idle = h.idle;
@@ -146,7 +146,7 @@ module _ (calls : Calls) (are : AreWatched calls) where
 
   radio_good : (moment : ℕ) (s : State) → Good false moment s → IfGoes (Good true moment) (start_of calls s Radio)
   radio_good moment s g =
-      let h = g.stands in
+      let h = g.in_state in
       now_radio moment _ (start_good false moment s Radio g) (radio_listed s (rw (h.idle.called 2, h.idle.exiting 2) refl) h.radio_state)
 
   pub boot_good : (moment : ℕ) (s : State) → IsUnstarted moment s → IfGoes (Good true moment) (boot_of calls s)

@@ -18,7 +18,7 @@ use Rattle.process_kernel.specs.Members.{place_of}
 use Rattle.process_kernel.specs.State.{State, Outcome, Went, Ends, Goes}
 use Rattle.process_kernel.specs.Processes.{is_alive, is_running, is_running_state, is_called_state, process_state, process_needs_poll, is_listed, is_on_list, has_process, with_needs_poll}
 use Rattle.process_kernel.specs.Writes.{write_of}
-use Rattle.process_kernel.specs.Calls.{Calls, told}
+use Rattle.process_kernel.specs.Calls.{Calls, own_event}
 use Rattle.process_kernel.specs.Polls.{walk_polls, polls_of, polls_due_of, poll_turn_of}
 use Rattle.process_kernel.specs.Delivery.{give_of, visit_of, walk_broadcast, deliver_to, deliver_of}
 use Rattle.process_kernel.specs.Run.{deliver_front, kernel_of}
@@ -39,22 +39,22 @@ use Rattle.kernel_laws.proofs.Watch.{Watches, chain, watches_still, watches_line
 use Rattle.kernel_laws.proofs.Passes.{Serves}
 
 -- the radio process can be polled, too
-pub record RadioStands (s : State) : Type 0 where
+pub record RadioIsReady (s : State) : Type 0 where
   pub can : CanBePolled Radio s
   pub listed : is_listed s Radio ≡ true
 
 -- Etimer can be polled, as no process is in a call; and so can the radio process, if it has started.
-pub record Stands (started : Bool) (s : State) : Type 0 where
+pub record IsInState (started : Bool) (s : State) : Type 0 where
   pub can : CanBePolled Etimer s
   pub step : IsInStep s
   pub idle : IsIdle s
   pub listed : is_listed s Etimer ≡ true
   pub radio_state : has_process s Radio ≡ true
   pub radio_can_need_poll : nat_lt 2 (length s.needs_poll) ≡ true
-  pub radio : started ≡ true → RadioStands s
+  pub radio : started ≡ true → RadioIsReady s
 
-stands_on : (r : Bool) (s t : State) → Stands r s → Watches Etimer s t → tables.Keeps s t → Stands r t
-stands_on r s t h w k = record {
+in_state_on : (r : Bool) (s t : State) → IsInState r s → Watches Etimer s t → tables.Keeps s t → IsInState r t
+in_state_on r s t h w k = record {
   can = w.etimer.can h.can;
   step = k.step;
   idle = record { called = λ j. k.busy.called j ∙ h.idle.called j; exiting = λ j. k.busy.exiting j ∙ h.idle.exiting j };
@@ -69,30 +69,30 @@ runs_now Off a c = absurd (cc)
 runs_now Running a c = refl
 runs_now Called a c = absurd (cc)
 
-pub etimer_runs : (r : Bool) (s : State) → Stands r s → is_running s Etimer ≡ true
+pub etimer_runs : (r : Bool) (s : State) → IsInState r s → is_running s Etimer ≡ true
 etimer_runs r s h = runs_now (process_state s Etimer) h.can.alive (h.idle.called 0)
 
 -- at this moment no timer is forgotten
 pub record Good (r : Bool) (moment : ℕ) (t : State) : Type 0 where
   pub now_is : t.moment ≡ moment
-  pub stands : Stands r t
+  pub in_state : IsInState r t
   pub forgets : ForgetsNone moment t
 
 good_on : (r : Bool) (moment : ℕ) (s t : State) → Good r moment s → Watches Etimer s t → tables.Keeps s t → Good r moment t
 good_on r moment s t g w k =
     let now : t.moment ≡ moment = w.moment ∙ g.now_is in
     let members_before : ForgetsNone s.moment s = subst (λ n. ForgetsNone n s) (sym g.now_is) g.forgets in
-    record { now_is = now; stands = stands_on r s t g.stands w k; forgets = subst (λ n. ForgetsNone n t) now (forgets_on s t w g.stands.can members_before) }
+    record { now_is = now; in_state = in_state_on r s t g.in_state w k; forgets = subst (λ n. ForgetsNone n t) now (forgets_on s t w g.in_state.can members_before) }
 
 pub good_leads : (A : Type 0) (r : Bool) (moment : ℕ) (s : State) (o : Outcome A) → Good r moment s → Lead (Watches Etimer) Whatever A s o → tables.Kept A s o → IfGoes (Good r moment) o
 good_leads A r moment s (Ends t) g w k = tt
-good_leads A r moment s (Goes a t) g w k = good_on r moment s t g w.leads (k.leads.kept g.stands.step)
+good_leads A r moment s (Goes a t) g w k = good_on r moment s t g w.leads (k.leads.kept g.in_state.step)
 
 -- `needs_poll` of a process is cleared
 
-pub cleared_stands : (r : Bool) (s : State) (p : Proc) → Stands r s → Stands r (with_needs_poll s p false)
+pub cleared_in_state : (r : Bool) (s : State) (p : Proc) → IsInState r s → IsInState r (with_needs_poll s p false)
 unfolding with_needs_poll
-cleared_stands r s p h = record {
+cleared_in_state r s p h = record {
   can = record { alive = h.can.alive; can_need_poll = still_has 0 (place_of p) false s.needs_poll h.can.can_need_poll };
   step = (tables.keeps_still s (record s { needs_poll = slice_set s.needs_poll (place_of p) false }) (record { states = refl; exiting = refl; members = refl }) h.step).step;
   idle = record { called = h.idle.called; exiting = h.idle.exiting };
@@ -107,7 +107,7 @@ unfolding with_needs_poll
 cleared_moment s p = refl
 
 -- `poll_requested` is cleared
-pub unrequested : (r : Bool) (s : State) → Stands r s → Stands r (record s { poll_requested = false })
+pub unrequested : (r : Bool) (s : State) → IsInState r s → IsInState r (record s { poll_requested = false })
 unrequested r s h = record {
   can = record { alive = h.can.alive; can_need_poll = h.can.can_need_poll };
   step = (tables.keeps_still s (record s { poll_requested = false }) (record { states = refl; exiting = refl; members = refl }) h.step).step;
@@ -121,7 +121,7 @@ unrequested r s h = record {
 -- at etimer's turn: it is on the list, and either no timer is due or it needs a poll
 pub record Comes (r : Bool) (moment : ℕ) (x : Member) (t : State) : Type 0 where
   pub now_is : t.moment ≡ moment
-  pub stands : Stands r t
+  pub in_state : IsInState r t
   pub there : is_on_list t x ≡ true
   pub due : NoneIsDue moment t.timers ⊎ (process_needs_poll t Etimer ≡ true)
 
@@ -130,30 +130,30 @@ pub record AreWatched (calls : Calls) : Type 0 where
   pub led : AreLed (Watches Etimer) Whatever (chain Etimer) IsOwn Every calls
   pub kept : tables.AreKept calls
   pub reach : AreRuns calls
-  pub serves : (s : State) → is_running s Etimer ≡ true → CanBePolled Etimer s → IfGoes (Serves s) (calls.call s Etimer (told Poll 0))
+  pub serves : (s : State) → is_running s Etimer ≡ true → CanBePolled Etimer s → IfGoes (Serves s) (calls.call s Etimer (own_event Poll 0))
 
 module _ (calls : Calls) (are : AreWatched calls) where
   -- a call that polls etimer
 
-  served_good : (r : Bool) (moment : ℕ) (s : State) (o : Went) → s.moment ≡ moment → Stands r s → Lead (Watches Etimer) Whatever (Unit {0}) s o → tables.Kept (Unit {0}) s o → IfGoes (Serves s) o → IfGoes (Good r moment) o
+  served_good : (r : Bool) (moment : ℕ) (s : State) (o : Went) → s.moment ≡ moment → IsInState r s → Lead (Watches Etimer) Whatever (Unit {0}) s o → tables.Kept (Unit {0}) s o → IfGoes (Serves s) o → IfGoes (Good r moment) o
   served_good r moment s (Ends t) e h w k f = tt
   served_good r moment s (Goes a t) e h w k f =
-      let now : t.moment ≡ moment = w.leads.moment ∙ e in record { now_is = now; stands = stands_on r s t h w.leads (k.leads.kept h.step); forgets = subst (λ n. ForgetsNone n t) now f.forgets }
+      let now : t.moment ≡ moment = w.leads.moment ∙ e in record { now_is = now; in_state = in_state_on r s t h w.leads (k.leads.kept h.step); forgets = subst (λ n. ForgetsNone n t) now f.forgets }
 
   -- a poll is no exit
-  pub fits_poll : (p : Proc) → FitsTarget (One p) (told Poll 0).number
-  fits_poll p = fits_no_exit (Watches Etimer) Whatever (chain Etimer) IsOwn Every p (told Poll 0).number refl
+  pub fits_poll : (p : Proc) → FitsTarget (One p) (own_event Poll 0).number
+  fits_poll p = fits_no_exit (Watches Etimer) Whatever (chain Etimer) IsOwn Every p (own_event Poll 0).number refl
 
-  etimer_good : (r : Bool) (moment : ℕ) (s : State) → s.moment ≡ moment → Stands r s → IfGoes (Good r moment) (calls.call s Etimer (told Poll 0))
+  etimer_good : (r : Bool) (moment : ℕ) (s : State) → s.moment ≡ moment → IsInState r s → IfGoes (Good r moment) (calls.call s Etimer (own_event Poll 0))
   etimer_good r moment s e h =
-      served_good r moment s _ e h (are.led.call s Etimer (told Poll 0) (fits_poll Etimer)) (are.kept.call s Etimer (told Poll 0) (λ q. tt)) (are.serves s (etimer_runs r s h) h.can)
+      served_good r moment s _ e h (are.led.call s Etimer (own_event Poll 0) (fits_poll Etimer)) (are.kept.call s Etimer (own_event Poll 0) (λ q. tt)) (are.serves s (etimer_runs r s h) h.can)
 
-  other_good : (r : Bool) (moment : ℕ) (s : State) (p : Proc) → (0 ≡ place_of p → ⊥) → Good r moment s → IfGoes (Good r moment) (calls.call (with_needs_poll s p false) p (told Poll 0))
-  other_good r moment s p n g = good_leads _ r moment s _ g (other_led Etimer calls are.led s p n) (lead_from tables.KeepsStep Whatever tables.chain _ s _ _ (tables.run_steps.cleared s p) (are.kept.call _ p (told Poll 0) (λ q. tt)))
+  other_good : (r : Bool) (moment : ℕ) (s : State) (p : Proc) → (0 ≡ place_of p → ⊥) → Good r moment s → IfGoes (Good r moment) (calls.call (with_needs_poll s p false) p (own_event Poll 0))
+  other_good r moment s p n g = good_leads _ r moment s _ g (other_led Etimer calls are.led s p n) (lead_from tables.KeepsStep Whatever tables.chain _ s _ _ (tables.run_steps.cleared s p) (are.kept.call _ p (own_event Poll 0) (λ q. tt)))
 
-  polled_good : (r : Bool) (moment : ℕ) (s : State) (p : Proc) → Good r moment s → IfGoes (Good r moment) (calls.call (with_needs_poll s p false) p (told Poll 0))
+  polled_good : (r : Bool) (moment : ℕ) (s : State) (p : Proc) → Good r moment s → IfGoes (Good r moment) (calls.call (with_needs_poll s p false) p (own_event Poll 0))
   polled_good r moment s (Own p) g = other_good r moment s (Own p) (λ e. omega arith) g
-  polled_good r moment s Etimer g = etimer_good r moment (with_needs_poll s Etimer false) (cleared_moment s Etimer ∙ g.now_is) (cleared_stands r s Etimer g.stands)
+  polled_good r moment s Etimer g = etimer_good r moment (with_needs_poll s Etimer false) (cleared_moment s Etimer ∙ g.now_is) (cleared_in_state r s Etimer g.in_state)
   polled_good r moment s Ctimer g = other_good r moment s Ctimer (λ e. omega arith) g
   polled_good r moment s Radio g = other_good r moment s Radio (λ e. omega arith) g
 
@@ -167,11 +167,11 @@ module _ (calls : Calls) (are : AreWatched calls) where
 
   -- before etimer's turn it still needs a poll
 
-  comes_by : (r : Bool) (moment : ℕ) (x : Member) (s : State) (o : Went) → s.moment ≡ moment → Stands r s → x.process ≡ Etimer → is_on_list s x ≡ true → NoneIsDue moment s.timers ⊎ (process_needs_poll s Etimer ≡ true)
+  comes_by : (r : Bool) (moment : ℕ) (x : Member) (s : State) (o : Went) → s.moment ≡ moment → IsInState r s → x.process ≡ Etimer → is_on_list s x ≡ true → NoneIsDue moment s.timers ⊎ (process_needs_poll s Etimer ≡ true)
       → Lead (Watches Etimer) Whatever (Unit {0}) s o → tables.Kept (Unit {0}) s o → IfGoes (Comes r moment x) o
   comes_by r moment x s (Ends t) e h p there due w k = tt
   comes_by r moment x s (Goes a t) e h p there due w k =
-      let now : t.moment ≡ moment = w.leads.moment ∙ e in record { now_is = now; stands = stands_on r s t h w.leads (k.leads.kept h.step); there = w.leads.etimer.there x p there; due = still due }
+      let now : t.moment ≡ moment = w.leads.moment ∙ e in record { now_is = now; in_state = in_state_on r s t h w.leads (k.leads.kept h.step); there = w.leads.etimer.there x p there; due = still due }
     where
       on : ForgetsNone t.moment t → NoneIsDue moment t.timers ⊎ (process_needs_poll t Etimer ≡ true)
       on (inl n) = inl (subst (λ m. NoneIsDue m t.timers) (w.leads.moment ∙ e) n)
@@ -181,7 +181,7 @@ module _ (calls : Calls) (are : AreWatched calls) where
       still (inl n) = on (w.leads.due refl h.can (subst (λ m. NoneIsDue m s.timers) (sym e) n))
       still (inr m) = inr (w.leads.needs_poll m)
 
-  pub comes : (r : Bool) (moment : ℕ) (x : Member) (s : State) → s.moment ≡ moment → Stands r s → x.process ≡ Etimer → is_on_list s x ≡ true → NoneIsDue moment s.timers ⊎ (process_needs_poll s Etimer ≡ true) → IfGoes (Comes r moment x) (walk_polls calls (members_before Etimer s.members) s)
+  pub comes : (r : Bool) (moment : ℕ) (x : Member) (s : State) → s.moment ≡ moment → IsInState r s → x.process ≡ Etimer → is_on_list s x ≡ true → NoneIsDue moment s.timers ⊎ (process_needs_poll s Etimer ≡ true) → IfGoes (Comes r moment x) (walk_polls calls (members_before Etimer s.members) s)
   comes r moment x s e h p there due =
       comes_by r moment x s _ e h p there due (before_led Etimer calls are.led s.members s) (tables.polls_kept calls are.kept (members_before Etimer s.members) s)
 
@@ -193,11 +193,11 @@ module _ (calls : Calls) (are : AreWatched calls) where
       none e (inl n) = inl n
       none e (inr m) = absurd (cc)
 
-      by : (b : Bool) → process_needs_poll u Etimer ≡ b → IfGoes (Good r moment) (if b then calls.call (with_needs_poll u Etimer false) Etimer (told Poll 0) else Goes tt u)
-      by true e = etimer_good r moment (with_needs_poll u Etimer false) (cleared_moment u Etimer ∙ c.now_is) (cleared_stands r u Etimer c.stands)
-      by false e = record { now_is = c.now_is; stands = c.stands; forgets = none e c.due }
+      by : (b : Bool) → process_needs_poll u Etimer ≡ b → IfGoes (Good r moment) (if b then calls.call (with_needs_poll u Etimer false) Etimer (own_event Poll 0) else Goes tt u)
+      by true e = etimer_good r moment (with_needs_poll u Etimer false) (cleared_moment u Etimer ∙ c.now_is) (cleared_in_state r u Etimer c.in_state)
+      by false e = record { now_is = c.now_is; in_state = c.in_state; forgets = none e c.due }
 
-  walk_good : (r : Bool) (moment : ℕ) (s : State) → s.moment ≡ moment → Stands r s → NoneIsDue moment s.timers ⊎ (process_needs_poll s Etimer ≡ true) → IfGoes (Good r moment) (walk_polls calls s.members s)
+  walk_good : (r : Bool) (moment : ℕ) (s : State) → s.moment ≡ moment → IsInState r s → NoneIsDue moment s.timers ⊎ (process_needs_poll s Etimer ≡ true) → IfGoes (Good r moment) (walk_polls calls s.members s)
   walk_good r moment s e h due =
       let k = splits Etimer s.members h.listed in
       rw (walk_splits Etimer calls s.members k.member k.after s k.split)
@@ -207,7 +207,7 @@ module _ (calls : Calls) (are : AreWatched calls) where
   polls_due_good : (r : Bool) (moment : ℕ) (s : State) → Good r moment s → IfGoes (Good r moment) (polls_due_of calls s)
   unfolding polls_due_of polls_of
   polls_due_good r moment s g =
-      goes_cases (Good r moment) s.poll_requested _ _ (λ e. walk_good r moment (record s { poll_requested = false }) g.now_is (unrequested r s g.stands) (weaker g.forgets)) (λ e. g)
+      goes_cases (Good r moment) s.poll_requested _ _ (λ e. walk_good r moment (record s { poll_requested = false }) g.now_is (unrequested r s g.in_state) (weaker g.forgets)) (λ e. g)
     where
       weaker : ForgetsNone moment s → NoneIsDue moment s.timers ⊎ (process_needs_poll s Etimer ≡ true)
       weaker (inl n) = inl n
@@ -236,7 +236,7 @@ module _ (calls : Calls) (are : AreWatched calls) where
   target_good r moment ToEach s x f g = walk_broadcast_good r moment x s.members s f g
 
   untaken_good : (r : Bool) (moment : ℕ) (s : State) → Good r moment s → Good r moment (record s { queue = without_front s.queue })
-  untaken_good r moment s g = good_on r moment s _ g (watches_still Etimer s _ (record { moment = refl; states = refl; needs_poll = refl; poll_requested = refl; members = refl; timers = refl })) (tables.keeps_still s _ (record { states = refl; exiting = refl; members = refl }) g.stands.step)
+  untaken_good r moment s g = good_on r moment s _ g (watches_still Etimer s _ (record { moment = refl; states = refl; needs_poll = refl; poll_requested = refl; members = refl; timers = refl })) (tables.keeps_still s _ (record { states = refl; exiting = refl; members = refl }) g.in_state.step)
 
   front_good : (r : Bool) (moment : ℕ) (q : List Posted) (s : State) → s.queue.events ≡ q → SystemStays s → Good r moment s → IfGoes (Good r moment) (deliver_front calls q s)
   unfolding deliver_of

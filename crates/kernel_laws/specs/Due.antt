@@ -53,7 +53,7 @@ pub record IsAtRest (s : State) : Type 0 where
   pub radio : CanBePolled Radio s
   pub radio_stays : is_listed s Radio ≡ true
 
--- one of these lines tells of this post, at this moment
+-- one of these lines is about this post, at this moment
 pub record HasTelling (moment : ℕ) (lines : List Line) (target : Target) (number word : ℕ) : Type 0 where
   pub telling : What
   pub tells : TellsPost target number word telling
@@ -91,7 +91,7 @@ abbrev pub RunKeepsOwners : Type 0
 RunKeepsOwners = (moment : ℕ) (m : Mote) (lines : List Line) (sends : List Sent) → HaveOwners m.state.timers
     → HaveOwners (run_given moment m lines sends).mote.state.timers
 
--- Lines that a run appended: one of them tells of each timer that is due in this state.
+-- Lines that a run appended: for each timer that is due in this state, one of them is about it.
 pub record TellsDue (moment : ℕ) (u : State) (lines after : List Line) : Type 0 where
   pub added : List Line
   pub wrote : after ≡ lines ++ added

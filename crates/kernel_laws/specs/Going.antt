@@ -1,4 +1,4 @@
--- Whether the lines of a mote so far go with the current mote.
+-- The lines of a mote so far, and how they go with the current mote.
 use Rattle.std.specs.Prelude.{Bool, true, false, ◌≡◌, List, [], ◌++◌}
 use Rattle.std.specs.List.{All}
 use Rattle.delivery_laws.specs.HandedOn.{HandedOn}
@@ -29,19 +29,19 @@ pub record IsBlank (s : State) : Type 0 where
   pub there : has_process s Etimer ≡ true
 
 -- the lines are a run of the delivery machine to the mote's state, with no walk under way
-pub record StandsBooted (lines : List Line) (s : State) : Type 0 where
-  pub told : view.GoesWithView (seen_lines lines) (view_of s)
+pub record GoesAsBooted (lines : List Line) (s : State) : Type 0 where
+  pub recounted : view.GoesWithView (seen_lines lines) (view_of s)
   pub sound : SystemStays s
 
 -- and the mote was not booted
-pub record StandsFirst (lines : List Line) (s : State) : Type 0 where
-  pub told : view.GoesWithView (seen_lines lines) (view_of s)
+pub record GoesAsNew (lines : List Line) (s : State) : Type 0 where
+  pub recounted : view.GoesWithView (seen_lines lines) (view_of s)
   pub blank : IsBlank s
 
 abbrev pub GoesWithAs : (booted halted : Bool) → List Line → State → Type 0
-GoesWithAs false false lines s = StandsFirst lines s
+GoesWithAs false false lines s = GoesAsNew lines s
 GoesWithAs false true lines s = ⊥
-GoesWithAs true false lines s = StandsBooted lines s
+GoesWithAs true false lines s = GoesAsBooted lines s
 GoesWithAs true true lines s = HasHalted (seen_lines lines)
 
 -- The lines of a mote are a run of the delivery machine: to the mote's state, or to its halt. No mote halts before it

@@ -1,4 +1,4 @@
--- The processes that leave: those of the program alone.
+-- The processes that leave: only those of the program.
 use Rattle.std.specs.Prelude.{ℕ, ◌≡◌}
 use Rattle.program_tree.specs.declared.event.Proc.{Proc}
 use Rattle.program_tree.specs.declared.event.Proc.TheVariants.{Own, Etimer, Ctimer, Radio}

@@ -50,7 +50,7 @@ abbrev pub PacketsAreHanded : Type 0
 PacketsAreHanded = (s t : State) (e : Event) → is_system_event Poll e ≡ true → radio_of s e ≡ Goes tt t
     → EmptiesRing s t
 
--- one of the lines between the two states tells of this post
+-- one of the lines between the two states is about this post
 pub record TellsOfPost (s t : State) (target : Target) (number word : ℕ) : Type 0 where
   pub telling : What
   pub tells : TellsPost target number word telling

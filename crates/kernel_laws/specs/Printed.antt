@@ -10,13 +10,13 @@ use Rattle.program_tree.specs.Tree.{end, next, Otherwise, nothing, otherwise, li
 use Rattle.program_tree.specs.Code.{Code, Tree}
 use Rattle.protothread.specs.declared.answer.PtState.TheVariants.{Yielded}
 use Rattle.protothread.specs.declared.step.Op.TheVariants as op
-use Rattle.protothread.specs.Reading.{Sight, Happening, operates, gives_up, Completion, done, restarts, exits, stands}
+use Rattle.protothread.specs.Reading.{Sight, Happening, operates, gives_up, Completion, done, restarts, exits, in_state}
 use Rattle.protothread.specs.Reading.{ReadsThread}
 use Rattle.trace_lines.specs.declared.line.Line.{Line}
 use Rattle.trace_lines.specs.declared.line.What.{What}
 use Rattle.trace_lines.specs.declared.line.What.TheVariants as what
 use Rattle.process_kernel.specs.Members.{is_same}
-use Rattle.process_kernel.specs.Calls.{told}
+use Rattle.process_kernel.specs.Calls.{own_event}
 use Rattle.kernel_laws.specs.Traces.{KernelCall, after_calls, booted_at}
 
 -- A statement, or a block, that is quiet: it prints nothing, sets no variable and spawns no thread.
@@ -103,7 +103,7 @@ abbrev pub left_by : Completion → List ℕ
 left_by (done now later variables) = variables
 left_by (restarts now later variables) = variables
 left_by (exits now later variables) = variables
-left_by (stands variables) = variables
+left_by (in_state variables) = variables
 
 -- One life of a process that starts with these variables: it is shown these sights, INIT first, and its actions are a
 -- reading of its body by its structure.
@@ -112,7 +112,7 @@ pub record Life (code : Code) (mote : ℕ) (variables : List ℕ) : Type 0 where
   pub later : List Sight
   pub did : List Happening
   pub became : Completion
-  pub init : now.event ≡ told Init 0
+  pub init : now.event ≡ own_event Init 0
   pub shown : AreShown mote (now ∷ later) did
   pub reads : ReadsThread code Yielded (listed code.body) now later variables did became
 
@@ -130,7 +130,7 @@ pub data Lives (code : Code) (p : Proc) (mote : ℕ) (variables : List ℕ) : Li
 -- The lines about a process at any time: those of its lives, of which the last may not be over; or these and one more
 -- start, after which it has not done anything yet.
 pub data LivesSoFar (code : Code) (p : Proc) (mote : ℕ) (variables : List ℕ) : List Line → Type 0 where
-  Told : {lines : List Line} {left : List ℕ} → Lives code p mote variables lines left
+  OnRecord : {lines : List Line} {left : List ℕ} → Lives code p mote variables lines left
       → LivesSoFar code p mote variables lines
   HasStarted : {lines : List Line} {left : List ℕ} → Lives code p mote variables lines left → (moment : ℕ)
       → LivesSoFar code p mote variables (lines ++ record { at = moment; what = what.Start p } ∷ [])

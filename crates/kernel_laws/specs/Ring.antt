@@ -18,7 +18,7 @@ use Rattle.kernel_laws.specs.Going.{IsNote}
 use Rattle.kernel_laws.specs.Poll.{PollWaits}
 use Rattle.kernel_laws.specs.Polled.{TellsPacket}
 
--- a line that tells of no packet that was received, was lost at the ring, or found nobody to hear it
+-- a line that isn't about a packet that was received, was lost at the ring, or was heard by nobody
 abbrev pub IsApart : What → Type 0
 IsApart (what.Recv f n v) = ⊥
 IsApart (what.Lost f n) = ⊥
@@ -28,7 +28,7 @@ IsApart w = Unit {0}
 -- Lines in order, and a ring that first holds these packets, the oldest in front, and at last those that are left. A
 -- packet that is received goes to the back, if the ring of 8 has room; one is lost only if it has none. A packet
 -- leaves from the front with its line: it was posted to the receiver, the receiver's queue was full, or nobody hears
--- it. Each line that tells of a received, a lost or an unheard packet is one of these.
+-- it. Each line about a received, a lost or an unheard packet is one of these.
 pub data RingRuns (receiver : Option ℕ) : List Arrival → List Line → List Arrival → Type 0 where
   NoneMore : {ring : List Arrival} → RingRuns receiver ring [] ring
   Receives : {ring left : List Arrival} {lines : List Line} {moment : ℕ} (a : Arrival)

@@ -20,8 +20,8 @@ abbrev pub AreNumberedFrom : (first : ℕ) → List Sent → Type 0
 AreNumberedFrom first sends = map (λ x. x.number) sends ≡ range_with_len first (length sends)
 
 -- From one state to a later one, each line and each packet that was written is stamped with the moment, the packets
--- with the mote too; these are numbered on from how many were sent before, and are counted; the mote's number and its
--- program stay.
+-- with the mote too; their numbers continue from the number of packets sent before, and they are counted; the mote's
+-- number and its program stay.
 pub record Stamped (moment : ℕ) (s t : State) : Type 0 where
   pub lines : List Line
   pub wrote : t.lines ≡ s.lines ++ lines

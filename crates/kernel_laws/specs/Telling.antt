@@ -17,7 +17,7 @@ use Rattle.process_kernel.specs.declared.process.ProcessState.TheVariants.{Off, 
 use Rattle.process_kernel.specs.Members.{place_of}
 use Rattle.process_kernel.specs.State.{State}
 use Rattle.process_kernel.specs.Processes.{process_state, at_process, has_process, is_listed}
-use Rattle.process_kernel.specs.Calls.{told}
+use Rattle.process_kernel.specs.Calls.{own_event}
 use Rattle.process_kernel.specs.Mote.{Mote, unbooted, with_packet, with_poll}
 use Rattle.process_kernel.specs.Given.{boot_given, run_given}
 use Rattle.kernel_laws.specs.Going.{IsNote}
@@ -32,7 +32,7 @@ pub data Next : Type 0 where
   AtCall : Next
 
 abbrev pub CanCome : Next → Event → (moment : ℕ) → Type 0
-CanCome (AtStart m) event moment = (event ≡ told Init 0) × (moment ≡ m)
+CanCome (AtStart m) event moment = (event ≡ own_event Init 0) × (moment ≡ m)
 CanCome (InCall answer e m) event moment = (event ≡ e) × (moment ≡ m)
 CanCome AtCall event moment = Unit {0}
 
@@ -55,19 +55,19 @@ pub record ComesTo (p : ℕ) (code : Code) (mote : ℕ) (start : List ℕ) (line
       → Runs code r vars now later more out → HasLife p code mote start (lines ++ prints (Own p) (now ∷ later) more) out
 
 -- In the life that began with its last start the process has come this far.
-pub record ComesHere (p : ℕ) (code : Code) (mote : ℕ) (told : List Line) (next : Next) (r : Remainder)
+pub record ComesHere (p : ℕ) (code : Code) (mote : ℕ) (recounted : List Line) (next : Next) (r : Remainder)
     (vars : List ℕ) : Type 0 where
   pub before : List Line
   pub start : List ℕ
   pub lived : Lives code (Own p) mote code.starts before start
   pub lines : List Line
   pub comes : ComesTo p code mote start lines next r vars
-  pub is_told : told ≡ before ++ lines
+  pub is_traced : recounted ≡ before ++ lines
 
 -- A process in the state of a mote: the program, the mote and the moment; whether the tables have room for it; its
 -- state, whether it is being exited, and whether it is on the process list; the remainder of its body, its variables,
 -- and the lines of the run under way about it.
-pub record Standing : Type 0 where
+pub record ProcessInMote : Type 0 where
   pub program : Tree
   pub mote : ℕ
   pub moment : ℕ
@@ -78,10 +78,10 @@ pub record Standing : Type 0 where
   pub listed : Bool
   pub rest : Option Remainder
   pub vars : Option (List ℕ)
-  pub told : List Line
+  pub recounted : List Line
 
-abbrev pub standing_of : (p : ℕ) → State → Standing
-standing_of p s = record {
+abbrev pub process_in_mote : (p : ℕ) → State → ProcessInMote
+process_in_mote p s = record {
   program = s.program;
   mote = s.mote;
   moment = s.moment;
@@ -92,23 +92,25 @@ standing_of p s = record {
   listed = is_listed s (Own p);
   rest = slice_get s.remainders p;
   vars = slice_get s.variables p;
-  told = starts_and_prints (Own p) s.lines;
+  recounted = starts_and_prints (Own p) s.lines;
 }
 
 -- off the process list; or on it, in a life that has come this far
-pub record IsOut (v : Standing) : Type 0 where
+pub record IsOut (v : ProcessInMote) : Type 0 where
   pub state : v.state ≡ Off
   pub listed : v.listed ≡ false
 
-pub record IsIn (p : ℕ) (code : Code) (mote : ℕ) (told : List Line) (next : Next) (v : Standing) (r : Remainder)
+pub record IsIn (p : ℕ) (code : Code) (mote : ℕ) (recounted : List Line) (next : Next) (v : ProcessInMote)
+    (r : Remainder)
     (vars : List ℕ) : Type 0 where
   pub has : v.has ≡ true
   pub state : v.state ≡ Running
   pub listed : v.listed ≡ true
-  pub comes : ComesHere p code mote told next r vars
+  pub comes : ComesHere p code mote recounted next r vars
 
 -- The process is at rest, and the lines about it are those of its lives, up to the variables that it has.
-pub record RestsAsTraced (program : Tree) (mote p : ℕ) (code : Code) (told : List Line) (v : Standing) : Type 0 where
+pub record RestsAsTraced (program : Tree) (mote p : ℕ) (code : Code) (recounted : List Line) (v : ProcessInMote)
+    : Type 0 where
   pub of_program : v.program ≡ program
   pub of_mote : v.mote ≡ mote
   pub tables : v.room ≡ v.has
@@ -117,13 +119,13 @@ pub record RestsAsTraced (program : Tree) (mote p : ℕ) (code : Code) (told : L
   pub rest : v.rest ≡ Some still
   pub left : List ℕ
   pub vars : v.vars ≡ Some left
-  pub lived : Lives code (Own p) mote code.starts told left
-  pub where_it_is : IsOut v ⊎ IsIn p code mote told AtCall v still left
+  pub lived : Lives code (Own p) mote code.starts recounted left
+  pub where_it_is : IsOut v ⊎ IsIn p code mote recounted AtCall v still left
 
 -- The lines so far of a mote are about the lives of the process up to its state; or up to the halt of the mote.
 pub record TellsSoFar (program : Tree) (mote p : ℕ) (code : Code) (lines : List Line) (m : Mote) : Type 0 where
   pub going : m.halted ≡ false → RestsAsTraced program mote p code (starts_and_prints (Own p) lines)
-      (standing_of p m.state)
+      (process_in_mote p m.state)
   pub halted : m.halted ≡ true → LivesSoFar code (Own p) mote code.starts (starts_and_prints (Own p) lines)
 
 -- a process of this number, with this code, that is quiet apart from its body

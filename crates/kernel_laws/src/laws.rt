@@ -14,13 +14,13 @@ ghost use Rattle.kernel_laws.specs.Laws.{RunAddsItsLines, PollKeeps, PacketKeeps
 ghost use Rattle.kernel_laws.specs.Laws.{CallsKeepStep, ListedAreRunning, CallsStamp, BootStamps, RunStamps};
 
 /// Whatever its program is, and whatever calls follow its boot: the lines of a kernel, joined, deliver each accepted
-/// event, in order, nothing follows a halt, and only a process that is not listed starts.
+/// event, in order, nothing follows a halt, and a process starts only if it isn't listed.
 pub fn kernels_hand_on()
     ensures kernels_hand_on { KernelsHandOn }
 {}
 
-/// Lines that go with a mote are in order; a mote that was not booted has none, and each call of its kernel keeps that
-/// its lines go with it.
+/// Lines that go with a mote are in order. A mote that was not booted has no lines. After each call of its kernel, the
+/// lines still go with it.
 pub fn each_call_keeps_order()
     ensures in_order { GoingIsInOrder }
     ensures first { NoLinesGoFirst }
@@ -40,26 +40,26 @@ pub fn the_listed_are_running()
 {}
 
 /// Packets and timers that wait when the system processes are polled are accounted for: each packet that was accepted
-/// into the receive ring is posted to the receiver once, in order, or nobody hears it; and a timer that is due by now
-/// gives its owner TIMER. If the queue was full, a line says so.
+/// into the receive ring is posted to the receiver once, in order, or nobody hears it; and for a timer that is due by
+/// now, TIMER is posted to its owner. If the queue was full, a line says so.
 pub fn what_waits_is_traced()
     ensures packets { PacketsAreHanded }
     ensures timers { DueTimersArePosted }
 {}
 
 /// Each line that is written in a boot or a kernel run is stamped with its moment, whatever calls nest, and even if
-/// the mote halts; each packet that is sent is stamped with the moment and the mote, and packets are numbered on from
-/// how many were sent before.
+/// the mote halts; each packet that is sent is stamped with the moment and the mote, and the numbers of packets
+/// continue from the number of packets sent before.
 pub fn what_is_written_bears_its_moment()
     ensures within { CallsStamp }
     ensures boot { BootStamps }
     ensures run { RunStamps }
 {}
 
-/// No packet leaves the receive ring without its line, and packets leave in the order in which they came: within
-/// calls, however they nest, and over boots and kernel runs, none of which writes a line of a packet that arrives. A
-/// kernel run in which a poll of the radio process waits leaves the ring empty. If the mote halts, the packets that
-/// are left have no line.
+/// No packet leaves the receive ring without its line, and packets leave in the order in which they arrived. This
+/// holds within calls, however they nest, and over boots and kernel runs, which write no line of a packet that
+/// arrives. If a poll of the radio process waits, a kernel run leaves the ring empty. If the mote halts, the packets
+/// that are left have no line.
 pub fn the_ring_is_traced()
     ensures within { CallsTellPackets }
     ensures boot { BootTellsPackets }
@@ -67,26 +67,26 @@ pub fn the_ring_is_traced()
     ensures emptied { RunEmptiesRing }
 {}
 
-/// No timer is forgotten: whatever calls a boot or a kernel run makes, in the end no timer is due, or a poll of etimer
-/// waits, as before. And a kernel run in which one waits polls etimer, after the processes before it on the process
-/// list: for each timer that is due then, a line says that TIMER was posted to its owner, or that the queue was full,
-/// unless the mote halts.
+/// No timer is forgotten. After a boot no timer is due, or a poll of etimer waits; and if this holds before a call or
+/// a kernel run, it holds after it too. If a poll of etimer waits, a kernel run polls etimer, after the processes
+/// before it on the process list: for each timer that is due then, a line says that TIMER was posted to its owner, or
+/// that the queue was full, unless the mote halts.
 pub fn no_timer_is_forgotten()
     ensures within { CallsForgetNone }
     ensures boot { BootForgetsNone }
     ensures run { RunForgetsNone }
-    ensures told { RunTellsDue }
+    ensures recounted { RunTellsDue }
     ensures boot_owners { BootKeepsOwners }
     ensures run_owners { RunKeepsOwners }
 {}
 
-/// A process that is quiet apart from its body (its blocks at POLL and EXIT and those of its callback timers print
-/// nothing, set no variable and spawn no thread) prints, from each of its starts on, the lines of a reading of its
-/// body: of its block, read by its structure, over sights of its mote, whatever the others do in between, and whatever
-/// calls of the kernel follow the boot. INIT comes first, each call has one event and one moment, and each line is at
-/// the moment of its sight; the rest of a sight (later events, timers, processes, semaphores) isn't in the lines. The
-/// next life begins with the variables that the one before left. If the mote halts, the lines have the last life up to
-/// there.
+/// Let a process be quiet apart from its body: its blocks at POLL and EXIT and those of its callback timers print
+/// nothing, set no variable and spawn no thread. From each of its starts on, it prints the lines of a reading of its
+/// body: the block is read by its structure, over sights of the mote, whatever other processes do in between, and
+/// whatever calls of the kernel follow the boot. INIT comes first, each call has one event and one moment, and each
+/// line is at the moment of its sight. The rest of a sight (later events, timers, processes, semaphores) isn't in the
+/// lines. The next life begins with the variables that the one before left. If the mote halts, the lines have the last
+/// life up to there.
 pub fn prints_are_the_reading()
     ensures prints_are_the_reading { PrintsAreTheReading }
     ensures so_far { PrintsSoFarAreTheReading }
@@ -105,8 +105,8 @@ pub fn each_call_tells_lives()
     ensures note { NoteTells }
 {}
 
-/// The depth that the rules give to calls is no limit, since a unit of work is spent at each: with more depth than
-/// units, more depth doesn't change the outcome of a call, a thread, a boot or a kernel run.
+/// The depth that the rules give to calls is no limit, because each call spends a unit of work: if the depth is above
+/// the number of units, more depth doesn't change the outcome of a call, a thread, a boot or a kernel run.
 pub fn depth_is_no_limit()
     ensures calls { CallsAreAnyDepth }
     ensures threads { ThreadsAreAnyDepth }

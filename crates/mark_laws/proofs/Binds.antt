@@ -4,7 +4,7 @@ use Rattle.mote_net.specs.Net.{NetModel}
 use Rattle.copy_inbox.specs.Items.{part}
 use Rattle.copy_inbox.specs.Handles.{InboxId}
 use Rattle.copy_exchange.specs.Pushes.{marks_in}
-use Rattle.all_workers.specs.Workers.{IsCut}
+use Rattle.all_workers.specs.WorkerGroup.{IsCut}
 use Rattle.marked_workers.specs.All.{AllRan}
 use Rattle.marked_workers.specs.Bounds.{windows_of}
 use Rattle.marked_workers.proofs.Ends.{all_ran}

@@ -6,12 +6,12 @@ use Rattle.copy_exchange.specs.Pushes.{pushes}
 use Rattle.mark_laws.specs.State.{Plan, State, IsPair, start, set_at, set_pair, sum_below}
 use Rattle.mark_laws.specs.Steps.{Event, MayHappen, after, Run, IsAtEnd, items_for, steps_of}
 use Rattle.mark_laws.specs.Steps.Event.{Push, Take, GoOn}
-use Rattle.mark_laws.specs.Stand.{Stand}
+use Rattle.mark_laws.specs.AreInPosition.{AreInPosition}
 use Rattle.mark_laws.specs.Laws.{RunsAreBounded, FullRunsAreOfOneLength, EveryRunCanEnd}
 use Rattle.mark_laws.proofs.Begins.{begins_trans, begins_length, pushes_grow}
 use Rattle.mark_laws.proofs.Changes.{set_same, set_other}
 use Rattle.mark_laws.proofs.Sums.{sum_same, sum_low, sum_up, sum_pairs, pairs_same, pairs_low, pairs_up}
-use Rattle.mark_laws.proofs.Stands.{all_stand, stand_step}
+use Rattle.mark_laws.proofs.IsInState.{all_in_position, in_position_after_step}
 use Rattle.mark_laws.proofs.Goes.{end_if_stuck, end_or_goes_on}
 
 abbrev pub lengths : (ℕ → ℕ → List Carried) → ℕ → ℕ → ℕ
@@ -57,7 +57,7 @@ module _ (p : Plan) where
       let b : sum_pairs p.workers (λ v u. 0) ≡ sum_below p.workers (λ v. 0) = sum_same p.workers (λ v. 0) (λ v. sum_below p.workers (λ u. 0)) (λ v lv. a) in
       omega arith
 
-  module _ (w : State) (s : Stand p w) where
+  module _ (w : State) (s : AreInPosition p w) where
     few : (f : ℕ → ℕ → List Carried) → ((v : ℕ) → f v v ≡ []) → ((v u : ℕ) → IsPair p v u → length (f v u) ≤ length (pushes p.windows (p.sent v u)))
         → (v u : ℕ) → v < p.workers → u < p.workers → lengths f v u ≤ items_for p v u
     few f own h v u lv lu = elim (cases_eq v u) [
@@ -112,12 +112,12 @@ module _ (p : Plan) where
         omega arith
 
   -- with at most this many steps left
-  can_end : (left : ℕ) (w : State) → Stand p w → steps_of p ≤ made w + left → (more : List Event) × (end : State) × Run p w more end × IsAtEnd p end
+  can_end : (left : ℕ) (w : State) → AreInPosition p w → steps_of p ≤ made w + left → (more : List Event) × (end : State) × Run p w more end × IsAtEnd p end
   can_end zero w s le = elim (end_or_goes_on p w s) [
     | inl end ↦ ([], w, refl, end)
     | inr g ↦ absurd (
         let a = made_step w g.0 g.1 in
-        let b = made_low (after w g.0) (stand_step p w g.0 s g.1) in
+        let b = made_low (after w g.0) (in_position_after_step p w g.0 s g.1) in
         omega arith
         )
   ]
@@ -125,7 +125,7 @@ module _ (p : Plan) where
     | inl end ↦ ([], w, refl, end)
     | inr g ↦ (
         let a = made_step w g.0 g.1 in
-        let r = can_end left (after w g.0) (stand_step p w g.0 s g.1) (omega arith) in
+        let r = can_end left (after w g.0) (in_position_after_step p w g.0 s g.1) (omega arith) in
         (g.0 ∷ r.0, r.1, (g.1, r.2), r.3)
         )
   ]
@@ -134,16 +134,16 @@ pub runs_are_bounded : RunsAreBounded
 runs_are_bounded p events w run =
     let a = made_run p events start w run in
     let b = made_first p in
-    let c = made_low p w (all_stand p w (events, run)) in
+    let c = made_low p w (all_in_position p w (events, run)) in
     omega arith
 
 pub full_runs_are_of_one_length : FullRunsAreOfOneLength
 full_runs_are_of_one_length p events w run stuck =
-    let s = all_stand p w (events, run) in
+    let s = all_in_position p w (events, run) in
     let a = made_run p events start w run in
     let b = made_first p in
     let c = made_all p w s (end_if_stuck p w s stuck) in
     omega arith
 
 pub every_run_can_end : EveryRunCanEnd
-every_run_can_end p w reached = can_end p (steps_of p) w (all_stand p w reached) (omega arith)
+every_run_can_end p w reached = can_end p (steps_of p) w (all_in_position p w reached) (omega arith)

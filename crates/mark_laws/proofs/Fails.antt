@@ -53,7 +53,7 @@ module _ (p : Plan) (senders : Senders p) where
         inl (Take v t.0 y.what, record { still = still; may = t.1 })
 
     has_turn : w.finished v < p.windows → HasTurn
-    has_turn runs = elim (phase p w s.order.stand v lv runs) [
+    has_turn runs = elim (phase p w s.order.in_position v lv runs) [
       | inl next ↦ inl (Push v next.to next.x, record { still = still; may = next.may })
       | inr other ↦ elim other [
         | inl may ↦ inl (GoOn v, record { still = still; may = may })
@@ -67,14 +67,14 @@ module _ (p : Plan) (senders : Senders p) where
       | inl gone ↦ inl gone
       | inr still ↦ elim (cases_lt (c.queued.state.finished v) p.windows) [
         | inl lt ↦ elim (has_turn c s stopped v lv still lt) [ inl t ↦ absurd (stuck.steps t.0 t.1) | inr may ↦ absurd (stuck.leaves v may) ]
-        | inr ge ↦ inr (let le = s.order.stand.within v lv in omega arith)
+        | inr ge ↦ inr (let le = s.order.in_position.within v lv in omega arith)
       ]
     ]
 
     done_else : c.stop ≡ false → (v : ℕ) → v < p.workers → c.queued.state.finished v ≡ p.windows
     done_else going v lv = elim (cases_lt (c.queued.state.finished v) p.windows) [
       | inl lt ↦ absurd (let g = queued_goes_on p senders c.queued s.order v lv lt in stuck.steps g.0 (record { still = s.all_there going (worker_of g.0); may = g.1 }))
-      | inr ge ↦ (let le = s.order.stand.within v lv in omega arith)
+      | inr ge ↦ (let le = s.order.in_position.within v lv in omega arith)
     ]
 
     all_over : (v : ℕ) → v < p.workers → (c.gone v ≡ true) ⊎ (c.queued.state.finished v ≡ p.windows)
@@ -123,7 +123,7 @@ module _ (p : Plan) (senders : Senders p) where
       let a = turned_run turns start_flagged c sound_first run in
       let b = made_first p in
       let d = nobody_gone p.workers in
-      let e = made_low p c.queued.state s.order.stand in
+      let e = made_low p c.queued.state s.order.in_position in
       let f = sum_low p.workers (λ v. one_if (c.gone v)) (λ v. 1) (λ v lv. one_at_most (c.gone v)) in
       let g = ones p.workers in
       omega arith
@@ -137,7 +137,7 @@ flagged_stuck_is_over p senders turns c run stuck = all_over p senders c (sound_
 pub unless_one_fails : UnlessOneFails
 unless_one_fails p senders turns c run going =
     let s = sound_run p senders turns start_flagged c (sound_first p senders) run in
-    (s.all_there going, λ stuck. at_end p c.queued.state s.order.stand (done_else p senders c s stuck going))
+    (s.all_there going, λ stuck. at_end p c.queued.state s.order.in_position (done_else p senders c s stuck going))
 
 pub turns_are_bounded : TurnsAreBounded
 turns_are_bounded p senders turns c run = few_turns p senders turns c run

@@ -8,13 +8,13 @@ use Rattle.copy_exchange.proofs.Whole.{marks_pushes, all_is_taken}
 use Rattle.mark_laws.specs.State.{Plan, State, IsPair}
 use Rattle.mark_laws.specs.Steps.{Event, HasPushed, Waits, MayPush, MayTake, MayGoOn, MayHappen, IsStuck, IsAtEnd}
 use Rattle.mark_laws.specs.Steps.Event.{Push, Take, GoOn}
-use Rattle.mark_laws.specs.Stand.{Stand}
+use Rattle.mark_laws.specs.AreInPosition.{AreInPosition}
 use Rattle.mark_laws.specs.Laws.{SomeoneGoesOn, StuckIsAtEnd, EndIsStuck}
 use Rattle.mark_laws.proofs.Begins.{begins_marks, begins_length, next_of, all_of}
 use Rattle.mark_laws.proofs.Searches.{all_or_some, lowest}
-use Rattle.mark_laws.proofs.Stands.{all_stand}
+use Rattle.mark_laws.proofs.IsInState.{all_in_position}
 
-module _ (p : Plan) (w : State) (s : Stand p w) where
+module _ (p : Plan) (w : State) (s : AreInPosition p w) where
   pub record Next (v : ℕ) : Type 0 where
     pub to : ℕ
     pub x : Carried
@@ -162,10 +162,10 @@ module _ (p : Plan) (w : State) (s : Stand p w) where
   ]
 
 pub someone_goes_on : SomeoneGoesOn
-someone_goes_on p w reached v lv lt = goes_on p w (all_stand p w reached) v lv lt
+someone_goes_on p w reached v lv lt = goes_on p w (all_in_position p w reached) v lv lt
 
 pub stuck_is_at_end : StuckIsAtEnd
-stuck_is_at_end p w reached stuck = end_if_stuck p w (all_stand p w reached) stuck
+stuck_is_at_end p w reached stuck = end_if_stuck p w (all_in_position p w reached) stuck
 
 pub end_is_stuck : EndIsStuck
 end_is_stuck p w end (Push v u x) may = let is = end.finished v may.pair.from_there in let runs = may.runs in omega arith

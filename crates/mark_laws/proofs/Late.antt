@@ -10,7 +10,7 @@ use Rattle.copy_exchange.specs.Pushes.{marks_in, pushes}
 use Rattle.copy_exchange.proofs.Whole.{marks_pushes}
 use Rattle.mark_laws.specs.Laws.{EachTakenPasses, IsOfWindow, TakenIsOfWindow, NoCopyIsTooSoon}
 use Rattle.mark_laws.proofs.Begins.{begins_trans}
-use Rattle.mark_laws.proofs.Stands.{all_stand, one_window_ahead}
+use Rattle.mark_laws.proofs.IsInState.{all_in_position, one_window_ahead}
 
 -- each item meets `D` of the number of marks before it; `marks` come before the list
 module _ (D : ℕ → Carried → Type 0) where
@@ -49,7 +49,7 @@ module _ (D : ℕ → Carried → Type 0) where
 
 pub taken_is_of_window : TakenIsOfWindow
 taken_is_of_window p w reached v u x may =
-    let line = (all_stand p w reached).lines u v may.pair in
+    let line = (all_in_position p w reached).lines u v may.pair in
     let sent : ℕ → List RadioCopy = p.sent u v in
     let m : ℕ = min (suc (w.finished u)) p.windows in
     let low : min (suc (w.finished u)) p.windows ≤ p.windows = omega arith in

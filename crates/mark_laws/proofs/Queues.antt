@@ -9,11 +9,11 @@ use Rattle.copy_inbox.proofs.Parts.{part-append, part-here, part-else}
 use Rattle.mark_laws.specs.State.{Plan, IsPair, start, set_pair}
 use Rattle.mark_laws.specs.Steps.{Event, Waits, MayPush, MayTake, MayHappen, after, Run, IsAtEnd, steps_of}
 use Rattle.mark_laws.specs.Steps.Event.{Push, Take, GoOn}
-use Rattle.mark_laws.specs.Stand.{Stand}
+use Rattle.mark_laws.specs.AreInPosition.{AreInPosition}
 use Rattle.mark_laws.specs.Queues.{Senders, Queued, start_queued, item_of, rest_of, MayTakeFirst, MayHappenQueued, after_queued, RunQueued, IsStuckQueued}
 use Rattle.mark_laws.specs.Laws.{QueuedRunsAreRuns, QueuedSomeoneGoesOn, QueuedStuckIsAtEnd, EveryQueuedRunCanEnd, OwnOrderDoesNotStick, SendersAreThere}
 use Rattle.mark_laws.proofs.Changes.{pair_same, pair_apart, pair_beside, at_one}
-use Rattle.mark_laws.proofs.Stands.{stand_step, stand_first}
+use Rattle.mark_laws.proofs.IsInState.{in_position_after_step, in_position_first}
 use Rattle.mark_laws.proofs.Goes.{goes_on, end_or_goes_on}
 use Rattle.mark_laws.proofs.Ends.{made, made_step, made_run, made_first, made_low, made_all}
 
@@ -31,12 +31,12 @@ module _ (p : Plan) (senders : Senders p) where
   -- the items taken of each other worker, with its items in the queue after that, are those that it pushed, in order;
   -- and the queue holds nothing else
   pub record InOrder (q : Queued) : Type 0 where
-    pub stand : Stand p q.state
+    pub in_position : AreInPosition p q.state
     pub parts : (v u : ℕ) → IsPair p v u → q.state.pushed v u ≡ q.state.taken v u ++ part (senders.number v u) (q.queue u)
     pub others : (u : ℕ) → Each (IsOfOther u) (q.queue u)
 
   pub first_in_order : InOrder start_queued
-  first_in_order = record { stand = stand_first p; parts = λ v u pair. refl; others = λ u. tt }
+  first_in_order = record { in_position = in_position_first p; parts = λ v u pair. refl; others = λ u. tt }
 
   module _ (q : Queued) (h : InOrder q) where
     module _ (v u : ℕ) (x : Carried) (may : MayPush p q.state v u x) where
@@ -71,7 +71,7 @@ module _ (p : Plan) (senders : Senders p) where
 
       order_push : InOrder (after_queued senders q (Push v u x))
       order_push = record {
-        stand = stand_step p q.state (Push v u x) h.stand may;
+        in_position = in_position_after_step p q.state (Push v u x) h.in_position may;
         parts = λ a b. at_one (λ j l. IsPair p a j → pushed a j ≡ q.state.taken a j ++ part (senders.number a j) l) q.queue u longer (of_any a)
             (λ j ne pair. pair_beside q.state.pushed v u (q.state.pushed v u ++ x ∷ []) a j ne ∙ h.parts a j pair) b;
         others = at_one (λ j l. Each (IsOfOther j) l) q.queue u longer (each_more (IsOfOther u) (q.queue u) item (h.others u) (record { from = v; pair = may.pair; at = refl })) (λ j ne. h.others j);
@@ -113,7 +113,7 @@ module _ (p : Plan) (senders : Senders p) where
 
       order_take : InOrder (after_queued senders q (Take v u x))
       order_take = record {
-        stand = stand_step p q.state (Take v u x) h.stand may_take;
+        in_position = in_position_after_step p q.state (Take v u x) h.in_position may_take;
         parts = λ a b. at_one (λ j l. IsPair p a j → q.state.pushed a j ≡ taken a j ++ part (senders.number a j) l) q.queue v (rest_of (q.queue v))
             (subst (λ l. IsPair p a v → q.state.pushed a v ≡ taken a v ++ part (senders.number a v) l) rest_is (left a))
             (λ j ne pair. h.parts a j pair ∙ ap (λ l. l ++ part (senders.number a j) (q.queue j)) (sym (pair_beside q.state.taken u v (q.state.taken u v ++ x ∷ []) a j ne))) b;
@@ -128,7 +128,7 @@ module _ (p : Plan) (senders : Senders p) where
     pub order_step : (e : Event) → MayHappenQueued p senders q e → InOrder (after_queued senders q e)
     order_step (Push v u x) may = order_push v u x may
     order_step (Take v u x) may = order_take v u x may
-    order_step (GoOn v) may = record { stand = stand_step p q.state (GoOn v) h.stand may; parts = h.parts; others = h.others }
+    order_step (GoOn v) may = record { in_position = in_position_after_step p q.state (GoOn v) h.in_position may; parts = h.parts; others = h.others }
 
     -- a worker that waits takes the oldest item, if there is one
     pub takes_first : (v : ℕ) (y : Item) (ys : List Item) → Waits p q.state v → q.queue v ≡ y ∷ ys → (u : ℕ) × MayTakeFirst p senders q v u y.what
@@ -155,10 +155,10 @@ module _ (p : Plan) (senders : Senders p) where
     queued_step (GoOn v) may = (GoOn v, may)
 
     pub queued_goes_on : (v : ℕ) → v < p.workers → q.state.finished v < p.windows → (e : Event) × MayHappenQueued p senders q e
-    queued_goes_on v lv lt = let g = goes_on p q.state h.stand v lv lt in queued_step g.0 g.1
+    queued_goes_on v lv lt = let g = goes_on p q.state h.in_position v lv lt in queued_step g.0 g.1
 
     pub queued_end_or_goes_on : IsAtEnd p q.state ⊎ ((e : Event) × MayHappenQueued p senders q e)
-    queued_end_or_goes_on = elim (end_or_goes_on p q.state h.stand) [ inl end ↦ inl end | inr g ↦ inr (queued_step g.0 g.1) ]
+    queued_end_or_goes_on = elim (end_or_goes_on p q.state h.in_position) [ inl end ↦ inl end | inr g ↦ inr (queued_step g.0 g.1) ]
 
     pub end_if_queued_stuck : IsStuckQueued p senders q → IsAtEnd p q.state
     end_if_queued_stuck stuck = elim queued_end_or_goes_on [ inl end ↦ end | inr g ↦ absurd (stuck g.0 g.1) ]
@@ -186,7 +186,7 @@ module _ (p : Plan) (senders : Senders p) where
     | inl end ↦ ([], q, refl, end)
     | inr g ↦ absurd (
         let a = made_step p q.state g.0 (is_step q h g.0 g.1) in
-        let b = made_low p (after q.state g.0) (order_step q h g.0 g.1).stand in
+        let b = made_low p (after q.state g.0) (order_step q h g.0 g.1).in_position in
         omega arith
         )
   ]
@@ -211,7 +211,7 @@ queued_stuck_is_at_end p senders events q run stuck =
     let end = end_if_queued_stuck p senders q r.0 stuck in
     let a = made_run p events start q.state r.1 in
     let b = made_first p in
-    let c = made_all p q.state r.0.stand end in
+    let c = made_all p q.state r.0.in_position end in
     (end, λ u lu. empty_in p senders q r.0 end u (q.queue u) refl, omega arith)
 
 pub every_queued_run_can_end : EveryQueuedRunCanEnd

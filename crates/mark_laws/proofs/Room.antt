@@ -9,7 +9,7 @@ use Rattle.copy_exchange.specs.Pushes.{marks_in, pushes}
 use Rattle.copy_exchange.proofs.Whole.{all_is_taken}
 use Rattle.mark_laws.specs.Laws.{TwoWindowsLieThere}
 use Rattle.mark_laws.proofs.Begins.{begins_trans, begins_length, pushes_grow}
-use Rattle.mark_laws.proofs.Stands.{all_stand, one_window_ahead}
+use Rattle.mark_laws.proofs.IsInState.{all_in_position, one_window_ahead}
 
 abbrev head_or : Carried → List Carried → Carried
 head_or x [] = x
@@ -55,7 +55,7 @@ window_length k sent =
 
 pub two_windows_lie_there : TwoWindowsLieThere
 two_windows_lie_there p w reached v u pair =
-    let s = all_stand p w reached in
+    let s = all_in_position p w reached in
     let line = s.lines v u pair in
     let sent : ℕ → List RadioCopy = p.sent v u in
     let k : ℕ = w.finished u in

@@ -1,5 +1,5 @@
--- The same if a worker may fail, or never start: it sets a flag, and from then on a worker that waits may leave. A
--- worker looks at its queue before it looks at the flag, so an item may have come in between.
+-- The steps of the protocol, if a worker may fail or never start: it sets a flag, and from then on a worker that waits
+-- may leave. A worker looks at its queue before it looks at the flag, so an item may have arrived in between.
 use Rattle.std.specs.Prelude.{◌≡◌, ℕ, ◌<◌, Bool, true, false, List, [], ◌∷◌}
 use Rattle.mark_laws.specs.Queues.{Senders, Queued, start_queued, MayHappenQueued, after_queued}
 use Rattle.mark_laws.specs.Steps.{Event, worker_of, Waits}

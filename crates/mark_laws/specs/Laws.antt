@@ -1,4 +1,5 @@
--- The laws of the exchange by marks. Each holds of all workers, in each state that some order of their steps leads to.
+-- The laws of the exchange by marks. Each holds for all workers, in each state to which some order of their steps
+-- leads.
 use Rattle.std.specs.Prelude.{◌≡◌, ◌≢◌, ◌⊎◌, ℕ, suc, ◌+◌, ◌<◌, ◌≤◌, Bool, true, false, List, length, [], Contains}
 use Rattle.std.specs.List.{AllByRecursion as Each}
 use Rattle.radio_packet.specs.declared.copy.RadioCopy.{RadioCopy}
@@ -8,7 +9,7 @@ use Rattle.copy_exchange.specs.Pushes.{marks_in}
 use Rattle.mark_laws.specs.State.{Plan, State, IsPair, start}
 use Rattle.mark_laws.specs.Steps.{Event, worker_of, MayHappen, MayTake, after, Run, IsStuck, IsAtEnd, steps_of}
 use Rattle.mark_laws.specs.Failures.{Turn, Flagged, start_flagged, RunTurns, steps_in, IsStuckFlagged}
-use Rattle.mark_laws.specs.Stand.{Stand}
+use Rattle.mark_laws.specs.AreInPosition.{AreInPosition}
 use Rattle.mark_laws.specs.Queues.{Senders, Queued, start_queued, MayHappenQueued, after_queued, RunQueued}
 use Rattle.mark_laws.specs.Queues.{IsStuckQueued}
 
@@ -16,8 +17,8 @@ use Rattle.mark_laws.specs.Queues.{IsStuckQueued}
 abbrev pub IsReached : Plan → State → Type 0
 IsReached p w = (events : List Event) × Run p start events w
 
-abbrev pub AllStand : Type 0
-AllStand = (p : Plan) (w : State) → IsReached p w → Stand p w
+abbrev pub AllInPosition : Type 0
+AllInPosition = (p : Plan) (w : State) → IsReached p w → AreInPosition p w
 
 -- no worker is more than one window ahead of another
 abbrev pub OneWindowAhead : Type 0
@@ -50,7 +51,7 @@ abbrev pub EveryRunCanEnd : Type 0
 EveryRunCanEnd = (p : Plan) (w : State) → IsReached p w
     → (more : List Event) × (end : State) × Run p w more end × IsAtEnd p end
 
--- a step that one worker may take, it may still take after a step of another
+-- if one worker may take a step, it may still take it after a step of another worker
 abbrev pub NobodyIsHeldUp : Type 0
 NobodyIsHeldUp = (p : Plan) (w : State) (e f : Event) → MayHappen p w e → MayHappen p w f
     → worker_of e ≢ worker_of f → MayHappen p (after w f) e
@@ -104,7 +105,7 @@ TwoWindowsLieThere = (p : Plan) (w : State) → IsReached p w → (v u : ℕ) �
 abbrev pub SendersAreThere : Type 0
 SendersAreThere = (p : Plan) → Senders p
 
--- each step and each run is one of the above, so that all those laws hold of it
+-- each step and each run is one of the above, so that all those laws hold for it
 abbrev pub QueuedRunsAreRuns : Type 0
 QueuedRunsAreRuns = (p : Plan) (senders : Senders p) (events : List Event) (q : Queued)
     → RunQueued p senders start_queued events q
@@ -150,19 +151,19 @@ abbrev pub TurnsAreRuns : Type 0
 TurnsAreRuns = (p : Plan) (senders : Senders p) (turns : List Turn) (c : Flagged)
     → RunTurns p senders start_flagged turns c → RunQueued p senders start_queued (steps_in turns) c.queued
 
--- if no turn but a failure is left, each worker is gone or has finished all its windows
+-- if the only turns left are failures, each worker is gone or has finished all its windows
 abbrev pub FlaggedStuckIsOver : Type 0
 FlaggedStuckIsOver = (p : Plan) (senders : Senders p) (turns : List Turn) (c : Flagged)
     → RunTurns p senders start_flagged turns c → IsStuckFlagged p senders c
     → (v : ℕ) → v < p.workers → (c.gone v ≡ true) ⊎ (c.queued.state.finished v ≡ p.windows)
 
--- if nobody has failed, nobody is gone, and once no turn but a failure is left, all is done
+-- if nobody has failed, nobody is gone, and once the only turns left are failures, all is done
 abbrev pub UnlessOneFails : Type 0
 UnlessOneFails = (p : Plan) (senders : Senders p) (turns : List Turn) (c : Flagged)
     → RunTurns p senders start_flagged turns c → c.stop ≡ false
     → ((v : ℕ) → c.gone v ≡ false) × (IsStuckFlagged p senders c → IsAtEnd p c.queued.state)
 
--- there are at most one more turn for each worker than steps
+-- there are at most as many turns as steps, and one more for each worker
 abbrev pub TurnsAreBounded : Type 0
 TurnsAreBounded = (p : Plan) (senders : Senders p) (turns : List Turn) (c : Flagged)
     → RunTurns p senders start_flagged turns c → length turns ≤ steps_of p + p.workers

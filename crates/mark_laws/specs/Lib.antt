@@ -3,6 +3,6 @@ pub mod Laws
 pub mod Plan
 pub mod Queues
 pub mod RunLaws
-pub mod Stand
+pub mod AreInPosition
 pub mod State
 pub mod Steps

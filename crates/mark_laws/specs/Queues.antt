@@ -1,5 +1,5 @@
--- The same steps with one queue for each worker, as inboxes have it: the queue holds the items of all others in the
--- order in which they were pushed, and the worker takes the oldest.
+-- The steps of the protocol with one queue for each worker, as inboxes have it: the queue holds the items of all
+-- others in the order in which they were pushed, and the worker takes the oldest.
 use Rattle.std.specs.Prelude.{◌≡◌, ℕ, List, [], ◌∷◌, ◌++◌}
 use Rattle.copy_inbox.specs.declared.items.Carried.{Carried}
 use Rattle.copy_inbox.specs.declared.items.Item.{Item}

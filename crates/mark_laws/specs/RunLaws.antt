@@ -9,8 +9,8 @@ use Rattle.copy_exchange.specs.Pushes.{marks_in}
 use Rattle.mark_laws.specs.State.{State, IsPair}
 use Rattle.mark_laws.specs.Steps.{MayTake, IsAtEnd}
 use Rattle.mark_laws.specs.Laws.{IsReached}
-use Rattle.all_workers.specs.declared.workers.Workers.{Workers}
-use Rattle.all_workers.specs.Workers.{IsCut}
+use Rattle.all_workers.specs.declared.workers.WorkerGroup.{WorkerGroup}
+use Rattle.all_workers.specs.WorkerGroup.{IsCut}
 use Rattle.marked_workers.specs.All.{AllRan, IsOfTakers}
 use Rattle.marked_workers.specs.Bounds.{bound, windows_of}
 use Rattle.marked_workers.specs.Run.{GroupRunsMarked}
@@ -19,7 +19,7 @@ use Rattle.mark_laws.specs.Plan.{plan_of, number_of, state_of, RanWindow}
 
 -- by the contract of `run_by_marks`, the takers of a run are those of all threads' actions
 abbrev pub EachRunHasAll : Type 0
-EachRunHasAll = (n : NetModel) (of : List ℕ) (width : ℕ) (old new : Workers)
+EachRunHasAll = (n : NetModel) (of : List ℕ) (width : ℕ) (old new : WorkerGroup)
     → IsCut (length n.motes) (length old.inboxes.items) of → GroupRunsMarked n of width old new
     → (all : AllRan n of width (windows_of width n.end) (length new.inboxes.items))
     × IsOfTakers all new.takers.items
@@ -42,7 +42,8 @@ SendersAreApart = (n : NetModel) (of : List ℕ) (width windows workers : ℕ) (
     → IsPair (plan_of of windows workers all.histories) v u → IsPair (plan_of of windows workers all.histories) w u
     → number_of (all.sender u v) ≡ number_of (all.sender u w) → v ≡ w
 
--- each copy that a worker may take of another is expected, if that ran its motes in each window that it has begun
+-- each copy that a worker may take from another is expected, if the other ran its motes in each window that it has
+-- begun
 abbrev pub NoCopyIsUnexpected : Type 0
 NoCopyIsUnexpected = (n : NetModel) (of : List ℕ) (width windows workers : ℕ) (histories : ℕ → WorkerHistory)
     → (w : State) → IsReached (plan_of of windows workers histories) w → (worker other : ℕ)

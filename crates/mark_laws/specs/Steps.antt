@@ -17,17 +17,17 @@ worker_of (Push v u x) = v
 worker_of (Take v u x) = v
 worker_of (GoOn v) = v
 
--- the worker has pushed all of the windows that it has finished and of the one that it is in
+-- the worker has pushed all items of the windows that it has finished and of the one that it is in
 abbrev pub HasPushed : Plan → State → ℕ → Type 0
 HasPushed p w v = (u : ℕ) → IsPair p v u → w.pushed v u ≡ pushes (suc (w.finished v)) (p.sent v u)
 
--- a worker that is in a window pushes the next item of those that the windows up to this one have for the other
+-- a worker that is in a window pushes the next of its items for the other from the windows up to this one
 pub record MayPush (p : Plan) (w : State) (worker to : ℕ) (x : Carried) : Type 0 where
   pub pair : IsPair p worker to
   pub runs : w.finished worker < p.windows
   pub next : BeginsWith (pushes (suc (w.finished worker)) (p.sent worker to)) (w.pushed worker to ++ x ∷ [])
 
--- a worker has pushed all, and lacks the mark of its window from some other
+-- a worker has pushed all its items, and lacks the mark of its window from another worker
 pub record Waits (p : Plan) (w : State) (worker : ℕ) : Type 0 where
   pub runs : w.finished worker < p.windows
   pub has_pushed : HasPushed p w worker
@@ -66,7 +66,7 @@ Run p old (e ∷ events) new = MayHappen p old e × Run p (after old e) events n
 abbrev pub IsStuck : Plan → State → Type 0
 IsStuck p w = (e : Event) → MayHappen p w e → ⊥
 
--- all workers have finished all windows, and all that they were to push was pushed and taken
+-- all workers have finished all windows, and all items that they had to push were pushed and taken
 pub record IsAtEnd (p : Plan) (w : State) : Type 0 where
   pub finished : (v : ℕ) → v < p.workers → w.finished v ≡ p.windows
   pub pushed : (v u : ℕ) → IsPair p v u → w.pushed v u ≡ pushes p.windows (p.sent v u)

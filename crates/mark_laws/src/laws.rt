@@ -1,18 +1,18 @@
 //! Laws of the protocol: of all workers of a run, in any order of their steps. Each is a theorem, stated as the
 //! contract of an empty function.
 
-ghost use Rattle.mark_laws.specs.Laws.{AllStand, OneWindowAhead, SomeoneGoesOn, StuckIsAtEnd, EndIsStuck};
+ghost use Rattle.mark_laws.specs.Laws.{AllInPosition, OneWindowAhead, SomeoneGoesOn, StuckIsAtEnd, EndIsStuck};
 ghost use Rattle.mark_laws.specs.Laws.{RunsAreBounded, FullRunsAreOfOneLength, EveryRunCanEnd, NobodyIsHeldUp};
 ghost use Rattle.mark_laws.specs.Laws.{NobodyQueuedIsHeldUp, SendersAreThere, TakenIsOfWindow, NoCopyIsTooSoon};
 ghost use Rattle.mark_laws.specs.Laws.{EachTakenPasses, TwoWindowsLieThere, QueuedRunsAreRuns, QueuedSomeoneGoesOn};
 ghost use Rattle.mark_laws.specs.Laws.{QueuedStuckIsAtEnd, EveryQueuedRunCanEnd, OwnOrderDoesNotStick};
 ghost use Rattle.mark_laws.specs.Laws.{TurnsAreRuns, FlaggedStuckIsOver, UnlessOneFails, TurnsAreBounded};
 
-/// In whatever order the workers take their steps, each has pushed all of the windows that it has finished and nothing
-/// of a window that it hasn't begun, and each other has taken a prefix of that, with the marks of the windows that it
-/// itself has finished.
-pub fn all_stand()
-    ensures all_stand { AllStand }
+/// In whatever order the workers take their steps, each has pushed all items of the windows that it has finished, and
+/// none of a window that it hasn't begun. Each other worker has taken a prefix of these items; the prefix contains the
+/// mark of each window that the taker has finished.
+pub fn all_in_position()
+    ensures all_in_position { AllInPosition }
 {}
 
 /// No worker is more than one window ahead of another.
@@ -25,14 +25,14 @@ pub fn someone_goes_on()
     ensures someone_goes_on { SomeoneGoesOn }
 {}
 
-/// A run that can't continue is at the end, with all pushed and all taken; and at the end no step is left.
+/// A run that can't continue is at the end, with all items pushed and taken; and at the end no step is left.
 pub fn stuck_is_at_end()
     ensures stuck { StuckIsAtEnd }
     ensures end { EndIsStuck }
 {}
 
-/// No run has more steps than one for each window of each worker and two for each item, and each run that can't
-/// continue has exactly this many.
+/// A run has at most one step for each window of each worker and two for each item. A run that can't continue has
+/// exactly this many.
 pub fn runs_are_bounded()
     ensures bounded { RunsAreBounded }
     ensures full { FullRunsAreOfOneLength }
@@ -43,7 +43,7 @@ pub fn every_run_can_end()
     ensures every_run_can_end { EveryRunCanEnd }
 {}
 
-/// A step that one worker can take, it can still take after a step of another.
+/// If one worker can take a step, it can still take it after a step of another worker.
 pub fn nobody_is_held_up()
     ensures pairs { NobodyIsHeldUp }
     ensures queued { NobodyQueuedIsHeldUp }
@@ -61,7 +61,7 @@ pub fn no_copy_is_too_soon()
     ensures no_copy_is_too_soon { NoCopyIsTooSoon }
 {}
 
-/// The same for any test of copies by which a copy that passes for a window also passes for the window before it.
+/// The same for any test, if each copy that passes it for a window also passes it for the window before that one.
 pub fn each_taken_passes()
     ensures each_taken_passes { EachTakenPasses }
 {}
@@ -71,11 +71,11 @@ pub fn two_windows_lie_there()
     ensures two_windows_lie_there { TwoWindowsLieThere }
 {}
 
-/// The same if each worker has one queue for the items of all others, of which it takes the oldest: the senders on each
-/// queue can be numbered apart; each run is one of the runs of the laws above; some worker can continue while a window
-/// is left; a run that can't continue has made all its steps, and every queue is empty; every run can continue to the
-/// end; and a run that can't continue is at the end even if workers keep to an order of their own among the steps that
-/// they may take, such as all copies of a window before its marks.
+/// The laws if each worker has one queue for the items of all others, and takes the oldest item. The senders on each
+/// queue can have different numbers. Each such run is one of the runs of the laws above. While a window is left, some
+/// worker can continue. A run that can't continue has made all its steps, and every queue is empty. Every run can
+/// continue to the end. And workers may keep to an order of their own among the steps that they may take, such as all
+/// copies of a window before its marks: a run that can't continue is at the end then too.
 pub fn queues_do_not_stick()
     ensures senders { SendersAreThere }
     ensures runs { QueuedRunsAreRuns }
@@ -85,9 +85,9 @@ pub fn queues_do_not_stick()
     ensures own_order { OwnOrderDoesNotStick }
 {}
 
-/// The same if a worker may fail or never start, which the others see by a flag once they wait in vain: when no turn
-/// but a failure is left, each worker has failed, has left, or has finished all its windows; nobody leaves unless one
-/// has failed; and the number of turns is bounded.
+/// The laws if a worker may fail or never start: a flag shows this to the others when they wait in vain. If only
+/// failures are possible as next turns, each worker has failed, has left, or has finished all its windows. No worker
+/// leaves unless one has failed. The number of turns is bounded.
 pub fn failures_do_not_stick()
     ensures runs { TurnsAreRuns }
     ensures over { FlaggedStuckIsOver }

@@ -10,9 +10,9 @@ pub fn each_run_has_all()
     ensures each_run_has_all { EachRunHasAll }
 {}
 
-/// The plan of the protocol consists of the copies that the workers sent one another, window by window. Then the items
-/// that they have pushed and taken at the end of their threads are those at the end of the protocol, at which nothing
-/// is left to do; and each continued from a window to the next as the protocol allows, with the marks of all others.
+/// Let the plan of the protocol be the copies that the workers sent one another, window by window. Then the items that
+/// they have pushed and taken when their threads end are those at the end of the protocol, when no step is left; and
+/// each worker began its next window as the protocol allows: after it had taken the marks of all others.
 pub fn ends_at_the_end()
     ensures end { RunsEndAtEnd }
     ensures marks { MarksLeadOn }
@@ -23,9 +23,9 @@ pub fn senders_are_apart()
     ensures senders_are_apart { SendersAreApart }
 {}
 
-/// Wherever the protocol has led, each copy that a worker may take is expected: it is for a mote of this worker, from
-/// a mote of another, and arrives no sooner than the worker's next window. So no thread finds a copy that isn't
-/// expected, as long as each other one ran its motes in each window that it has begun.
+/// In every state to which the protocol leads, each copy that a worker may take is expected: it is for a mote of this
+/// worker, from a mote of another, and arrives no sooner than the worker's next window. So no thread finds a copy that
+/// isn't expected, if every other worker ran its motes in each window that it has begun.
 pub fn no_copy_is_unexpected()
     ensures no_copy_is_unexpected { NoCopyIsUnexpected }
 {}

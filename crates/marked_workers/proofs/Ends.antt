@@ -21,8 +21,8 @@ use Rattle.copy_exchange.proofs.Parts.{from}
 use Rattle.copy_exchange.proofs.Early.{copies_pushes}
 use Rattle.worker_window.specs.declared.share.Share.{Share}
 use Rattle.worker_window.specs.Share.{Motes, Keeps}
-use Rattle.all_workers.specs.declared.workers.Workers.{Workers}
-use Rattle.all_workers.specs.Workers.{IsAt, IsWorkerAt}
+use Rattle.all_workers.specs.declared.workers.WorkerGroup.{WorkerGroup}
+use Rattle.all_workers.specs.WorkerGroup.{IsAt, IsWorkerAt}
 use Rattle.all_workers.proofs.Choose.{choose}
 use Rattle.all_workers.proofs.Lookups.{there, inside, read, same_found, each_at, each_from}
 use Rattle.all_workers.proofs.Same.{keeps_same}
@@ -40,7 +40,7 @@ use Rattle.marked_workers.proofs.Settles.{pair_taken, all_taken, one, gathered_a
 use Rattle.marked_workers.proofs.Settles.{same_of_each}
 use Rattle.marked_workers.proofs.Stages.{stage, own_stage, Reached, reached}
 
-module _ (n : NetModel) (of : List ℕ) (width windows : ℕ) (group : Workers) (h : EndAllMarked n of width windows group) where
+module _ (n : NetModel) (of : List ℕ) (width windows : ℕ) (group : WorkerGroup) (h : EndAllMarked n of width windows group) where
   abbrev workers : ℕ
   workers = length group.inboxes.items
 
@@ -164,7 +164,7 @@ module _ (n : NetModel) (of : List ℕ) (width windows : ℕ) (group : Workers) 
       crossed_is : (s : ℕ) → from s (copies_of z.state.taken) ≡ crossed (system_of n) of motes v s
       crossed_is s = elim (cases_Bool (is_own of v s)) [
         | inl e ↦ rw e (sym (all_had s) ∙ copies_none n of width windows workers all v low windows (omega arith) s (λ w lw nw. not_other of v w s (own_of of v s e) (λ q. nw (sym q))))
-        | inr e ↦ had_all s e (slice_get of s) refl ∙ there_at_last.told v low s
+        | inr e ↦ had_all s e (slice_get of s) refl ∙ there_at_last.recounted v low s
       ]
 
       its_one : (s : ℕ) → OneOf s z.senders
@@ -222,5 +222,5 @@ module _ (n : NetModel) (of : List ℕ) (width windows : ℕ) (group : Workers) 
         subst (λ (x : TakerView). Whole x.state.gathered x.state.taken) (same_found (slice_get group.takers.items v) p.taker t p.taker_at e) (whole_at v low))
 
 pub ends : (n : NetModel) → RunsForward (system_of n) → (of : List ℕ) (width windows : ℕ) → width ≤ (system_of n).lookahead → AreWindows width n.end windows
-    → (group : Workers) → EndAllMarked n of width windows group → IsAt n of (suc n.end) group × Each (λ (t : TakerView). Whole t.state.gathered t.state.taken) group.takers.items
+    → (group : WorkerGroup) → EndAllMarked n of width windows group → IsAt n of (suc n.end) group × Each (λ (t : TakerView). Whole t.state.gathered t.state.taken) group.takers.items
 ends n fine of width windows short are group all = (all_at_end n of width windows group all fine short are, all_whole n of width windows group all fine short are)

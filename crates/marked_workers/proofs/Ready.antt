@@ -14,7 +14,7 @@ use Rattle.copy_exchange.proofs.Open.{made_for_others}
 use Rattle.worker_window.specs.declared.share.Share.{Share}
 use Rattle.worker_window.specs.Share.{Keeps}
 use Rattle.all_workers.specs.Start.{AreFirst}
-use Rattle.all_workers.specs.Workers.{IsCut}
+use Rattle.all_workers.specs.WorkerGroup.{IsCut}
 use Rattle.all_workers.specs.Threads.{AreMade}
 use Rattle.all_workers.specs.Worker.{make_worker}
 use Rattle.all_workers.specs.declared.worker.Worker.{Worker}

@@ -1,6 +1,6 @@
 -- Why a worker gave up, read backwards.
 use Rattle.std.proofs.Common.{◌≡◌, refl}
-use Rattle.fork_join.specs.declared.work.Refused.TheVariants as why
+use Rattle.fork_join.specs.declared.work.WorkerError.TheVariants as why
 use Rattle.copy_exchange.specs.declared.take.MarkError.{MarkError}
 use Rattle.copy_exchange.specs.declared.take.MarkError.TheVariants.{Memory, Stopped, Unexpected}
 use Rattle.marked_workers.specs.Refusals.{refused_of_marks}

@@ -19,9 +19,9 @@ use Rattle.copy_exchange.proofs.Gathers.{gather_is}
 use Rattle.copy_exchange.proofs.AfterWindow.{same_workers}
 use Rattle.copy_exchange.proofs.Open.{SendersOfOthers, are_senders, sender_of, sender_is}
 use Rattle.worker_window.specs.declared.share.Share.{Share}
-use Rattle.all_workers.specs.declared.workers.Workers.{Workers}
-use Rattle.all_workers.specs.Workers.{IsAt}
-use Rattle.all_workers.specs.Workers.{IsCut}
+use Rattle.all_workers.specs.declared.workers.WorkerGroup.{WorkerGroup}
+use Rattle.all_workers.specs.WorkerGroup.{IsAt}
+use Rattle.all_workers.specs.WorkerGroup.{IsCut}
 use Rattle.all_workers.proofs.Lookups.{there, read, mapped, beside, as_long}
 use Rattle.all_workers.proofs.Numbered.{numbered}
 use Rattle.all_workers.specs.declared.worker.Worker.{Worker}
@@ -55,7 +55,7 @@ module _ (n : NetModel) (of : List ℕ) (width windows : ℕ) (inboxes : List In
       → map (λ (c : Endpoint). c.worker) (endpoints_of ys) ≡ range_with_len 0 (length inboxes)
   all_back xs ys together ran = same_workers (endpoints_of xs) (endpoints_of ys) (all_stay xs ys ran) ∙ together.workers
 
-module _ (n : NetModel) (of : List ℕ) (width : ℕ) (old new : Workers) (cut : IsCut (length n.motes) (length new.inboxes.items) of) (ran : GroupRunsMarked n of width old new) where
+module _ (n : NetModel) (of : List ℕ) (width : ℕ) (old new : WorkerGroup) (cut : IsCut (length n.motes) (length new.inboxes.items) of) (ran : GroupRunsMarked n of width old new) where
   abbrev ids : List InboxId
   ids = new.inboxes.items
 
@@ -108,7 +108,7 @@ module _ (n : NetModel) (of : List ℕ) (width : ℕ) (old new : Workers) (cut :
       promise = promise;
       senders = senders_to back v;
       are_senders = of_others (length ids) v (sender_of back v) d.endpoint.taker.state.made (senders_to back v) (are_senders ids starts back ran.together ran.none_gathered stays on_inboxes v d.endpoint at_back);
-      begun = every_weaker (λ (s : SenderView). TellsOf d.endpoint.taker.state s.state) (λ (s : SenderView). BeginsWith s.state.pushed (part s.state.number d.endpoint.taker.state.taken)) (λ s h. h.begun) (senders_to back v) (ran.back.told v d.endpoint at_back);
+      begun = every_weaker (λ (s : SenderView). TellsOf d.endpoint.taker.state s.state) (λ (s : SenderView). BeginsWith s.state.pushed (part s.state.number d.endpoint.taker.state.taken)) (λ s h. h.begun) (senders_to back v) (ran.back.recounted v d.endpoint at_back);
       gathered = taker_is;
     }
 
@@ -116,7 +116,7 @@ module _ (n : NetModel) (of : List ℕ) (width : ℕ) (old new : Workers) (cut :
   takers_long = ran.back.count ∙ (length-map ran.done (λ (x : Worker). x.endpoint) ∙ done_long)
 
   -- the element at a worker's place
-  pub record Stands (v : ℕ) : Type 0 where
+  pub record IsInState (v : ℕ) : Type 0 where
     pub w : Worker
     pub at_first : slice_get ran.first v ≡ Some w
     pub d : Worker
@@ -125,8 +125,8 @@ module _ (n : NetModel) (of : List ℕ) (width : ℕ) (old new : Workers) (cut :
     pub t : TakerView
     pub at_taker : slice_get new.takers.items v ≡ Some t
 
-  stands : (v : ℕ) → v < length ids → Stands v
-  stands v low =
+  in_state : (v : ℕ) → v < length ids → IsInState v
+  in_state v low =
       let w = there ran.first v (subst (λ l. v < l) (sym first_long) low) in
       let d = beside (WorkerRunsAllWindows n of width (windows_of width n.end) ids) ran.first ran.done ran.ran v w.0 w.1 in
       let t = there new.takers.items v (subst (λ l. v < l) (sym takers_long) low) in
@@ -134,7 +134,7 @@ module _ (n : NetModel) (of : List ℕ) (width : ℕ) (old new : Workers) (cut :
 
   each_ends : (v : ℕ) → v < length ids → (share : Share) (taker : TakerView) → EndsMarked n of width (windows_of width n.end) (length ids) (sender_of back) v (get_or new.shares.items v share) (get_or new.takers.items v taker)
   each_ends v low share taker =
-      let s = stands v low in
+      let s = in_state v low in
       let at_share : slice_get new.shares.items v ≡ Some s.d.share = ap (λ l. slice_get l v) ran.shares ∙ mapped (λ (w : Worker). w.share) ran.done v s.d s.at_done in
       subst (λ x. EndsMarked n of width (windows_of width n.end) (length ids) (sender_of back) v x (get_or new.takers.items v taker)) (sym (read new.shares.items v s.d.share share at_share))
       (subst (λ x. EndsMarked n of width (windows_of width n.end) (length ids) (sender_of back) v s.d.share x) (sym (read new.takers.items v s.t taker s.at_taker))
@@ -142,7 +142,7 @@ module _ (n : NetModel) (of : List ℕ) (width : ℕ) (old new : Workers) (cut :
 
   each_its : (v : ℕ) (id : InboxId) (taker : TakerView) → v < length ids → (get_or new.takers.items v taker).inbox ≡ get_or ids v id
   each_its v id taker low =
-      let s = stands v low in
+      let s = in_state v low in
       ap (λ (x : TakerView). x.inbox) (read new.takers.items v s.t taker s.at_taker)
       ∙ (taker_inbox v low s.w s.at_first s.d s.at_done s.has_run s.t s.at_taker
       ∙ sym (read ids v s.d.endpoint.taker.inbox id (its_inbox v low s.w s.at_first s.d s.at_done s.has_run s.t s.at_taker)))
@@ -160,7 +160,7 @@ module _ (n : NetModel) (of : List ℕ) (width : ℕ) (old new : Workers) (cut :
 
 -- all workers are at the end, if no window was longer than the lookahead
 pub ended : (n : NetModel) → RunsForward (system_of n) → (of : List ℕ) (width : ℕ) → 0 < width → width ≤ (system_of n).lookahead
-    → (old new : Workers) → IsCut (length n.motes) (length old.inboxes.items) of → GroupRunsMarked n of width old new → IsAt n of (suc n.end) new × Each (λ (t : TakerView). Whole t.state.gathered t.state.taken) new.takers.items
+    → (old new : WorkerGroup) → IsCut (length n.motes) (length old.inboxes.items) of → GroupRunsMarked n of width old new → IsAt n of (suc n.end) new × Each (λ (t : TakerView). Whole t.state.gathered t.state.taken) new.takers.items
 ended n fine of width wide short old new cut ran =
     let cut_now : IsCut (length n.motes) (length new.inboxes.items) of = subst (λ (l : List InboxId). IsCut (length n.motes) (length l) of) (sym ran.inboxes) cut in
     ends n fine of width (windows_of width n.end) short (are_windows width n.end wide) new (ends_marked n of width old new cut_now ran)

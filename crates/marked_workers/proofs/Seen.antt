@@ -15,7 +15,7 @@ use Rattle.copy_exchange.proofs.Parts.{from}
 use Rattle.copy_exchange.specs.Takers.{copies_in}
 use Rattle.copy_exchange.specs.Pushes.{sent_before}
 use Rattle.copy_exchange.proofs.Early.{early_is_unseen}
-use Rattle.all_workers.specs.Workers.{IsCut}
+use Rattle.all_workers.specs.WorkerGroup.{IsCut}
 use Rattle.all_workers.proofs.Lookups.{each_at}
 use Rattle.all_workers.proofs.Step.{own_by}
 use Rattle.marked_workers.specs.Bounds.{bound, AreWindows}

@@ -22,7 +22,7 @@ use Rattle.copy_exchange.proofs.Parts.{from}
 use Rattle.copy_exchange.specs.Pushes.{pushes, marks_in}
 use Rattle.copy_exchange.proofs.Early.{copies_pushes}
 use Rattle.copy_exchange.proofs.Whole.{all_is_taken}
-use Rattle.all_workers.specs.Workers.{IsCut}
+use Rattle.all_workers.specs.WorkerGroup.{IsCut}
 use Rattle.all_workers.proofs.Lookups.{each_at, each_from}
 use Rattle.marked_workers.specs.Senders.{AreSenders}
 use Rattle.marked_workers.specs.All.{AllRan}

@@ -16,11 +16,11 @@ use Rattle.copy_exchange.proofs.Parts.{from, from-append}
 use Rattle.copy_exchange.specs.Pushes.{sent_before}
 use Rattle.worker_window.specs.Share.{Motes}
 use Rattle.worker_window.specs.Window.{RunsOwnMote, outgoing_by}
-use Rattle.all_workers.specs.Workers.{IsCut}
+use Rattle.all_workers.specs.WorkerGroup.{IsCut}
 use Rattle.all_workers.proofs.Lookups.{each_at}
 use Rattle.all_workers.proofs.Same.{own_copies_same}
 use Rattle.all_workers.proofs.Starts.{none_crossed}
-use Rattle.all_workers.proofs.Step.{own_of, led_next, told_next}
+use Rattle.all_workers.proofs.Step.{own_of, led_next, traced_next}
 use Rattle.marked_workers.specs.Bounds.{bound, AreWindows}
 use Rattle.marked_workers.specs.All.{AllRan}
 use Rattle.marked_workers.proofs.Bounds.{at_first, begins_before, no_wider}
@@ -44,12 +44,12 @@ module _ (n : NetModel) (fine : RunsForward (system_of n)) (of : List ℕ) (widt
 
   pub record Reached (k : ℕ) : Type 0 where
     pub led : Windows (system_of n) 0 (bound width n.end k) (first_mote (system_of n)) (stage k)
-    pub told : (v : ℕ) → v < workers → GatheredCopies (system_of n) of (stage k) v (so_far v k)
+    pub recounted : (v : ℕ) → v < workers → GatheredCopies (system_of n) of (stage k) v (so_far v k)
 
   first_reached : Reached 0
   first_reached = record {
     led = subst (λ t. Windows (system_of n) 0 t (first_mote (system_of n)) (first_mote (system_of n))) (sym (at_first width n.end)) Last;
-    told = λ v lv s.
+    recounted = λ v lv s.
         none_before s (λ w. sent_before 0 (sent_to n of width windows workers all w v)) workers (λ w lw. refl) ∙ sym (none_crossed (system_of n) of v s);
   }
 
@@ -104,10 +104,10 @@ module _ (n : NetModel) (fine : RunsForward (system_of n)) (of : List ℕ) (widt
 
     next_reached : Reached k → Reached (suc k)
     next_reached at = record {
-      led = led_next n fine of workers cut start until (stage k) (begins_before width n.end windows are k low) narrow (λ v. so_far v k) (λ v. so_far v k) (λ v. (all.histories v).outgoing k) (λ v. (all.histories v).motes (suc k)) at.told
+      led = led_next n fine of workers cut start until (stage k) (begins_before width n.end windows are k low) narrow (λ v. so_far v k) (λ v. so_far v k) (λ v. (all.histories v).outgoing k) (λ v. (all.histories v).motes (suc k)) at.recounted
           (λ v lv s. refl) own_runs own_out (λ v lv. ((all.ran v lv).runs k low).goes) at.led;
-      told = λ v lv.
-          told_next n fine of workers cut start until (stage k) (begins_before width n.end windows are k low) narrow (λ v. so_far v k) (λ v. so_far v k) (λ v. (all.histories v).outgoing k) (λ v. (all.histories v).motes (suc k)) at.told
+      recounted = λ v lv.
+          traced_next n fine of workers cut start until (stage k) (begins_before width n.end windows are k low) narrow (λ v. so_far v k) (λ v. so_far v k) (λ v. (all.histories v).outgoing k) (λ v. (all.histories v).motes (suc k)) at.recounted
           (λ v lv s. refl) own_runs own_out (λ v lv. ((all.ran v lv).runs k low).goes) v lv (so_far v (suc k)) (λ s. sent_more v s (slice_get of s) refl);
     }
 

@@ -25,7 +25,7 @@ use Rattle.copy_exchange.specs.Pushes.{marks_in}
 use Rattle.copy_exchange.proofs.MarksDelivered.{takes_stays, takes_on_inboxes}
 use Rattle.worker_window.specs.Share.{Keeps}
 use Rattle.worker_window.specs.Window.{CanRun, IsOutgoing, RunsWindow}
-use Rattle.all_workers.specs.Workers.{IsCut}
+use Rattle.all_workers.specs.WorkerGroup.{IsCut}
 use Rattle.all_workers.specs.declared.worker.Worker.{Worker}
 use Rattle.marked_workers.specs.declared.worker.MarkWorker.{MarkWorker}
 use Rattle.marked_workers.specs.Bounds.{bound, windows_of, AreWindows}
@@ -61,9 +61,9 @@ started n of inboxes w m first same counts =
     })
 
 -- and after all its windows, without the counts
-pub told_of : (n : NetModel) (of : List ℕ) (width windows : ℕ) (inboxes : List InboxId) (w d : Worker) (m e : MarkWorker) → IsSame w m → IsSame d e
+pub reported_of : (n : NetModel) (of : List ℕ) (width windows : ℕ) (inboxes : List InboxId) (w d : Worker) (m e : MarkWorker) → IsSame w m → IsSame d e
     → HasRun n of width windows inboxes m e → WorkerRunsAllWindows n of width windows inboxes w d
-told_of n of width windows inboxes w d m e before after ran = record {
+reported_of n of width windows inboxes w d m e before after ran = record {
   stays = subst (λ x. Stays x d.endpoint) before.endpoint (subst (Stays m.endpoint.base) after.endpoint ran.stays);
   promise = subst (λ (x : Endpoint). WorkerRunsMarked n of width windows (length inboxes) x.worker d.share d.endpoint.taker.state (pushed_to d.endpoint)) before.endpoint
       (subst (λ (x : Endpoint). WorkerRunsMarked n of width windows (length inboxes) m.endpoint.base.worker d.share x.taker.state (pushed_to x)) after.endpoint
@@ -85,7 +85,7 @@ no_window n of width inboxes w m = record {
 
 -- a worker after some windows
 module _ (n : NetModel) (of : List ℕ) (width k until : ℕ) (inboxes : List InboxId) (wide : 0 < width) (low : k < windows_of width n.end) (at : until ≡ bound width n.end (suc k)) (first old : MarkWorker)
-    (stands : HasRun n of width k inboxes first old) where
+    (in_state : HasRun n of width k inboxes first old) where
   are : AreWindows width n.end (windows_of width n.end)
   are = are_windows width n.end wide
 
@@ -97,15 +97,15 @@ module _ (n : NetModel) (of : List ℕ) (width k until : ℕ) (inboxes : List In
   can_run = record {
     worker = first.endpoint.base.worker;
     from = bound width n.end k;
-    motes = stands.promise.history.motes k;
+    motes = in_state.promise.history.motes k;
     taken = copies_of old.endpoint.base.taker.state.taken;
-    keeps = stands.promise.keeps;
+    keeps = in_state.promise.keeps;
     order = up;
     expected = tt;
   }
 
   pub same : old.share.worker ≡ old.endpoint.base.worker
-  same = stands.promise.keeps.is_worker ∙ sym stands.stays.worker
+  same = in_state.promise.keeps.is_worker ∙ sym in_state.stays.worker
 
   -- and then it has run one more
   module _ (short : width ≤ (system_of n).lookahead) (between new : MarkWorker) (sends : SendsWindow n of (length inboxes) k until old between) (on_inboxes : IsOnInboxes inboxes between.endpoint.base) (takes : TakesWindow of k until between new) where
@@ -118,15 +118,15 @@ module _ (n : NetModel) (of : List ℕ) (width k until : ℕ) (inboxes : List In
     abbrev more : List Item
     more = takes.took.items
 
-    ran : RunsWindow n of worker (bound width n.end k) until (stands.promise.history.motes k) (copies_of state.taken) between.share sends.outgoing
+    ran : RunsWindow n of worker (bound width n.end k) until (in_state.promise.history.motes k) (copies_of state.taken) between.share sends.outgoing
     ran =
         let b = no_wider width n.end (windows_of width n.end) are k low in
         let e = at in
         let s = short in
-        sends.runs worker (bound width n.end k) (stands.promise.history.motes k) (copies_of state.taken) stands.promise.keeps up (omega arith)
+        sends.runs worker (bound width n.end k) (in_state.promise.history.motes k) (copies_of state.taken) in_state.promise.keeps up (omega arith)
 
     goes : Each (IsOutgoing n of worker) sends.outgoing
-    goes = subst (λ w. Each (IsOutgoing n of w) sends.outgoing) stands.promise.keeps.is_worker sends.out
+    goes = subst (λ w. Each (IsOutgoing n of w) sends.outgoing) in_state.promise.keeps.is_worker sends.out
 
     taker_is : new.endpoint.base.taker ≡ after_taking old.endpoint.base.taker more
     taker_is = takes.took.taker ∙ ap (λ t. after_taking t more) sends.pushes.taker
@@ -135,7 +135,7 @@ module _ (n : NetModel) (of : List ℕ) (width k until : ℕ) (inboxes : List In
     between_made = ap (λ (t : TakerView). t.state.made) sends.pushes.taker
 
     of_made : OfMade state.made (state.taken ++ more)
-    of_made = of_made_more state.made state.taken more stands.promise.ran.of_made (subst (λ m. Each (λ (x : Item). x.sender < m) more) between_made takes.took.made)
+    of_made = of_made_more state.made state.taken more in_state.promise.ran.of_made (subst (λ m. Each (λ (x : Item). x.sender < m) more) between_made takes.took.made)
 
     lead : (s : ℕ) → s < state.made → suc k ≤ marks_in (part s (state.taken ++ more))
     lead s there =
@@ -149,10 +149,10 @@ module _ (n : NetModel) (of : List ℕ) (width k until : ℕ) (inboxes : List In
     pushes_more : (v : ℕ) → v < length inboxes → v ≢ worker → pushed_to new.endpoint.base v ≡ pushed_to old.endpoint.base v ++ (map Packet (filter (is_to of v) sends.outgoing) ++ Mark k ∷ [])
     pushes_more v there other =
         ap (λ s. pushed_list (get_or s.items v None)) takes.senders
-        ∙ sends.pushes.pushes v there (ap (λ w. v == w) stands.stays.worker ∙ ne_eqb v worker other)
+        ∙ sends.pushes.pushes v there (ap (λ w. v == w) in_state.stays.worker ∙ ne_eqb v worker other)
 
     arrived_come : Each (IsExpected of worker until) takes.arrived
-    arrived_come = subst (λ w. Each (IsExpected of w until) takes.arrived) (sends.pushes.stays.worker ∙ stands.stays.worker) takes.took.expected
+    arrived_come = subst (λ w. Each (IsExpected of w until) takes.arrived) (sends.pushes.stays.worker ∙ in_state.stays.worker) takes.took.expected
 
     keeps : Keeps n of worker until ran.next (copies_of state.taken ++ copies_of more) new.share
     keeps = subst (λ l. Keeps n of worker until ran.next (copies_of state.taken ++ l) new.share) takes.took.arrived
@@ -164,19 +164,19 @@ module _ (n : NetModel) (of : List ℕ) (width k until : ℕ) (inboxes : List In
 
     pub one_more : HasRun n of width (suc k) inboxes first new
     one_more = record {
-      stays = stays_on first.endpoint.base old.endpoint.base new.endpoint.base stands.stays stays;
+      stays = stays_on first.endpoint.base old.endpoint.base new.endpoint.base in_state.stays stays;
       promise = subst (λ (t : TakerView). WorkerRunsMarked n of width (suc k) (length inboxes) worker new.share t.state (pushed_to new.endpoint.base)) (sym taker_is) promise;
       on_inboxes = takes_on_inboxes inboxes of until between.endpoint.base new.endpoint.base takes.arrived takes.took takes.worker takes.senders on_inboxes;
-      marked = marks_stay old.endpoint.base new.endpoint.base stays stands.marked;
+      marked = marks_stay old.endpoint.base new.endpoint.base stays in_state.marked;
       counts = takes.counts;
     }
       where
         Ran : ℕ → Type 0
-        Ran t = (r : RunsWindow n of worker (bound width n.end k) t (stands.promise.history.motes k) (copies_of state.taken) between.share sends.outgoing)
+        Ran t = (r : RunsWindow n of worker (bound width n.end k) t (in_state.promise.history.motes k) (copies_of state.taken) between.share sends.outgoing)
             × Keeps n of worker t r.next (copies_of state.taken ++ copies_of more) new.share
 
         ran_to : Ran (bound width n.end (suc k))
         ran_to = subst Ran at (ran, keeps)
 
         promise : WorkerRunsMarked n of width (suc k) (length inboxes) worker new.share (after_taking old.endpoint.base.taker more).state (pushed_to new.endpoint.base)
-        promise = promise_next n of width (length inboxes) worker k old.share between.share new.share state (pushed_to old.endpoint.base) (pushed_to new.endpoint.base) more sends.outgoing stands.promise ran_to.0 goes lead of_made pushes_more ran_to.1
+        promise = promise_next n of width (length inboxes) worker k old.share between.share new.share state (pushed_to old.endpoint.base) (pushed_to new.endpoint.base) more sends.outgoing in_state.promise ran_to.0 goes lead of_made pushes_more ran_to.1

@@ -8,9 +8,9 @@ use Rattle.copy_inbox.specs.Gathered.{Whole}
 use Rattle.copy_inbox.specs.Items.{part, BeginsWith}
 use Rattle.copy_inbox.specs.Handles.{InboxId, TakerView, SenderView}
 use Rattle.worker_window.specs.declared.share.Share.{Share}
-use Rattle.all_workers.specs.declared.workers.Workers.{Workers}
-use Rattle.all_workers.specs.Workers.{IsAt}
-use Rattle.all_workers.specs.Workers.{IsCut}
+use Rattle.all_workers.specs.declared.workers.WorkerGroup.{WorkerGroup}
+use Rattle.all_workers.specs.WorkerGroup.{IsAt}
+use Rattle.all_workers.specs.WorkerGroup.{IsCut}
 use Rattle.marked_workers.specs.Bounds.{AreWindows}
 use Rattle.copy_exchange.specs.Endpoints.{pushed_list}
 use Rattle.copy_exchange.specs.Steps.{gather_senders}
@@ -31,7 +31,7 @@ pub record EndsMarked (n : NetModel) (of : List ℕ) (width windows workers : �
   pub gathered : taker ≡ gather_senders before senders
 
 -- all workers
-pub record EndAllMarked (n : NetModel) (of : List ℕ) (width windows : ℕ) (group : Workers) : Type 0 where
+pub record EndAllMarked (n : NetModel) (of : List ℕ) (width windows : ℕ) (group : WorkerGroup) : Type 0 where
   pub cut : IsCut (length n.motes) (length group.inboxes.items) of
   pub shares : length group.shares.items ≡ length group.inboxes.items
   pub takers : length group.takers.items ≡ length group.inboxes.items
@@ -48,5 +48,5 @@ pub record EndAllMarked (n : NetModel) (of : List ℕ) (width windows : ℕ) (gr
 abbrev pub MarkedWindowsLeadToTheEnd : Type 0
 MarkedWindowsLeadToTheEnd = (n : NetModel) → RunsForward (system_of n) → (of : List ℕ) (width windows : ℕ)
     → width ≤ (system_of n).lookahead → AreWindows width n.end windows
-    → (group : Workers) → EndAllMarked n of width windows group
+    → (group : WorkerGroup) → EndAllMarked n of width windows group
     → IsAt n of (suc n.end) group × Each (λ (t : TakerView). Whole t.state.gathered t.state.taken) group.takers.items

@@ -6,7 +6,7 @@ use Rattle.copy_exchange.specs.declared.endpoint.Endpoint.{Endpoint}
 use Rattle.copy_exchange.specs.Endpoints.{Together}
 use Rattle.copy_exchange.specs.Steps.{GathersBack}
 use Rattle.all_workers.specs.declared.worker.Worker.{Worker}
-use Rattle.all_workers.specs.declared.workers.Workers.{Workers}
+use Rattle.all_workers.specs.declared.workers.WorkerGroup.{WorkerGroup}
 use Rattle.marked_workers.specs.Bounds.{windows_of}
 use Rattle.marked_workers.specs.Thread.{WorkerRunsAllWindows}
 
@@ -15,7 +15,7 @@ endpoints_of workers = map (λ worker. worker.endpoint) workers
 
 -- the senders of all workers were made together, each worker ran all windows in its thread, and the senders were then
 -- gathered
-pub record GroupRunsMarked (n : NetModel) (of : List ℕ) (width : ℕ) (old new : Workers) : Type 0 where
+pub record GroupRunsMarked (n : NetModel) (of : List ℕ) (width : ℕ) (old new : WorkerGroup) : Type 0 where
   pub first : List Worker
   pub done : List Worker
   pub together : Together new.inboxes.items (endpoints_of first)

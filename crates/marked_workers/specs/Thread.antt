@@ -12,7 +12,7 @@ use Rattle.copy_exchange.specs.Expected.{TakesExpected, position}
 use Rattle.copy_exchange.specs.Marks.{AllPast, Counts}
 use Rattle.worker_window.specs.Share.{Keeps, Motes}
 use Rattle.worker_window.specs.Window.{IsOutgoing, RunsWindow, TakesIn}
-use Rattle.all_workers.specs.Workers.{IsCut}
+use Rattle.all_workers.specs.WorkerGroup.{IsCut}
 use Rattle.all_workers.specs.declared.worker.Worker.{Worker}
 use Rattle.marked_workers.specs.declared.worker.MarkWorker.{MarkWorker}
 use Rattle.marked_workers.specs.WorkerHistory.{WorkerRunsMarked}
@@ -55,7 +55,7 @@ pub record SendsWindow (n : NetModel) (of : List ℕ) (workers window until : �
   pub pushes : PushesWindow of workers window old.endpoint.base new.endpoint.base outgoing
   pub marks : new.endpoint.marks ≡ old.endpoint.marks
 
--- it took items until the window's mark of each other worker had come, and the copies among them are in its share
+-- it took items until the window's mark of each other worker had arrived, and the copies among them are in its share
 pub record TakesWindow (of : List ℕ) (window until : ℕ) (old new : MarkWorker) : Type 0 where
   pub arrived : List RadioCopy
   pub took : TakesExpected (position of old.endpoint.base.worker until) old.endpoint.base.taker new.endpoint.base.taker

@@ -33,8 +33,8 @@ pub record RunsMotes (n : NetModel) (of : List ℕ) (worker from until : ℕ) (m
   pub late : Each (λ (copy : RadioCopy). until ≤ copy.at) outgoing
 
 -- The first windows of one worker, this many. Before each window it had taken, of each sender that was made on its
--- inbox, the marks of all windows before. The items that it pushed to another worker are, window by window, the copies
--- for that worker's motes and then the mark.
+-- inbox, the marks of all earlier windows. The items that it pushed to another worker are, window by window, the
+-- copies for that worker's motes and then the mark.
 pub record WorkerRunsWindows (n : NetModel) (of : List ℕ) (width windows workers worker made : ℕ) (taken : List Item)
     (pushed : ℕ → List Carried) (history : WorkerHistory) : Type 0 where
   pub first : history.motes 0 ≡ first_mote (system_of n)

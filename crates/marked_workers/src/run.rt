@@ -6,16 +6,16 @@ ghost use Rattle.fork_join.specs.Gravest.{is_own};
 ghost use Rattle.mote_net.specs.Meaning.{net_of};
 ghost use Rattle.net_agenda.specs.NetSystem.{system_of};
 ghost use Rattle.copy_inbox.specs.Gathered.{Whole};
-ghost use Rattle.all_workers.specs.Workers.{IsAt};
+ghost use Rattle.all_workers.specs.WorkerGroup.{IsAt};
 ghost use Rattle.all_workers.specs.WindowLength.{IsSound, length_of_window};
 ghost use Rattle.all_workers.specs.Start.{AreReady};
 ghost use Rattle.marked_workers.specs.Run.{GroupRunsMarked};
 
 use crate::thread::MarkRunner;
 use crate::worker::WorkersRun;
-use all_workers::{Workers, lookahead_of, run_threads, split_workers, window_length};
+use all_workers::{WorkerGroup, lookahead_of, run_threads, split_workers, window_length};
 use copy_exchange::gather_back;
-use fork_join::Refused;
+use fork_join::WorkerError;
 use mote_net::Net;
 use std::alloc::{AllocGlobal, Global};
 use std::random::RandomSource;
@@ -23,13 +23,13 @@ use std::sync::Wait;
 use std::thread::Threads;
 use worker_window::Gate;
 
-/// Runs all workers to the end of the net, each in one thread for the whole run. All windows but the last are of
-/// one length: the lookahead, or `longest`, if that is above 0 and less. `of` is the worker of each mote. The inboxes
-/// have marks, and nothing is left in them at the end.
+/// Runs all workers to the end of the net, each in one thread for the whole run. All windows except the last have the
+/// same length: the lookahead, or `longest` if that is above 0 and below the lookahead. `of` is the worker of each
+/// mote. The inboxes have marks, and nothing is left in them at the end.
 ///
 /// # Errors
 /// `Memory`, or `Thread` if a thread couldn't be started, the gate refused a start, or the executor returned an error:
-/// that of the lowest worker that has one. It is never `Stopped`: a worker stops only if another, or a start, failed.
+/// that of the first worker, by number, that has one. It is never `Stopped`, which only follows another failure.
 pub fn run_by_marks<'a, R, G>(
     rt: &'a R,
     alloc: Global,
@@ -37,8 +37,8 @@ pub fn run_by_marks<'a, R, G>(
     of: &'a [u16],
     longest: u32,
     gate: &'a G,
-    group: Workers,
-) -> Result<Workers, Refused>
+    group: WorkerGroup,
+) -> Result<WorkerGroup, WorkerError>
 where
     R: Threads + Wait + RandomSource + AllocGlobal + Sync,
     G: Gate + Sync,
@@ -55,7 +55,7 @@ where
     ensures sound { IsSound (net_of net.now) }
 {
     let width = window_length(lookahead_of(net), longest);
-    let Workers {
+    let WorkerGroup {
         shares,
         inboxes,
         takers,
@@ -77,9 +77,9 @@ where
     )?;
     let (shares, endpoints) = split_workers(alloc, done)?;
     let Ok(takers) = gather_back(rt, alloc, &inboxes, endpoints) else {
-        return Err(Refused::Memory);
+        return Err(WorkerError::Memory);
     };
-    Ok(Workers {
+    Ok(WorkerGroup {
         shares,
         inboxes,
         takers,

@@ -1,14 +1,14 @@
 //! A worker in its thread: all windows of the run, one after another.
 
 ghost use Rattle.std.specs.Prelude.{◌≡◌, ◌≢◌, ℕ, ◌^◌, ◌<◌, ◌≤◌, suc, true, [], length, IfErr, IfOk, OnOk};
-ghost use Rattle.fork_join.specs.declared.work.Refused.TheVariants.{Memory, Stopped, Thread};
+ghost use Rattle.fork_join.specs.declared.work.WorkerError.TheVariants.{Memory, Stopped, Thread};
 ghost use Rattle.mote_net.specs.Meaning.{net_of};
 ghost use Rattle.net_agenda.specs.NetSystem.{system_of};
 ghost use Rattle.copy_exchange.specs.Endpoints.{HasMarks, IsOnInboxes};
 ghost use Rattle.copy_exchange.specs.Expected.{TakesUnexpected, position};
 ghost use Rattle.copy_exchange.specs.Marks.{Counts};
 ghost use Rattle.worker_window.specs.Window.{CanRun};
-ghost use Rattle.all_workers.specs.Workers.{IsCut};
+ghost use Rattle.all_workers.specs.WorkerGroup.{IsCut};
 ghost use Rattle.marked_workers.specs.Bounds.{bound, windows_of};
 ghost use Rattle.marked_workers.specs.Refusals.{refused_of_marks};
 ghost use Rattle.marked_workers.specs.declared.worker.MarkWorker.{MarkWorker as MarkWorkerOfCode};
@@ -18,7 +18,7 @@ ghost use Rattle.marked_workers.specs.Thread.{SendsWindow, TakesWindow};
 use crate::worker::{MarkWorker, WorkersRun};
 use all_workers::{Worker, window_end};
 use copy_exchange::{MarkEndpoint, MarkError, WindowPosition};
-use fork_join::{Refused, Watch, Work};
+use fork_join::{Watch, Work, WorkerError};
 use std::alloc::{AllocGlobal, Global};
 use std::random::RandomSource;
 use std::sync::Wait;
@@ -50,7 +50,7 @@ fn send_window<R: Wait + RandomSource + AllocGlobal, G: Gate>(
     worker: &mut MarkWorker,
     window: u64,
     until: u64,
-) -> Result<(), Refused>
+) -> Result<(), WorkerError>
     requires until_bounded { until ≤ 2 ^ 40 }
     requires cut { IsCut (length (net_of run.now.net.now).motes) (length run.now.inboxes.now) run.now.of.now }
     requires ready { CanRun (net_of run.now.net.now) run.now.of.now until worker.old.share [] }
@@ -70,24 +70,24 @@ fn send_window<R: Wait + RandomSource + AllocGlobal, G: Gate>(
         .endpoint
         .deliver_window(rt, run.inboxes, run.of, &outgoing, window)
     else {
-        return Err(Refused::Memory);
+        return Err(WorkerError::Memory);
     };
     Ok(())
 }
 
-/// The reason why a worker gave up, if it stopped taking items. A copy that isn't expected comes only if another worker
-/// has broken the protocol, which none does; it counts as an error of the thread's work.
-fn gave_up(error: MarkError) -> Refused
+/// The reason why a worker gave up, if it stopped taking items. A copy that isn't expected arrives only if another
+/// worker has broken the protocol, which none does; it counts as an error of the thread's work.
+fn gave_up(error: MarkError) -> WorkerError
     ensures value { result ≡ refused_of_marks error }
 {
     match error {
-        MarkError::Memory => Refused::Memory,
-        MarkError::Stopped => Refused::Stopped,
-        MarkError::Unexpected => Refused::Thread,
+        MarkError::Memory => WorkerError::Memory,
+        MarkError::Stopped => WorkerError::Stopped,
+        MarkError::Unexpected => WorkerError::Thread,
     }
 }
 
-/// Takes items until each other worker's mark of the window has come, and puts the copies among them into the share.
+/// Takes items until each other worker's mark of the window has arrived, and puts the copies among them into the share.
 fn take_window<R: Wait + AllocGlobal, L: Ledger>(
     rt: &R,
     run: &WorkersRun<'_>,
@@ -95,7 +95,7 @@ fn take_window<R: Wait + AllocGlobal, L: Ledger>(
     worker: &mut MarkWorker,
     window: u64,
     until: u64,
-) -> Result<(), Refused>
+) -> Result<(), WorkerError>
     requires on_inboxes { IsOnInboxes run.now.inboxes.now worker.old.endpoint.base }
     requires counts { Counts worker.old.endpoint.marks.items worker.old.endpoint.base.taker.state }
     ensures takes { OnOk result (TakesWindow run.now.of.now window until worker.old worker.new) }
@@ -106,14 +106,14 @@ fn take_window<R: Wait + AllocGlobal, L: Ledger>(
 {
     let number = worker.endpoint.base.worker;
     let inbox = &run.inboxes[usize::from(number)];
-    let standing = WindowPosition {
+    let window_position = WindowPosition {
         worker: number,
         of: run.of,
         from: until,
     };
     let took = worker
         .endpoint
-        .take_window(rt, rt.alloc(), inbox, watch, &standing, window);
+        .take_window(rt, rt.alloc(), inbox, watch, &window_position, window);
     let arrived = match took {
         Ok(arrived) => arrived,
         Err(error) => return Err(gave_up(error)),
@@ -122,7 +122,7 @@ fn take_window<R: Wait + AllocGlobal, L: Ledger>(
     Ok(())
 }
 
-/// Runs one window: the worker's motes run and send, then it takes. The worker has run all earlier ones.
+/// Runs one window, after all earlier ones: the worker's motes run and send, then the worker takes copies and marks.
 fn run_one<R: Wait + RandomSource + AllocGlobal, G: Gate, L: Ledger>(
     rt: &R,
     gate: &G,
@@ -131,13 +131,13 @@ fn run_one<R: Wait + RandomSource + AllocGlobal, G: Gate, L: Ledger>(
     worker: &mut MarkWorker,
     window: u64,
     until: u64,
-) -> Result<(), Refused>
+) -> Result<(), WorkerError>
     requires until_bounded { until ≤ 2 ^ 40 }
     requires wide { 0 < run.now.width }
     requires window_exists { window < windows_of run.now.width (net_of run.now.net.now).end }
     requires until { until ≡ bound run.now.width (net_of run.now.net.now).end (suc window) }
     requires cut { IsCut (length (net_of run.now.net.now).motes) (length run.now.inboxes.now) run.now.of.now }
-    requires stands { (first : MarkWorkerOfCode) × HasRun (net_of run.now.net.now) run.now.of.now run.now.width
+    requires in_state { (first : MarkWorkerOfCode) × HasRun (net_of run.now.net.now) run.now.of.now run.now.width
         window run.now.inboxes.now first worker.old }
     ensures leads_on { let n = net_of run.now.net.now in OnOk result
         (LeadsOn n run.now.of.now run.now.width window run.now.inboxes.now worker.old worker.new) }
@@ -157,7 +157,7 @@ fn run_worker<R: Wait + RandomSource + AllocGlobal, G: Gate, L: Ledger>(
     run: &WorkersRun<'_>,
     watch: &mut Watch<'_, L>,
     worker: MarkWorker,
-) -> Result<MarkWorker, Refused>
+) -> Result<MarkWorker, WorkerError>
     requires wide { 0 < run.now.width }
     requires short { run.now.width ≤ (system_of (net_of run.now.net.now)).lookahead }
     requires started { IsStarted (net_of run.now.net.now) run.now.of.now run.now.inboxes.now worker }
@@ -179,7 +179,11 @@ fn run_worker<R: Wait + RandomSource + AllocGlobal, G: Gate, L: Ledger>(
 }
 
 /// Gives the worker a count of marks for each sender on its inbox.
-fn with_marks(alloc: Global, run: &WorkersRun<'_>, worker: Worker) -> Result<MarkWorker, Refused>
+fn with_marks(
+    alloc: Global,
+    run: &WorkersRun<'_>,
+    worker: Worker,
+) -> Result<MarkWorker, WorkerError>
     requires is_first { IsFirst (net_of run.now.net.now) run.now.of.now run.now.inboxes.now worker }
     ensures same { IfOk result (IsSame worker) }
     ensures started { IfOk result (IsStarted (net_of run.now.net.now) run.now.of.now run.now.inboxes.now) }
@@ -196,7 +200,7 @@ fn with_marks(alloc: Global, run: &WorkersRun<'_>, worker: Worker) -> Result<Mar
             share,
             endpoint: marked,
         }),
-        Err(_) => Err(Refused::Memory),
+        Err(_) => Err(WorkerError::Memory),
     }
 }
 
@@ -227,7 +231,7 @@ fn run_through<R: Wait + RandomSource + AllocGlobal, G: Gate, L: Ledger>(
     run: &WorkersRun<'_>,
     watch: &mut Watch<'_, L>,
     worker: Worker,
-) -> Result<Worker, Refused>
+) -> Result<Worker, WorkerError>
     requires wide { 0 < run.now.width }
     requires short { run.now.width ≤ (system_of (net_of run.now.net.now)).lookahead }
     requires first { IsFirst (net_of run.now.net.now) run.now.of.now run.now.inboxes.now worker }
@@ -247,7 +251,11 @@ impl<R: Wait + RandomSource + AllocGlobal, G: Gate> Work<Worker> for MarkRunner<
     ghost makes = { λ w old new. let n = net_of w.run.net.now in WorkerRunsAllWindows n w.run.of.now w.run.width
         (windows_of w.run.width n.end) w.run.inboxes.now old new };
 
-    fn work<L: Ledger>(&self, worker: Worker, watch: &mut Watch<'_, L>) -> Result<Worker, Refused> {
+    fn work<L: Ledger>(
+        &self,
+        worker: Worker,
+        watch: &mut Watch<'_, L>,
+    ) -> Result<Worker, WorkerError> {
         run_through(self.rt, self.gate, &self.run, watch, worker)
     }
 

@@ -223,27 +223,27 @@ unfolding turn_of net_turn
 turn_watched program number queue moment packets n s = net_if program number queue moment packets (record { mote = n.mote; lines = []; sends = [] }) (n.collides && is_collision n.mote packets) s
 
 -- a node as it was made, or one that is at rest, with no timer forgotten at its last turn
-abbrev pub Stands : Tree → (number queue : ℕ) → Node → Type 0
-Stands program number queue n = (IsAsMade program number queue n.mote × (n.last ≡ None)) ⊎ (Rested n.mote × ((moment : ℕ) → n.last ≡ Some moment → Watched moment n.mote))
+abbrev pub IsInState : Tree → (number queue : ℕ) → Node → Type 0
+IsInState program number queue n = (IsAsMade program number queue n.mote × (n.last ≡ None)) ⊎ (Rested n.mote × ((moment : ℕ) → n.last ≡ Some moment → Watched moment n.mote))
 
-pub either_stands : (program : Tree) (number queue : ℕ) (n : Node) → Stands program number queue n → IsAsMade program number queue n.mote ⊎ Rested n.mote
-either_stands program number queue n (inl h) = inl h.0
-either_stands program number queue n (inr h) = inr h.0
+pub either_in_state : (program : Tree) (number queue : ℕ) (n : Node) → IsInState program number queue n → IsAsMade program number queue n.mote ⊎ Rested n.mote
+either_in_state program number queue n (inl h) = inl h.0
+either_in_state program number queue n (inr h) = inr h.0
 
-pub turn_stands : (program : Tree) (number queue : ℕ) (n : Node) (x : turns.TurnInput) → Stands program number queue n → Stands program number queue (turn_of x.moment x.arrivals n).node
-turn_stands program number queue n x s =
-    let w = turn_watched program number queue x.moment x.arrivals n (either_stands program number queue n s) in
+pub turn_in_state : (program : Tree) (number queue : ℕ) (n : Node) (x : turns.TurnInput) → IsInState program number queue n → IsInState program number queue (turn_of x.moment x.arrivals n).node
+turn_in_state program number queue n x s =
+    let w = turn_watched program number queue x.moment x.arrivals n (either_in_state program number queue n s) in
     inr (w.rested, λ m e. let same : x.moment ≡ m = same_some x.moment m (sym (now_last x.moment x.arrivals n) ∙ e) in subst (λ k. Watched k (turn_of x.moment x.arrivals n).node.mote) same w)
   where
     same_some : (a b : ℕ) → Some a ≡ Some b → a ≡ b
     same_some a b e = cc
 
-pub first_stands : (program : Tree) (number queue : ℕ) (collides : Bool) → Stands program number queue (first_node program number queue collides)
+pub first_in_state : (program : Tree) (number queue : ℕ) (collides : Bool) → IsInState program number queue (first_node program number queue collides)
 unfolding new_node
-first_stands program number queue collides = inl (refl, refl)
+first_in_state program number queue collides = inl (refl, refl)
 
-all_stand : (program : Tree) (number queue : ℕ) (collides : Bool) (given : List turns.TurnInput) (lines : List Line) (last : Node) → Turns (first_node program number queue collides) given lines last → Stands program number queue last
-all_stand program number queue collides given lines last t = nodes_keep (Stands program number queue) (turn_stands program number queue) _ last given lines t (first_stands program number queue collides)
+all_in_position : (program : Tree) (number queue : ℕ) (collides : Bool) (given : List turns.TurnInput) (lines : List Line) (last : Node) → Turns (first_node program number queue collides) given lines last → IsInState program number queue last
+all_in_position program number queue collides given lines last t = nodes_keep (IsInState program number queue) (turn_in_state program number queue) _ last given lines t (first_in_state program number queue collides)
 
 -- if a poll of etimer waits, the mote wakes at the next moment
 wakes_next : (moment : ℕ) (n : Node) → n.last ≡ Some moment → n.mote.halted ≡ false → PollWaits Etimer n.mote.state → wake_of n ≡ Some (moment + 1)
@@ -255,13 +255,13 @@ wakes_next moment n e running w = rw (running, e, w.poll_requested) (either (nat
     either false = refl
 
 pub turns_forget_none : TurnsForgetNone
-turns_forget_none program number queue collides given lines last moment t e running = by (all_stand program number queue collides given lines last t)
+turns_forget_none program number queue collides given lines last moment t e running = by (all_in_position program number queue collides given lines last t)
   where
     forgets : ForgetsNone moment last.mote.state → NoneIsDue moment last.mote.state.timers ⊎ WakesForEtimer moment last
     forgets (inl n) = inl n
     forgets (inr w) = inr (record { waits = w; wakes = wakes_next moment last e running w })
 
-    by : Stands program number queue last → NoneIsDue moment last.mote.state.timers ⊎ WakesForEtimer moment last
+    by : IsInState program number queue last → NoneIsDue moment last.mote.state.timers ⊎ WakesForEtimer moment last
     by (inl h) = let f = h.1 in absurd (cc)
     by (inr h) = forgets ((h.1 moment e).forgets running)
 
@@ -371,8 +371,8 @@ unfolding unbooted new_timers
 none_listed program number queue moment timer owner d = let h = d.listed in cc
 
 pub turns_serve_timers : TurnsServeTimers
-turns_serve_timers program number queue collides given lines n t moment arrivals timer owner d running = by (all_stand program number queue collides given lines n t)
+turns_serve_timers program number queue collides given lines n t moment arrivals timer owner d running = by (all_in_position program number queue collides given lines n t)
   where
-    by : Stands program number queue n → ServesTimers moment arrivals n
+    by : IsInState program number queue n → ServesTimers moment arrivals n
     by (inl h) = absurd (none_listed program number queue moment timer owner (subst (λ m. IsDueFor moment m.state.timers timer owner) h.0 d))
     by (inr h) = turn_serves moment arrivals n timer owner h.0 d running

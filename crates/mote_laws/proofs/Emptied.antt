@@ -24,7 +24,7 @@ use Rattle.mote_laws.specs.Laws.{first_node}
 use Rattle.mote_laws.specs.Ring.{TurnsEmptyRing, PacketsAreAccountedFor}
 use Rattle.mote_laws.proofs.EachTurn.{follows, nodes_keep, runs_keep}
 use Rattle.mote_laws.proofs.Ring.{run_stays, poll_same, accounts, ring_goes_with_lines}
-use Rattle.mote_laws.proofs.Due.{Rested, Watched, hear_each_rested, hear_all_rested, hear_each_timers, poll_due_watched, run_by, IsAsMade, Stands, boot_due_rested, either_stands, turn_stands, first_stands}
+use Rattle.mote_laws.proofs.Due.{Rested, Watched, hear_each_rested, hear_all_rested, hear_each_timers, poll_due_watched, run_by, IsAsMade, IsInState, boot_due_rested, either_in_state, turn_in_state, first_in_state}
 
 -- no packet is in the ring, unless the mote has halted
 record Emptied (m : Mote) : Type 0 where
@@ -129,20 +129,20 @@ net_emptied : (program : Tree) (number queue moment : ℕ) (packets : List Arriv
 net_emptied program number queue moment packets u true s k = mote_turn_emptied program number queue moment [] (with_collisions moment packets u) u.mote.halted refl s k
 net_emptied program number queue moment packets u false s k = mote_turn_emptied program number queue moment packets u u.mote.halted refl s k
 
-turn_emptied : (program : Tree) (number queue : ℕ) (n : Node) (x : turns.TurnInput) → Stands program number queue n → Emptied n.mote → Emptied (turn_of x.moment x.arrivals n).node.mote
+turn_emptied : (program : Tree) (number queue : ℕ) (n : Node) (x : turns.TurnInput) → IsInState program number queue n → Emptied n.mote → Emptied (turn_of x.moment x.arrivals n).node.mote
 unfolding turn_of net_turn
-turn_emptied program number queue n x s k = net_emptied program number queue x.moment x.arrivals (record { mote = n.mote; lines = []; sends = [] }) (n.collides && is_collision n.mote x.arrivals) (either_stands program number queue n s) k
+turn_emptied program number queue n x s k = net_emptied program number queue x.moment x.arrivals (record { mote = n.mote; lines = []; sends = [] }) (n.collides && is_collision n.mote x.arrivals) (either_in_state program number queue n s) k
 
-turns_emptied : (program : Tree) (number queue : ℕ) (n last : Node) (given : List turns.TurnInput) (lines : List Line) → Turns n given lines last → Stands program number queue n → Emptied n.mote → Emptied last.mote
+turns_emptied : (program : Tree) (number queue : ℕ) (n last : Node) (given : List turns.TurnInput) (lines : List Line) → Turns n given lines last → IsInState program number queue n → Emptied n.mote → Emptied last.mote
 turns_emptied program number queue n last given lines t s k =
-    (nodes_keep (λ m. Stands program number queue m × Emptied m.mote) (λ m x h. (turn_stands program number queue m x h.0, turn_emptied program number queue m x h.0 h.1)) n last given lines t (s, k)).1
+    (nodes_keep (λ m. IsInState program number queue m × Emptied m.mote) (λ m x h. (turn_in_state program number queue m x h.0, turn_emptied program number queue m x h.0 h.1)) n last given lines t (s, k)).1
 
 new_emptied : (program : Tree) (number queue : ℕ) (collides : Bool) → Emptied (first_node program number queue collides).mote
 unfolding new_node unbooted
 new_emptied program number queue collides = record { none = λ h. refl }
 
 pub turns_empty_ring : TurnsEmptyRing
-turns_empty_ring program number queue collides given lines last t running = (turns_emptied program number queue _ last given lines t (first_stands program number queue collides) (new_emptied program number queue collides)).none running
+turns_empty_ring program number queue collides given lines last t running = (turns_emptied program number queue _ last given lines t (first_in_state program number queue collides) (new_emptied program number queue collides)).none running
 
 pub packets_are_accounted_for : PacketsAreAccountedFor
 packets_are_accounted_for program number queue collides given lines last t =

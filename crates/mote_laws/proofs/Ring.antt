@@ -154,10 +154,10 @@ none_received (what.Busy p) h = refl
 none_received what.Halt h = refl
 none_received (what.Send n v) h = refl
 
-none_told : (receiver : Option ℕ) (a : Arrival) (w : What) → TellsPacket receiver a w → received_of w ≡ []
-none_told (Some p) a w Accepted = refl
-none_told (Some p) a w Refused = refl
-none_told None a w e = rw e refl
+none_reported : (receiver : Option ℕ) (a : Arrival) (w : What) → TellsPacket receiver a w → received_of w ≡ []
+none_reported (Some p) a w Accepted = refl
+none_reported (Some p) a w Refused = refl
+none_reported None a w e = rw e refl
 
 pub accounts : (receiver : Option ℕ) (ring left : List Arrival) (lines : List Line) → RingRuns receiver ring lines left → Accounts receiver ring lines left
 accounts receiver ring left lines NoneMore = record { handed = []; all = append-nil ring; tellings = []; each = NoneLeft; among = AllPassed }
@@ -167,6 +167,6 @@ accounts receiver ring left lines (Receives {lines = more} a room r) =
 accounts receiver ring left lines (Loses {lines = more} full r) = passes receiver ring left _ more refl (accounts receiver ring left more r)
 accounts receiver ring left lines (Hands {a} {later} {lines = more} {w} tells r) =
     let h = accounts receiver later left more r in
-    let e = none_told receiver a w tells in
+    let e = none_reported receiver a w tells in
     record { handed = a ∷ h.handed; all = rw e (ap (λ l. a ∷ l) h.all); tellings = w ∷ h.tellings; each = TellsNext tells h.each; among = ThisOne h.among }
 accounts receiver ring left lines (Passes {lines = more} {w} apart r) = passes receiver ring left _ more (none_received w apart) (accounts receiver ring left more r)

@@ -40,7 +40,7 @@ TurnsHear =
     (n.collides && is_collision n.mote arrivals) ≡ false → t.node.mote.halted ≡ false
     → AreHeard arrivals (notes_in t.lines)
 
--- lines that begin with one for each of these packets, in order, and tell of no other that arrives
+-- lines that begin with one for each of these packets, in order, and mention no other packet that arrives
 pub record BeginWithCollisions (moment : ℕ) (arrivals : List Arrival) (lines : List Line) : Type 0 where
   pub later : List Line
   pub first : lines ≡ map (collision_line moment) arrivals ++ later
@@ -88,7 +88,7 @@ TurnsEmptyRing =
     → Turns (first_node program number queue collides) given lines last
     → last.mote.halted ≡ false → last.mote.state.ring ≡ []
 
--- The packets that were received are, in order, those that lines tell of, each with a line of its own in the same
+-- The packets that were received are, in order, those that lines mention, each with a line of its own in the same
 -- order. Only if the mote halts are some left after those.
 pub record AccountsForPackets (receiver : Option ℕ) (lines : List Line) (m : Mote) : Type 0 where
   pub handed : List Arrival

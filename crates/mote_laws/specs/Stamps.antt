@@ -11,8 +11,8 @@ use Rattle.mote_node.specs.Turn.{TurnGiven, turn_of}
 use Rattle.mote_node.specs.Laws.{TurnInput, Turns}
 use Rattle.mote_laws.specs.Laws.{first_node}
 
--- The lines of a turn are stamped with its moment, and so are its packets, which have the mote too and are numbered on
--- from how many the mote sent before; these are counted, and the mote keeps its number.
+-- The lines of a turn are stamped with its moment, and so are its packets, which have the mote too, and whose numbers
+-- continue from the number of packets that the mote sent before; these are counted, and the mote keeps its number.
 pub record IsStamped (moment : ℕ) (n : Node) (t : TurnGiven) : Type 0 where
   pub lines : LinesBear moment t.lines
   pub packets : PacketsBear moment n.mote.state.mote t.sends

@@ -8,7 +8,7 @@ ghost use Rattle.mote_laws.specs.Ring.{PacketsAreAccountedFor};
 ghost use Rattle.mote_laws.specs.Stamps.{TurnsStamp, PacketsCountUp, TurnsNeverGoBack};
 
 /// Whatever its program is, and whatever turns it takes: each trace of a mote delivers events in the order in which
-/// they were accepted; nothing follows a halt, and only a process that is not listed starts.
+/// they were accepted; nothing follows a halt, and a process starts only if it isn't listed.
 pub fn motes_hand_on()
     ensures motes_hand_on { MotesHandOn }
 {}
@@ -61,7 +61,7 @@ pub fn no_timer_is_forgotten()
     // After a turn each listed timer expires later than the turn's moment, or a poll of etimer waits and the mote
     // wakes at the next moment.
     ensures forgets_none { TurnsForgetNone }
-    // The next wake is never later than the next expiration, but for the turn's own moment.
+    // The next wake is never later than the next expiration, except for the turn's own moment.
     ensures wakes_in_time { WakesInTime }
     // The next wake is always later than the turn's moment.
     ensures wakes_later { WakesLater }

@@ -23,9 +23,9 @@ use Rattle.program_tree.specs.contracts.tree.Expr as Expr
 use Rattle.program_tree.specs.contracts.tree.Expr.TheKnot as expr-knot
 use Rattle.program_tree.specs.contracts.tree.Stmt as Stmt
 use Rattle.program_tree.specs.contracts.tree.Stmt.TheKnot as stmt-knot
-use Rattle.program_tree.proofs.event_name.AnyEvent.TheSendSync as event
-use Rattle.program_tree.proofs.event_name.CastEvent.TheSendSync as cast
-use Rattle.program_tree.proofs.event_name.SentEvent.TheSendSync as sent
+use Rattle.program_tree.proofs.event_name.TestedEvent.TheSendSync as event
+use Rattle.program_tree.proofs.event_name.BroadcastEvent.TheSendSync as cast
+use Rattle.program_tree.proofs.event_name.PostedEvent.TheSendSync as sent
 use Rattle.program_tree.proofs.names.Names.TheSendSync as names
 use Rattle.program_tree.proofs.timer.Timer.TheSendSync as timer
 use Rattle.program_tree.proofs.tree.Operator.TheSendSync as operator

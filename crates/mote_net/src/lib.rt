@@ -1,7 +1,7 @@
-//! A net as it is simulated, and the report of its run: the last moment, the medium with the places of the motes, and
-//! for each mote its program and the length of its queue; its traces, and what became of each packet. It knows no text:
-//! `net_scenario` reads one into a net, `trace_printer` writes one of a report, and the crates that run a net depend on
-//! this one, so that they wait for neither.
+//! A net to be simulated: the last moment, the medium with the places of the motes, and for each mote its program and
+//! the length of its queue. The report of its run: the traces, and the fate of each packet. This crate reads and
+//! writes no texts: `net_scenario` reads one into a net, `trace_printer` writes one of a report, and the crates that
+//! run a net depend on this one, so that they wait for neither.
 #![tactic(auto)]
 
 mod net;

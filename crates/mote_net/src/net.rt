@@ -31,7 +31,7 @@ pub struct Net {
     ghost fit: { IsTrue (list_all (is_mote_of (length programs.items)) motes.items) },
 }
 
-/// By hand, so that a net is dropped by one call: the check of a function that owns one sees that call alone.
+/// Implemented by hand: the check of a function that owns a net then sees only one call for its drop.
 impl Drop for Net {
     fn drop(self) {
         let Net {

@@ -8,7 +8,7 @@ use Rattle.trace_lines.specs.declared.line.Line.{Line}
 use Rattle.mote_node.specs.Node.{Node, is_past}
 use Rattle.mote_node.specs.Turn.{turn_of}
 
--- the wake that a turn gives is above its own moment
+-- the wake that a turn returns is above its own moment
 abbrev pub WakesLater : Type 0
 WakesLater = (moment : ℕ) (arrivals : List Arrival) (n : Node)
     → IfSome (turn_of moment arrivals n).wake (λ wake. moment < wake)
@@ -17,8 +17,8 @@ WakesLater = (moment : ℕ) (arrivals : List Arrival) (n : Node)
 abbrev pub WakesBy : (limit : ℕ) → (wake : Option ℕ) → Type 0
 WakesBy limit wake = (w : ℕ) × (wake ≡ Some w) × (w ≤ limit)
 
--- no timer is forgotten: a node that has not halted wakes when its first timer is due, or before, but for the turn's
--- own moment
+-- no timer is forgotten: a node that has not halted wakes when its first timer is due, or before, except for the
+-- turn's own moment
 abbrev pub WakesInTime : Type 0
 WakesInTime =
     (moment : ℕ) (arrivals : List Arrival) (n : Node) (due : ℕ) → let after = (turn_of moment arrivals n).node in
@@ -37,12 +37,12 @@ pub data Turns : Node → List TurnInput → List Line → Node → Type 0 where
       → is_past given.moment n.last ≡ false → Turns (turn_of given.moment given.arrivals n).node later lines last
       → Turns n (given ∷ later) ((turn_of given.moment given.arrivals n).lines ++ lines) last
 
--- turns happen at rising moments alone
+-- turns happen only at rising moments
 abbrev pub TurnsRise : Type 0
 TurnsRise = (n last : Node) (given : List TurnInput) (lines : List Line) → Turns n given lines last
     → IsStrictlyIncreasing (map (λ g. g.moment) given)
 
--- a turn of a node that has halted changes its clock alone, writes and sends nothing, and gives no wake
+-- a turn of a node that has halted changes only its clock, writes and sends nothing, and has no next wake
 abbrev pub HaltedRests : Type 0
 HaltedRests =
     (moment : ℕ) (arrivals : List Arrival) (n : Node) → n.mote.halted ≡ true

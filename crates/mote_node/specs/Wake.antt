@@ -1,11 +1,11 @@
--- When a node wakes next.
+-- The next wake of a node.
 use Rattle.std.specs.Prelude.{ℕ, ◌+◌, max, if◌then◌else◌, Option, Some, None, option_map}
 use Rattle.mote_timers.specs.TimerLists.{next_expiration_of}
 use Rattle.process_kernel.specs.Mote.{Mote, is_pending}
 use Rattle.mote_node.specs.Node.{Node}
 
--- After a turn at this moment: the next moment, if events or polls are left; else when the first timer is due, but not
--- before the next moment; else none.
+-- After a turn at this moment: the next moment, if events or polls are left; otherwise the moment at which the first
+-- timer is due, but not before the next moment; otherwise none.
 unfoldable pub wake_after : (moment : ℕ) → Mote → Option ℕ
 wake_after moment m =
     if is_pending m then Some (moment + 1) else option_map (λ due. max (moment + 1) due)

@@ -2,7 +2,7 @@
 
 ghost use Rattle.mote_node.specs.Laws.{HaltedRests, TurnsRise, WakesInTime, WakesLater};
 
-/// The wake that a turn gives is above the turn's own moment.
+/// The wake that a turn returns is above the turn's own moment.
 pub fn wakes_later()
     ensures wakes_later { WakesLater }
 {}

@@ -74,7 +74,7 @@ pub struct Mote {
     ghost running: { (t : Tree) → failed ≡ false → IsSome (mote_in t kernel.value) } by { Prim.hlevel props },
 }
 
-/// By hand, so that a mote is dropped by one call: the check of a function that owns one sees only that call.
+/// Implemented by hand: the check of a function that owns a mote then sees only one call for its drop.
 impl Drop for Mote {
     fn drop(self) {
         let Mote {
@@ -87,7 +87,7 @@ impl Drop for Mote {
     }
 }
 
-/// When a mote that has not halted wakes after its turn at this moment.
+/// The wake, after its turn at this moment, of a mote that has not halted.
 #[tactic(auto, unfolding(crate::specs::Wake::wake_after))]
 fn wake_after(kernel: &Kernel, moment: u64) -> Option<u64>
     requires moment_bounded { moment ≤ 2 ^ 40 }
@@ -155,7 +155,7 @@ impl Mote {
         self.kernel.number()
     }
 
-    /// Sets whether packets that arrive together are lost. They aren't, before this is called.
+    /// Sets whether packets that arrive together are lost. Before the first call they aren't.
     #[tactic(auto, unfolding(crate::specs::Public::node_in))]
     pub fn set_collide(&mut self, collide: bool)
         ensures node { (t : Tree) → node_in t self.new ≡ option_map (with_collide collide) (node_in t self.old) }
@@ -163,7 +163,7 @@ impl Mote {
         self.collide = collide;
     }
 
-    /// When it wakes next: at 0 before its first turn; never, once it has halted or failed.
+    /// The mote's next wake: 0 before its first turn, and none once it has halted or failed.
     #[tactic(auto, unfolding(crate::specs::Public::node_in))]
     pub fn wake(&self) -> Option<u64>
         ensures value { (t : Tree) → result ≡ wake_in (node_in t self.now) }

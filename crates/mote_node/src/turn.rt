@@ -59,7 +59,7 @@ fn hear_or_lose(
     Ok(heard)
 }
 
-/// The packets go into the ring in their order. If any does, asks for a poll of the radio process.
+/// Appends the packets to the ring in their order. If any fits, it asks for a poll of the radio process.
 fn hear_all(
     kernel: &mut Kernel,
     moment: u64,
@@ -92,7 +92,7 @@ fn poll_etimer(kernel: &mut Kernel, moment: u64)
     }
 }
 
-/// Kernel runs, until one leaves nothing to do or the mote halts.
+/// Runs the kernel again and again, until a run leaves nothing to do or the mote halts.
 fn run_all(
     kernel: &mut Kernel,
     program: &Program,

@@ -2,7 +2,7 @@
 use Rattle.std.proofs.Common.{◌≡◌, List, ◌∷◌, ◌++◌, map, refl, sym, ap, ◌∙◌, Option, Some, None, option_map}
 use Rattle.std.proofs.lemmas.List.{map-append}
 use Rattle.program_tree.specs.EventNames as event
-use Rattle.program_tree.specs.EventNames.{CastEvent, SentEvent, AnyEvent, cast_map, sent_map, any_map}
+use Rattle.program_tree.specs.EventNames.{BroadcastEvent, PostedEvent, TestedEvent, cast_map, sent_map, any_map}
 use Rattle.program_tree.specs.Tree.{Class, an_event, a_process, a_variable, a_timer, Expression, is, negation, binary}
 use Rattle.program_tree.specs.Tree.{Action, assign, print, send, wait_until, wait_while, yield_until, post, broadcast}
 use Rattle.program_tree.specs.Tree.{synch, set, Statement, does, branch, while, Body, end, next, Otherwise, nothing}
@@ -24,18 +24,18 @@ module _ {A B : Type 0} (f : Class → A → B) where
   both xs ws ys zs e h = ap (λ vs. vs ++ zs) e ∙ ap (λ vs. map (change f) xs ++ vs) h
       ∙ sym (map-append (change f) xs ws)
 
-  cast_changed : (e : CastEvent A) → named_by_cast (cast_map (f an_event) e) ≡ map (change f) (named_by_cast e)
+  cast_changed : (e : BroadcastEvent A) → named_by_cast (cast_map (f an_event) e) ≡ map (change f) (named_by_cast e)
   cast_changed event.continue = refl
   cast_changed event.msg = refl
   cast_changed event.«com» = refl
   cast_changed event.packet = refl
   cast_changed (event.declared x) = refl
 
-  sent_changed : (e : SentEvent A) → named_by_sent (sent_map (f an_event) e) ≡ map (change f) (named_by_sent e)
+  sent_changed : (e : PostedEvent A) → named_by_sent (sent_map (f an_event) e) ≡ map (change f) (named_by_sent e)
   sent_changed (event.cast e) = cast_changed e
   sent_changed event.exit = refl
 
-  any_changed : (e : AnyEvent A) → named_by_any (any_map (f an_event) e) ≡ map (change f) (named_by_any e)
+  any_changed : (e : TestedEvent A) → named_by_any (any_map (f an_event) e) ≡ map (change f) (named_by_any e)
   any_changed (event.sent e) = sent_changed e
   any_changed event.init = refl
   any_changed event.poll = refl
@@ -54,9 +54,9 @@ module _ {A B : Type 0} (f : Class → A → B) where
   into_changed None = refl
   into_changed (Some x) = refl
 
-  told_changed : (e : Expression A) (i : Option A) → named_by_expression (expression_map f e)
+  answer_changed : (e : Expression A) (i : Option A) → named_by_expression (expression_map f e)
       ++ named_by_into (option_map (f a_variable) i) ≡ map (change f) (named_by_expression e ++ named_by_into i)
-  told_changed e i = both (named_by_expression e) (named_by_into i) _ _ (expression_changed e) (into_changed i)
+  answer_changed e i = both (named_by_expression e) (named_by_into i) _ _ (expression_changed e) (into_changed i)
 
   action_changed : (a : Action A) → named_by_action (action_map f a) ≡ map (change f) (named_by_action a)
   action_changed (assign x e) = more (a_variable, x) (named_by_expression e) _ (expression_changed e)
@@ -66,9 +66,9 @@ module _ {A B : Type 0} (f : Class → A → B) where
   action_changed (wait_while e) = expression_changed e
   action_changed (yield_until e) = expression_changed e
   action_changed (post p e w i) = more (a_process, p) _ _
-      (both (named_by_sent e) (named_by_expression w ++ named_by_into i) _ _ (sent_changed e) (told_changed w i))
+      (both (named_by_sent e) (named_by_expression w ++ named_by_into i) _ _ (sent_changed e) (answer_changed w i))
   action_changed (broadcast e w i) = both (named_by_cast e) (named_by_expression w ++ named_by_into i) _ _
-      (cast_changed e) (told_changed w i)
+      (cast_changed e) (answer_changed w i)
   action_changed (synch p e w) = more (a_process, p) _ _
       (both (named_by_sent e) (named_by_expression w) _ _ (sent_changed e) (expression_changed w))
   action_changed (set t e) = more (a_timer, t) (named_by_expression e) _ (expression_changed e)

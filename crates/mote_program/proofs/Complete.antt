@@ -4,7 +4,7 @@ use Rattle.std.proofs.Common.{slice_get, refl, sym, ap, subst, ◌∙◌, append
 use Rattle.std.proofs.lemmas.Bool.{leb-true, leb-false, le-leb, lt-leb}
 use Rattle.std.proofs.lemmas.List.{length-append, length-map}
 use Rattle.program_tree.specs.Code.{Code, Tree}
-use Rattle.program_tree.specs.InScope.{Names, outside}
+use Rattle.program_tree.specs.InScope.{NamesInScope, outside}
 use Rattle.program_tree.specs.Numbers.{block_in, named_of, values_of, timers_of, inside, codes_in, timer_of}
 use Rattle.program_tree.specs.Numbers.{timers_from, codes_of, program_names, tree_of_shape}
 use Rattle.program_tree.specs.Shapes.{CodeShape, ProgramShape}
@@ -72,7 +72,7 @@ timer_at t f k c before after long all i low high =
 code_complete : (t : Tree) (f k : ℕ) (c : CodeShape) (before after : List Timer) → length before ≡ f
     → t.timers ≡ before ++ own_timers k c after → IsCompleteIn t (code_at t f k c)
 code_complete t f k c before after long all =
-    let n : Names = inside (names_at t f) c in
+    let n : NamesInScope = inside (names_at t f) c in
     record {
       starts = length-map c.variables (λ v. v.1) ∙ sym (length-map c.variables (λ v. v.0));
       callbacks = length-map (values_of c.ctimers) (block_in n) ∙ length-map c.ctimers (λ p. p.1)
@@ -112,7 +112,7 @@ each_complete t f k (s ∷ cs) before long all (suc j) c e =
     let r = each_complete t (f + length (timers_of s)) (k + 1) cs (before ++ (events ++ calls)) longer behind j c e in
     (r.0 ∙ omega arith, r.1)
 
-codes_count : (k : ℕ) (n : Names) (cs : List CodeShape) → length (codes_in k n cs) ≡ length cs
+codes_count : (k : ℕ) (n : NamesInScope) (cs : List CodeShape) → length (codes_in k n cs) ≡ length cs
 codes_count k n [] = refl
 codes_count k n (c ∷ cs) = ap suc (codes_count (k + 1) (outside (inside n c)) cs)
 

@@ -1,7 +1,7 @@
 -- In a program's marks numbers play the part of numbers, and no `=` follows `!`.
 use Rattle.std.proofs.Common.{List, [], ◌∷◌, Option, Some, None, refl}
 use Rattle.program_tree.specs.Forms.{Operand, Form, ends, tells, takes, values}
-use Rattle.program_tree.specs.EventNames.{CastEvent, SentEvent, AnyEvent}
+use Rattle.program_tree.specs.EventNames.{BroadcastEvent, PostedEvent, TestedEvent}
 use Rattle.program_tree.specs.Grammar.{Context, inner, at_body, at_simple, at_thread, Mark, tokens, sign, key, named}
 use Rattle.program_tree.specs.Grammar.{new, leaving, cast_mark, sent_mark, any_mark, operand_mark, into_marks}
 use Rattle.program_tree.specs.Grammar.{expression_marks, form_marks, action_marks, statement_marks, items_marks}
@@ -30,15 +30,15 @@ IsFree m = PlaysItsPart m.token m.role × ((ts : List Token) → NoEquals m.toke
 free : (m : Mark) (ms : List Mark) → IsFree m → AreFair ms → AreFair (m ∷ ms)
 free m ms f h = (f.0, f.1 (tokens ms), h)
 
-cast_free : (e : CastEvent Name) → IsFree (cast_mark e)
+cast_free : (e : BroadcastEvent Name) → IsFree (cast_mark e)
 cast_free event.continue = (tt, λ ts. tt)
 cast_free e = (tt, λ ts. tt)
 
-sent_free : (e : SentEvent Name) → IsFree (sent_mark e)
+sent_free : (e : PostedEvent Name) → IsFree (sent_mark e)
 sent_free (event.cast e) = cast_free e
 sent_free event.exit = (tt, λ ts. tt)
 
-any_free : (e : AnyEvent Name) → IsFree (any_mark e)
+any_free : (e : TestedEvent Name) → IsFree (any_mark e)
 any_free (event.sent e) = sent_free e
 any_free e = (tt, λ ts. tt)
 

@@ -11,7 +11,7 @@ use Rattle.std.specs.Int.Digits.{digits_of, AllBelowBase}
 use Rattle.std.specs.List.{list_all}
 use Rattle.std.specs.Str.Parse.{digits_value}
 use Rattle.program_tree.specs.Canonical.{keyword_word, operator_sign, spelling, braces_behind, tells, ends_line}
-use Rattle.program_tree.specs.Canonical.{stands_close, line_depth, indentation, gap, text_from, canonical_text}
+use Rattle.program_tree.specs.Canonical.{is_close, line_depth, indentation, gap, text_from, canonical_text}
 use Rattle.program_tree.specs.Text.{is_blank, signs, sign_at, begins_comment, Piece, Blank, Word, Sign, Other}
 use Rattle.program_tree.specs.Text.{bytes_of, token_at, FitsBefore, text_of, AllFit, tokens_of, lines_from, IsLexed}
 use Rattle.program_tree.specs.Tokens as token
@@ -277,7 +277,7 @@ indentation-blank zero = refl
 indentation-blank (suc n) = indentation-blank n
 
 gap-blank : (b : ℕ) (t : Token) (rest : List Token) → list_all is_blank (gap b t rest) ≡ true
-gap-blank b t rest = go (ends_line t rest) (stands_close t rest)
+gap-blank b t rest = go (ends_line t rest) (is_close t rest)
   where
     go : (e c : Bool) → list_all is_blank (if e then 10 ∷ indentation (line_depth b rest) else if c then [] else
         codes " ") ≡ true
@@ -320,6 +320,6 @@ lexed_again ts own = record {
   pieces = pieces_from 0 ts;
   spelled = sym (text_pieces 0 ts own);
   fit = all_fit 0 ts own;
-  told = sym (same_tokens 0 ts own);
+  recounted = sym (same_tokens 0 ts own);
   placed = refl;
 }

@@ -14,6 +14,6 @@ pub mod Printing
 pub mod Programs
 pub mod ReadAgain
 pub mod SpelledLaws
-pub mod Stands
+pub mod IsInState
 pub mod Trees
 pub mod Walk

@@ -3,7 +3,7 @@
 use Rattle.std.proofs.Common.{◌≡◌, List, [], ◌∷◌, ◌++◌, refl, Option, Some, None, option_map}
 use Rattle.std.specs.List.{AllByRecursion}
 use Rattle.std.proofs.lemmas.List.Elements.{recursion_from_All}
-use Rattle.program_tree.specs.EventNames.{CastEvent, SentEvent, AnyEvent, cast_map, sent_map, any_map}
+use Rattle.program_tree.specs.EventNames.{BroadcastEvent, PostedEvent, TestedEvent, cast_map, sent_map, any_map}
 use Rattle.program_tree.specs.Tree.{Class, an_event, a_variable, Expression, is, negation, binary, Action, assign}
 use Rattle.program_tree.specs.Tree.{print, send, wait_until, wait_while, yield_until, post, broadcast, synch, set}
 use Rattle.program_tree.specs.Tree.{Statement, does, branch, while, Body, end, next, Otherwise, nothing, otherwise}
@@ -34,15 +34,15 @@ module _ {A B : Type 0} (f g : Class → A → B) where
   back : (xs ys : List (Class × A)) → Agree f g (xs ++ ys) → Agree f g ys
   back xs ys h = right (Same f g) xs ys h
 
-  cast_same : (e : CastEvent A) → Agree f g (named_by_cast e) → cast_map (f an_event) e ≡ cast_map (g an_event) e
+  cast_same : (e : BroadcastEvent A) → Agree f g (named_by_cast e) → cast_map (f an_event) e ≡ cast_map (g an_event) e
   cast_same event.continue h = refl
   cast_same e h = cc
 
-  sent_same : (e : SentEvent A) → Agree f g (named_by_sent e) → sent_map (f an_event) e ≡ sent_map (g an_event) e
+  sent_same : (e : PostedEvent A) → Agree f g (named_by_sent e) → sent_map (f an_event) e ≡ sent_map (g an_event) e
   sent_same (event.cast e) h = cc (cast_same e h)
   sent_same event.exit h = refl
 
-  any_same : (e : AnyEvent A) → Agree f g (named_by_any e) → any_map (f an_event) e ≡ any_map (g an_event) e
+  any_same : (e : TestedEvent A) → Agree f g (named_by_any e) → any_map (f an_event) e ≡ any_map (g an_event) e
   any_same (event.sent e) h = cc (sent_same e h)
   any_same e h = refl
 

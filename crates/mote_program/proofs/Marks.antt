@@ -6,25 +6,25 @@ use Rattle.program_tree.specs.Faults.{Scope, nothing_yet, with_role, with_begun,
 use Rattle.program_tree.specs.Faults.{is_own, role_breaks, begun_breaks, IsProgram}
 use Rattle.program_tree.specs.Grammar.{Role, new, uses, spawns, starts, leaves, Begun, none_begins, Mark, tokens}
 use Rattle.program_tree.specs.Grammar.{program_marks}
-use Rattle.program_tree.specs.InScope.{Names, with_new, outside, is_a, is_in_scope}
+use Rattle.program_tree.specs.InScope.{NamesInScope, with_new, outside, is_a, is_in_scope}
 use Rattle.program_tree.specs.Shapes.{ProgramShape}
 use Rattle.program_tree.specs.Tree.{a_process, a_thread}
 use Rattle.program_tree.specs.declared.error.ReadErrorKind.TheVariants.{UnknownName, BadTarget}
 
 -- a name that is used is one of its class
-abbrev pub KeepsRole : Names → Role → Type 0
+abbrev pub KeepsRole : NamesInScope → Role → Type 0
 KeepsRole n (uses k x) = is_a n k x ≡ true
 KeepsRole n (spawns own x) = (is_a n a_thread x ≡ true) × (is_own own x ≡ false)
 KeepsRole n (starts x) = is_a n a_process x ≡ true
 KeepsRole n r = Unit {0}
 
 -- the names in scope after a token
-abbrev pub names_after : Names → Role → Names
+abbrev pub names_after : NamesInScope → Role → NamesInScope
 names_after n (new k x) = with_new n k x
 names_after n leaves = outside n
 names_after n r = n
 
-abbrev pub AreSound : Names → List Mark → Type 0
+abbrev pub AreSound : NamesInScope → List Mark → Type 0
 AreSound n [] = Unit {0}
 AreSound n (m ∷ ms) = KeepsRole n m.role × AreSound (names_after n m.role) ms
 

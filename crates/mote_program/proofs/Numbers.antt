@@ -6,7 +6,7 @@ use Rattle.std.specs.Str.{bytes_eq}
 use Rattle.std.proofs.lemmas.Bool.{ltb-true, ltb-false}
 use Rattle.std.proofs.lemmas.List.{length-append}
 use Rattle.std.proofs.lemmas.List.Elements.{All-map, All-weaker}
-use Rattle.program_tree.specs.InScope.{Names, with_new, number_in}
+use Rattle.program_tree.specs.InScope.{NamesInScope, with_new, number_in}
 use Rattle.program_tree.specs.InScope.{place_of}
 use Rattle.program_tree.specs.Numbers.{block_in}
 use Rattle.program_tree.specs.Shapes.{Name}
@@ -17,10 +17,10 @@ use Rattle.program_reader.proofs.ScopeLaws.{number_found, still_found}
 use Rattle.mote_program.specs.Declarations.{Declarations, IsOneOf, NamesDeclared}
 use Rattle.mote_program.specs.Named.{named_by_block}
 use Rattle.mote_program.proofs.Changed.{change, block_changed}
-use Rattle.mote_program.proofs.Stands.{Stands}
+use Rattle.mote_program.proofs.IsInState.{IsInState}
 
 -- how many names there are of each class
-abbrev pub counts_of : Names → Declarations
+abbrev pub counts_of : NamesInScope → Declarations
 counts_of n = record {
   events = length n.events;
   semaphores = length n.semaphores;
@@ -32,21 +32,21 @@ counts_of n = record {
 }
 
 -- each number that is found is one of these
-abbrev pub Counts : Names → Option Name → Declarations → Type 0
+abbrev pub Counts : NamesInScope → Option Name → Declarations → Type 0
 Counts n own d = (k : Class) (x : Name) (i : ℕ) → Finds n own k x i → IsOneOf d k i
 
 shifted : (o : Option ℕ) (n i : ℕ) → option_map (λ k. n + k) o ≡ Some i → (j : ℕ) × (o ≡ Some j) × (i ≡ n + j)
 shifted None n i e = absurd cc
 shifted (Some j) n i e = (j, refl, cc)
 
-timer_below : (n : Names) (x : Name) (i : ℕ) → look n a_timer x ≡ Some i → (n.first_timer ≤ i)
+timer_below : (n : NamesInScope) (x : Name) (i : ℕ) → look n a_timer x ≡ Some i → (n.first_timer ≤ i)
     × (i < n.first_timer + length n.timers)
 timer_below n x i e =
     let q = shifted (place_of n.timers x) n.first_timer i e in
     let below : q.0 < length n.timers = place_below n.timers x q.0 q.1 in
     (omega (arith, q.2), omega (arith, q.2, below))
 
-pub counted : (n : Names) (own : Option Name) → Counts n own (counts_of n)
+pub counted : (n : NamesInScope) (own : Option Name) → Counts n own (counts_of n)
 counted n own an_event x i f = place_below n.events x i f.found
 counted n own a_semaphore x i f = place_below n.semaphores x i f.found
 counted n own a_process x i f = place_below n.processes x i f.found
@@ -79,7 +79,7 @@ not_last xs x y i e h = go (nat_lt i (length xs)) refl
         absurd (not_same x y (sym (last_at xs x) ∙ ap (λ k. slice_index_or (xs ++ x ∷ []) k []) (sym last)
         ∙ name_at (xs ++ x ∷ []) y i e) h)
 
-pub counted_before : (n : Names) (x : Name) → Counts (with_new n a_thread x) (Some x) (counts_of n)
+pub counted_before : (n : NamesInScope) (x : Name) → Counts (with_new n a_thread x) (Some x) (counts_of n)
 counted_before n x an_event y i f = place_below n.events y i f.found
 counted_before n x a_semaphore y i f = place_below n.semaphores y i f.found
 counted_before n x a_process y i f = place_below n.processes y i f.found
@@ -87,13 +87,13 @@ counted_before n x a_variable y i f = place_below n.variables y i f.found
 counted_before n x a_timer y i f = timer_below n y i f.found
 counted_before n x a_thread y i f = not_last n.threads x y i f.found f.other
 
-pub numbers_declared : (n n' : Names) (own : Option Name) (d : Declarations) (b : Body Name) → Extends n n'
-    → Counts n own d → All (Stands n own) (named_by_block b) → NamesDeclared d (block_in n' b)
+pub numbers_declared : (n n' : NamesInScope) (own : Option Name) (d : Declarations) (b : Body Name) → Extends n n'
+    → Counts n own d → All (IsInState n own) (named_by_block b) → NamesDeclared d (block_in n' b)
 numbers_declared n n' own d b more counts h =
     subst (All (λ m. IsOneOf d m.0 m.1)) (sym (block_changed (number_in n') b))
     (All-map (λ m. IsOneOf d m.0 m.1) (change (number_in n')) (named_by_block b)
-    (All-weaker (Stands n own) (λ m. IsOneOf d m.0 (number_in n' m.0 m.1)) one (named_by_block b) h))
+    (All-weaker (IsInState n own) (λ m. IsOneOf d m.0 (number_in n' m.0 m.1)) one (named_by_block b) h))
   where
-    one : (m : Class × Name) → Stands n own m → IsOneOf d m.0 (number_in n' m.0 m.1)
+    one : (m : Class × Name) → IsInState n own m → IsOneOf d m.0 (number_in n' m.0 m.1)
     one m s = subst (IsOneOf d m.0) (sym (number_found n' m.0 m.1 s.0 (still_found n n' m.0 m.1 s.0 more s.1.found)))
         (counts m.0 m.1 s.0 s.1)

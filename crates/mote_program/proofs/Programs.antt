@@ -4,7 +4,7 @@ use Rattle.program_tree.specs.Code.{Tree}
 use Rattle.program_tree.specs.Faults.{IsProgram}
 use Rattle.program_tree.specs.Grammar.{Mark, tokens, semaphore_marks, autostart_marks, receiver_marks, codes_marks}
 use Rattle.program_tree.specs.Grammar.{program_marks}
-use Rattle.program_tree.specs.InScope.{Names, no_names}
+use Rattle.program_tree.specs.InScope.{NamesInScope, no_names}
 use Rattle.program_tree.specs.Numbers.{program_names, tree_of_shape}
 use Rattle.program_tree.specs.Program.{tree_of}
 use Rattle.program_tree.specs.Reading.{IsTreeOf}
@@ -23,10 +23,10 @@ use Rattle.mote_program.proofs.Marks.{AreSound, sound}
 
 shape_declared : (p : ProgramShape) → IsProgram p (tokens (program_marks p [])) → IsDeclared (tree_of_shape p)
 shape_declared p program =
-    let n : Names = program_names p in
-    let n1 : Names = record no_names { events = p.events } in
-    let n2 : Names = record n { processes = [] } in
-    let n3 : Names = record n { processes = p.first.0 ∷ [] } in
+    let n : NamesInScope = program_names p in
+    let n1 : NamesInScope = record no_names { events = p.events } in
+    let n2 : NamesInScope = record n { processes = [] } in
+    let n3 : NamesInScope = record n { processes = p.first.0 ∷ [] } in
     let m3 : List Mark = codes_marks (p.first ∷ p.others) [] in
     let m2 : List Mark = receiver_marks p.receiver m3 in
     let m1 : List Mark = autostart_marks p.autostart m2 in

@@ -3,7 +3,7 @@ use Rattle.std.proofs.Common.{ℕ, List, sym, subst, ◌⊎◌, inl, inr}
 use Rattle.std.proofs.Math.Logic.{∥∥₁_elim, ∥∥₁_map}
 use Rattle.std.proofs.Props.{props}
 use Rattle.program_tree.specs.Code.{Tree}
-use Rattle.program_tree.specs.EventNames.{CastEvent, SentEvent, AnyEvent}
+use Rattle.program_tree.specs.EventNames.{BroadcastEvent, PostedEvent, TestedEvent}
 use Rattle.program_tree.specs.Faults.{IsProgram}
 use Rattle.program_tree.specs.Made.{IsOfText, WasRead}
 use Rattle.program_tree.specs.Reading.{IsTreeOf, IsErrorOf}
@@ -14,7 +14,7 @@ use Rattle.program_tree.specs.declared.tree.Operator.{Operator}
 use Rattle.mote_program.proofs.FairMarks.{program_fair}
 use Rattle.mote_program.proofs.LexedAgain.{AreOwn, lexed_again}
 use Rattle.mote_program.proofs.OwnTokens.{AreLexedNames, names_lexed, own_tokens}
-use Rattle.program_reader.proofs.Texts.{one_tree, never_both, tree_or_told}
+use Rattle.program_reader.proofs.Texts.{one_tree, never_both, tree_or_reported}
 
 again : (t : Tree) → IsOfText t → IsTreeOf (text_of_tree t) t
 again t w =
@@ -30,13 +30,13 @@ again t w =
       spelled = record { shape = shape_of t; program = program; numbered = w.numbered };
     }
 
-cast_set : IsSet (CastEvent ℕ)
+cast_set : IsSet (BroadcastEvent ℕ)
 cast_set = hlevel props
 
-sent_set : IsSet (SentEvent ℕ)
+sent_set : IsSet (PostedEvent ℕ)
 sent_set = hlevel (props, cast_set)
 
-any_set : IsSet (AnyEvent ℕ)
+any_set : IsSet (TestedEvent ℕ)
 any_set = hlevel (props, sent_set)
 
 operator_set : IsSet Operator
@@ -56,7 +56,7 @@ tree_set = hlevel (props, body_set)
 
 -- without the truncation: a text has a tree or a reported error, and at most one tree
 pub is_tree : (text : List ℕ) (t : Tree) → ∥ IsTreeOf text t ∥₁ → IsTreeOf text t
-is_tree text t m = go (tree_or_told text).one
+is_tree text t m = go (tree_or_reported text).one
   where
     go : ((u : Tree) × IsTreeOf text u) ⊎ ((k : ReadErrorKind) × (line : ℕ) × IsErrorOf text k line) → IsTreeOf text t
     go (inl h) = subst (IsTreeOf text) (∥∥₁_elim m (tree_set h.0 t) (λ k. one_tree text h.0 t h.1 k)) h.1

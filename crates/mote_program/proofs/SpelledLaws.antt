@@ -51,9 +51,9 @@ ended : (c : Context) (e : Expression Name) (ms : List Mark)
     ++ tokens ms
 ended c e ms = simp (expression_spelled, append_assoc)
 
-told_end : (c : Context) (e : Expression Name) (i : Option Name) (ms : List Mark)
+answer_end : (c : Context) (e : Expression Name) (i : Option Name) (ms : List Mark)
     → tokens (expression_marks c e (into_marks i ms)) ≡ (expression_tokens e ++ into_tokens i) ++ tokens ms
-told_end c e i ms = simp (expression_spelled, into_spelled, append_assoc)
+answer_end c e i ms = simp (expression_spelled, into_spelled, append_assoc)
 
 action_spelled : (c : Context) (a : Action Name) (ms : List Mark) → tokens (action_marks c a ms) ≡ action_tokens a
     ++ tokens ms
@@ -64,8 +64,8 @@ action_spelled c (wait_until e) ms = ap (λ ts. token.Keyword word.WaitUntil ∷
 action_spelled c (wait_while e) ms = ap (λ ts. token.Keyword word.WaitWhile ∷ ts) (ended c e ms)
 action_spelled c (yield_until e) ms = ap (λ ts. token.Keyword word.YieldUntil ∷ ts) (ended c e ms)
 action_spelled c (post p e w i) ms = ap (λ ts. token.Keyword word.Post ∷ token.Name p ∷ sent_token e ∷ ts)
-    (told_end c w i ms)
-action_spelled c (broadcast e w i) ms = ap (λ ts. token.Keyword word.Broadcast ∷ cast_token e ∷ ts) (told_end c w i ms)
+    (answer_end c w i ms)
+action_spelled c (broadcast e w i) ms = ap (λ ts. token.Keyword word.Broadcast ∷ cast_token e ∷ ts) (answer_end c w i ms)
 action_spelled c (synch p e w) ms = ap (λ ts. token.Keyword word.Synch ∷ token.Name p ∷ sent_token e ∷ ts)
     (ended c w ms)
 action_spelled c (set t e) ms = ap (λ ts. token.Keyword word.Set ∷ token.Name t ∷ ts) (ended c e ms)

@@ -1,7 +1,7 @@
 -- The names in each part of a program: the names, or their numbers, each with its class, in the order of the text.
 use Rattle.std.specs.Prelude.{List, [], ◌∷◌, ◌++◌, Option, Some, None}
 use Rattle.program_tree.specs.EventNames as event
-use Rattle.program_tree.specs.EventNames.{CastEvent, SentEvent, AnyEvent}
+use Rattle.program_tree.specs.EventNames.{BroadcastEvent, PostedEvent, TestedEvent}
 use Rattle.program_tree.specs.Tree.{Class, an_event, a_semaphore, a_process, a_variable, a_timer, a_thread, Expression}
 use Rattle.program_tree.specs.Tree.{variable, is, fired, expired, gone, running, count, negation, binary, Action}
 use Rattle.program_tree.specs.Tree.{assign, print, send, wait_until, wait_while, yield, yield_until, spawn, restart}
@@ -9,15 +9,15 @@ use Rattle.program_tree.specs.Tree.{exit, pause, acquire, signal, post, broadcas
 use Rattle.program_tree.specs.Tree.{reset, restart_timer, stop, Statement, does, branch, while, Body, end, next}
 use Rattle.program_tree.specs.Tree.{Otherwise, nothing, otherwise}
 
-abbrev pub named_by_cast : {Name : Type 0} → CastEvent Name → List (Class × Name)
+abbrev pub named_by_cast : {Name : Type 0} → BroadcastEvent Name → List (Class × Name)
 named_by_cast (event.declared x) = (an_event, x) ∷ []
 named_by_cast e = []
 
-abbrev pub named_by_sent : {Name : Type 0} → SentEvent Name → List (Class × Name)
+abbrev pub named_by_sent : {Name : Type 0} → PostedEvent Name → List (Class × Name)
 named_by_sent (event.cast e) = named_by_cast e
 named_by_sent event.exit = []
 
-abbrev pub named_by_any : {Name : Type 0} → AnyEvent Name → List (Class × Name)
+abbrev pub named_by_any : {Name : Type 0} → TestedEvent Name → List (Class × Name)
 named_by_any (event.sent e) = named_by_sent e
 named_by_any e = []
 

@@ -2,9 +2,9 @@
 use Rattle.std.specs.Prelude.{List, [], ◌∷◌, ◌++◌, map, drop, slice_index_or, Option, None, Some, option_map}
 use Rattle.std.specs.List.{flat_map, zip}
 use Rattle.program_tree.specs.Code.{Tree}
-use Rattle.program_tree.specs.EventNames.{CastEvent, SentEvent, AnyEvent}
+use Rattle.program_tree.specs.EventNames.{BroadcastEvent, PostedEvent, TestedEvent}
 use Rattle.program_tree.specs.Grammar.{cast_mark, sent_mark, any_mark}
-use Rattle.program_tree.specs.InScope.{Names, name_in}
+use Rattle.program_tree.specs.InScope.{NamesInScope, name_in}
 use Rattle.program_tree.specs.Program.{code_of, tree_of}
 use Rattle.program_tree.specs.ShapeOf.{names_of_tree, names_of_code, codes_of_tree}
 use Rattle.program_tree.specs.Shapes.{Name, Valued, Named, CodeShape}
@@ -21,16 +21,16 @@ use Rattle.program_tree.specs.declared.keyword.Keyword.TheVariants as word
 use Rattle.mote_program.specs.declared.unparse.Scoped.{Scoped}
 
 -- all names that are in scope in a code
-abbrev pub names_in : Scoped → Names
+abbrev pub names_in : Scoped → NamesInScope
 names_in s = names_of_code (names_of_tree (tree_of s.program.now)) (code_of s.code.now)
 
-abbrev pub cast_token : CastEvent Name → Token
+abbrev pub cast_token : BroadcastEvent Name → Token
 cast_token e = (cast_mark e).token
 
-abbrev pub sent_token : SentEvent Name → Token
+abbrev pub sent_token : PostedEvent Name → Token
 sent_token e = (sent_mark e).token
 
-abbrev pub any_token : AnyEvent Name → Token
+abbrev pub any_token : TestedEvent Name → Token
 any_token e = (any_mark e).token
 
 -- a keyword with its question in parentheses
@@ -57,7 +57,7 @@ abbrev pub into_tokens : Option Name → List Token
 into_tokens None = Semicolon ∷ []
 into_tokens (Some x) = Keyword word.Into ∷ AName x ∷ Semicolon ∷ []
 
--- statements that are a keyword alone, and those with a name or an expression after it
+-- statements that consist only of a keyword, and those with a name or an expression after it
 abbrev pub bare : KeywordRead → List Token
 bare k = Keyword k ∷ Semicolon ∷ []
 

@@ -1,5 +1,5 @@
-//! Programs of motes: their notation, the trees of their texts, and the names that they share with the kernel. The
-//! canonical text of a program is made here, and so is the law that what it names is declared; reader and trees are
+//! Programs of motes: their notation, the trees of their texts, and the names that they share with the kernel. This
+//! crate has the canonical text of a program, and the law that a program declares what it names; reader and trees are
 //! those of the crates below.
 #![tactic(auto)]
 
@@ -12,7 +12,8 @@ mod unparse_code;
 pub use printer::print_program;
 pub use program_reader::{laws, read};
 pub use program_tree::{
-    Action, AnyEvent, Block, CastEvent, DeclaredEvent, Event, Expr, FlatBlock, Names, Operator,
-    Proc, ProcessText, Program, ReadError, ReadErrorKind, SentEvent, Stmt, SystemEvent, Target,
-    Timer, error, event, event_name, flat_block, names, process_text, program, timer, tree,
+    Action, Block, BroadcastEvent, DeclaredEvent, Event, Expr, FlatBlock, Names, Operator,
+    PostedEvent, Proc, ProcessText, Program, ReadError, ReadErrorKind, Stmt, SystemEvent, Target,
+    TestedEvent, Timer, error, event, event_name, flat_block, names, process_text, program, timer,
+    tree,
 };

@@ -29,7 +29,7 @@ pub fn each_name_is_listed()
     ensures each_name_is_listed { EachNameIsListed }
 {}
 
-/// Both properties hold of a small tree that names something of each class, and fail for small trees that break one
+/// Both properties hold for a small tree that names something of each class, and fail for small trees that break one
 /// thing each.
 pub fn trees_are_distinct()
     ensures trees_that_declare { TreesThatDeclare }

@@ -1,6 +1,6 @@
 //! The canonical text of tokens, and of a program.
 ghost use Rattle.std.specs.Prelude.{◌≡◌, ◌++◌, ◌+◌, ◌<◌, ◌^◌, map, IfOk, OnOk, string_bytes};
-ghost use Rattle.program_tree.specs.Canonical.{braces_behind, tells, ends_line, stands_close, line_depth, indentation};
+ghost use Rattle.program_tree.specs.Canonical.{braces_behind, tells, ends_line, is_close, line_depth, indentation};
 ghost use Rattle.program_tree.specs.Canonical.{gap, canonical_text};
 ghost use Rattle.program_tree.specs.Program.{tree_of};
 ghost use Rattle.program_tree.specs.Reading.{IsTreeOf};
@@ -53,8 +53,8 @@ fn ends_line(token: &Token, rest: &[Token]) -> bool
 }
 
 /// Returns `true` if there is no space between a token and the next.
-fn stands_close(token: &Token, rest: &[Token]) -> bool
-    ensures value { result ≡ stands_close (token_of token.now) (map token_of rest.now) }
+fn is_close(token: &Token, rest: &[Token]) -> bool
+    ensures value { result ≡ is_close (token_of token.now) (map token_of rest.now) }
 {
     match (token, rest) {
         (Token::Open | Token::Bang, _) => true,
@@ -93,7 +93,7 @@ fn part(text: &mut String, braces: usize, token: &Token, rest: &[Token]) -> Resu
     if ends_line(token, rest) {
         text.push_str("\n")?;
         indent(text, line_depth(braces, rest))
-    } else if stands_close(token, rest) {
+    } else if is_close(token, rest) {
         Ok(())
     } else {
         text.push_str(" ")

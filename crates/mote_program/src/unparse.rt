@@ -1,5 +1,5 @@
-//! Unreading, the reverse of reading: from a tree back to its tokens, with each number's name put back. Here that of
-//! expressions, statements and blocks.
+//! Unreading, the reverse of reading: from a tree back to its tokens, with the name of each number. This module
+//! unreads expressions, statements and blocks.
 ghost use Rattle.std.specs.Prelude.{◌≡◌, ◌-◌, ◌∷◌, ◌++◌, [], map, OnOk, slice_index_or, option_map};
 ghost use Rattle.program_tree.specs.Meaning.{cast_of, sent_of, any_of};
 ghost use Rattle.program_tree.specs.EventNames.{cast_map, sent_map, any_map};
@@ -17,7 +17,7 @@ ghost use Rattle.program_tree.specs.Tree.{statement_map, body_map, assign, post,
 ghost use Rattle.program_tree.specs.Tree.{synch, set};
 
 use program_tree::class::Class;
-use program_tree::event_name::{AnyEvent, CastEvent, SentEvent};
+use program_tree::event_name::{BroadcastEvent, PostedEvent, TestedEvent};
 use program_tree::keyword::Keyword;
 use program_tree::names::Names;
 use program_tree::process_text::ProcessText;
@@ -74,36 +74,36 @@ impl<'a> Scoped<'a> {
         Token::Name(name)
     }
 
-    fn cast(&self, event: CastEvent) -> Token<'a>
+    fn cast(&self, event: BroadcastEvent) -> Token<'a>
         ensures token { token_of result ≡ cast_token (cast_map (name_in (names_in self.now) an_event) (cast_of event)) }
     {
         match event {
-            CastEvent::Continue => Token::Keyword(Keyword::Continue),
-            CastEvent::Msg => Token::Keyword(Keyword::Msg),
-            CastEvent::Com => Token::Keyword(Keyword::Com),
-            CastEvent::Packet => Token::Keyword(Keyword::Packet),
-            CastEvent::Declared(declared) => self.name(Class::Event, declared.place),
+            BroadcastEvent::Continue => Token::Keyword(Keyword::Continue),
+            BroadcastEvent::Msg => Token::Keyword(Keyword::Msg),
+            BroadcastEvent::Com => Token::Keyword(Keyword::Com),
+            BroadcastEvent::Packet => Token::Keyword(Keyword::Packet),
+            BroadcastEvent::Declared(declared) => self.name(Class::Event, declared.place),
         }
     }
 
-    fn sent(&self, event: SentEvent) -> Token<'a>
+    fn sent(&self, event: PostedEvent) -> Token<'a>
         ensures token { token_of result ≡ sent_token (sent_map (name_in (names_in self.now) an_event) (sent_of event)) }
     {
         match event {
-            SentEvent::Cast(cast) => self.cast(cast),
-            SentEvent::Exit => Token::Keyword(Keyword::Exit),
+            PostedEvent::Cast(cast) => self.cast(cast),
+            PostedEvent::Exit => Token::Keyword(Keyword::Exit),
         }
     }
 
-    fn any(&self, event: AnyEvent) -> Token<'a>
+    fn any(&self, event: TestedEvent) -> Token<'a>
         ensures token { token_of result ≡ any_token (any_map (name_in (names_in self.now) an_event) (any_of event)) }
     {
         match event {
-            AnyEvent::Sent(sent) => self.sent(sent),
-            AnyEvent::Init => Token::Keyword(Keyword::Init),
-            AnyEvent::Poll => Token::Keyword(Keyword::Poll),
-            AnyEvent::Exited => Token::Keyword(Keyword::Exited),
-            AnyEvent::Timer => Token::Keyword(Keyword::Timer),
+            TestedEvent::Sent(sent) => self.sent(sent),
+            TestedEvent::Init => Token::Keyword(Keyword::Init),
+            TestedEvent::Poll => Token::Keyword(Keyword::Poll),
+            TestedEvent::Exited => Token::Keyword(Keyword::Exited),
+            TestedEvent::Timer => Token::Keyword(Keyword::Timer),
         }
     }
 }
@@ -214,11 +214,11 @@ impl<'a> Scoped<'a> {
     }
 
     /// Adds a semicolon, and before it `into` and the variable that gets the result, if there is one.
-    fn into_end(&self, told: Option<u8>, out: &mut Vec<Token<'a>>) -> Result<(), AllocError>
+    fn into_end(&self, recounted: Option<u8>, out: &mut Vec<Token<'a>>) -> Result<(), AllocError>
         ensures appended { OnOk result (map token_of out.new.items ≡ map token_of out.old.items
-            ++ into_tokens (option_map (name_in (names_in self.now) a_variable) told)) }
+            ++ into_tokens (option_map (name_in (names_in self.now) a_variable) recounted)) }
     {
-        match told {
+        match recounted {
             None => add(out, Token::Semicolon),
             Some(variable) => {
                 let name = self.name(Class::Variable, variable);
@@ -248,41 +248,41 @@ impl<'a> Scoped<'a> {
     fn post(
         &self,
         process: u8,
-        event: SentEvent,
+        event: PostedEvent,
         word: &Expr,
-        told: Option<u8>,
+        recounted: Option<u8>,
         out: &mut Vec<Token<'a>>,
     ) -> Result<(), AllocError>
         ensures appended { OnOk result (map token_of out.new.items ≡ map token_of out.old.items
             ++ action_tokens (action_map (name_in (names_in self.now))
-            (post process (sent_of event) (expression_of word.now) told))) }
+            (post process (sent_of event) (expression_of word.now) recounted))) }
     {
         let process = self.name(Class::Process, process);
         let event = self.sent(event);
         self.with_value(&[Token::Keyword(Keyword::Post), process, event], word, out)?;
-        self.into_end(told, out)
+        self.into_end(recounted, out)
     }
 
     fn broadcast(
         &self,
-        event: CastEvent,
+        event: BroadcastEvent,
         word: &Expr,
-        told: Option<u8>,
+        recounted: Option<u8>,
         out: &mut Vec<Token<'a>>,
     ) -> Result<(), AllocError>
         ensures appended { OnOk result (map token_of out.new.items ≡ map token_of out.old.items
             ++ action_tokens (action_map (name_in (names_in self.now))
-            (broadcast (cast_of event) (expression_of word.now) told))) }
+            (broadcast (cast_of event) (expression_of word.now) recounted))) }
     {
         let event = self.cast(event);
         self.with_value(&[Token::Keyword(Keyword::Broadcast), event], word, out)?;
-        self.into_end(told, out)
+        self.into_end(recounted, out)
     }
 
     fn synch(
         &self,
         process: u8,
-        event: SentEvent,
+        event: PostedEvent,
         word: &Expr,
         out: &mut Vec<Token<'a>>,
     ) -> Result<(), AllocError>
@@ -337,10 +337,12 @@ impl<'a> Scoped<'a> {
             Action::Signal(semaphore) => {
                 self.about(Keyword::Signal, Class::Semaphore, *semaphore, out)
             }
-            Action::Post(process, event, word, told) => {
-                self.post(*process, *event, word, *told, out)
+            Action::Post(process, event, word, recounted) => {
+                self.post(*process, *event, word, *recounted, out)
             }
-            Action::Broadcast(event, word, told) => self.broadcast(*event, word, *told, out),
+            Action::Broadcast(event, word, recounted) => self.broadcast(
+                *event, word, *recounted, out,
+            ),
             Action::Synch(process, event, word) => self.synch(*process, *event, word, out),
             Action::Poll(process) => self.about(Keyword::Poll, Class::Process, *process, out),
             Action::Start(process) => self.about(Keyword::Start, Class::Process, *process, out),

@@ -18,7 +18,7 @@ use program_tree::program::Program;
 use program_tree::token::Token;
 use std::alloc::{AllocError, Global};
 
-/// Adds declarations that are names alone.
+/// Adds declarations that are only names.
 fn listed<'a>(
     keyword: Keyword,
     names: &'a Names,

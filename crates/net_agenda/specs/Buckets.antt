@@ -12,7 +12,7 @@ pub use Rattle.net_agenda.specs.NetSystem.{arrival_of}
 use Rattle.window_laws.specs.Order.{sorted_by, in_order}
 use Rattle.window_laws.specs.Agenda.{Item, Wake, Packet, comes_at, packets}
 
--- by sender, then by number; those with the same of both keep their order
+-- by sender, then by number; those that agree in both keep their order
 abbrev pub arrivals_in_order : List Arrival → List Arrival
 arrivals_in_order arrivals = sorted_by (λ arrival. arrival.sender) (λ arrival. arrival.number) arrivals
 

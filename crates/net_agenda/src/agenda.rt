@@ -238,7 +238,7 @@ impl Agenda {
             (λ left. left ≡ length (packets items)) }
     {
         let mut buckets = self.buckets;
-        // The map is asked for its length since it then says that its keys rise, which the proof needs.
+        // Asks the map for its length: the contract of that call says that the keys rise, which the proof needs.
         let _length = buckets.len();
         let mut left = 0;
         while let Some((_, bucket)) = buckets.pop_first() {

@@ -41,14 +41,14 @@ read_on p ps t is (inr (name, e, m)) = inr (
     trees = record { name = p.name; tree = t } ∷ m.trees;
     split = ap (λ l. p ∷ l) m.split;
     read = (refl, is, m.read);
-    told = m.told;
+    recounted = m.recounted;
   },
 )
 
 read_one : (p : ProgramText) (ps : List ProgramText) → Reads ps → ((t : Tree) × IsTreeOf p.text t)
     ⊎ ((kind : ReadErrorKind) × (line : ℕ) × IsErrorOf p.text kind line) → Reads (p ∷ ps)
 read_one p ps rest (inl (t, is)) = read_on p ps t is rest
-read_one p ps rest (inr (kind, line, told)) =
+read_one p ps rest (inr (kind, line, recounted)) =
     inr (
       p.name,
       record { kind = kind; line = line },
@@ -59,7 +59,7 @@ read_one p ps rest (inr (kind, line, told)) =
         trees = [];
         split = refl;
         read = tt;
-        told = told;
+        recounted = recounted;
       },
     )
 
@@ -75,7 +75,7 @@ by_medium : (text : List ℕ) (d : Document text) (trees : HasTrees d.top) (faul
     → medium_fault (radio_in d.top) ≡ fault → Tells text
 by_medium text d trees None e = inl (
   net_in d.top trees.trees,
-  (d, record { programs = trees; medium = e; told = refl }),
+  (d, record { programs = trees; medium = e; recounted = refl }),
 )
 by_medium text d trees (Some fault) e = inr (Medium fault, (d, record { programs = trees; medium = e }))
 
@@ -84,19 +84,19 @@ by_programs text d (inl (trees, read)) = by_medium text d (record { trees = tree
     (medium_fault (radio_in d.top)) refl
 by_programs text d (inr (name, e, refused)) = inr (Program name e, (d, refused))
 
-table_told : (text : List ℕ) (f : TableFault) → document_of text ≡ Err (of_table f) → TellsFault text (of_table f)
-table_told text table.MissingKey e = e
-table_told text table.UnknownKey e = e
-table_told text table.WrongKind e = e
-table_told text table.OutOfRange e = e
-table_told text table.UnknownProgram e = e
+table_reported : (text : List ℕ) (f : TableFault) → document_of text ≡ Err (of_table f) → TellsFault text (of_table f)
+table_reported text table.MissingKey e = e
+table_reported text table.UnknownKey e = e
+table_reported text table.WrongKind e = e
+table_reported text table.OutOfRange e = e
+table_reported text table.UnknownProgram e = e
 
 module _ (each : (text : List ℕ) → HasTreeOrFault text) where
   by_tables : (text : List ℕ) (top : Members) (fault : Option TableFault)
       → document_of text ≡ option_map_or (λ f. Err (of_table f)) fault (Ok top) → Tells text
   by_tables text top None e = let d : Document text = record { top = top; is = e } in
       by_programs text d (read_all each (texts_of (table_at (codes "programs") top)))
-  by_tables text top (Some f) e = inr (of_table f, table_told text f e)
+  by_tables text top (Some f) e = inr (of_table f, table_reported text f e)
 
   by_parse : (text : List ℕ) (parsed : Option Members) → document_of text ≡ faultless parsed → Tells text
   by_parse text None e = inr (Toml, e)

@@ -75,11 +75,11 @@ no_medium top OutOfRange programs m = absurd m
 no_medium top UnknownProgram programs m = absurd m
 
 -- the fault of a medium as one of the scenario
-pub as_told : (radio : Radio) (e : MediumError) → MakesMedium radio (Err e) → MakesRadio radio (Err (of_medium e))
-as_told radio medium.Memory m = tt
-as_told radio medium.ZeroBase m = m
-as_told radio medium.ZeroPer m = m
-as_told radio medium.BadLoss m = m
+pub as_reported : (radio : Radio) (e : MediumError) → MakesMedium radio (Err e) → MakesRadio radio (Err (of_medium e))
+as_reported radio medium.Memory m = tt
+as_reported radio medium.ZeroBase m = m
+as_reported radio medium.ZeroPer m = m
+as_reported radio medium.BadLoss m = m
 
 -- a text short enough, that is TOML with a table without fault, has that document
 pub document_is : (text : List ℕ) (top : Members) → length text ≤ longest_text → parse_document text ≡ Some top
@@ -104,7 +104,7 @@ made top e flag radio ps ms read end-is flag-is radio-is motes-are =
     record {
       programs = record { trees = map named_tree ps; read = read };
       medium = radio-is.1;
-      told = rw (same-end, flag-is, same-radio, motes-are) refl;
+      recounted = rw (same-end, flag-is, same-radio, motes-are) refl;
     }
 
 -- as many motes as there are tables of them

@@ -29,4 +29,4 @@ pub record FirstRefused (programs : List ProgramText) (name : List ℕ) (error :
   pub trees : List NamedTree
   pub split : programs ≡ before ++ record { name = name; text = text } ∷ after
   pub read : AllRead before trees
-  pub told : IsErrorOf text error.kind error.line
+  pub recounted : IsErrorOf text error.kind error.line

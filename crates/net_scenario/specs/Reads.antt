@@ -1,4 +1,4 @@
--- How the parts of a scenario are read, as functions promise it.
+-- The reading of a scenario's parts, as functions promise it.
 use Rattle.std.specs.Prelude.{◌≡◌, ℕ, List, Some, None, Result, Ok, Err, String, map, Vec}
 use Rattle.std.specs.BTreeMap.{BTreeMap}
 use Rattle.std.specs.declared.alloc.Global.{Global}

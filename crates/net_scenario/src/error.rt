@@ -25,7 +25,7 @@ pub enum ScenarioError {
     MissingKey,
     /// A table has a key that it doesn't know, or a program has a name of another form.
     UnknownKey,
-    /// A value is of another kind than its key takes.
+    /// A value isn't of the kind that its key needs.
     WrongKind,
     /// A number or a count is outside its limits, or the text is too long.
     OutOfRange,

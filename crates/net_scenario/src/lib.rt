@@ -8,11 +8,11 @@
 //! numbered from 0 in the order of the text. In version 2 `medium` also has the flag `collide`, and the top may have a
 //! table `queue`: how many events the queue holds in motes of a program, by the program's name.
 //!
-//! The first fault is reported: a text that is too long; one that isn't TOML; then the tables one after another (the
-//! top, `medium`, each `loss`, `programs`, `queue`, each `mote`), and of one table a key that is missing, one that
-//! isn't known, a value of another kind, and a number or a count outside its limits, in this order over all its keys;
-//! then a queue's or a mote's program that doesn't exist; then the first program, in byte order of the names, whose
-//! text is no program; then the medium's numbers and losses.
+//! The first fault is reported: a text that is too long; one that isn't TOML; then the first table with a fault, in
+//! the order top, `medium`, each `loss`, `programs`, `queue`, each `mote`. The faults of one table are, in this order
+//! over all its keys: a missing key, an unknown key, a value of another kind, and a number or a count outside its
+//! limits. Then comes a queue's or a mote's program that doesn't exist; then the first program, in byte order of the
+//! names, whose text isn't a program; then the medium's numbers and losses.
 #![tactic(auto)]
 
 mod document;

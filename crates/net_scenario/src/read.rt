@@ -62,7 +62,7 @@ fn net_from(alloc: Global, top: &Table) -> Result<Net, ScenarioError>
 /// # Errors
 /// The first fault of the text, looked for in this order: its length; its TOML; its tables in order; the programs that
 /// `queue` and the motes name; the texts of all programs, in byte order of their names; the numbers and losses of the
-/// medium. `Memory` may be returned instead of any of these, only if an allocation failed.
+/// medium. If an allocation failed, and only then, `Memory` may be returned instead of any of these.
 pub fn read_scenario(alloc: Global, text: &str) -> Result<Net, ScenarioError>
     ensures answers { Answers text.now result }
 {

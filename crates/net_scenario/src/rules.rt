@@ -31,7 +31,7 @@ pub enum Kind {
     Tables(usize, usize),
 }
 
-/// One key of a table, and the version in which it came.
+/// One key of a table, and the version that introduced it.
 #[derive(Clone, Copy)]
 pub struct Key {
     pub since: Version,

@@ -10,7 +10,7 @@ pub enum Version {
 }
 
 impl Version {
-    /// Returns `true` if this version has the keys that came in the other.
+    /// Returns `true` if this version has the keys that the other introduced.
     pub fn has(self, since: Version) -> bool
         ensures value { result ≡ has_come since self }
     {

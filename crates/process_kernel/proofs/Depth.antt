@@ -11,22 +11,22 @@ use Rattle.process_kernel.specs.Writes.{halted_of}
 use Rattle.process_kernel.specs.Calls.{Answer}
 use Rattle.process_kernel.specs.Operation.{run_of}
 use Rattle.process_kernel.specs.Call.{calls_of, call_of}
-use Rattle.process_kernel.specs.Views.{Tells}
+use Rattle.process_kernel.specs.Views.{StepMatches}
 
 -- a step that follows the rule of a call follows the calls that nest one deeper
 pub deeper_call : (r : Result (Unit {0}) Stop) (new s : State) (p : Proc) (e : Event) →
-    ((k : ℕ) → s.units ≤ k → Tells r new (call_of (calls_of k) s p e)) → (k : ℕ) → s.units < k
-    → Tells r new ((calls_of k).call s p e)
+    ((k : ℕ) → s.units ≤ k → StepMatches r new (call_of (calls_of k) s p e)) → (k : ℕ) → s.units < k
+    → StepMatches r new ((calls_of k).call s p e)
 unfolding calls_of
-deeper_call r new s p e told zero enough = absurd (omega arith)
-deeper_call r new s p e told (suc k) enough = told k (omega arith)
+deeper_call r new s p e recounted zero enough = absurd (omega arith)
+deeper_call r new s p e recounted (suc k) enough = recounted k (omega arith)
 
 pub deeper_run : (r : Result Answer Stop) (new s : State) (code : Code) (t : Remainder) (p : ℕ) (e : Event) →
-    ((k : ℕ) → s.units ≤ k → Tells r new (run_of (calls_of k) s code t p e)) → (k : ℕ) → s.units < k
-    → Tells r new ((calls_of k).run s code t p e)
+    ((k : ℕ) → s.units ≤ k → StepMatches r new (run_of (calls_of k) s code t p e)) → (k : ℕ) → s.units < k
+    → StepMatches r new ((calls_of k).run s code t p e)
 unfolding calls_of
-deeper_run r new s code t p e told zero enough = absurd (omega arith)
-deeper_run r new s code t p e told (suc k) enough = told k (omega arith)
+deeper_run r new s code t p e recounted zero enough = absurd (omega arith)
+deeper_run r new s code t p e recounted (suc k) enough = recounted k (omega arith)
 
 -- the calls that nest m deep run a thread by those that nest one less
 pub run_opens : (s : State) (code : Code) (t : Remainder) (p : ℕ) (e : Event) (m : ℕ) → 0 < m
@@ -37,6 +37,6 @@ run_opens s code t p e (suc m) h = let one : suc m - 1 ≡ m = omega arith in rw
 
 -- a halt is an end; out of memory no claim is made
 pub halt_tells : (A : Type 0) (stop : Stop) (s new : State) → (stop ≡ Halted → new ≡ halted_of s)
-    → Tells {A = A} (Err stop) new (Ends (halted_of s))
+    → StepMatches {A = A} (Err stop) new (Ends (halted_of s))
 halt_tells A Halted s new halts = ap Ends (sym (halts refl))
 halt_tells A Memory s new halts = tt

@@ -17,12 +17,12 @@ use Rattle.process_kernel.specs.State.{State, Outcome}
 use Rattle.process_kernel.specs.Mote.{Mote, at_rest}
 use Rattle.process_kernel.specs.Views as views
 use Rattle.process_kernel.specs.Views.{state_of, mote_of, Begins}
-use Rattle.process_kernel.specs.Public.{mote_in, BeginsWith, Tells, FailsAs, Closes}
+use Rattle.process_kernel.specs.Public.{mote_in, BeginsWith, MatchesOutcome, FailsAs, Closes}
 use Rattle.process_kernel.specs.Given.{Given, given}
 
 -- a kernel that ran out of memory in an earlier call
 pub failed : (t : Tree) (gives : Mote → List Line → List Sent → Given) (k : Kernel) (out : Out) → k.failed ≡ true
-    → Tells gives (mote_in t k) out (Err error.Failed) (mote_in t k) out
+    → MatchesOutcome gives (mote_in t k) out (Err error.Failed) (mote_in t k) out
 unfolding mote_in
 failed t gives k out is = rw is (refl, refl, refl)
 
@@ -35,7 +35,7 @@ pub halted : (t : Tree) (gives : Mote → List Line → List Sent → Given) (k 
       lines = out.lines.items;
       sends = out.sends.items;
     }
-    → Tells gives (mote_in t k) out (Ok ran.Halted) (mote_in t k) out
+    → MatchesOutcome gives (mote_in t k) out (Ok ran.Halted) (mote_in t k) out
 unfolding mote_in
 halted t gives k out going is = rw going (mote_of t k.machine k.booted k.halted, refl, is)
 
@@ -59,27 +59,27 @@ pub finished : (t : Tree) (gives : Mote → List Line → List Sent → Given) (
     (s1 : State) (o : Outcome ℕ) (r : Result ℕ Stop) (result : Result Ran KernelError)
     → k.failed ≡ false → k1.failed ≡ false → k1.halted ≡ false
     → gives (mote_of t k.machine k.booted k.halted) out.lines.items out.sends.items ≡ given o
-    → views.Tells r s1 o → at_rest s1 ≡ at_rest (state_of t k1.machine) → out'.lines.items ≡ s1.lines
+    → views.StepMatches r s1 o → at_rest s1 ≡ at_rest (state_of t k1.machine) → out'.lines.items ≡ s1.lines
     → out'.sends.items ≡ s1.sends
-    → BeginsWith out out' → Closes k1 r result k2 → Tells gives (mote_in t k) out result (mote_in t k2) out'
+    → BeginsWith out out' → Closes k1 r result k2 → MatchesOutcome gives (mote_in t k) out result (mote_in t k2) out'
 unfolding mote_in
-finished t gives k k1 k2 out out' s1 o (Ok left) result going going1 running gives_it told rest ls ss begins closes =
+finished t gives k k1 k2 out out' s1 o (Ok left) result going going1 running gives_it recounted rest ls ss begins closes =
     rw (going, closes.0, closes.1, going1, running) (
       mote_of t k1.machine true false,
       refl,
-      gives_it ∙ ap given told
+      gives_it ∙ ap given recounted
           ∙ same_given (ran.Left left) false (at_rest s1)
           (at_rest (state_of t k1.machine)) s1.lines out'.lines.items s1.sends out'.sends.items rest ls ss,
     )
-finished t gives k k1 k2 out out' s1 o (Err Halted) result going going1 running gives_it told rest ls ss begins closes =
+finished t gives k k1 k2 out out' s1 o (Err Halted) result going going1 running gives_it recounted rest ls ss begins closes =
     rw (going, closes.0, closes.1, going1) (
       mote_of t k1.machine true true,
       refl,
-      gives_it ∙ ap given told
+      gives_it ∙ ap given recounted
           ∙ same_given ran.Halted true (at_rest s1)
           (at_rest (state_of t k1.machine)) s1.lines out'.lines.items s1.sends out'.sends.items rest ls ss,
     )
-finished t gives k k1 k2 out out' s1 o (Err Memory) result going going1 running gives_it told rest ls ss begins closes =
+finished t gives k k1 k2 out out' s1 o (Err Memory) result going going1 running gives_it recounted rest ls ss begins closes =
     rw (going, closes.0, closes.1) (refl, refl, begins)
 
 -- a run that ends leaves its machine as it is
@@ -130,20 +130,20 @@ so_far_none (Some m) out = ((m, refl), begins_same out)
 -- one more call that returned no error
 pub so_far_next : (gives : Mote → List Line → List Sent → Given) (old : Option Mote) (out : Out) (now : Option Mote)
     (out1 : Out) (r : Ran) (new : Option Mote) (out2 : Out)
-    → GoesOnSoFar old out now out1 → Tells gives now out1 (Ok r) new out2 → BeginsWith out1 out2
+    → GoesOnSoFar old out now out1 → MatchesOutcome gives now out1 (Ok r) new out2 → BeginsWith out1 out2
     → GoesOnSoFar old out new out2
-so_far_next gives None out None out1 r new out2 so_far told more = let failed = told.0 in cc
-so_far_next gives None out (Some m) out1 r new out2 so_far told more = let none = so_far.0 in cc
-so_far_next gives (Some m) out None out1 r new out2 so_far told more = let some = so_far.0.1 in cc
-so_far_next gives (Some m) out (Some m1) out1 r new out2 so_far told more =
-    ((told.0, told.1), begins_further out out1 out2 so_far.1 more)
+so_far_next gives None out None out1 r new out2 so_far recounted more = let failed = recounted.0 in cc
+so_far_next gives None out (Some m) out1 r new out2 so_far recounted more = let none = so_far.0 in cc
+so_far_next gives (Some m) out None out1 r new out2 so_far recounted more = let some = so_far.0.1 in cc
+so_far_next gives (Some m) out (Some m1) out1 r new out2 so_far recounted more =
+    ((recounted.0, recounted.1), begins_further out out1 out2 so_far.1 more)
 
 -- and one that returned an error
 pub so_far_fails : (gives : Mote → List Line → List Sent → Given) (old : Option Mote) (out : Out)
     (now : Option Mote) (out1 : Out) (e : KernelError) (new : Option Mote) (out2 : Out)
-    → GoesOnSoFar old out now out1 → Tells gives now out1 (Err e) new out2 → FailsAs old out e new out2
-so_far_fails gives None out None out1 e new out2 so_far told = ((let failed = told.0 in cc), told.1, told.2 ∙ so_far.1)
-so_far_fails gives None out (Some m) out1 e new out2 so_far told = let none = so_far.0 in cc
-so_far_fails gives (Some m) out None out1 e new out2 so_far told = let some = so_far.0.1 in cc
-so_far_fails gives (Some m) out (Some m1) out1 e new out2 so_far told =
-    (told.0, told.1, begins_further out out1 out2 so_far.1 told.2)
+    → GoesOnSoFar old out now out1 → MatchesOutcome gives now out1 (Err e) new out2 → FailsAs old out e new out2
+so_far_fails gives None out None out1 e new out2 so_far recounted = ((let failed = recounted.0 in cc), recounted.1, recounted.2 ∙ so_far.1)
+so_far_fails gives None out (Some m) out1 e new out2 so_far recounted = let none = so_far.0 in cc
+so_far_fails gives (Some m) out None out1 e new out2 so_far recounted = let some = so_far.0.1 in cc
+so_far_fails gives (Some m) out (Some m1) out1 e new out2 so_far recounted =
+    (recounted.0, recounted.1, begins_further out out1 out2 so_far.1 recounted.2)

@@ -9,7 +9,7 @@ use Rattle.std.proofs.lemmas.Map.Steps.{length-le_from_distinct_below}
 use Rattle.std.proofs.lemmas.Map.Views.{Contains-from_any}
 use Rattle.program_tree.specs.declared.event.Proc.{Proc}
 use Rattle.process_kernel.specs.declared.process.Member.{Member}
-use Rattle.process_kernel.specs.Members.{place_of, is_same, stands_in, are_once, AreMembers}
+use Rattle.process_kernel.specs.Members.{place_of, is_same, is_found_in, are_once, AreMembers}
 use Rattle.process_kernel.specs.ProcessList.{numbered_from}
 
 -- both tests hold
@@ -19,17 +19,17 @@ both a b h i = rw (h, i) refl
 abbrev places : List Member → List ℕ
 places ms = map (λ m. place_of m.process) ms
 
-apart : (m : Member) (ms : List Member) → stands_in ms m.process ≡ false
+apart : (m : Member) (ms : List Member) → is_found_in ms m.process ≡ false
     → AllByRecursion (λ y. eqb (place_of m.process) y ≡ false) (places ms)
 apart m [] h = tt
-apart m (x ∷ xs) h = let parts = or_parts (is_same m.process x.process) (stands_in xs m.process) h in
+apart m (x ∷ xs) h = let parts = or_parts (is_same m.process x.process) (is_found_in xs m.process) h in
     (parts.0, apart m xs parts.1)
 
 distinct : (ms : List Member) → are_once ms ≡ true → IsDistinct eqb (places ms)
 unfolding IsDistinct
 distinct [] h = tt
 distinct (m ∷ ms) h =
-    let parts = and_parts (not (stands_in ms m.process)) (are_once ms) h in
+    let parts = and_parts (not (is_found_in ms m.process)) (are_once ms) h in
     (apart m ms (not-true _ parts.0), distinct ms parts.1)
 
 below : (n : ℕ) (ms : List Member) → AllByRecursion (λ m. place_of m.process < n) ms
@@ -51,7 +51,7 @@ length-le ms n are =
 
 -- a process of the mote that is not on the list is put there
 pub AreMembers-cons : (m : Member) (ms : List Member) (n : ℕ) → AreMembers ms n → place_of m.process < n
-    → stands_in ms m.process ≡ false → AreMembers (m ∷ ms) n
+    → is_found_in ms m.process ≡ false → AreMembers (m ∷ ms) n
 AreMembers-cons m ms n are within away = record {
   once = both _ _ (not_from_false _ away) are.once;
   within = All-cons (λ x. place_of x.process < n) m ms within are.within;
@@ -59,26 +59,26 @@ AreMembers-cons m ms n are within away = record {
 
 -- and there is room for it
 pub length-lt : (m : Member) (ms : List Member) (n : ℕ) → AreMembers ms n → place_of m.process < n
-    → stands_in ms m.process ≡ false → length ms < n
+    → is_found_in ms m.process ≡ false → length ms < n
 length-lt m ms n are within away =
     let most : length (m ∷ ms) ≤ n = length-le (m ∷ ms) n (AreMembers-cons m ms n are within away) in
     omega (arith, most)
 
 -- the members that stay on the list
-stands_in-filter : (f : Member → Bool) (ms : List Member) (p : Proc) → stands_in ms p ≡ false
-    → stands_in (filter f ms) p ≡ false
-stands_in-filter f [] p h = refl
-stands_in-filter f (m ∷ ms) p h =
-    let parts = or_parts (is_same p m.process) (stands_in ms p) h in
-    cond_both (f m) (m ∷ filter f ms) (filter f ms) (λ (xs : List Member). stands_in xs p ≡ false)
-    (λ _. rw (parts.0, stands_in-filter f ms p parts.1) refl) (λ _. stands_in-filter f ms p parts.1)
+is_found_in-filter : (f : Member → Bool) (ms : List Member) (p : Proc) → is_found_in ms p ≡ false
+    → is_found_in (filter f ms) p ≡ false
+is_found_in-filter f [] p h = refl
+is_found_in-filter f (m ∷ ms) p h =
+    let parts = or_parts (is_same p m.process) (is_found_in ms p) h in
+    cond_both (f m) (m ∷ filter f ms) (filter f ms) (λ (xs : List Member). is_found_in xs p ≡ false)
+    (λ _. rw (parts.0, is_found_in-filter f ms p parts.1) refl) (λ _. is_found_in-filter f ms p parts.1)
 
 are_once-filter : (f : Member → Bool) (ms : List Member) → are_once ms ≡ true → are_once (filter f ms) ≡ true
 are_once-filter f [] h = refl
 are_once-filter f (m ∷ ms) h =
-    let parts = and_parts (not (stands_in ms m.process)) (are_once ms) h in
+    let parts = and_parts (not (is_found_in ms m.process)) (are_once ms) h in
     cond_both (f m) (m ∷ filter f ms) (filter f ms) (λ (xs : List Member). are_once xs ≡ true)
-    (λ _. both _ _ (not_from_false _ (stands_in-filter f ms m.process (not-true _ parts.0)))
+    (λ _. both _ _ (not_from_false _ (is_found_in-filter f ms m.process (not-true _ parts.0)))
     (are_once-filter f ms parts.1))
     (λ _. are_once-filter f ms parts.1)
 
@@ -96,13 +96,13 @@ AreMembers-filter f ms n are = record {
 }
 
 -- new numbers change no process
-stands_in-numbered : (k : ℕ) (ms : List Member) (p : Proc) → stands_in (numbered_from k ms) p ≡ stands_in ms p
-stands_in-numbered k [] p = refl
-stands_in-numbered k (m ∷ ms) p = rw (stands_in-numbered (k + 1) ms p) refl
+is_found_in-numbered : (k : ℕ) (ms : List Member) (p : Proc) → is_found_in (numbered_from k ms) p ≡ is_found_in ms p
+is_found_in-numbered k [] p = refl
+is_found_in-numbered k (m ∷ ms) p = rw (is_found_in-numbered (k + 1) ms p) refl
 
 are_once-numbered : (k : ℕ) (ms : List Member) → are_once (numbered_from k ms) ≡ are_once ms
 are_once-numbered k [] = refl
-are_once-numbered k (m ∷ ms) = rw (stands_in-numbered (k + 1) ms m.process, are_once-numbered (k + 1) ms) refl
+are_once-numbered k (m ∷ ms) = rw (is_found_in-numbered (k + 1) ms m.process, are_once-numbered (k + 1) ms) refl
 
 within-numbered : (n k : ℕ) (ms : List Member) → AllByRecursion (λ m. place_of m.process < n) ms
     → AllByRecursion (λ m. place_of m.process < n) (numbered_from k ms)

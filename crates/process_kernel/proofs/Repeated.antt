@@ -4,7 +4,7 @@ use Rattle.process_kernel.specs.declared.kernel.Ran.{Ran}
 use Rattle.process_kernel.specs.declared.kernel.Ran.TheVariants as ran
 use Rattle.trace_lines.specs.declared.out.Out.{Out}
 use Rattle.process_kernel.specs.Mote.{Mote}
-use Rattle.process_kernel.specs.Public.{Tells}
+use Rattle.process_kernel.specs.Public.{MatchesOutcome}
 use Rattle.process_kernel.specs.Given.{Given, run_given}
 use Rattle.process_kernel.specs.Underway.{Underway, after}
 use Rattle.process_kernel.specs.GoesOn.{underway_in}
@@ -41,12 +41,12 @@ follow-some (suc n) others u h = refl
 -- a run that left something to do
 pub run_next : (most before left moment : ℕ) (first : Underway) (old new : Option Mote) (out out' : Out) (n : ℕ)
     → before ≡ suc left → RunSoFar most before moment first (underway_in old out)
-    → Tells (run_given moment) old out (Ok (ran.Left n)) new out' → 0 < n
+    → MatchesOutcome (run_given moment) old out (Ok (ran.Left n)) new out' → 0 < n
     → RunSoFar most left moment first (underway_in new out')
-run_next most before left moment first old new out out' n e h told some =
+run_next most before left moment first old new out out' n e h recounted some =
     let ran_is : (run_once moment h.u).ran ≡ ran.Left n =
-    kernel_ran (run_given moment) old new out out' (ran.Left n) h.u told h.is in
-    let goes = kernel_step (run_given moment) old new out out' (ran.Left n) told in
+    kernel_ran (run_given moment) old new out out' (ran.Left n) h.u recounted h.is in
+    let goes = kernel_step (run_given moment) old new out out' (ran.Left n) recounted in
     let one : runs_of before moment h.u ≡ runs_of left moment (after (run_once moment h.u)) =
     ap (λ k. runs_of k moment h.u) e ∙ runs-suc left moment h.u
     ∙ (rw ran_is (follow-some n (runs_of left moment) (after (run_once moment h.u)) some)) in
@@ -55,12 +55,12 @@ run_next most before left moment first old new out out' n e h told some =
 -- the last run: the mote halted, or left nothing to do
 pub run_last : (most before left moment : ℕ) (first : Underway) (old new : Option Mote) (out out' : Out) (r : Ran)
     → before ≡ suc left → RunSoFar most before moment first (underway_in old out)
-    → Tells (run_given moment) old out (Ok r) new out'
+    → MatchesOutcome (run_given moment) old out (Ok r) new out'
     → ((others : Underway → Underway) (u : Underway) → follow r others u ≡ u)
     → underway_in new out' ≡ Some (runs_of most moment first)
-run_last most before left moment first old new out out' r e h told last =
-    let ran_is : (run_once moment h.u).ran ≡ r = kernel_ran (run_given moment) old new out out' r h.u told h.is in
-    let goes = kernel_step (run_given moment) old new out out' r told in
+run_last most before left moment first old new out out' r e h recounted last =
+    let ran_is : (run_once moment h.u).ran ≡ r = kernel_ran (run_given moment) old new out out' r h.u recounted h.is in
+    let goes = kernel_step (run_given moment) old new out out' r recounted in
     let one : runs_of before moment h.u ≡ after (run_once moment h.u) =
     ap (λ k. runs_of k moment h.u) e ∙ runs-suc left moment h.u
     ∙ (rw ran_is (last (runs_of left moment) (after (run_once moment h.u)))) in

@@ -5,7 +5,7 @@ use Rattle.trace_lines.specs.declared.line.Line.{Line}
 use Rattle.trace_lines.specs.declared.out.Out.{Out}
 use Rattle.radio_packet.specs.declared.sent.Sent.{Sent}
 use Rattle.process_kernel.specs.Mote.{Mote}
-use Rattle.process_kernel.specs.Public.{Tells}
+use Rattle.process_kernel.specs.Public.{MatchesOutcome}
 use Rattle.process_kernel.specs.Given.{Given}
 use Rattle.process_kernel.specs.Underway.{Underway, after}
 use Rattle.process_kernel.specs.GoesOn.{underway_in, GoesOn}
@@ -28,7 +28,7 @@ from_some step m out new out' h = record {
 
 -- a boot or a run of the kernel is a step
 pub kernel_step : (gives : Mote → List Line → List Sent → Given) (old new : Option Mote) (out out' : Out) (r : Ran)
-    → Tells gives old out (Ok r) new out' → GoesOn (λ u. after (gives u.mote u.lines u.sends)) old out new out'
+    → MatchesOutcome gives old out (Ok r) new out' → GoesOn (λ u. after (gives u.mote u.lines u.sends)) old out new out'
 kernel_step gives None new out out' r h = from_none _ out new out'
 kernel_step gives (Some m) new out out' r (m', is, given) =
     from_some (λ u. after (gives u.mote u.lines u.sends)) m out new out' (rw (is, given) refl)
@@ -36,7 +36,7 @@ kernel_step gives (Some m) new out out' r (m', is, given) =
 -- the kernel's answer
 pub kernel_ran : (gives : Mote → List Line → List Sent → Given) (old new : Option Mote) (out out' : Out) (r : Ran)
     (u : Underway)
-    → Tells gives old out (Ok r) new out' → underway_in old out ≡ Some u → (gives u.mote u.lines u.sends).ran ≡ r
+    → MatchesOutcome gives old out (Ok r) new out' → underway_in old out ≡ Some u → (gives u.mote u.lines u.sends).ran ≡ r
 kernel_ran gives None new out out' r u h is = cc
 kernel_ran gives (Some m) new out out' r u (m', same, given) is =
     let eq : underway m out ≡ u = cc in

@@ -17,9 +17,9 @@ use Rattle.process_kernel.specs.declared.machine.Stop.{Stop}
 use Rattle.process_kernel.specs.declared.machine.Stop.TheVariants.{Halted, Memory}
 use Rattle.process_kernel.specs.State.{State, Outcome, Went, Goes, ◌>>=◌}
 use Rattle.process_kernel.specs.Posts.{post_of, poll_of}
-use Rattle.process_kernel.specs.Calls.{told}
+use Rattle.process_kernel.specs.Calls.{own_event}
 use Rattle.process_kernel.specs.Etimer.{fired_of, post_due, walk_timers, walks_of}
-use Rattle.process_kernel.specs.Views.{Tells}
+use Rattle.process_kernel.specs.Views.{StepMatches}
 
 after_first-cons : (a k : ℕ) (ks : List ℕ)
     → after_first (λ o. o == a) (k ∷ ks) ≡ cond (k == a) ks (after_first (λ o. o == a) ks)
@@ -133,7 +133,7 @@ begin (suc n) s h = record { left = n; enough = omega arith; walks = refl }
 
 -- after a halt no further step is taken
 pub halts_through : (A B : Type 0) (stop : Stop) (new : State) (o : Outcome A) (f : A → State → Outcome B)
-    → Tells {A = A} (Err stop) new o → Tells {A = B} (Err stop) new (o >>= f)
+    → StepMatches {A = A} (Err stop) new o → StepMatches {A = B} (Err stop) new (o >>= f)
 halts_through A B Halted new o f is = ap (λ x. x >>= f) is
 halts_through A B Memory new o f is = tt
 
@@ -144,7 +144,7 @@ pub record Found (s : State) (after : Option ℕ) (x : ℕ) (o : Proc) : Type 0 
 
 module _ (s : State) (after : Option ℕ) (x : ℕ) (o : Proc) (left : ℕ) (at : Found s after x o) where
   pub step : walk_timers (walks_of left) (behind after s.timers.listed) s
-      ≡ (post_of s (One o) (told Timer x)
+      ≡ (post_of s (One o) (own_event Timer x)
       >>= λ full s1. if full
       then walk_timers (walks_of left) (after_first (λ y. y == x) (behind after s.timers.listed))
       (poll_of s1 Etimer) else walks_of left (fired_of s1 x))
@@ -154,7 +154,7 @@ module _ (s : State) (after : Option ℕ) (x : ℕ) (o : Proc) (left : ℕ) (at 
       ∙ ap (post_due (walks_of left)
       (walk_timers (walks_of left) (after_first (λ y. y == x) (behind after s.timers.listed))) s x) at.owner
 
-  pub full_step : (s1 s2 : State) → post_of s (One o) (told Timer x) ≡ Goes true s1 → s2 ≡ poll_of s1 Etimer
+  pub full_step : (s1 s2 : State) → post_of s (One o) (own_event Timer x) ≡ Goes true s1 → s2 ≡ poll_of s1 Etimer
       → s2.timers ≡ s.timers
       → length (behind (Some x) s.timers.listed) < length (behind after s.timers.listed)
       → walk_timers (walks_of left) (behind after s.timers.listed) s
@@ -164,7 +164,7 @@ module _ (s : State) (after : Option ℕ) (x : ℕ) (o : Proc) (left : ℕ) (at 
       ap (λ (t : TimerLists). behind (Some x) t.listed) same ∙ behind_rest after s.timers.listed x nearer in
       step ∙ rw full (rw (rest, ← polled) refl)
 
-  pub fired_step : (s1 s2 : State) → post_of s (One o) (told Timer x) ≡ Goes false s1 → s2 ≡ fired_of s1 x
+  pub fired_step : (s1 s2 : State) → post_of s (One o) (own_event Timer x) ≡ Goes false s1 → s2 ≡ fired_of s1 x
       → length s2.timers.listed ≤ left
       → (more : ℕ) × (length s2.timers.listed ≤ more + 1)
       × (walk_timers (walks_of left) (behind after s.timers.listed) s
@@ -172,9 +172,9 @@ module _ (s : State) (after : Option ℕ) (x : ℕ) (o : Proc) (left : ℕ) (at 
   fired_step s1 s2 room fired fewer =
       let b = begin left s2 fewer in (b.left, b.enough, step ∙ rw (room, ← fired) b.walks)
 
-  pub halt_step : (stop : Stop) (new : State) → Tells {A = Bool} (Err stop) new (post_of s (One o) (told Timer x))
-      → Tells {A = Unit {0}} (Err stop) new (walk_timers (walks_of left) (behind after s.timers.listed) s)
-  halt_step stop new is = rw step (halts_through Bool (Unit {0}) stop new (post_of s (One o) (told Timer x)) _ is)
+  pub halt_step : (stop : Stop) (new : State) → StepMatches {A = Bool} (Err stop) new (post_of s (One o) (own_event Timer x))
+      → StepMatches {A = Unit {0}} (Err stop) new (walk_timers (walks_of left) (behind after s.timers.listed) s)
+  halt_step stop new is = rw step (halts_through Bool (Unit {0}) stop new (post_of s (One o) (own_event Timer x)) _ is)
 
 few : (f : ℕ → Bool) (ks : List ℕ) → length (filter f ks) ≤ length ks
 few f [] = omega arith

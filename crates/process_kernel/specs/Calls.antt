@@ -13,8 +13,8 @@ use Rattle.process_kernel.specs.State.{State, Outcome, Went, Goes, ◌>>=◌}
 use Rattle.process_kernel.specs.Processes.{is_on_list}
 
 -- an event of the kernel's own, with a word
-abbrev pub told : SystemEvent → ℕ → Event
-told event word = record { number = system_number event; word = word; sender = 0 }
+abbrev pub own_event : SystemEvent → ℕ → Event
+own_event event word = record { number = system_number event; word = word; sender = 0 }
 
 abbrev pub is_system_event : SystemEvent → Event → Bool
 is_system_event event e = e.number == system_number event

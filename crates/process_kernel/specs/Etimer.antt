@@ -9,7 +9,7 @@ use Rattle.mote_timers.specs.Timer.{is_due}
 use Rattle.mote_timers.specs.TimerLists.{timer_at, stop_timer, purge_timers}
 use Rattle.process_kernel.specs.State.{State, Went, Goes, ◌>>=◌}
 use Rattle.process_kernel.specs.Posts.{post_of, poll_of}
-use Rattle.process_kernel.specs.Calls.{told, is_system_event}
+use Rattle.process_kernel.specs.Calls.{own_event, is_system_event}
 
 -- the event of a timer was posted: it is removed from the timer list, and has no owner
 unfoldable pub fired_of : State → (timer : ℕ) → State
@@ -20,7 +20,7 @@ fired_of s timer = record s { timers = stop_timer s.timers timer }
 abbrev pub post_due : (again on : State → Went) → State → (timer : ℕ) → Option Proc → Went
 post_due again on s timer None = on s
 post_due again on s timer (Some owner) =
-    post_of s (One owner) (told Timer timer)
+    post_of s (One owner) (own_event Timer timer)
     >>= λ full s1. if full then on (poll_of s1 Etimer) else again (fired_of s1 timer)
 
 -- the walk along these timers of the list, from the front on

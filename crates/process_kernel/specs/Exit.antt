@@ -8,7 +8,7 @@ use Rattle.process_kernel.specs.State.{State, Went, Goes, ◌>>=◌}
 use Rattle.process_kernel.specs.Processes.{is_listed}
 use Rattle.process_kernel.specs.Writes.{spend_of}
 use Rattle.process_kernel.specs.ProcessList.{exiting_of, leave_of}
-use Rattle.process_kernel.specs.Calls.{Calls, told, walk_of}
+use Rattle.process_kernel.specs.Calls.{Calls, own_event, walk_of}
 use Rattle.process_kernel.specs.Reaction.{react_of}
 
 -- the number by which EXITED names a process; the system processes, which never leave, come after those of any program
@@ -20,12 +20,12 @@ process_number Radio = 258
 
 -- The last run of a process that another one exits: it is run with EXIT as in a call, whatever it answers.
 unfoldable pub last_run_of : Calls → State → Proc → Went
-last_run_of calls s p = spend_of s >>= λ _ s1. react_of calls s1 p (told Exit 0) >>= λ _ s2. Goes tt s2
+last_run_of calls s p = spend_of s >>= λ _ s1. react_of calls s1 p (own_event Exit 0) >>= λ _ s2. Goes tt s2
 
 -- A process on the list is exited on behalf of another, or of itself: the others are informed first, then it has its
 -- last run, unless it asked for the exit itself, and then it leaves.
 unfoldable pub exit_of : Calls → State → Proc → (behalf : Proc) → Went
 exit_of calls s p behalf =
-    if is_listed s p then (walk_of calls (told Exited (process_number p)) p s.members (exiting_of s p) >>= λ _ s1.
+    if is_listed s p then (walk_of calls (own_event Exited (process_number p)) p s.members (exiting_of s p) >>= λ _ s1.
     (if is_same p behalf then Goes tt s1 else last_run_of calls s1 p) >>= λ _ s2. leave_of s2 p)
     else Goes tt s

@@ -7,7 +7,7 @@ use Rattle.process_kernel.specs.declared.machine.Stop.{Stop}
 use Rattle.process_kernel.specs.State.{State, Outcome}
 use Rattle.process_kernel.specs.Calls.{Calls}
 use Rattle.process_kernel.specs.Call.{calls_of}
-use Rattle.process_kernel.specs.Views.{state_of, Tells, Spends, Grows}
+use Rattle.process_kernel.specs.Views.{state_of, StepMatches, Spends, Grows}
 
 -- A step follows a rule: its answer and the state that it leaves are the outcome of the rule, whose calls nest deeper
 -- than there are units of work; each start is paid for by a unit; and everything that was written before is still
@@ -15,6 +15,6 @@ use Rattle.process_kernel.specs.Views.{state_of, Tells, Spends, Grows}
 pub record Follows {A : Type 0} (program : Program) (old : Machine) (result : Result A Stop) (new : Machine)
     (rule : Calls → State → Outcome A) : Type 0 where
   pub exact : (k : ℕ) → old.fuel < k
-      → Tells result (state_of (tree_of program) new) (rule (calls_of k) (state_of (tree_of program) old))
+      → StepMatches result (state_of (tree_of program) new) (rule (calls_of k) (state_of (tree_of program) old))
   pub spends : OnOk result (Spends 0 old new)
   pub grows : Grows old.out new.out

@@ -1,10 +1,10 @@
--- A mote in a turn under way, as long as its kernel has not failed.
+-- A mote in the middle of a turn, as long as its kernel has not failed.
 use Rattle.std.specs.Prelude.{◌≡◌, Option, Some, option_map}
 use Rattle.trace_lines.specs.declared.out.Out.{Out}
 use Rattle.process_kernel.specs.Mote.{Mote}
 use Rattle.process_kernel.specs.Underway.{Underway}
 
--- the turn under way of a mote, unless its kernel has failed
+-- the turn that a mote is in, unless its kernel has failed
 abbrev pub underway_in : Option Mote → Out → Option Underway
 underway_in m out = option_map (λ x. record { mote = x; lines = out.lines.items; sends = out.sends.items }) m
 

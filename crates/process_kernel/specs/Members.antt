@@ -6,8 +6,8 @@ pub use Rattle.mote_timers.specs.Processes.{place_of, is_same}
 use Rattle.process_kernel.specs.declared.process.Member.{Member}
 
 -- some incarnation of the process is on the list
-abbrev pub stands_in : List Member → Proc → Bool
-stands_in ms p = list_any (λ x. is_same p x.process) ms
+abbrev pub is_found_in : List Member → Proc → Bool
+is_found_in ms p = list_any (λ x. is_same p x.process) ms
 
 -- the incarnation is on the list
 abbrev pub holds_member : List Member → Member → Bool
@@ -16,7 +16,7 @@ holds_member ms m = list_any (λ x. is_same m.process x.process && (m.incarnatio
 -- no process is on the list twice
 abbrev pub are_once : List Member → Bool
 are_once [] = true
-are_once (m ∷ ms) = not (stands_in ms m.process) && are_once ms
+are_once (m ∷ ms) = not (is_found_in ms m.process) && are_once ms
 
 -- each process on the list is one of the mote's, and is there once
 pub record AreMembers (ms : List Member) (processes : ℕ) : Type 0 where

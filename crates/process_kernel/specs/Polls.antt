@@ -4,13 +4,13 @@ use Rattle.program_tree.specs.declared.event.SystemEvent.TheVariants.{Poll}
 use Rattle.process_kernel.specs.declared.process.Member.{Member}
 use Rattle.process_kernel.specs.State.{State, Went, Goes, ◌>>=◌}
 use Rattle.process_kernel.specs.Processes.{is_on_list, process_needs_poll, with_needs_poll}
-use Rattle.process_kernel.specs.Calls.{Calls, told}
+use Rattle.process_kernel.specs.Calls.{Calls, own_event}
 
 -- the turn of an incarnation: if it is on the list and needs a poll, this is cleared and it is called with POLL
 unfoldable pub poll_turn_of : Calls → State → Member → Went
 poll_turn_of calls s m =
     if is_on_list s m && process_needs_poll s m.process
-    then calls.call (with_needs_poll s m.process false) m.process (told Poll 0)
+    then calls.call (with_needs_poll s m.process false) m.process (own_event Poll 0)
     else Goes tt s
 
 abbrev pub walk_polls : Calls → List Member → State → Went

@@ -1,4 +1,4 @@
--- How the process list grows and shrinks.
+-- The changes of the process list.
 use Rattle.std.specs.Prelude.{ℕ, zero, suc, ◌+◌, not, true, false, List, [], ◌∷◌, filter, slice_set}
 use Rattle.program_tree.specs.Code.{Code}
 use Rattle.program_tree.specs.declared.event.Proc.{Proc}

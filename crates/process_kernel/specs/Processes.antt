@@ -4,7 +4,7 @@ use Rattle.program_tree.specs.declared.event.Proc.{Proc}
 use Rattle.process_kernel.specs.declared.process.ProcessState.{ProcessState}
 use Rattle.process_kernel.specs.declared.process.ProcessState.TheVariants.{Off, Running, Called}
 use Rattle.process_kernel.specs.declared.process.Member.{Member}
-use Rattle.process_kernel.specs.Members.{place_of, holds_member, stands_in}
+use Rattle.process_kernel.specs.Members.{place_of, holds_member, is_found_in}
 use Rattle.process_kernel.specs.State.{State}
 
 -- a process that the mote doesn't have is off
@@ -54,7 +54,7 @@ is_on_list s m = holds_member s.members m
 
 -- some incarnation of the process is on the process list
 abbrev pub is_listed : State → Proc → Bool
-is_listed s p = stands_in s.members p
+is_listed s p = is_found_in s.members p
 
 unfoldable pub with_state : State → Proc → ProcessState → State
 with_state s p x = record s { states = slice_set s.states (place_of p) x }

@@ -16,19 +16,19 @@ use Rattle.process_kernel.specs.Mote.{Mote}
 use Rattle.process_kernel.specs.Given.{Given}
 use Rattle.process_kernel.specs.Views.{mote_of}
 
--- The mote that a kernel with this program is; a kernel that ran out of memory is none. The remainders of its threads
--- follow from the program.
+-- The mote that a kernel with this program represents; a kernel that ran out of memory represents none. The
+-- remainders of its threads follow from the program.
 unfoldable pub mote_in : Tree → Kernel → Option Mote
 mote_in program k = if k.failed then None else Some (mote_of program k.machine k.booted k.halted)
 
 -- A boot or a run has the outcome of the definition, or it ran out of memory, and from then on there is no mote.
-abbrev pub Tells : (Mote → List Line → List Sent → Given) → Option Mote → Out → Result Ran KernelError
+abbrev pub MatchesOutcome : (Mote → List Line → List Sent → Given) → Option Mote → Out → Result Ran KernelError
     → Option Mote → Out → Type 0
-Tells gives None out result new out' = (result ≡ Err error.Failed) × (new ≡ None) × (out' ≡ out)
-Tells gives (Some m) out (Ok r) new out' =
+MatchesOutcome gives None out result new out' = (result ≡ Err error.Failed) × (new ≡ None) × (out' ≡ out)
+MatchesOutcome gives (Some m) out (Ok r) new out' =
     (m' : Mote) × (new ≡ Some m') × (gives m out.lines.items out.sends.items
     ≡ record { ran = r; mote = m'; lines = out'.lines.items; sends = out'.sends.items })
-Tells gives (Some m) out (Err e) new out' = (e ≡ error.Memory) × (new ≡ None) × BeginsWith out out'
+MatchesOutcome gives (Some m) out (Err e) new out' = (e ≡ error.Memory) × (new ≡ None) × BeginsWith out out'
 
 -- After an error: a kernel that had failed before says so, and changes nothing; otherwise it ran out of memory, from
 -- then on there is no mote, and everything that was written before is still there.

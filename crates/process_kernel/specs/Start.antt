@@ -7,12 +7,12 @@ use Rattle.process_kernel.specs.State.{State, Went, Goes, ◌>>=◌}
 use Rattle.process_kernel.specs.Processes.{has_process, is_busy, is_listed}
 use Rattle.process_kernel.specs.Writes.{write_of}
 use Rattle.process_kernel.specs.ProcessList.{enlist_of}
-use Rattle.process_kernel.specs.Calls.{Calls, told}
+use Rattle.process_kernel.specs.Calls.{Calls, own_event}
 
 -- a process that the mote has and that is not on the list goes to its front, and is called with INIT
 unfoldable pub start_of : Calls → State → Proc → Went
 start_of calls s p =
     if is_busy s p then write_of s (what.Busy p)
     else (if has_process s p && not (is_listed s p)
-    then (enlist_of s p >>= λ _ s1. calls.call s1 p (told Init 0))
+    then (enlist_of s p >>= λ _ s1. calls.call s1 p (own_event Init 0))
     else Goes tt s)

@@ -68,13 +68,13 @@ state_of program m = record {
 abbrev pub looks_of_view : KernelView → Looks
 looks_of_view x = looks_at x.moment x.mote x.timers.timers x.states.items x.semaphores.items
 
--- the answer of a step and the state after it are this outcome; out of memory no claim is made
-abbrev pub Tells : {A : Type 0} → Result A Stop → State → Outcome A → Type 0
-Tells (Ok a) s o = o ≡ Goes a s
-Tells (Err Halted) s o = o ≡ Ends s
-Tells (Err Memory) s o = Unit {0}
+-- the answer of a step and the state after it are this outcome; if memory ran out, nothing is claimed
+abbrev pub StepMatches : {A : Type 0} → Result A Stop → State → Outcome A → Type 0
+StepMatches (Ok a) s o = o ≡ Goes a s
+StepMatches (Err Halted) s o = o ≡ Ends s
+StepMatches (Err Memory) s o = Unit {0}
 
--- the same of a thread, with its remainder
+-- the same for a thread, with its remainder
 abbrev pub answer_model : Code → Thread → Result PtState Stop → Result Answer Stop
 answer_model code thread (Ok answer) = Ok (answer, remainder_of code thread)
 answer_model code thread (Err e) = Err e

@@ -1,13 +1,13 @@
 //! The kernel's own events.
 
 ghost use Rattle.std.specs.Prelude.{◌≡◌};
-ghost use Rattle.process_kernel.specs.Calls.{told, is_system_event as has_number_of};
+ghost use Rattle.process_kernel.specs.Calls.{own_event, is_system_event as has_number_of};
 
 use program_tree::{Event, SystemEvent};
 
 /// An event of the kernel's own, with a word; its sender is 0.
 pub fn system_event(event: SystemEvent, word: u16) -> Event
-    ensures value { result ≡ told event word }
+    ensures value { result ≡ own_event event word }
 {
     Event {
         number: event.number(),

@@ -58,7 +58,7 @@ pub struct Kernel {
     machine: Machine,
 }
 
-/// By hand, so that a kernel is dropped by one call: the check of a function that owns one sees only that call.
+/// Implemented by hand: the check of a function that owns a kernel then sees only one call for its drop.
 impl Drop for Kernel {
     fn drop(self) {
         let Kernel {
@@ -71,7 +71,7 @@ impl Drop for Kernel {
 }
 
 impl Kernel {
-    ghost use Rattle.process_kernel.specs.Public.{mote_in, Tells, FailsAs, BeginsWith};
+    ghost use Rattle.process_kernel.specs.Public.{mote_in, MatchesOutcome, FailsAs, BeginsWith};
     ghost use Rattle.process_kernel.specs.Given.{boot_given, run_given};
     ghost use Rattle.process_kernel.specs.Public.{Closes};
     ghost use Rattle.process_kernel.specs.GoesOn.{GoesOn};
@@ -115,7 +115,7 @@ impl Kernel {
     pub fn boot(&mut self, program: &Program, now: u64, out: &mut Out) -> Result<Ran, KernelError>
         requires moment_bounded { now ≤ 2 ^ 40 }
         ensures tells { let t = tree_of program.now in
-            Tells (boot_given now) (mote_in t self.old) out.old result (mote_in t self.new) out.new }
+            MatchesOutcome (boot_given now) (mote_in t self.old) out.old result (mote_in t self.new) out.new }
     {
         if self.failed {
             return Err(KernelError::Failed);
@@ -133,8 +133,8 @@ impl Kernel {
     /// One kernel run at this moment, whose lines and packets are appended to those of the machine.
     fn run_on(&mut self, program: &Program, now: u64) -> Result<Ran, KernelError>
         requires moment_bounded { now ≤ 2 ^ 40 }
-        ensures told { let t = tree_of program.now in
-            Tells (run_given now) (mote_in t self.old) self.old.machine.out result
+        ensures recounted { let t = tree_of program.now in
+            MatchesOutcome (run_given now) (mote_in t self.old) self.old.machine.out result
             (mote_in t self.new) self.new.machine.out }
         ensures begins { BeginsWith self.old.machine.out self.new.machine.out }
     {
@@ -158,7 +158,7 @@ impl Kernel {
     pub fn run(&mut self, program: &Program, now: u64, out: &mut Out) -> Result<Ran, KernelError>
         requires moment_bounded { now ≤ 2 ^ 40 }
         ensures tells { let t = tree_of program.now in
-            Tells (run_given now) (mote_in t self.old) out.old result (mote_in t self.new) out.new }
+            MatchesOutcome (run_given now) (mote_in t self.old) out.old result (mote_in t self.new) out.new }
     {
         mem::swap(&mut self.machine.out, out);
         let ran = self.run_on(program, now);

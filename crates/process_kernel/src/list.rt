@@ -3,11 +3,11 @@
 ghost use Rattle.std.specs.Prelude.{◌≡◌, ◌<◌, ◌+◌, ◌^◌, ◌∷◌, false, not, OnOk, IfOk, Some, filter, length, slice_get};
 ghost use Rattle.program_tree.specs.Code.{Tree, Code};
 ghost use Rattle.protothread.specs.Places.{remainder_of};
-ghost use Rattle.process_kernel.specs.Members.{is_same as are_same, place_of, stands_in};
+ghost use Rattle.process_kernel.specs.Members.{is_same as are_same, place_of, is_found_in};
 ghost use Rattle.process_kernel.specs.ProcessList.{put_remainder, enlist_of, exiting_of, unlisted_of, leave_of};
 ghost use Rattle.process_kernel.specs.ProcessList.{numbered_from, with_fresh_body, with_fresh_process};
 ghost use Rattle.process_kernel.specs.Reaction.{remainder_at};
-ghost use Rattle.process_kernel.specs.Views.{body_of, first_list_of, state_of, Tells, Grows, KeepsCounts};
+ghost use Rattle.process_kernel.specs.Views.{body_of, first_list_of, state_of, StepMatches, Grows, KeepsCounts};
 
 use crate::machine::{MOST_PROCESSES, Machine, Stop};
 use crate::process::{Member, ProcessState};
@@ -141,7 +141,7 @@ impl Machine {
     /// Puts a new incarnation at the front of the list.
     fn list_first(&mut self, process: Proc) -> Result<(), AllocError>
         requires process_exists { place_of process < length self.old.shown.states.items }
-        requires away { stands_in self.old.members.items process ≡ false }
+        requires away { is_found_in self.old.members.items process ≡ false }
         requires room { self.old.started + 1 < 2 ^ 32 }
         ensures exact { (t : Tree) → OnOk result
             (state_of t self.new ≡ record (state_of t self.old) {
@@ -172,9 +172,10 @@ impl Machine {
     #[tactic(auto, unfolding(crate::specs::ProcessList::enlist_of))]
     pub fn enlist(&mut self, process: Proc) -> Result<(), Stop>
         requires process_exists { place_of process < length self.old.shown.states.items }
-        requires away { stands_in self.old.members.items process ≡ false }
+        requires away { is_found_in self.old.members.items process ≡ false }
         requires room { self.old.started + 1 < 2 ^ 32 }
-        ensures exact { (t : Tree) → Tells result (state_of t self.new) (enlist_of (state_of t self.old) process) }
+        ensures exact { (t : Tree) → StepMatches result (state_of t self.new)
+            (enlist_of (state_of t self.old) process) }
         ensures counts { OnOk result ((self.new.fuel ≡ self.old.fuel) × (self.new.started ≡ self.old.started + 1)
             × (first_list_of self.new ≡ first_list_of self.old)) }
         ensures grows { Grows self.old.out self.new.out }
@@ -215,7 +216,7 @@ impl Machine {
     /// `Memory` if an allocation for the list or for the line fails. It is never `Halted`.
     #[tactic(auto, unfolding(crate::specs::ProcessList::leave_of))]
     pub fn leave(&mut self, process: Proc) -> Result<(), Stop>
-        ensures exact { (t : Tree) → Tells result (state_of t self.new) (leave_of (state_of t self.old) process) }
+        ensures exact { (t : Tree) → StepMatches result (state_of t self.new) (leave_of (state_of t self.old) process) }
         ensures kept { OnOk result (KeepsCounts self.old self.new) }
         ensures grows { Grows self.old.out self.new.out }
     {

@@ -47,10 +47,10 @@ impl<T: Drop> From<AllocFailed<T>> for Stop {
 }
 
 /// The kernel of a mote. The tables have the system processes first, then those of the program in their order; threads
-/// and variables are only those of the program's processes. A thread that isn't in its table is fresh: it is taken out
-/// while it runs, and allocated when its process is first called. `is_numbered` says that the incarnations on the
-/// process list are known to be numbered from 0 on, so the list hasn't changed since the boot or run began. While it
-/// is false, `first_list` keeps the list of that beginning. `needs_poll` has for each process whether it needs a poll
+/// and variables are only those of the program's processes. A thread that isn't in its table counts as fresh: a thread
+/// is taken out while it runs, and allocated at its process's first call. `is_numbered` says that the incarnations on
+/// the process list are known to be numbered from 0 on, so the list hasn't changed since the boot or run began. If it
+/// is false, `first_list` keeps the list as it was then. `needs_poll` has for each process whether it needs a poll
 /// (Contiki's `needspoll`). The fields that a run touches are next to each other, so that it needs few cache lines.
 #[derive(Drop)]
 pub struct Machine {

@@ -4,7 +4,7 @@ ghost use Rattle.std.specs.Prelude.{◌≡◌};
 ghost use Rattle.program_tree.specs.Program.{code_of};
 ghost use Rattle.protothread.specs.Places.{remainder_of};
 ghost use Rattle.process_kernel.specs.Calls.{walk_of};
-ghost use Rattle.process_kernel.specs.Exit.{process_number as number_told, last_run_of, exit_of};
+ghost use Rattle.process_kernel.specs.Exit.{process_number as named_number, last_run_of, exit_of};
 ghost use Rattle.process_kernel.specs.Follows.{Follows};
 ghost use Rattle.process_kernel.specs.Start.{start_of};
 ghost use Rattle.process_kernel.specs.Kill.{kill_of};
@@ -32,7 +32,7 @@ fn posted(number: u8, word: u16) -> Event
 
 /// The number by which EXITED names a process.
 fn process_number(process: Proc) -> u16
-    ensures value { result ≡ number_told process }
+    ensures value { result ≡ named_number process }
 {
     match process {
         Proc::Own(number) => u16::from(number),
@@ -99,8 +99,8 @@ impl Machine {
         Ok(())
     }
 
-    /// Starts a process: if it isn't on the process list, it is put at its front and called with INIT (`process_start`
-    /// of `process.c`).
+    /// Starts a process: if it isn't on the process list, it is put at the list's front and called with INIT
+    /// (`process_start` of `process.c`).
     ///
     /// # Errors
     /// `Halted` if the mote halts meanwhile; `Memory` if an allocation fails.

@@ -6,7 +6,8 @@ ghost use Rattle.process_kernel.specs.State.{Goes};
 ghost use Rattle.process_kernel.specs.Writes.{write_of, spend_of, halted_of};
 ghost use Rattle.process_kernel.specs.Posts.{post_of, poll_of, send_of};
 ghost use Rattle.process_kernel.specs.Operation.{take_of, signal_of};
-ghost use Rattle.process_kernel.specs.Views.{first_list_of, state_of, Tells, Grows, KeepsCounts, KeepsLists, OnlyAdds};
+ghost use Rattle.process_kernel.specs.Views.{first_list_of, state_of, StepMatches, Grows, KeepsCounts, KeepsLists};
+ghost use Rattle.process_kernel.specs.Views.{OnlyAdds};
 
 use crate::machine::{Machine, Stop};
 use crate::table::is_alive;
@@ -24,7 +25,7 @@ impl Machine {
     /// `Memory` if the allocation for the line fails. It is never `Halted`.
     #[tactic(auto, unfolding(crate::specs::Writes::write_of, crate::specs::Views::Begins))]
     pub fn write(&mut self, what: What) -> Result<(), Stop>
-        ensures exact { (t : Tree) → Tells result (state_of t self.new) (write_of (state_of t self.old) what) }
+        ensures exact { (t : Tree) → StepMatches result (state_of t self.new) (write_of (state_of t self.old) what) }
         ensures kept { KeepsCounts self.old self.new }
         ensures adds { OnlyAdds self.old self.new }
     {
@@ -53,7 +54,7 @@ impl Machine {
     #[inline(always)]
     #[tactic(auto, unfolding(crate::specs::Writes::spend_of))]
     pub fn spend(&mut self) -> Result<(), Stop>
-        ensures exact { (t : Tree) → Tells result (state_of t self.new) (spend_of (state_of t self.old)) }
+        ensures exact { (t : Tree) → StepMatches result (state_of t self.new) (spend_of (state_of t self.old)) }
         ensures units { OnOk result ((self.new.fuel + 1 ≡ self.old.fuel) × (self.new.started ≡ self.old.started)
             × (first_list_of self.new ≡ first_list_of self.old)) }
         ensures grows { Grows self.old.out self.new.out }
@@ -67,12 +68,13 @@ impl Machine {
     /// Posts an event; returns whether the queue was full.
     ///
     /// # Errors
-    /// `Halted` if the mote has accepted 2^62 events; `Memory` if the allocation for the line fails. A full queue is
-    /// no error.
+    /// `Halted` if the mote has accepted 2^62 events; `Memory` if the allocation for the line fails. A full queue
+    /// isn't an error.
     #[inline(always)]
     #[tactic(auto, unfolding(crate::specs::Posts::post_of))]
     pub fn post(&mut self, target: Target, event: Event) -> Result<bool, Stop>
-        ensures exact { (t : Tree) → Tells result (state_of t self.new) (post_of (state_of t self.old) target event) }
+        ensures exact { (t : Tree) → StepMatches result (state_of t self.new)
+            (post_of (state_of t self.old) target event) }
         ensures kept { OnOk result (KeepsCounts self.old self.new) }
         ensures lists { OnOk result (KeepsLists self.old self.new) }
         ensures grows { Grows self.old.out self.new.out }
@@ -108,7 +110,7 @@ impl Machine {
     /// Records a sent packet.
     #[tactic(auto, unfolding(crate::specs::Views::Begins))]
     fn put_sent(&mut self, packet: Sent) -> Result<(), Stop>
-        ensures exact { (t : Tree) → Tells result (state_of t self.new)
+        ensures exact { (t : Tree) → StepMatches result (state_of t self.new)
             (Goes tt (record (state_of t self.old) { sends = self.old.out.sends.items ++ packet ∷ [] })) }
         ensures kept { KeepsCounts self.old self.new }
         ensures grows { Grows self.old.out self.new.out }
@@ -124,7 +126,7 @@ impl Machine {
     /// `Halted` if the mote has sent 2^62 packets; `Memory` if an allocation for the packet or for a line fails.
     #[tactic(auto, unfolding(crate::specs::Posts::send_of))]
     pub fn send(&mut self, value: u16) -> Result<(), Stop>
-        ensures exact { (t : Tree) → Tells result (state_of t self.new) (send_of (state_of t self.old) value) }
+        ensures exact { (t : Tree) → StepMatches result (state_of t self.new) (send_of (state_of t self.old) value) }
         ensures kept { OnOk result (KeepsCounts self.old self.new) }
         ensures grows { Grows self.old.out self.new.out }
     {

@@ -2,7 +2,7 @@
 
 use program_tree::Proc;
 
-/// The state of a process (`PROCESS_STATE_NONE` and its kin of `process.c`).
+/// The state of a process (`PROCESS_STATE_NONE` and the others of `process.c`).
 #[derive(Clone, Copy)]
 pub enum ProcessState {
     /// It isn't running.

@@ -4,7 +4,7 @@ ghost use Rattle.std.specs.Prelude.{◌≡◌, ◌++◌, [], ◌∷◌, if◌the
 ghost use Rattle.program_tree.specs.Code.{Tree};
 ghost use Rattle.program_tree.specs.Program.{tree_of};
 ghost use Rattle.process_kernel.specs.Radio.{packet_of, hand_to, empty_ring, radio_of};
-ghost use Rattle.process_kernel.specs.Views.{state_of, Tells, Grows, KeepsCounts};
+ghost use Rattle.process_kernel.specs.Views.{state_of, StepMatches, Grows, KeepsCounts};
 
 use crate::event::is_event;
 use crate::machine::{Machine, Stop};
@@ -52,7 +52,7 @@ impl Machine {
     /// Posts a packet to the receiver; without one nobody hears it.
     #[tactic(auto, unfolding(crate::specs::Radio::hand_to))]
     fn hand_to(&mut self, receiver: Option<u8>, packet: &Arrival) -> Result<(), Stop>
-        ensures exact { (t : Tree) → Tells result (state_of t self.new)
+        ensures exact { (t : Tree) → StepMatches result (state_of t self.new)
             (hand_to receiver (state_of t self.old) packet.now) }
         ensures kept { OnOk result (KeepsCounts self.old self.new) }
         ensures ring { OnOk result (self.new.ring ≡ self.old.ring) }
@@ -69,7 +69,7 @@ impl Machine {
 
     /// Removes the packets from the ring, the oldest first, and posts each.
     fn empty_ring(&mut self, receiver: Option<u8>) -> Result<(), Stop>
-        ensures exact { (t : Tree) → Tells result (state_of t self.new)
+        ensures exact { (t : Tree) → StepMatches result (state_of t self.new)
             (empty_ring receiver self.old.ring.items (state_of t self.old)) }
         ensures kept { OnOk result (KeepsCounts self.old self.new) }
         ensures grows { Grows self.old.out self.new.out }
@@ -86,7 +86,7 @@ impl Machine {
     /// `Halted` if the mote halts meanwhile; `Memory` if an allocation fails.
     #[tactic(auto, unfolding(crate::specs::Radio::radio_of))]
     pub fn react_as_radio(&mut self, program: &Program, event: &Event) -> Result<(), Stop>
-        ensures exact { Tells result (state_of (tree_of program.now) self.new)
+        ensures exact { StepMatches result (state_of (tree_of program.now) self.new)
             (radio_of (state_of (tree_of program.now) self.old) event.now) }
         ensures kept { OnOk result (KeepsCounts self.old self.new) }
         ensures grows { Grows self.old.out self.new.out }

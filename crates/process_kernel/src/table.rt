@@ -2,7 +2,7 @@
 
 ghost use Rattle.std.specs.Prelude.{◌≡◌, ◌||◌, true, nat_lt, length, slice_get, unwrap_or};
 ghost use Rattle.program_tree.specs.Code.{Tree};
-ghost use Rattle.process_kernel.specs.Members.{place_of, is_same as are_same, holds_member, stands_in};
+ghost use Rattle.process_kernel.specs.Members.{place_of, is_same as are_same, holds_member, is_found_in};
 ghost use Rattle.process_kernel.specs.Processes.{state_at as state_of_process, at_process, is_running_state};
 ghost use Rattle.process_kernel.specs.Processes.{is_called_state, with_state, with_exiting, with_needs_poll};
 ghost use Rattle.process_kernel.specs.Processes.{is_alive as lives};
@@ -147,7 +147,7 @@ impl Machine {
 
     /// Returns whether some incarnation of the process is on the process list.
     pub fn is_listed(&self, process: Proc) -> bool
-        ensures value { result ≡ stands_in self.now.members.items process }
+        ensures value { result ≡ is_found_in self.now.members.items process }
     {
         self.members
             .iter()

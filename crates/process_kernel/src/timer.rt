@@ -8,7 +8,7 @@ ghost use Rattle.process_kernel.specs.Ctimer.{waits_for};
 ghost use Rattle.process_kernel.specs.TimerOperations.{is_callback as is_of_callback, owner_of, timer_is_set, set_of};
 ghost use Rattle.process_kernel.specs.TimerOperations.{reset_of, restart_of, stop_of};
 ghost use Rattle.process_kernel.specs.Etimer.{fired_of, pass_of, purge_of, etimer_of};
-ghost use Rattle.process_kernel.specs.Views.{state_of, Tells, Grows, KeepsCounts};
+ghost use Rattle.process_kernel.specs.Views.{state_of, StepMatches, Grows, KeepsCounts};
 
 use crate::event::{is_event, system_event};
 use crate::machine::{Machine, Stop};
@@ -20,7 +20,7 @@ fn is_callback(program: &Program, timer: u16) -> bool
     timer < program.timers() && program.is_callback(timer)
 }
 
-/// Who gets the event of a timer: the process that sets it, or for a callback timer the ctimer process.
+/// The process that gets the event of a timer: the one that sets it, or for a callback timer the ctimer process.
 fn owner(program: &Program, timer: u16, current: u8) -> Proc
     ensures value { result ≡ owner_of (tree_of program.now) timer current }
 {
@@ -149,7 +149,7 @@ impl Machine {
     /// of the list.
     #[tactic(auto, unfolding(crate::specs::Etimer::pass_of))]
     fn post_due_timers(&mut self) -> Result<(), Stop>
-        ensures exact { (t : Tree) → Tells result (state_of t self.new) (pass_of (state_of t self.old)) }
+        ensures exact { (t : Tree) → StepMatches result (state_of t self.new) (pass_of (state_of t self.old)) }
         ensures kept { OnOk result (KeepsCounts self.old self.new) }
         ensures grows { Grows self.old.out self.new.out }
     {
@@ -185,7 +185,8 @@ impl Machine {
     /// `Halted` if the mote has accepted 2^62 events; `Memory` if the allocation for a line fails.
     #[tactic(auto, unfolding(crate::specs::Etimer::etimer_of))]
     pub fn react_as_etimer(&mut self, event: &Event) -> Result<(), Stop>
-        ensures exact { (t : Tree) → Tells result (state_of t self.new) (etimer_of (state_of t self.old) event.now) }
+        ensures exact { (t : Tree) → StepMatches result (state_of t self.new)
+            (etimer_of (state_of t self.old) event.now) }
         ensures kept { OnOk result (KeepsCounts self.old self.new) }
         ensures grows { Grows self.old.out self.new.out }
     {

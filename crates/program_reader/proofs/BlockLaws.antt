@@ -9,7 +9,7 @@ use Rattle.program_reader.specs.CodeParts.{AllNumbered, written, all_written}
 use Rattle.program_tree.specs.Faults.{Scope}
 use Rattle.program_tree.specs.Grammar.{Context, Mark, tokens, at_simple, at_thread, at_body, block_marks}
 use Rattle.program_reader.specs.Head.{with_names, with_all, IsNew}
-use Rattle.program_tree.specs.InScope.{Names, with_new}
+use Rattle.program_tree.specs.InScope.{NamesInScope, with_new}
 use Rattle.program_reader.specs.Machine.{Symbol, Pending, Verdict, tell, fault, fault_or, first, unfit_at, new_name}
 use Rattle.program_reader.specs.Machine.{new_thread, from_on_poll, from_on_exit, from_body}
 use Rattle.program_tree.specs.InScope.{place_of}
@@ -97,13 +97,13 @@ last_or_earlier xs x y i e other =
         ∙ name_at (xs ++ x ∷ []) y i e in
         absurd (cc (other, ap (bytes_eq x) same, bytes_same x))
 
-covers_earlier : (n : Names) (x : Name) (xs : List Name) (c : Class) (y : Name) (i : ℕ) → n.threads ≡ xs ++ x ∷ []
+covers_earlier : (n : NamesInScope) (x : Name) (xs : List Name) (c : Class) (y : Name) (i : ℕ) → n.threads ≡ xs ++ x ∷ []
     → Finds n (Some x) c y i → earlier_threads (length xs) c i ≡ true
 covers_earlier n x xs a_thread y i e f = lt-ltb i (length xs)
     (last_or_earlier xs x y i (ap (λ z. place_of z y) (sym e) ∙ f.found) f.other)
 covers_earlier n x xs c y i e f = refl
 
-pub spawns_earlier : (n : Names) (x : Name) (xs : List Name) (b : Body ℕ) → n.threads ≡ xs ++ x ∷ []
+pub spawns_earlier : (n : NamesInScope) (x : Name) (xs : List Name) (b : Body ℕ) → n.threads ≡ xs ++ x ∷ []
     → Fits n (Some x) (λ w. block_fits w b) → block_fits (earlier_threads (length xs)) b ≡ true
 spawns_earlier n x xs b e h = h (earlier_threads (length xs)) (λ c y i f. covers_earlier n x xs c y i e f)
 

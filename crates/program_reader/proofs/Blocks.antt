@@ -6,7 +6,7 @@ use Rattle.std.proofs.lemmas.List.{map-append}
 use Rattle.program_tree.specs.Faults.{Scope}
 use Rattle.program_tree.specs.Grammar.{Context, inner, Mark, key, sign, opening, tokens, statement_marks, items_marks}
 use Rattle.program_tree.specs.Grammar.{else_marks, block_marks}
-use Rattle.program_tree.specs.InScope.{Names, name_in, number_in}
+use Rattle.program_tree.specs.InScope.{NamesInScope, name_in, number_in}
 use Rattle.program_reader.specs.Machine.{Pending, tell, fault, first, block, items, items_else}
 use Rattle.program_tree.specs.Scope.{Within, statement_fits, block_fits}
 use Rattle.program_tree.specs.Shapes.{Name}
@@ -31,7 +31,7 @@ pub else_start : (s : Scope) (c : Context) (f : Pending) (old : List Token)
 else_start s c f old is = taken s (items_else c ∷ f) (block c ∷ items c ∷ f) old (token.Keyword word.Else)
     (key word.Else) is refl refl
 
-pub else_reads : (s s' : Scope) (c : Context) (b : Names → Body Name) (old m0 new : List Token)
+pub else_reads : (s s' : Scope) (c : Context) (b : NamesInScope → Body Name) (old m0 new : List Token)
     → first old ≡ Some (token.Keyword word.Else) → m0 ≡ drop 1 old
     → Reads s s' (block c) (λ n ms. block_marks c (b n) ms) m0 new
     → ReadsElse s s' c (λ n ms. else_marks c (otherwise (b n)) ms) old new
@@ -62,7 +62,7 @@ front_all f (s ∷ ss) = ap (next (statement_map f s)) (front_all f ss)
 -- the statements of a block so far: `old` is the tokens of the block up to them, and then `rest`
 pub record HasFront (s s' : Scope) (own : Option Name) (c : Context) (ss : List (Statement ℕ))
     (old rest : List Token) : Type 0 where
-  pub spelled : (n : Names) → Extends s.names n → (tail : Body Name) (ms : List Mark)
+  pub spelled : (n : NamesInScope) → Extends s.names n → (tail : Body Name) (ms : List Mark)
       → tokens (items_marks (inner c) tail ms) ≡ rest
       → old ≡ tokens (block_marks c (with_front (map (statement_map (name_in n)) ss) tail) ms)
   pub goes_on : (f : Pending) → tell s (block c ∷ f) old ≡ tell s' (items (inner c) ∷ f) rest

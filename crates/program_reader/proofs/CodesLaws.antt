@@ -11,7 +11,7 @@ use Rattle.program_reader.specs.CodeParts.{ReadsCode}
 use Rattle.program_reader.specs.Codes.{behind, HasCodes, all_timers}
 use Rattle.program_tree.specs.Faults.{Scope}
 use Rattle.program_tree.specs.Grammar.{Mark, tokens, code_marks, codes_marks}
-use Rattle.program_tree.specs.InScope.{Names, outside}
+use Rattle.program_tree.specs.InScope.{NamesInScope, outside}
 use Rattle.program_reader.specs.Machine.{Pending, Verdict, tell, codes, codes_form}
 use Rattle.program_tree.specs.Program.{code_of}
 use Rattle.program_tree.specs.Numbers.{named_of, values_of, inside, code_in, codes_in, timer_of, timers_from}
@@ -21,12 +21,12 @@ use Rattle.program_tree.specs.Tokens.{Token}
 use Rattle.program_tree.specs.declared.process_text.ProcessText.{ProcessText}
 use Rattle.program_tree.proofs.CountLaws.{length-codes_in}
 
-behind-append : (n : Names) (cs : List CodeShape) (c : CodeShape)
+behind-append : (n : NamesInScope) (cs : List CodeShape) (c : CodeShape)
     → behind n (cs ++ (c ∷ [])) ≡ outside (inside (behind n cs) c)
 behind-append n [] c = refl
 behind-append n (d ∷ cs) c = behind-append (outside (inside n d)) cs c
 
-codes_in-append : (k : ℕ) (n : Names) (cs : List CodeShape) (c : CodeShape) → codes_in k n (cs ++ (c ∷ []))
+codes_in-append : (k : ℕ) (n : NamesInScope) (cs : List CodeShape) (c : CodeShape) → codes_in k n (cs ++ (c ∷ []))
     ≡ codes_in k n cs ++ (code_in (k + length cs) (inside (behind n cs) c) c ∷ [])
 codes_in-append k n [] c = let e : k ≡ k + 0 = omega arith in ap (λ i. code_in i (inside n c) c ∷ []) e
 codes_in-append k n (d ∷ cs) c =
@@ -41,7 +41,7 @@ codes_marks-append [] p ms = refl
 codes_marks-append (q ∷ ps) p ms = ap (code_marks q) (codes_marks-append ps p ms)
 
 -- the shape of a code is the same with the names in scope after other codes
-behind_shape : (n : Names) (cs : List CodeShape) (code : Code) → code_shape (behind n cs) code ≡ code_shape n code
+behind_shape : (n : NamesInScope) (cs : List CodeShape) (code : Code) → code_shape (behind n cs) code ≡ code_shape n code
 behind_shape n [] code = refl
 behind_shape n (c ∷ cs) code = behind_shape (outside (inside n c)) cs code
 
@@ -76,13 +76,13 @@ one_read s m s' x xs k trees code old mid rest h r e =
 
 -- The parts that a code leaves unchanged.
 
-pub behind_kept : (n : Names) (cs : List CodeShape) → ((behind n cs).events ≡ n.events)
+pub behind_kept : (n : NamesInScope) (cs : List CodeShape) → ((behind n cs).events ≡ n.events)
     × ((behind n cs).semaphores ≡ n.semaphores) × ((behind n cs).processes ≡ n.processes)
 behind_kept n [] = (refl, refl, refl)
 behind_kept n (c ∷ cs) = behind_kept (outside (inside n c)) cs
 
 -- none of the names of a code is in scope after it
-pub behind_none : (n : Names) (cs : List CodeShape) → n.variables ≡ [] → n.timers ≡ [] → n.threads ≡ []
+pub behind_none : (n : NamesInScope) (cs : List CodeShape) → n.variables ≡ [] → n.timers ≡ [] → n.threads ≡ []
     → ((behind n cs).variables ≡ []) × ((behind n cs).timers ≡ []) × ((behind n cs).threads ≡ [])
 behind_none n [] e f g = (e, f, g)
 behind_none n (c ∷ cs) e f g = behind_none (outside (inside n c)) cs refl refl refl
@@ -103,12 +103,12 @@ pub still_none : (a b : ScopeRead) (trees : List Code) (left : List Name) (old m
 still_none a b trees left old mid h r =
     let timers : a.etimers ++ a.ctimers ≡ [] = ap (λ zs. zs ++ a.ctimers) h.etimers ∙ h.ctimers in
     let none = behind_none (scope_of a).names (values_of r.shapes) h.variables timers h.threads in
-    let timerless : b.etimers ++ b.ctimers ≡ [] = ap (λ (n : Names). n.timers) r.names ∙ none.1 in
+    let timerless : b.etimers ++ b.ctimers ≡ [] = ap (λ (n : NamesInScope). n.timers) r.names ∙ none.1 in
     record {
-      variables = ap (λ (n : Names). n.variables) r.names ∙ none.0;
+      variables = ap (λ (n : NamesInScope). n.variables) r.names ∙ none.0;
       etimers = first_empty _ _ timerless;
       ctimers = second_empty _ _ timerless;
-      threads = ap (λ (n : Names). n.threads) r.names ∙ none.2;
+      threads = ap (λ (n : NamesInScope). n.threads) r.names ∙ none.2;
     }
 
 pub same_processes : (s m : Scope) (trees : List Code) (left : List Name) (old mid : List Token)
@@ -164,7 +164,7 @@ replicated : {A B : Type 0} (b : B) (xs : List A) → map (λ x. b) xs ≡ repli
 replicated b [] = refl
 replicated b (x ∷ xs) = ap (λ zs. b ∷ zs) (replicated b xs)
 
-pub timers_of_all : (k : ℕ) (n : Names) (cs : List CodeShape) → all_timers (codes_in k n cs) ≡ timers_from k cs
+pub timers_of_all : (k : ℕ) (n : NamesInScope) (cs : List CodeShape) → all_timers (codes_in k n cs) ≡ timers_from k cs
 timers_of_all k n [] = refl
 timers_of_all k n (c ∷ cs) =
     ap (λ zs. (replicate (length c.etimers) (timer_of k false) ++ replicate (length (named_of c.ctimers))
@@ -178,7 +178,7 @@ timers_of_all k n (c ∷ cs) =
     ∙ ap (λ zs. map (λ x. timer_of k false) c.etimers ++ (zs ++ timers_from (k + 1) cs))
     (sym (replicated (timer_of k true) c.ctimers))
 
-pub behind_first_timer : (k : ℕ) (n : Names) (cs : List CodeShape) → (behind n cs).first_timer ≡ n.first_timer
+pub behind_first_timer : (k : ℕ) (n : NamesInScope) (cs : List CodeShape) → (behind n cs).first_timer ≡ n.first_timer
     + length (timers_from k cs)
 behind_first_timer k n [] = omega arith
 behind_first_timer k n (c ∷ cs) =

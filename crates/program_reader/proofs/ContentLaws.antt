@@ -7,7 +7,7 @@ use Rattle.program_tree.specs.Faults.{Scope}
 use Rattle.program_tree.specs.Grammar.{at_body, key, variable_marks, etimer_marks, ctimer_marks, thread_marks}
 use Rattle.program_tree.specs.Grammar.{handler_marks, block_marks, Mark}
 use Rattle.program_reader.specs.Head.{with_all, itself, ReadsNames, ReadsValues}
-use Rattle.program_tree.specs.InScope.{Names}
+use Rattle.program_tree.specs.InScope.{NamesInScope}
 use Rattle.program_reader.specs.Machine.{from_variables, from_etimers, from_ctimers, from_threads, from_on_poll}
 use Rattle.program_reader.specs.Machine.{from_on_exit, from_body}
 use Rattle.program_tree.specs.Numbers.{named_of}
@@ -20,30 +20,30 @@ use Rattle.program_reader.proofs.ExtendLaws.{extends_on, extends_all, all_number
 
 -- the names of a code, one class after the other
 
-all_variables : (n : Names) (vs ts hs xs : List Name) → with_all (with_own n vs ts hs) a_variable xs
+all_variables : (n : NamesInScope) (vs ts hs xs : List Name) → with_all (with_own n vs ts hs) a_variable xs
     ≡ with_own n (vs ++ xs) ts hs
 all_variables n vs ts hs [] = ap (λ z. with_own n z ts hs) (sym (append-nil vs))
 all_variables n vs ts hs (x ∷ xs) = all_variables n (vs ++ x ∷ []) ts hs xs ∙ ap (λ z. with_own n z ts hs)
     (append_assoc vs (x ∷ []) xs)
 
-all_timers : (n : Names) (vs ts hs xs : List Name) → with_all (with_own n vs ts hs) a_timer xs
+all_timers : (n : NamesInScope) (vs ts hs xs : List Name) → with_all (with_own n vs ts hs) a_timer xs
     ≡ with_own n vs (ts ++ xs) hs
 all_timers n vs ts hs [] = ap (λ z. with_own n vs z hs) (sym (append-nil ts))
 all_timers n vs ts hs (x ∷ xs) = all_timers n vs (ts ++ x ∷ []) hs xs ∙ ap (λ z. with_own n vs z hs)
     (append_assoc ts (x ∷ []) xs)
 
-all_threads : (n : Names) (vs ts hs xs : List Name) → with_all (with_own n vs ts hs) a_thread xs
+all_threads : (n : NamesInScope) (vs ts hs xs : List Name) → with_all (with_own n vs ts hs) a_thread xs
     ≡ with_own n vs ts (hs ++ xs)
 all_threads n vs ts hs [] = ap (λ z. with_own n vs ts z) (sym (append-nil hs))
 all_threads n vs ts hs (x ∷ xs) = all_threads n vs ts (hs ++ x ∷ []) xs ∙ ap (λ z. with_own n vs ts z)
     (append_assoc hs (x ∷ []) xs)
 
 -- a code begins with no names of its own
-pub bare : (n : Names) → n.variables ≡ [] → n.timers ≡ [] → n.threads ≡ [] → n ≡ with_own n [] [] []
+pub bare : (n : NamesInScope) → n.variables ≡ [] → n.timers ≡ [] → n.threads ≡ [] → n ≡ with_own n [] [] []
 bare n e f g = ap (λ z. with_own n z n.timers n.threads) e ∙ ap (λ z. with_own n [] z n.threads) f
     ∙ ap (λ z. with_own n [] [] z) g
 
-maybe_numbered_on : (n m : Names) (b : Option (Body ℕ)) → n ≡ m → MaybeNumbered n b → MaybeNumbered m b
+maybe_numbered_on : (n m : NamesInScope) (b : Option (Body ℕ)) → n ≡ m → MaybeNumbered n b → MaybeNumbered m b
 maybe_numbered_on n m b e h = subst (λ z. MaybeNumbered z b) e h
 
 -- all of them

@@ -6,7 +6,7 @@ use Rattle.program_tree.specs.Forms.{Operand, word_of, tells_of, alone}
 use Rattle.program_tree.specs.Grammar.{Context, inner, key, sign, valued, opening, operand_mark}
 use Rattle.program_reader.specs.Machine.{Pending, tell, fault, first, first_broken, word_step, expression, operand}
 use Rattle.program_reader.specs.Machine.{operator, open_sign, close}
-use Rattle.program_tree.specs.InScope.{Names}
+use Rattle.program_tree.specs.InScope.{NamesInScope}
 use Rattle.program_tree.specs.Shapes.{Name, OperandShape}
 use Rattle.program_reader.specs.Steps.{ReadsSign, Reads}
 use Rattle.program_tree.specs.Tokens.{Token}
@@ -63,12 +63,12 @@ open_start s c f old is h =
     (opening token.Open (c.level + 1)) is refl (opens_sound s token.Open (c.level + 1) (omega arith))
 
 -- a keyword with its parentheses
-pub told_reads : (s : Scope) (c : Context) (k : Keyword) (o : Operand) (v : Names → OperandShape o)
+pub answer_reads : (s : Scope) (c : Context) (k : Keyword) (o : Operand) (v : NamesInScope → OperandShape o)
     (old m0 m1 m2 new : List Token) → first old ≡ Some (token.Keyword k) → word_of k ≡ tells_of o → m0 ≡ drop 1 old
     → ReadsSign open_sign token.Open m0 m1 →
     Reads s s (operand c o) (λ n ms. operand_mark c o (v n) ∷ ms) m1 m2 → ReadsSign close token.Close m2 new →
     Reads s s (expression c) (λ n ms. key k ∷ sign token.Open ∷ operand_mark c o (v n) ∷ sign token.Close ∷ ms) old new
-told_reads s c k o v old m0 m1 m2 new is e from r1 r2 r3 = record {
+answer_reads s c k o v old m0 m1 m2 new is e from r1 r2 r3 = record {
   spelled = λ n h ms q.
       front_of old (token.Keyword k) is ∙ ap (λ ts. token.Keyword k ∷ ts) (sym from ∙ r1.spelled)
       ∙ ap (λ ts. token.Keyword k ∷ token.Open ∷ ts)

@@ -8,7 +8,7 @@ use Rattle.std.proofs.lemmas.List.{append-nil}
 use Rattle.std.specs.Prelude.{OnOk, OnErr}
 use Rattle.program_tree.specs.Faults.{Scope, is_full}
 use Rattle.program_reader.specs.Head.{class_of_kind, with_names, IsNew, IsListed, IsValued}
-use Rattle.program_tree.specs.InScope.{Names, with_new, is_in_scope, is_a}
+use Rattle.program_tree.specs.InScope.{NamesInScope, with_new, is_in_scope, is_a}
 use Rattle.program_reader.specs.Machine.{Pending, tell, fault, fault_or, first, new_name}
 use Rattle.program_tree.specs.InScope.{place_of}
 use Rattle.program_tree.specs.Shapes.{Name}
@@ -49,7 +49,7 @@ new_many c s x (token.Name y ∷ ts) more is fresh full = let e : y ≡ x = cc i
 new_many c s x (t ∷ ts) more is fresh full = absurd cc
 
 -- a name that isn't in scope is of no class
-pub of_no_class : (names : Names) (c : Class) (x : Name) → is_in_scope names x ≡ false → is_a names c x ≡ false
+pub of_no_class : (names : NamesInScope) (c : Class) (x : Name) → is_in_scope names x ≡ false → is_a names c x ≡ false
 of_no_class names c x h = go (is_a names c x) refl
   where
     go : (b : Bool) → is_a names c x ≡ b → is_a names c x ≡ false
@@ -179,7 +179,7 @@ one_more (Ok v) x xs ys ok err = omega (arith, ap length ok, length-append xs (x
 one_more (Err v) x xs ys ok err = omega (arith, ap length err)
 
 -- there is room for a name of this kind
-pub room : (n : Names) (k k' : Kind) → k ≡ k' → is_full n (class_of_kind k) ≡ false
+pub room : (n : NamesInScope) (k k' : Kind) → k ≡ k' → is_full n (class_of_kind k) ≡ false
     → is_full n (class_of_kind k') ≡ false
 room n k k' is h = rw (← is) h
 

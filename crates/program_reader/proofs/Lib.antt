@@ -25,7 +25,7 @@ pub mod StartLaws
 pub mod StatementSteps
 pub mod TextLaws
 pub mod Texts
-pub mod Told
+pub mod OnRecord
 pub mod Turns
 pub mod ValueLaws
 pub mod WordLaws

@@ -7,7 +7,7 @@ use Rattle.program_tree.specs.Faults.{Scope}
 use Rattle.program_tree.specs.Grammar.{Mark, tokens}
 use Rattle.program_reader.specs.Head.{with_all, HasDeclared, Declares, itself, HasNames, HasValues, IsListed, IsValued}
 use Rattle.program_reader.specs.Head.{with_names}
-use Rattle.program_tree.specs.InScope.{Names, with_new}
+use Rattle.program_tree.specs.InScope.{NamesInScope, with_new}
 use Rattle.program_reader.specs.Machine.{Symbol, Pending, Verdict, tell, new_name}
 use Rattle.program_tree.specs.Shapes.{Name, Valued}
 use Rattle.program_tree.specs.Tokens.{Token}
@@ -20,7 +20,7 @@ use Rattle.program_reader.specs.Machine as machine
 use Rattle.program_tree.specs.Tokens as token
 use Rattle.program_reader.specs.declared.fault.ReadFailure.TheVariants as refusal
 
-pub with_all-append : (names : Names) (c : Class) (xs : List Name) (x : Name) → with_all names c (xs ++ x ∷ [])
+pub with_all-append : (names : NamesInScope) (c : Class) (xs : List Name) (x : Name) → with_all names c (xs ++ x ∷ [])
     ≡ with_new (with_all names c xs) c x
 with_all-append names c [] x = refl
 with_all-append names c (y ∷ ys) x = with_all-append (with_new names c y) c ys x

@@ -9,7 +9,7 @@ use Rattle.program_reader.specs.CodeParts.{ReadsContent, ReadsCode}
 use Rattle.program_tree.specs.Faults.{Scope}
 use Rattle.program_tree.specs.Grammar.{leaving}
 use Rattle.program_reader.specs.Head.{with_names}
-use Rattle.program_tree.specs.InScope.{Names, outside}
+use Rattle.program_tree.specs.InScope.{NamesInScope, outside}
 use Rattle.program_reader.specs.Machine.{Pending, tell, codes_form, last_brace}
 use Rattle.program_tree.specs.Numbers.{named_of, values_of, block_in, inside, code_in}
 use Rattle.program_tree.specs.ShapeOf.{code_shape}
@@ -20,11 +20,11 @@ use Rattle.program_tree.specs.Tokens as token
 use Rattle.program_tree.specs.declared.keyword.Keyword.TheVariants as word
 use Rattle.program_reader.proofs.ExtendLaws.{extends_itself}
 
-named_again : (n : Names) (items : List (Name × (Body ℕ))) → named_of (all_written n items) ≡ named_of items
+named_again : (n : NamesInScope) (items : List (Name × (Body ℕ))) → named_of (all_written n items) ≡ named_of items
 named_again n [] = refl
 named_again n (p ∷ ps) = ap (λ z. p.0 ∷ z) (named_again n ps)
 
-all_again : (n : Names) (items : List (Name × (Body ℕ))) (trees : List (Body ℕ)) → trees ≡ values_of items
+all_again : (n : NamesInScope) (items : List (Name × (Body ℕ))) (trees : List (Body ℕ)) → trees ≡ values_of items
     → AllNumbered n trees → map (block_in n) (values_of (all_written n items)) ≡ trees
 all_again n items trees e h = go items (subst (λ z. AllNumbered n z) e h) ∙ sym e
   where
@@ -34,13 +34,13 @@ all_again n items trees e h = go items (subst (λ z. AllNumbered n z) e h) ∙ s
     go (p ∷ ps) k = ap (λ z. z ∷ map (block_in n) (values_of (all_written n ps))) (k.0 n (extends_itself n))
         ∙ ap (λ z. p.1 ∷ z) (go ps k.1)
 
-maybe_again : (n : Names) (b : Option (Body ℕ)) → MaybeNumbered n b
+maybe_again : (n : NamesInScope) (b : Option (Body ℕ)) → MaybeNumbered n b
     → option_map (block_in n) (option_map (written n) b) ≡ b
 maybe_again n None h = refl
 maybe_again n (Some b) h = ap Some (h n (extends_itself n))
 
 -- the shape of a code
-abbrev shape_from : Names → List Valued → List Name → List (Name × (Body ℕ)) → List (Name × (Body ℕ))
+abbrev shape_from : NamesInScope → List Valued → List Name → List (Name × (Body ℕ)) → List (Name × (Body ℕ))
     → (on_poll on_exit : Option (Body ℕ)) → Body ℕ → CodeShape
 shape_from n vs es cs ts on_poll on_exit body = record {
   variables = vs;
@@ -82,20 +82,20 @@ pub zipped : {T : Type 0} (ps : List (Name × T)) → zip (named_of ps) (values_
 zipped [] = refl
 zipped (p ∷ ps) = ap (λ z. p ∷ z) (zipped ps)
 
-zipped_written : (n : Names) (ps : List (Name × (Body ℕ))) → zip (named_of ps) (map (written n) (values_of ps))
+zipped_written : (n : NamesInScope) (ps : List (Name × (Body ℕ))) → zip (named_of ps) (map (written n) (values_of ps))
     ≡ all_written n ps
 zipped_written n [] = refl
 zipped_written n (p ∷ ps) = ap (λ z. (p.0, written n p.1) ∷ z) (zipped_written n ps)
 
 -- a shape is that of its code, with the names put back
-names_put_back : (n m : Names) (k : ℕ) (vs : List Valued) (es : List Name) (cs ts : List (Name × (Body ℕ)))
+names_put_back : (n m : NamesInScope) (k : ℕ) (vs : List Valued) (es : List Name) (cs ts : List (Name × (Body ℕ)))
     (on_poll on_exit : Option (Body ℕ)) (body : Body ℕ)
     → m ≡ with_own n (named_of vs) (es ++ named_of cs) (named_of ts)
     → shape_from m vs es cs ts on_poll on_exit body
     ≡ code_shape n (made k m.first_timer (named_of vs) (values_of vs) es (named_of cs) (values_of cs) (named_of ts)
     (values_of ts) on_poll on_exit body)
 names_put_back n m k vs es cs ts on_poll on_exit body e =
-    let w : Names = with_own n (named_of vs) (es ++ named_of cs) (named_of ts) in
+    let w : NamesInScope = with_own n (named_of vs) (es ++ named_of cs) (named_of ts) in
     rw e (cc (zipped vs, zipped_written w cs, zipped_written w ts))
 
 pub code_read : (x : Name) (k : ℕ) (code : Code) (es cs : List Name) (starts : List ℕ)
@@ -118,8 +118,8 @@ code_read x k code es cs starts callbacks thread_bodies on_poll on_exit body s s
     let same : made k s'.names.first_timer s'.names.variables starts es cs callbacks s'.names.threads thread_bodies
     on_poll on_exit body ≡ code_in k s'.names shape =
     cc (
-      ap (λ (n : Names). n.variables) full,
-      ap (λ (n : Names). n.threads) full,
+      ap (λ (n : NamesInScope). n.variables) full,
+      ap (λ (n : NamesInScope). n.threads) full,
       r.started,
       r.first_timers,
       r.last_timers,
@@ -134,8 +134,8 @@ code_read x k code es cs starts callbacks thread_bodies on_poll on_exit body s s
     (named_of r.ctimers) (values_of r.ctimers) (named_of r.threads) (values_of r.threads) on_poll on_exit body =
     cc (
       is,
-      ap (λ (n : Names). n.variables) r.names,
-      ap (λ (n : Names). n.threads) r.names,
+      ap (λ (n : NamesInScope). n.variables) r.names,
+      ap (λ (n : NamesInScope). n.threads) r.names,
       r.started,
       r.first_timers,
       r.last_timers,

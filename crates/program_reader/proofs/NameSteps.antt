@@ -3,7 +3,7 @@ use Rattle.std.proofs.Common.{◌≡◌, ℕ, List, [], ◌∷◌, drop, length,
 use Rattle.std.proofs.Common.{false, not, ◌&&◌, ◌||◌}
 use Rattle.program_tree.specs.Faults.{Scope, scope_after, is_other, is_own}
 use Rattle.program_tree.specs.Grammar.{Context, Mark, named, uses, spawns, used, operand_mark}
-use Rattle.program_tree.specs.InScope.{Names, is_a, is_in_scope, number_in, name_in}
+use Rattle.program_tree.specs.InScope.{NamesInScope, is_a, is_in_scope, number_in, name_in}
 use Rattle.program_reader.specs.Machine.{Pending, step, take, tell, fault, first, first_broken, operand}
 use Rattle.program_tree.specs.Shapes.{Name}
 use Rattle.program_reader.specs.Steps.{look, Finds, IsNamed, IsFound, Numbered, Fits, Reads}
@@ -40,7 +40,7 @@ token_then t old new is from = front_of old t is ∙ ap (λ ts. t ∷ ts) (sym f
 
 -- the marks of names
 
-found_scope : (n : Names) (c : Class) (x : Name) (i : ℕ) → look n c x ≡ Some i → is_in_scope n x ≡ true
+found_scope : (n : NamesInScope) (c : Class) (x : Name) (i : ℕ) → look n c x ≡ Some i → is_in_scope n x ≡ true
 found_scope n c x i e = a_in_scope n c x (found_is_a n c x i e)
 
 uses_none : (s : Scope) (k : Class) (x : Name) → is_in_scope s.names x ≡ true → is_a s.names k x ≡ true
@@ -107,7 +107,7 @@ name_reads s c k x i old new is f from = record {
       ∙ ap (λ z. tell z more (drop 1 old)) (used_after s c k x) ∙ ap (λ ts. tell s more ts) (sym from);
 }
 
-pub is_named : (n : Names) (own : Option Name) (k : Class) (x : Name) (i : ℕ) (old : List Token)
+pub is_named : (n : NamesInScope) (own : Option Name) (k : Class) (x : Name) (i : ℕ) (old : List Token)
     → first old ≡ Some (token.Name x) → Finds n own k x i → IsNamed n own k i old
 is_named n own k x i old is f = record { name = x; here = is; finds = f }
 
@@ -116,11 +116,11 @@ pub named_reads : (s : Scope) (c : Context) (k : Class) (i : ℕ) (old new : Lis
     → Reads s s (operand c (form.name k)) (λ n ms. operand_mark c (form.name k) (name_in n k i) ∷ ms) old new
 named_reads s c k i old new h from = name_reads s c k h.name i old new h.here h.finds from
 
-pub named_numbered : (n : Names) (own : Option Name) (k : Class) (i : ℕ) (old : List Token) → IsNamed n own k i old
+pub named_numbered : (n : NamesInScope) (own : Option Name) (k : Class) (i : ℕ) (old : List Token) → IsNamed n own k i old
     → Numbered n (λ n'. number_in n' k (name_in n' k i)) i
 named_numbered n own k i old f = λ n' h. number_again n n' own k f.name i f.finds h
 
-pub named_fits : (n : Names) (own : Option Name) (k : Class) (i : ℕ) (old : List Token) → IsNamed n own k i old
+pub named_fits : (n : NamesInScope) (own : Option Name) (k : Class) (i : ℕ) (old : List Token) → IsNamed n own k i old
     → Fits n own (λ w. w k i)
 named_fits n own k i old f = λ w h. h k f.name i f.finds
 

@@ -10,7 +10,7 @@ use Rattle.program_tree.specs.Faults.{Scope, nothing_yet, IsProgram}
 use Rattle.program_tree.specs.Grammar.{Mark, tokens, key, named, event_marks, semaphore_marks, process_marks}
 use Rattle.program_tree.specs.Grammar.{autostart_marks, receiver_marks, codes_marks}
 use Rattle.program_reader.specs.Head.{with_all, line_marks, itself}
-use Rattle.program_tree.specs.InScope.{Names, no_names, with_new, number_in, name_in}
+use Rattle.program_tree.specs.InScope.{NamesInScope, no_names, with_new, number_in, name_in}
 use Rattle.program_reader.specs.Machine.{whole, tell, from_events, codes_form}
 use Rattle.program_tree.specs.Numbers.{named_of, values_of, codes_in, timers_from, timer_of, program_names}
 use Rattle.program_tree.specs.Numbers.{tree_of_shape}
@@ -27,27 +27,27 @@ use Rattle.program_tree.specs.declared.keyword.Keyword.TheVariants as word
 use Rattle.program_reader.proofs.CodesLaws.{behind_first_timer, timers_of_all, behind_kept}
 use Rattle.program_tree.proofs.CountLaws.{length-codes_in}
 use Rattle.program_reader.proofs.MadeLaws.{zipped}
-use Rattle.program_reader.proofs.Told.{Judged, judged}
+use Rattle.program_reader.proofs.OnRecord.{Judged, judged}
 
 -- The names that the head declares.
 
-all_events : (n : Names) (xs : List Name) → with_all n an_event xs ≡ record n { events = n.events ++ xs }
+all_events : (n : NamesInScope) (xs : List Name) → with_all n an_event xs ≡ record n { events = n.events ++ xs }
 all_events n [] = ap (λ z. record n { events = z }) (sym (append-nil n.events))
 all_events n (x ∷ xs) = all_events (with_new n an_event x) xs ∙ ap (λ z. record n { events = z })
     (append_assoc n.events (x ∷ []) xs)
 
-all_semaphores : (n : Names) (xs : List Name) → with_all n a_semaphore xs ≡ record n { semaphores = n.semaphores ++ xs }
+all_semaphores : (n : NamesInScope) (xs : List Name) → with_all n a_semaphore xs ≡ record n { semaphores = n.semaphores ++ xs }
 all_semaphores n [] = ap (λ z. record n { semaphores = z }) (sym (append-nil n.semaphores))
 all_semaphores n (x ∷ xs) = all_semaphores (with_new n a_semaphore x) xs ∙ ap (λ z. record n { semaphores = z })
     (append_assoc n.semaphores (x ∷ []) xs)
 
-all_processes : (n : Names) (xs : List Name) → with_all n a_process xs ≡ record n { processes = n.processes ++ xs }
+all_processes : (n : NamesInScope) (xs : List Name) → with_all n a_process xs ≡ record n { processes = n.processes ++ xs }
 all_processes n [] = ap (λ z. record n { processes = z }) (sym (append-nil n.processes))
 all_processes n (x ∷ xs) = all_processes (with_new n a_process x) xs ∙ ap (λ z. record n { processes = z })
     (append_assoc n.processes (x ∷ []) xs)
 
 -- the names after the head
-abbrev pub head_names : (events semaphores processes : List Name) → Names
+abbrev pub head_names : (events semaphores processes : List Name) → NamesInScope
 head_names events semaphores processes = record no_names {
   events = events;
   semaphores = semaphores;
@@ -73,11 +73,11 @@ module _ (text m5 : List Token) (s4 : Scope) (counts autostart : List ℕ) (rece
   names_read =
       ap (λ (s : Scope). s.names) h.read.starting.added ∙ ap (λ (s : Scope). s.names) h.read.processes.added
       ∙ all_processes h.read.s2.names (h.read.processes.first ∷ h.read.processes.others)
-      ∙ ap (λ (n : Names). record n { processes = n.processes ++ (h.read.processes.first ∷ h.read.processes.others) })
+      ∙ ap (λ (n : NamesInScope). record n { processes = n.processes ++ (h.read.processes.first ∷ h.read.processes.others) })
       (h.read.semaphores.2.added ∙ all_semaphores h.read.s1.names (named_of h.read.semaphores.0)
-      ∙ ap (λ (n : Names). record n { semaphores = n.semaphores ++ named_of h.read.semaphores.0 })
+      ∙ ap (λ (n : NamesInScope). record n { semaphores = n.semaphores ++ named_of h.read.semaphores.0 })
       (h.read.events.1.added ∙ all_events h.s0.names (map itself h.read.events.0)
-      ∙ ap (λ (n : Names). record n { events = n.events ++ map itself h.read.events.0 })
+      ∙ ap (λ (n : NamesInScope). record n { events = n.events ++ map itself h.read.events.0 })
       (ap (λ (s : Scope). s.names) h.begins)
       ∙ ap (λ (xs : List Name). record no_names { events = xs }) (map-id h.read.events.0)))
 
@@ -275,14 +275,14 @@ module _ (text m5 : List Token) (s4 s5 : Scope) (counts autostart : List ℕ) (r
   is_tree = tree_and_shape.0
 
   processes_kept : s5.names.processes ≡ s4.names.processes
-  processes_kept = ap (λ (n : Names). n.processes) r.names ∙ (behind_kept s4.names (values_of r.shapes)).2
+  processes_kept = ap (λ (n : NamesInScope). n.processes) r.names ∙ (behind_kept s4.names (values_of r.shapes)).2
 
   each_count : length counts ≡ length s5.names.semaphores
   each_count =
       ap length h.read.semaphores.1 ∙ length-map h.read.semaphores.0 (λ p. p.1)
       ∙ sym (length-map h.read.semaphores.0 (λ p. p.0))
-      ∙ ap (λ (n : Names). length n.semaphores) (sym (names_read text m5 s4 counts autostart receiver h))
-      ∙ ap length (sym (behind_kept s4.names (values_of r.shapes)).1) ∙ ap (λ (n : Names). length n.semaphores)
+      ∙ ap (λ (n : NamesInScope). length n.semaphores) (sym (names_read text m5 s4 counts autostart receiver h))
+      ∙ ap length (sym (behind_kept s4.names (values_of r.shapes)).1) ∙ ap (λ (n : NamesInScope). length n.semaphores)
       (sym r.names)
 
   started : All (λ i. i < length s5.names.processes) autostart
@@ -310,8 +310,8 @@ module _ (text m5 : List Token) (s4 s5 : Scope) (counts autostart : List ℕ) (r
         arith,
         ap length timers_are,
         behind_first_timer 0 s4.names (values_of r.shapes),
-        ap (λ (n : Names). n.first_timer) r.names,
-        ap (λ (n : Names). n.first_timer) (names_read text m5 s4 counts autostart receiver h),
+        ap (λ (n : NamesInScope). n.first_timer) r.names,
+        ap (λ (n : NamesInScope). n.first_timer) (names_read text m5 s4 counts autostart receiver h),
         low,
       )
 
@@ -342,4 +342,4 @@ pub no_own_names : (text m5 : List Token) (s4 : Scope) (counts autostart : List 
     × (s4.names.threads ≡ [])
 no_own_names text m5 s4 counts autostart receiver h =
     let is = names_read text m5 s4 counts autostart receiver h in
-    (ap (λ (n : Names). n.variables) is, ap (λ (n : Names). n.timers) is, ap (λ (n : Names). n.threads) is)
+    (ap (λ (n : NamesInScope). n.variables) is, ap (λ (n : NamesInScope). n.timers) is, ap (λ (n : NamesInScope). n.threads) is)

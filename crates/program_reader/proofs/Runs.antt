@@ -4,7 +4,7 @@ use Rattle.std.proofs.lemmas.Bool.{and_from}
 use Rattle.program_tree.specs.Faults.{Scope}
 use Rattle.program_tree.specs.Forms.{Beginning, beginning}
 use Rattle.program_tree.specs.Grammar.{Context, Mark, begins_with, target, tokens, sign, action_marks, statement_marks}
-use Rattle.program_tree.specs.InScope.{Names, name_in, number_in}
+use Rattle.program_tree.specs.InScope.{NamesInScope, name_in, number_in}
 use Rattle.program_reader.specs.Machine.{Symbol, Pending, tell, items, items_else, equals, expression, semicolon}
 use Rattle.program_reader.specs.Steps.{Extends, Reads, ReadsSign, ReadsStatement, ReadsElse, Begins, IsTarget}
 use Rattle.program_reader.specs.Steps.{pending_of, fixed, scope_of, Numbered, Fits, Covers}
@@ -20,22 +20,22 @@ use Rattle.program_reader.proofs.ExtendLaws.{fixed_names}
 pub same_names : (a b : ScopeRead) → a ≡ b → (scope_of a).names ≡ (scope_of b).names
 same_names a b e = ap (λ z. (scope_of z).names) e
 
-pub renumbered : {T : Type 0} (n n1 : Names) (again : Names → T) (t : T) → n1 ≡ n → Numbered n1 again t
+pub renumbered : {T : Type 0} (n n1 : NamesInScope) (again : NamesInScope → T) (t : T) → n1 ≡ n → Numbered n1 again t
     → Numbered n again t
 renumbered n n1 again t e h = λ n' u. h n' (subst (λ z. Extends z n') (sym e) u)
 
-pub refitted : (n n1 : Names) (own : Option Name) (fits : Within → Bool) → n1 ≡ n → Fits n1 own fits → Fits n own fits
+pub refitted : (n n1 : NamesInScope) (own : Option Name) (fits : Within → Bool) → n1 ≡ n → Fits n1 own fits → Fits n own fits
 refitted n n1 own fits e h = λ w u. h w (subst (λ z. Covers z own w) (sym e) u)
 
 -- The beginning of a statement is read, with the pending symbols before and behind it: the marks of its parts, the
 -- numbers of their names, and whether these names are in scope.
 pub record Begun (s s' : Scope) (own : Option Name) (front back : Pending → Pending)
-    (marks : Names → List Mark → List Mark) (again : Names → Type 0) (fits : Within → Bool)
+    (marks : NamesInScope → List Mark → List Mark) (again : NamesInScope → Type 0) (fits : Within → Bool)
     (old new : List Token) : Type 0 where
   pub names : s'.names ≡ s.names
-  pub spelled : (n : Names) → Extends s.names n → (ms : List Mark) → tokens ms ≡ new → old ≡ tokens (marks n ms)
+  pub spelled : (n : NamesInScope) → Extends s.names n → (ms : List Mark) → tokens ms ≡ new → old ≡ tokens (marks n ms)
   pub goes_on : (f : Pending) → tell s (front f) old ≡ tell s' (back f) new
-  pub numbered : (n : Names) → Extends s.names n → again n
+  pub numbered : (n : NamesInScope) → Extends s.names n → again n
   pub fit : Fits s.names own fits
 
 -- a keyword
@@ -69,7 +69,7 @@ targeted {i = i} a b e h numbered fits = record {
 
 -- a sign
 pub with_sign : {s s' : Scope} {own : Option Name} {y : Symbol} {t : Token} {front back : Pending → Pending}
-    {marks : Names → List Mark → List Mark} {again : Names → Type 0} {fits : Within → Bool}
+    {marks : NamesInScope → List Mark → List Mark} {again : NamesInScope → Type 0} {fits : Within → Bool}
     {old mid new : List Token} → Begun s s' own front (λ f. y ∷ back f) marks again fits old mid
     → ReadsSign y t mid new → Begun s s' own front back (λ n ms. marks n (sign t ∷ ms)) again fits old new
 with_sign {s' = s'} {t = t} {back = back} r k = record {
@@ -82,10 +82,10 @@ with_sign {s' = s'} {t = t} {back = back} r k = record {
 
 -- a part with names
 pub followed : {T : Type 0} {s s1 s' : Scope} {own : Option Name} {front mid_front back : Pending → Pending}
-    {marks marks' : Names → List Mark → List Mark} {again : Names → Type 0} {again' : Names → T} {t : T}
+    {marks marks' : NamesInScope → List Mark → List Mark} {again : NamesInScope → Type 0} {again' : NamesInScope → T} {t : T}
     {fits fits' : Within → Bool} {old mid new : List Token}
     → Begun s s1 own front mid_front marks again fits old mid → s'.names ≡ s1.names
-    → ((n : Names) → Extends s1.names n → (ms : List Mark) → tokens ms ≡ new → mid ≡ tokens (marks' n ms))
+    → ((n : NamesInScope) → Extends s1.names n → (ms : List Mark) → tokens ms ≡ new → mid ≡ tokens (marks' n ms))
     → ((f : Pending) → tell s1 (mid_front f) mid ≡ tell s' (back f) new)
     → Numbered s1.names again' t → Fits s1.names own fits'
     → Begun s s' own front back (λ n ms. marks n (marks' n ms)) (λ n. again n × (again' n ≡ t))
@@ -100,7 +100,7 @@ followed {s = s} {s1 = s1} {own = own} {marks' = marks'} r e spelled goes number
 
 -- that changes nothing in scope
 pub with_part : {T : Type 0} {s : Scope} {own : Option Name} {y : Symbol} {front back : Pending → Pending}
-    {marks marks' : Names → List Mark → List Mark} {again : Names → Type 0} {again' : Names → T} {t : T}
+    {marks marks' : NamesInScope → List Mark → List Mark} {again : NamesInScope → Type 0} {again' : NamesInScope → T} {t : T}
     {fits fits' : Within → Bool} {old mid new : List Token} {a b : ScopeRead} → b ≡ a
     → Begun s (scope_of a) own front (λ f. y ∷ back f) marks again fits old mid
     → Reads (scope_of a) (scope_of a) y marks' mid new → Numbered (scope_of a).names again' t
@@ -112,7 +112,7 @@ with_part {back = back} {new = new} {a = a} {b = b} e r k = followed r (same_nam
 
 -- a block
 pub with_block : {T : Type 0} {s : Scope} {own : Option Name} {y : Symbol} {front back : Pending → Pending}
-    {marks marks' : Names → List Mark → List Mark} {again : Names → Type 0} {again' : Names → T} {t : T}
+    {marks marks' : NamesInScope → List Mark → List Mark} {again : NamesInScope → Type 0} {again' : NamesInScope → T} {t : T}
     {fits fits' : Within → Bool} {old mid new : List Token} (a b : ScopeRead) → fixed b ≡ fixed a
     → Begun s (scope_of a) own front (λ f. y ∷ back f) marks again fits old mid
     → Reads (scope_of a) (scope_of b) y marks' mid new → Numbered (scope_of a).names again' t
@@ -123,7 +123,7 @@ with_block {back = back} a b e r k = followed r (fixed_names b a e) k.spelled (�
 
 -- the other branch of an `if`
 pub with_else : {T : Type 0} {s : Scope} {own : Option Name} {c : Context} {front : Pending → Pending}
-    {marks marks' : Names → List Mark → List Mark} {again : Names → Type 0} {again' : Names → T} {t : T}
+    {marks marks' : NamesInScope → List Mark → List Mark} {again : NamesInScope → Type 0} {again' : NamesInScope → T} {t : T}
     {fits fits' : Within → Bool} {old mid new : List Token} (a b : ScopeRead) → fixed b ≡ fixed a
     → Begun s (scope_of a) own front (λ f. items_else c ∷ f) marks again fits old mid
     → ReadsElse (scope_of a) (scope_of b) c marks' mid new → Numbered (scope_of a).names again' t
@@ -135,17 +135,17 @@ with_else a b e r k = followed r (fixed_names b a e) k.spelled k.goes_on
 -- The statement of all its parts.
 
 pub record IsRead {T : Type 0} (s s' : Scope) (own : Option Name) (c : Context) (t : T)
-    (marks : Names → List Mark → List Mark) (again : Names → T) (fit : Within → Bool)
+    (marks : NamesInScope → List Mark → List Mark) (again : NamesInScope → T) (fit : Within → Bool)
     (old new : List Token) : Type 0 where
   pub ok : ReadsStatement s s' c marks old new
   pub numbered : Numbered s.names again t
   pub fits : Fits s.names own fit
 
 is_read : {T : Type 0} {s s' : Scope} {own : Option Name} {c : Context} {t : T}
-    {marks marks' : Names → List Mark → List Mark} {again : Names → Type 0} {again' : Names → T}
+    {marks marks' : NamesInScope → List Mark → List Mark} {again : NamesInScope → Type 0} {again' : NamesInScope → T}
     {fits fits' : Within → Bool} {old new : List Token}
     → Begun s s' own (λ f. items c ∷ f) (λ f. items c ∷ f) marks again fits old new
-    → ((n : Names) (ms : List Mark) → marks n ms ≡ marks' n ms) → ((n : Names) → again n → again' n ≡ t)
+    → ((n : NamesInScope) (ms : List Mark) → marks n ms ≡ marks' n ms) → ((n : NamesInScope) → again n → again' n ≡ t)
     → ((w : Within) → fits w ≡ fits' w) → IsRead s s' own c t marks' again' fits' old new
 is_read r same numbered fits = record {
   ok = record { spelled = λ n u ms q. r.spelled n u ms q ∙ ap tokens (same n ms); goes_on = r.goes_on };
@@ -154,24 +154,24 @@ is_read r same numbered fits = record {
 }
 
 -- the marks of an action, its numbers and whether it fits are those of its parts
-pub record IsMadeOf (c : Context) (a : Action ℕ) (marks : Names → List Mark → List Mark) (again : Names → Type 0)
+pub record IsMadeOf (c : Context) (a : Action ℕ) (marks : NamesInScope → List Mark → List Mark) (again : NamesInScope → Type 0)
     (fits : Within → Bool) : Type 0 where
-  pub spelled : (n : Names) (ms : List Mark) → marks n ms ≡ action_marks c (action_map (name_in n) a) ms
-  pub numbered : (n : Names) → again n → action_map (number_in n) (action_map (name_in n) a) ≡ a
+  pub spelled : (n : NamesInScope) (ms : List Mark) → marks n ms ≡ action_marks c (action_map (name_in n) a) ms
+  pub numbered : (n : NamesInScope) → again n → action_map (number_in n) (action_map (name_in n) a) ≡ a
   pub fit : (w : Within) → fits w ≡ action_fits w a
 
 pub action_read : {s s' : Scope} {own : Option Name} {c : Context} {a : Action ℕ}
-    {marks : Names → List Mark → List Mark} {again : Names → Type 0} {fits : Within → Bool} {old new : List Token}
+    {marks : NamesInScope → List Mark → List Mark} {again : NamesInScope → Type 0} {fits : Within → Bool} {old new : List Token}
     → Begun s s' own (λ f. items c ∷ f) (λ f. items c ∷ f) marks again fits old new → IsMadeOf c a marks again fits
     → IsRead s s' own c a (λ n ms. action_marks c (action_map (name_in n) a) ms)
     (λ n. action_map (number_in n) (action_map (name_in n) a)) (λ w. action_fits w a) old new
 action_read r m = is_read r m.spelled m.numbered m.fit
 
 pub statement_read : {s s' : Scope} {own : Option Name} {c : Context} {t t' : Statement ℕ}
-    {marks : Names → List Mark → List Mark} {again : Names → Type 0} {fits : Within → Bool} {old new : List Token}
+    {marks : NamesInScope → List Mark → List Mark} {again : NamesInScope → Type 0} {fits : Within → Bool} {old new : List Token}
     → t' ≡ t → Begun s s' own (λ f. items c ∷ f) (λ f. items c ∷ f) marks again fits old new
-    → ((n : Names) (ms : List Mark) → marks n ms ≡ statement_marks c (statement_map (name_in n) t) ms)
-    → ((n : Names) → again n → statement_map (number_in n) (statement_map (name_in n) t) ≡ t)
+    → ((n : NamesInScope) (ms : List Mark) → marks n ms ≡ statement_marks c (statement_map (name_in n) t) ms)
+    → ((n : NamesInScope) → again n → statement_map (number_in n) (statement_map (name_in n) t) ≡ t)
     → ((w : Within) → fits w ≡ statement_fits w t)
     → IsRead s s' own c t' (λ n ms. statement_marks c (statement_map (name_in n) t') ms)
     (λ n. statement_map (number_in n) (statement_map (name_in n) t')) (λ w. statement_fits w t') old new

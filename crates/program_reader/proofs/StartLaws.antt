@@ -8,7 +8,7 @@ use Rattle.std.proofs.lemmas.List.Elements.{All-nil, All-cons, All-append}
 use Rattle.program_tree.specs.Faults.{Scope}
 use Rattle.program_tree.specs.Grammar.{tokens, sign, named, starts, at_body, operand_mark, starting_marks}
 use Rattle.program_reader.specs.Head.{with_starting, CanStart, IsStarting, HasStarting, ReadsAutostart, ReadsReceiver}
-use Rattle.program_tree.specs.InScope.{Names, is_in_scope, or_zero, number_in, name_in}
+use Rattle.program_tree.specs.InScope.{NamesInScope, is_in_scope, or_zero, number_in, name_in}
 use Rattle.program_reader.specs.Machine.{Pending, Verdict, tell, fault, first, first_broken, starting, more_starting}
 use Rattle.program_reader.specs.Machine.{from_autostart, from_receiver, codes, semicolon, operand}
 use Rattle.program_tree.specs.InScope.{place_of}
@@ -76,7 +76,7 @@ pub ruleset starting_steps = (start_fails, is_starting)
 all_one : (n i : ℕ) → i < n → All (λ k. k < n) (i ∷ [])
 all_one n i h = All-cons (λ k. k < n) i [] h (All-nil (λ k. k < n))
 
-number_is : (n : Names) (x : Name) (i : ℕ) → place_of n.processes x ≡ Some i → number_in n a_process x ≡ i
+number_is : (n : NamesInScope) (x : Name) (i : ℕ) → place_of n.processes x ≡ Some i → number_in n a_process x ≡ i
 number_is n x i e = ap or_zero e
 
 pub has_first : (s s' : Scope) (n0 n1 : List ℕ) (old m0 rest : List Token) → n0 ≡ []
@@ -206,17 +206,17 @@ no_receiver_read s old new other same = record {
 }
 
 -- the numbers of processes have a meaning; of other classes, any number does
-within_processes : Names → Within
+within_processes : NamesInScope → Within
 within_processes n a_process i = nat_lt i (length n.processes)
 within_processes n c i = true
 
-covers_processes : (n : Names) (own : Option Name) (c : Class) (x : Name) (i : ℕ) → Finds n own c x i
+covers_processes : (n : NamesInScope) (own : Option Name) (c : Class) (x : Name) (i : ℕ) → Finds n own c x i
     → within_processes n c i ≡ true
 unfolding within_processes
 covers_processes n own a_process x i f = lt-ltb i (length n.processes) (place_below n.processes x i f.found)
 covers_processes n own c x i f = refl
 
-pub process_within : (n : Names) (own : Option Name) (i : ℕ) → Fits n own (λ w. w a_process i) → i < length n.processes
+pub process_within : (n : NamesInScope) (own : Option Name) (i : ℕ) → Fits n own (λ w. w a_process i) → i < length n.processes
 unfolding within_processes
 process_within n own i h = ltb-true i (length n.processes) (h (within_processes n) (covers_processes n own))
 

@@ -4,7 +4,7 @@ use Rattle.std.proofs.Common.{None, Bool, true, false, not, ◌&&◌, ◌||◌, 
 use Rattle.program_tree.specs.Faults.{Scope, scope_after, is_other}
 use Rattle.program_tree.specs.Forms.{Beginning, no_statement, action, branches, loops, goes_on, beginning, waits}
 use Rattle.program_tree.specs.Grammar.{Context, target, begins_with, into_marks, key, sign, operand_mark}
-use Rattle.program_tree.specs.InScope.{Names, is_a, is_in_scope, name_in, number_in}
+use Rattle.program_tree.specs.InScope.{NamesInScope, is_a, is_in_scope, name_in, number_in}
 use Rattle.program_reader.specs.Machine.{Pending, step, take, tell, fault, first, first_broken, begin_step, items}
 use Rattle.program_reader.specs.Machine.{expression, equals, semicolon, into_end, operand}
 use Rattle.program_tree.specs.Shapes.{Name}
@@ -147,11 +147,11 @@ pub target_other : (s : Scope) (c : Context) (x : Name) (f : Pending) (old : Lis
 target_other s c x f old is g low = broken s (items c ∷ f) (equals ∷ expression c ∷ semicolon ∷ items c ∷ f) old
     (token.Name x) (target x) BadTarget is refl (target_bad s x g.0 g.1 low)
 
-pub target_numbered : (n : Names) (own : Option Name) (x : Name) (i : ℕ) → Finds n own a_variable x i
+pub target_numbered : (n : NamesInScope) (own : Option Name) (x : Name) (i : ℕ) → Finds n own a_variable x i
     → Numbered n (λ n'. number_in n' a_variable (name_in n' a_variable i)) i
 target_numbered n own x i f = λ n' h. number_again n n' own a_variable x i f h
 
-pub target_fits : (n : Names) (own : Option Name) (x : Name) (i : ℕ) → Finds n own a_variable x i
+pub target_fits : (n : NamesInScope) (own : Option Name) (x : Name) (i : ℕ) → Finds n own a_variable x i
     → Fits n own (λ w. w a_variable i)
 target_fits n own x i f = λ w h. h a_variable x i f
 

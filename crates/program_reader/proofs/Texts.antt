@@ -25,7 +25,7 @@ use Rattle.program_tree.specs.declared.error.ReadErrorKind.TheVariants.{TooMany,
 use Rattle.program_tree.specs.declared.token.Token.{Token as TokenRead}
 use Rattle.program_reader.proofs.Turns.{same_marks, same_parts}
 use Rattle.program_reader.proofs.TextLaws.{length-lines, every_text, one_lexing}
-use Rattle.program_reader.proofs.Told.{Judged, judged, same_front, shape_from, parts_of_program}
+use Rattle.program_reader.proofs.OnRecord.{Judged, judged, same_front, shape_from, parts_of_program}
 
 -- tokens are those of one program
 only_one : (p q : ProgramShape) (text : List Token) → IsProgram p text → IsProgram q text → p ≡ q
@@ -50,16 +50,16 @@ pub read_fails : (k : ReadErrorKind) (left : ℕ) (text : List Token) → tell n
 read_fails k left text e = subst (λ v. Judged v text) e (judged text)
 
 -- a reported error, as the reader has it
-line_stands : (ls : List ℕ) (i : ℕ) → i < length ls → slice_get ls i ≡ Some (get_or ls i 0)
-line_stands ls i h = slice_get-get_or ls i 0 h
+line_is_there : (ls : List ℕ) (i : ℕ) → i < length ls → slice_get ls i ≡ Some (get_or ls i 0)
+line_is_there ls i h = slice_get-get_or ls i 0 h
 
 at_split : (ts before rest : List Token) (left : ℕ) → ts ≡ before ++ rest → length rest ≡ left
     → length before ≡ length ts - left
 at_split ts before rest left e h = omega (arith, ap length e, length-append before rest, h)
 
-pub told_within : (k : ReadErrorKind) (left : ℕ) (ts : List TokenRead)
+pub reported_within : (k : ReadErrorKind) (left : ℕ) (ts : List TokenRead)
     → tell nothing_yet (from_events ∷ []) (map token_of ts) ≡ fault k left → left ≤ length ts
-told_within k left ts e =
+reported_within k left ts e =
     let t = read_fails k left (map token_of ts) e in
     omega (arith, ap length t.2, length-append t.0 t.1, t.3, length-map ts token_of)
 
@@ -67,10 +67,10 @@ pub line_within : (text : List ℕ) (ts : List TokenRead) (ls : List ℕ) (left 
     → length ts - left < length ls
 line_within text ts ls left h = omega (arith, length-lines text (map token_of ts) ls h, length-map ts token_of)
 
-pub told_read : (text : List ℕ) (ts : List TokenRead) (ls : List ℕ) (k : ReadErrorKind) (left line : ℕ)
+pub reported_read : (text : List ℕ) (ts : List TokenRead) (ls : List ℕ) (k : ReadErrorKind) (left line : ℕ)
     → IsLexed text (map token_of ts) ls → tell nothing_yet (from_events ∷ []) (map token_of ts) ≡ fault k left →
     slice_get ls (length ts - left) ≡ Some line → IsErrorOf text k line
-told_read text ts ls k left line lexed e at =
+reported_read text ts ls k left line lexed e at =
     let t = read_fails k left (map token_of ts) e in
     let here : length t.0 ≡ length ts - left = at_split (map token_of ts) t.0 t.1 left t.2 t.3
     ∙ ap (λ n. n - left) (length-map ts token_of) in
@@ -81,22 +81,22 @@ told_read text ts ls k left line lexed e at =
       before = t.0;
       rest = t.1;
       split = t.2;
-      told = t.4;
-      stands = ap (λ i. slice_get ls i) here ∙ at;
+      recounted = t.4;
+      in_state = ap (λ i. slice_get ls i) here ∙ at;
     }
 
 -- a failed allocation is no fault of a text
 never_memory : (before rest : List Token) → IsFirstFault Memory before rest → ⊥
 never_memory before rest h = absurd (cc (h.here.broken))
 
-pub told_no_memory : (text : List ℕ) (line : ℕ) → IsErrorOf text Memory line → ⊥
-told_no_memory text line h = never_memory h.before h.rest h.told
+pub reports_no_memory : (text : List ℕ) (line : ℕ) → IsErrorOf text Memory line → ⊥
+reports_no_memory text line h = never_memory h.before h.rest h.recounted
 
 -- a tree and a reported error
 pub never_both : (text : List ℕ) (t : Tree) (k : ReadErrorKind) (line : ℕ) → IsTreeOf text t → IsErrorOf text k line → ⊥
 never_both text t k line h f =
     let e = one_lexing text h.tokens f.tokens h.lines f.lines h.lexed f.lexed in
-    h.spelled.program.sound f.before f.rest k (e.0 ∙ f.split) f.told.here
+    h.spelled.program.sound f.before f.rest k (e.0 ∙ f.split) f.recounted.here
 
 by_verdict : (text : List ℕ) (ts : List Token) (ls : List ℕ) (v : Verdict) → IsLexed text ts ls → Judged v ts
     → ((t : Tree) × IsTreeOf text t) ⊎ ((k : ReadErrorKind) × (line : ℕ) × IsErrorOf text k line)
@@ -119,8 +119,8 @@ by_verdict text ts ls (fault k left) lexed h = inr (
     before = h.0;
     rest = h.1;
     split = h.2;
-    told = h.4;
-    stands = line_stands ls (length h.0) (omega (
+    recounted = h.4;
+    in_state = line_is_there ls (length h.0) (omega (
       arith,
       length-lines text ts ls lexed,
       ap length h.2,
@@ -130,8 +130,8 @@ by_verdict text ts ls (fault k left) lexed h = inr (
   },
 )
 
-pub tree_or_told : (text : List ℕ) → HasTreeOrFault text
-tree_or_told text =
+pub tree_or_reported : (text : List ℕ) → HasTreeOrFault text
+tree_or_reported text =
     let l = every_text text in
     record {
       one = by_verdict text l.0 l.1 (tell nothing_yet (from_events ∷ []) l.0) l.2 (judged l.0);
@@ -162,9 +162,9 @@ same_here j k before rest h i = go (nat_lt (kind_number j) (kind_number k)) (nat
     go false true d e = absurd (h.least k (ltb-true _ _ e) i.here)
     go false false d e = same_kind j k (omega (arith, ltb-false _ _ d, ltb-false _ _ e))
 
-same_told : (j k : ReadErrorKind) (b r c s : List Token) → b ++ r ≡ c ++ s → IsFirstFault j b r → IsFirstFault k c s → (j ≡ k)
+same_reported : (j k : ReadErrorKind) (b r c s : List Token) → b ++ r ≡ c ++ s → IsFirstFault j b r → IsFirstFault k c s → (j ≡ k)
     × (length b ≡ length c)
-same_told j k b r c s e h i = go (nat_lt (length b) (length c)) (nat_lt (length c) (length b)) refl refl
+same_reported j k b r c s e h i = go (nat_lt (length b) (length c)) (nat_lt (length c) (length b)) refl refl
   where
     go : (u v : Bool) → nat_lt (length b) (length c) ≡ u → nat_lt (length c) (length b) ≡ v → (j ≡ k)
         × (length b ≡ length c)
@@ -175,11 +175,11 @@ same_told j k b r c s e h i = go (nat_lt (length b) (length c)) (nat_lt (length 
         let q = same_front b c r s e l in
         (same_here j k c s (subst (λ z. IsFirstFault j c z) q.1 (subst (λ z. IsFirstFault j z r) q.0 h)) i, l)
 
-pub one_told : (text : List ℕ) (j k : ReadErrorKind) (l m : ℕ) → IsErrorOf text j l → IsErrorOf text k m → (j ≡ k)
+pub one_reported : (text : List ℕ) (j k : ReadErrorKind) (l m : ℕ) → IsErrorOf text j l → IsErrorOf text k m → (j ≡ k)
     × (l ≡ m)
-one_told text j k l m h i =
+one_reported text j k l m h i =
     let e = one_lexing text h.tokens i.tokens h.lines i.lines h.lexed i.lexed in
-    let q = same_told j k h.before h.rest i.before i.rest (sym h.split ∙ e.0 ∙ i.split) h.told i.told in
-    let at : Some l ≡ Some m = sym h.stands ∙ ap (λ ls. slice_get ls (length h.before)) e.1
-    ∙ ap (λ n. slice_get i.lines n) q.1 ∙ i.stands in
+    let q = same_reported j k h.before h.rest i.before i.rest (sym h.split ∙ e.0 ∙ i.split) h.recounted i.recounted in
+    let at : Some l ≡ Some m = sym h.in_state ∙ ap (λ ls. slice_get ls (length h.before)) e.1
+    ∙ ap (λ n. slice_get i.lines n) q.1 ∙ i.in_state in
     (q.0, cc at)

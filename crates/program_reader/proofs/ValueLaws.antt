@@ -4,7 +4,7 @@ use Rattle.std.proofs.Common.{true}
 use Rattle.program_tree.specs.Faults.{Scope}
 use Rattle.program_tree.specs.Forms.{alone, no_value, word_of}
 use Rattle.program_tree.specs.Grammar.{Context, inner, key, sign, operand_mark, expression_marks, Mark, tokens}
-use Rattle.program_tree.specs.InScope.{Names, name_in, number_in}
+use Rattle.program_tree.specs.InScope.{NamesInScope, name_in, number_in}
 use Rattle.program_reader.specs.Machine.{Pending, word_step, unfit, tell, fault, first, expression, operator, close}
 use Rattle.program_tree.specs.Scope.{expression_fits, Within}
 use Rattle.program_tree.specs.Shapes.{Name}
@@ -30,17 +30,17 @@ abbrev ReadsValue : Scope → Context → Expression ℕ → List Token → List
 ReadsValue s c e old new = Reads s s (expression c) (λ n ms. expression_marks c (expression_map (name_in n) e) ms) old
     new
 
-abbrev NumbersValue : Names → Expression ℕ → Type 0
+abbrev NumbersValue : NamesInScope → Expression ℕ → Type 0
 NumbersValue n e = Numbered n (λ n'. expression_map (number_in n') (expression_map (name_in n') e)) e
 
-abbrev FitsValue : Names → Option Name → Expression ℕ → Type 0
+abbrev FitsValue : NamesInScope → Option Name → Expression ℕ → Type 0
 FitsValue n own e = Fits n own (λ w. expression_fits w e)
 
 -- the marks of a value, its numbers and whether it fits are those of its operand
-record IsMadeOf (c : Context) (e : Expression ℕ) (marks : Names → List Mark → List Mark) (again : Names → Type 0)
+record IsMadeOf (c : Context) (e : Expression ℕ) (marks : NamesInScope → List Mark → List Mark) (again : NamesInScope → Type 0)
     (fits : Within → Bool) : Type 0 where
-  spelled : (n : Names) (ms : List Mark) → marks n ms ≡ expression_marks c (expression_map (name_in n) e) ms
-  numbered : (n : Names) → again n → expression_map (number_in n) (expression_map (name_in n) e) ≡ e
+  spelled : (n : NamesInScope) (ms : List Mark) → marks n ms ≡ expression_marks c (expression_map (name_in n) e) ms
+  numbered : (n : NamesInScope) → again n → expression_map (number_in n) (expression_map (name_in n) e) ≡ e
   fit : (w : Within) → fits w ≡ expression_fits w e
 
 pub record IsValue (s : Scope) (own : Option Name) (c : Context) (e : Expression ℕ) (old new : List Token) : Type 0
@@ -49,10 +49,10 @@ pub record IsValue (s : Scope) (own : Option Name) (c : Context) (e : Expression
     pub numbered : NumbersValue s.names e
     pub fits : FitsValue s.names own e
 
-is_value : {s : Scope} {own : Option Name} {c : Context} {e : Expression ℕ} {marks : Names → List Mark → List Mark}
-    {again : Names → Type 0} {fits : Within → Bool} {old new : List Token}
+is_value : {s : Scope} {own : Option Name} {c : Context} {e : Expression ℕ} {marks : NamesInScope → List Mark → List Mark}
+    {again : NamesInScope → Type 0} {fits : Within → Bool} {old new : List Token}
     → IsMadeOf c e marks again fits → Reads s s (expression c) marks old new
-    → ((n : Names) → Extends s.names n → again n) → Fits s.names own fits → IsValue s own c e old new
+    → ((n : NamesInScope) → Extends s.names n → again n) → Fits s.names own fits → IsValue s own c e old new
 is_value m r numbered fits = record {
   ok = record { spelled = λ n u ms q. r.spelled n u ms q ∙ ap tokens (m.spelled n ms); goes_on = r.goes_on };
   numbered = λ n u. m.numbered n (numbered n u);
@@ -128,7 +128,7 @@ negation_reads s c d e a old m0 new h is here low from r =
           ∙ t.goes_on f;
     })
 
-pub negation_numbered : (n : Names) (e a : Expression ℕ) → e ≡ negation a → NumbersValue n a → NumbersValue n e
+pub negation_numbered : (n : NamesInScope) (e a : Expression ℕ) → e ≡ negation a → NumbersValue n a → NumbersValue n e
 negation_numbered n e a is r = subst (λ z. NumbersValue n z) (sym is) (λ n' h. ap negation (r n' h))
 
 -- the two sides of an operator
@@ -160,7 +160,7 @@ binary_reads s c d o e a b old m0 new h is here low from r =
           (expression (inner c) ∷ operator ∷ expression (inner c) ∷ close ∷ f) ts) (sym from) ∙ t.goes_on f;
     })
 
-pub binary_numbered : (n : Names) (o : Operator) (e a b : Expression ℕ) → e ≡ binary o a b → NumbersValue n a
+pub binary_numbered : (n : NamesInScope) (o : Operator) (e a b : Expression ℕ) → e ≡ binary o a b → NumbersValue n a
     → NumbersValue n b → NumbersValue n e
 binary_numbered n o e a b is ra rb =
     subst (λ z. NumbersValue n z) (sym is) (λ n' h.

@@ -5,7 +5,7 @@ use Rattle.program_tree.specs.Faults.{Scope}
 use Rattle.program_tree.specs.Grammar.{Context, at_body, Mark, tokens, key, variable_marks, etimer_marks, ctimer_marks}
 use Rattle.program_tree.specs.Grammar.{thread_marks, handler_marks, block_marks, code_marks}
 use Rattle.program_reader.specs.Head.{with_all}
-use Rattle.program_tree.specs.InScope.{Names, with_new, outside, name_in, number_in}
+use Rattle.program_tree.specs.InScope.{NamesInScope, with_new, outside, name_in, number_in}
 use Rattle.program_reader.specs.Machine as machine
 use Rattle.program_reader.specs.Machine.{Symbol, Pending, tell, codes_form}
 use Rattle.program_tree.specs.Numbers.{named_of, values_of, inside, code_in}
@@ -19,21 +19,21 @@ use Rattle.program_tree.specs.declared.keyword.Keyword.{Keyword}
 use Rattle.program_tree.specs.declared.keyword.Keyword.TheVariants as word
 
 -- A block with its names put back. Its numbers are right if numbering these names gives the block again.
-abbrev pub written : Names → Body ℕ → Body Name
+abbrev pub written : NamesInScope → Body ℕ → Body Name
 written n b = body_map (name_in n) b
 
-abbrev pub IsNumbered : Names → Body ℕ → Type 0
+abbrev pub IsNumbered : NamesInScope → Body ℕ → Type 0
 IsNumbered n b = Numbered n (λ m. body_map (number_in m) (written m b)) b
 
-abbrev pub AllNumbered : Names → List (Body ℕ) → Type 0
+abbrev pub AllNumbered : NamesInScope → List (Body ℕ) → Type 0
 AllNumbered n [] = Unit {0}
 AllNumbered n (b ∷ bs) = IsNumbered n b × AllNumbered n bs
 
-abbrev pub MaybeNumbered : Names → Option (Body ℕ) → Type 0
+abbrev pub MaybeNumbered : NamesInScope → Option (Body ℕ) → Type 0
 MaybeNumbered n None = Unit {0}
 MaybeNumbered n (Some b) = IsNumbered n b
 
-abbrev pub all_written : Names → List (Name × (Body ℕ)) → List Named
+abbrev pub all_written : NamesInScope → List (Name × (Body ℕ)) → List Named
 all_written n items = map (λ p. (p.0, written n p.1)) items
 
 -- a new callback timer or thread, with its block
@@ -43,7 +43,7 @@ pub record IsNamedBlock (c : Class) (y : Pending → Pending) (place : Name → 
   pub added : s'.names ≡ with_new s.names c name
   pub starting : s'.starting ≡ s.starting
   pub numbered : IsNumbered s'.names tree
-  pub spelled : (n : Names) → Extends s'.names n → (ms : List Mark) → tokens ms ≡ new
+  pub spelled : (n : NamesInScope) → Extends s'.names n → (ms : List Mark) → tokens ms ≡ new
       → old ≡ token.Name name ∷ tokens (block_marks (place name) (written n tree) ms)
   pub goes_on : (f : Pending) → tell s (y f) old ≡ tell s' f new
 
@@ -55,7 +55,8 @@ pub record HasBlocks (c : Class) (y : Symbol) (marks : List Named → List Mark 
   pub added : s'.names ≡ with_all s.names c (named_of items)
   pub starting : s'.starting ≡ s.starting
   pub numbered : AllNumbered s'.names trees
-  pub spelled : (n : Names) → Extends s'.names n → (more : List Named) (ms : List Mark) → tokens (marks more ms) ≡ rest
+  pub spelled : (n : NamesInScope) → Extends s'.names n → (more : List Named) (ms : List Mark)
+      → tokens (marks more ms) ≡ rest
       → old ≡ tokens (marks (all_written n items ++ more) ms)
   pub goes_on : (f : Pending) → tell s (y ∷ f) old ≡ tell s' (y ∷ f) rest
 
@@ -67,7 +68,7 @@ pub record ReadsBlocks (c : Class) (y z : Symbol) (marks : List Named → List M
   pub added : s'.names ≡ with_all s.names c (named_of items)
   pub starting : s'.starting ≡ s.starting
   pub numbered : AllNumbered s'.names trees
-  pub spelled : (n : Names) → Extends s'.names n → (ms : List Mark) → tokens ms ≡ new
+  pub spelled : (n : NamesInScope) → Extends s'.names n → (ms : List Mark) → tokens ms ≡ new
       → old ≡ tokens (marks (all_written n items) ms)
   pub goes_on : (f : Pending) → tell s (y ∷ f) old ≡ tell s' (z ∷ f) new
 
@@ -77,7 +78,7 @@ pub record ReadsHandler (k : Keyword) (y z : Symbol) (tree : Option (Body ℕ)) 
   pub names : s'.names ≡ s.names
   pub starting : s'.starting ≡ s.starting
   pub numbered : MaybeNumbered s.names tree
-  pub spelled : (n : Names) → Extends s.names n → (ms : List Mark) → tokens ms ≡ new
+  pub spelled : (n : NamesInScope) → Extends s.names n → (ms : List Mark) → tokens ms ≡ new
       → old ≡ tokens (handler_marks k (option_map (written n) tree) ms)
   pub goes_on : (f : Pending) → tell s (y ∷ f) old ≡ tell s' (z ∷ f) new
 
@@ -86,7 +87,7 @@ pub record ReadsBody (tree : Body ℕ) (s s' : Scope) (old new : List Token) : T
   pub names : s'.names ≡ s.names
   pub starting : s'.starting ≡ s.starting
   pub numbered : IsNumbered s.names tree
-  pub spelled : (n : Names) → Extends s.names n → (ms : List Mark) → tokens ms ≡ new
+  pub spelled : (n : NamesInScope) → Extends s.names n → (ms : List Mark) → tokens ms ≡ new
       → old ≡ token.Keyword word.Body ∷ tokens (block_marks at_body (written n tree) ms)
   pub goes_on : (f : Pending) → tell s (machine.from_body ∷ f) old ≡ tell s' (machine.last_brace ∷ f) new
 
@@ -107,7 +108,7 @@ pub record ReadsCode (x : Name) (process : ℕ) (code : Code) (s s' : Scope) (ol
   pub goes_on : (xs : List Name) (f : Pending) → tell s (machine.codes x xs ∷ f) old ≡ tell s' (codes_form xs f) new
 
 -- with these names of a code instead of its own
-abbrev pub with_own : Names → (variables timers threads : List Name) → Names
+abbrev pub with_own : NamesInScope → (variables timers threads : List Name) → NamesInScope
 with_own n vs ts hs = record n { variables = vs; timers = ts; threads = hs }
 
 -- The text between the braces of a code is read, but for its last brace: the names of the event timers and callback
@@ -131,7 +132,7 @@ pub record ReadsContent (own_etimers own_ctimers : List Name) (starts : List ℕ
   pub on_poll_numbered : MaybeNumbered s'.names on_poll
   pub on_exit_numbered : MaybeNumbered s'.names on_exit
   pub body_numbered : IsNumbered s'.names body
-  pub spelled : (n : Names) → Extends s'.names n → (ms : List Mark) → tokens ms ≡ new →
+  pub spelled : (n : NamesInScope) → Extends s'.names n → (ms : List Mark) → tokens ms ≡ new →
       old ≡ tokens (variable_marks variables (etimer_marks etimers
       (ctimer_marks (all_written n ctimers) (thread_marks (all_written n threads)
       (handler_marks word.OnPoll (option_map (written n) on_poll)

@@ -4,7 +4,7 @@ use Rattle.program_tree.specs.Code.{Code, Tree}
 use Rattle.program_tree.specs.Faults.{Scope}
 use Rattle.program_tree.specs.Grammar.{Mark, tokens, codes_marks, event_marks, semaphore_marks}
 use Rattle.program_reader.specs.Head.{ReadsNames, ReadsValues, ReadsProcesses, ReadsAutostart, ReadsReceiver}
-use Rattle.program_tree.specs.InScope.{Names, outside}
+use Rattle.program_tree.specs.InScope.{NamesInScope, outside}
 use Rattle.program_reader.specs.Machine.{Pending, tell, codes_form, from_events, from_semaphores}
 use Rattle.program_tree.specs.Numbers.{named_of, values_of, inside, codes_in, timer_of}
 use Rattle.program_tree.specs.ProcessText.{code_of}
@@ -17,7 +17,7 @@ use Rattle.program_reader.specs.declared.scope.Scope.{Scope as ScopeRead}
 use Rattle.program_tree.specs.declared.timer.Timer.{Timer}
 
 -- the names in scope after some codes
-abbrev pub behind : Names → List CodeShape → Names
+abbrev pub behind : NamesInScope → List CodeShape → NamesInScope
 behind n [] = n
 behind n (c ∷ cs) = behind (outside (inside n c)) cs
 

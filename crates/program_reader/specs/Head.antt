@@ -5,7 +5,7 @@ use Rattle.std.specs.List.{All}
 use Rattle.program_tree.specs.Faults.{Scope}
 use Rattle.program_tree.specs.Grammar as role
 use Rattle.program_tree.specs.Grammar.{Mark, tokens, sign, named, starting_marks, autostart_marks, receiver_marks}
-use Rattle.program_tree.specs.InScope.{Names, with_new, is_in_scope, number_in, name_in}
+use Rattle.program_tree.specs.InScope.{NamesInScope, with_new, is_in_scope, number_in, name_in}
 use Rattle.program_reader.specs.Machine as machine
 use Rattle.program_reader.specs.Machine.{Symbol, Pending, tell, fault, first_broken, new_name}
 use Rattle.program_tree.specs.InScope.{place_of}
@@ -31,7 +31,7 @@ class_of_kind kind.Ctimer = a_timer
 class_of_kind kind.Thread = a_thread
 
 -- with other names in scope
-abbrev pub with_names : Scope → Names → Scope
+abbrev pub with_names : Scope → NamesInScope → Scope
 with_names s n = record s { names = n }
 
 -- with other processes in `autostart`
@@ -67,7 +67,7 @@ pub record IsValued (c : Class) (s s' : Scope) (values values' : List ℕ) (old 
       ≡ tell s' f new
 
 -- names are declared, one by one
-abbrev pub with_all : Names → Class → List Name → Names
+abbrev pub with_all : NamesInScope → Class → List Name → NamesInScope
 with_all names c [] = names
 with_all names c (x ∷ xs) = with_all (with_new names c x) c xs
 

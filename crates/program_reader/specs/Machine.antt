@@ -144,7 +144,7 @@ abbrev pub items_else_step : Context → Pending → Token → Step
 items_else_step c f (token.Keyword k) = else_step c k (beginning k) f
 items_else_step c f t = items_step c f t
 
--- The stages of a code. Each but the body may be passed over.
+-- The stages of a code. Each except the body may be passed over.
 
 abbrev pub body_step : Pending → Token → Step
 body_step f (token.Keyword word.Body) = take (key word.Body) (block at_body ∷ last_brace ∷ f)

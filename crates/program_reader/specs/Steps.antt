@@ -1,12 +1,12 @@
--- The result of reading one part of a program: its tokens are spelled by its marks, and the machine continues after it,
--- whatever comes then.
+-- The result of reading one part of a program: its tokens are spelled by its marks, and the machine continues after
+-- it, whatever follows.
 use Rattle.std.specs.Prelude.{◌≡◌, ℕ, ◌+◌, List, ◌∷◌, ◌++◌, Bool, true, false, ◌||◌, Option, Some, option_map, Result}
 use Rattle.std.specs.Prelude.{Err}
 pub use Rattle.program_tree.specs.Classes.{class_of}
 use Rattle.program_tree.specs.Faults.{Scope, is_other, is_own}
 use Rattle.program_tree.specs.Forms.{Beginning, no_statement, action, branches, loops, goes_on, beginning}
 use Rattle.program_tree.specs.Grammar.{Context, Mark, tokens}
-use Rattle.program_tree.specs.InScope.{Names, names_of, name_in, is_in_scope}
+use Rattle.program_tree.specs.InScope.{NamesInScope, names_of, name_in, is_in_scope}
 use Rattle.program_reader.specs.Machine.{Symbol, Pending, fault, tell, first, semicolon, equals, open_sign, close}
 use Rattle.program_reader.specs.Machine.{open_brace, expression, block, items, items_else, symbols_of}
 use Rattle.program_tree.specs.InScope.{place_of}
@@ -68,7 +68,7 @@ token_of_sign read_sign.OpenBrace = token.OpenBrace
 -- Names as they are looked up.
 
 -- the number of a name of a class
-abbrev pub look : Names → Class → Name → Option ℕ
+abbrev pub look : NamesInScope → Class → Name → Option ℕ
 look n a_timer x = option_map (λ i. n.first_timer + i) (place_of n.timers x)
 look n c x = place_of (names_of n c) x
 
@@ -77,18 +77,18 @@ is_own_thread own a_thread x = is_own own x
 is_own_thread own c x = false
 
 -- the name has this number, and isn't that of the thread that is being read
-pub record Finds (n : Names) (own : Option Name) (c : Class) (x : Name) (i : ℕ) : Type 0 where
+pub record Finds (n : NamesInScope) (own : Option Name) (c : Class) (x : Name) (i : ℕ) : Type 0 where
   pub found : look n c x ≡ Some i
   pub other : is_own_thread own c x ≡ false
 
 -- the first token is a name with this number
-pub record IsNamed (n : Names) (own : Option Name) (c : Class) (i : ℕ) (old : List Token) : Type 0 where
+pub record IsNamed (n : NamesInScope) (own : Option Name) (c : Class) (i : ℕ) (old : List Token) : Type 0 where
   pub name : Name
   pub here : first old ≡ Some (token.Name name)
   pub finds : Finds n own c name i
 
 -- the number of a name, if one of this class is expected
-abbrev pub IsFound : Names → Option Name → Class → Name → Found → Type 0
+abbrev pub IsFound : NamesInScope → Option Name → Class → Name → Found → Type 0
 IsFound n own c x found.Unknown = is_in_scope n x ≡ false
 IsFound n own c x found.Other = (is_in_scope n x ≡ true) × ((is_other n c x || is_own_thread own c x) ≡ true)
 IsFound n own c x (found.Here i) = Finds n own c x i
@@ -97,20 +97,20 @@ IsFound n own c x (found.Here i) = Finds n own c x i
 abbrev pub IsFront : List Name → List Name → Type 0
 IsFront xs ys = (more : List Name) × (ys ≡ xs ++ more)
 
-pub record Extends (n n' : Names) : Type 0 where
+pub record Extends (n n' : NamesInScope) : Type 0 where
   pub front : (c : Class) → IsFront (names_of n c) (names_of n' c)
   pub first_timer : n'.first_timer ≡ n.first_timer
 
 -- each number that a name is found to have is within
-abbrev pub Covers : Names → Option Name → Within → Type 0
+abbrev pub Covers : NamesInScope → Option Name → Within → Type 0
 Covers n own w = (c : Class) (x : Name) (i : ℕ) → Finds n own c x i → w c i ≡ true
 
 -- with its names put back and numbered again the tree is the same, whatever else is declared
-abbrev pub Numbered : {T : Type 0} → Names → (again : Names → T) → T → Type 0
-Numbered n again t = (n' : Names) → Extends n n' → again n' ≡ t
+abbrev pub Numbered : {T : Type 0} → NamesInScope → (again : NamesInScope → T) → T → Type 0
+Numbered n again t = (n' : NamesInScope) → Extends n n' → again n' ≡ t
 
 -- the names of the tree are in scope
-abbrev pub Fits : Names → Option Name → (fits : Within → Bool) → Type 0
+abbrev pub Fits : NamesInScope → Option Name → (fits : Within → Bool) → Type 0
 Fits n own fits = (w : Within) → Covers n own w → fits w ≡ true
 
 -- The parts that are read.
@@ -125,10 +125,10 @@ FailsSign y old result = (f : Fault) → result ≡ Err (refusal.Fault f) → (s
     → tell s (y ∷ more) old ≡ fault f.kind f.left
 
 -- a part whose marks, with the names put back, are these
-pub record Reads (s s' : Scope) (y : Symbol) (marks : Names → List Mark → List Mark) (old new : List Token) : Type 0
-  where
-    pub spelled : (n : Names) → Extends s.names n → (ms : List Mark) → tokens ms ≡ new → old ≡ tokens (marks n ms)
-    pub goes_on : (f : Pending) → tell s (y ∷ f) old ≡ tell s' f new
+pub record Reads (s s' : Scope) (y : Symbol) (marks : NamesInScope → List Mark → List Mark) (old new : List Token)
+    : Type 0 where
+  pub spelled : (n : NamesInScope) → Extends s.names n → (ms : List Mark) → tokens ms ≡ new → old ≡ tokens (marks n ms)
+  pub goes_on : (f : Pending) → tell s (y ∷ f) old ≡ tell s' f new
 
 -- if the result is a fault, it is the first one, whatever comes after the symbol
 abbrev pub Fails : {T : Type 0} → Scope → Symbol → List Token → Result T ReadFailure → Type 0
@@ -136,15 +136,15 @@ Fails s y old result = (f : Fault) → result ≡ Err (refusal.Fault f) → (mor
     → tell s (y ∷ more) old ≡ fault f.kind f.left
 
 -- a statement of a block, with the rest of the block still to be read
-pub record ReadsStatement (s s' : Scope) (c : Context) (marks : Names → List Mark → List Mark)
+pub record ReadsStatement (s s' : Scope) (c : Context) (marks : NamesInScope → List Mark → List Mark)
     (old new : List Token) : Type 0 where
-  pub spelled : (n : Names) → Extends s.names n → (ms : List Mark) → tokens ms ≡ new → old ≡ tokens (marks n ms)
+  pub spelled : (n : NamesInScope) → Extends s.names n → (ms : List Mark) → tokens ms ≡ new → old ≡ tokens (marks n ms)
   pub goes_on : (f : Pending) → tell s (items c ∷ f) old ≡ tell s' (items c ∷ f) new
 
 -- the part after the first block of an `if`
-pub record ReadsElse (s s' : Scope) (c : Context) (marks : Names → List Mark → List Mark) (old new : List Token) : Type
-    0 where
-  pub spelled : (n : Names) → Extends s.names n → (ms : List Mark) → tokens ms ≡ new → old ≡ tokens (marks n ms)
+pub record ReadsElse (s s' : Scope) (c : Context) (marks : NamesInScope → List Mark → List Mark) (old new : List Token)
+    : Type 0 where
+  pub spelled : (n : NamesInScope) → Extends s.names n → (ms : List Mark) → tokens ms ≡ new → old ≡ tokens (marks n ms)
   pub goes_on : (f : Pending) → tell s (items_else c ∷ f) old ≡ tell s' (items c ∷ f) new
 
 -- the kind of statement that the first token requires
@@ -177,7 +177,7 @@ pub record Begins (s s' : Scope) (c : Context) (k : Keyword) (old new : List Tok
 
 -- the variable that a statement assigns to is read, and the statement is counted
 pub record IsTarget (s s' : Scope) (c : Context) (i : ℕ) (old new : List Token) : Type 0 where
-  pub spelled : (n : Names) → Extends s.names n → old ≡ token.Name (name_in n a_variable i) ∷ new
+  pub spelled : (n : NamesInScope) → Extends s.names n → old ≡ token.Name (name_in n a_variable i) ∷ new
   pub goes_on : (f : Pending) → tell s (items c ∷ f) old ≡ tell s' (equals ∷ expression c ∷ semicolon ∷ items c ∷ f) new
 
 -- the part of the scope that statements don't change

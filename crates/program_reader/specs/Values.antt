@@ -2,7 +2,7 @@
 use Rattle.std.specs.Prelude.{◌≡◌, ℕ, List, ◌∷◌}
 use Rattle.program_tree.specs.Faults.{Scope}
 use Rattle.program_tree.specs.Grammar.{Context, Mark, tokens, sign, expression_marks}
-use Rattle.program_tree.specs.InScope.{Names, name_in}
+use Rattle.program_tree.specs.InScope.{NamesInScope, name_in}
 use Rattle.program_reader.specs.Machine.{Pending, tell, expression, operator, close}
 use Rattle.program_reader.specs.Steps.{Extends}
 use Rattle.program_tree.specs.Tokens as token
@@ -60,7 +60,7 @@ value_keyword value.Is = word.Is
 -- the two sides of an operator are read, and the sign that closes them
 pub record ReadsSides (s : Scope) (c : Context) (o : Operator) (a b : Expression ℕ) (old new : List Token) : Type 0
   where
-    pub spelled : (n : Names) → Extends s.names n → (ms : List Mark) → tokens ms ≡ new →
+    pub spelled : (n : NamesInScope) → Extends s.names n → (ms : List Mark) → tokens ms ≡ new →
         old ≡ tokens (expression_marks c (expression_map (name_in n) a)
         (sign (token.Op o) ∷ expression_marks c (expression_map (name_in n) b) (sign token.Close ∷ ms)))
     pub goes_on : (f : Pending) → tell s (expression c ∷ operator ∷ expression c ∷ close ∷ f) old ≡ tell s f new

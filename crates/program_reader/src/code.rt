@@ -50,7 +50,7 @@ impl Cursor<'_> {
         self.sign(Sign::OpenBrace)
     }
 
-    /// The same for a process, by its number.
+    /// The keyword and the name of the code of a process, by its number, and the opening brace.
     fn opening_of(&mut self, scope: &Scope, process: usize) -> Result<(), ReadFailure>
         requires process_exists { process < length scope.now.processes }
         ensures ok { OnOk result ((s : faults.Scope) → ReadsOpening (slice_index_or scope.now.processes process []) s

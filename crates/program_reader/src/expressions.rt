@@ -33,7 +33,7 @@ struct Sides {
     right: Expr,
 }
 
-/// By hand, so that two sides are dropped by one call.
+/// Implemented by hand: the check of a function that owns two sides then sees only one call for its drop.
 impl Drop for Sides {
     fn drop(self) {
         let Sides {
@@ -78,7 +78,7 @@ impl Cursor<'_> {
 }
 
 impl Reader<'_> {
-    /// A keyword that asks about something, and after it in parentheses its name.
+    /// A keyword that asks about something, followed by a name in parentheses.
     #[tactic(auto, using(crate::proofs::ExpressionSteps::word_steps))]
     fn question(&mut self, place: &Context, telling: Telling) -> Result<Expr, ReadFailure>
         requires at_keyword { first self.old.cursor ≡ Some (token.Keyword (telling_keyword telling)) }
@@ -92,7 +92,7 @@ impl Reader<'_> {
         Ok(telling.value(number))
     }
 
-    /// `is`, and after it in parentheses an event.
+    /// `is`, followed by an event in parentheses.
     #[tactic(auto, using(crate::proofs::ExpressionSteps::word_steps))]
     fn is(&mut self, place: &Context) -> Result<Expr, ReadFailure>
         requires at_keyword { first self.old.cursor ≡ Some (token.Keyword Keyword.Is) }

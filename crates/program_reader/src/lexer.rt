@@ -19,7 +19,7 @@ pub(crate) struct Lexed<'a> {
     pub(crate) lines: Vec<usize>,
 }
 
-/// The beginning of a text: the length of a piece, and its token if it is one.
+/// The first piece of a text: its length, and its token, if it isn't blank or a comment.
 #[derive(Clone, Copy)]
 struct Front<'a> {
     token: Option<Token<'a>>,

@@ -11,7 +11,7 @@ use program_tree::class::Class;
 use program_tree::keyword::Keyword;
 use program_tree::tree::{Action, Expr};
 
-/// A statement that is its keyword alone.
+/// A statement that consists only of its keyword.
 #[derive(Clone, Copy)]
 pub(crate) enum Bare {
     Yield,
@@ -44,7 +44,7 @@ pub(crate) enum About {
     Stop,
 }
 
-/// Any of them.
+/// A statement of any of these forms.
 #[derive(Clone, Copy)]
 pub(crate) enum Plain {
     Bare(Bare),

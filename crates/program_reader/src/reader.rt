@@ -16,7 +16,7 @@ use crate::fault::ReadFailure;
 use crate::scope::{Context, Found, Scope};
 use program_tree::class::Class;
 use program_tree::error::ReadErrorKind;
-use program_tree::event_name::{AnyEvent, CastEvent, DeclaredEvent, SentEvent};
+use program_tree::event_name::{BroadcastEvent, DeclaredEvent, PostedEvent, TestedEvent};
 use program_tree::keyword::Keyword;
 use program_tree::token::Token;
 use std::alloc::Global;
@@ -73,7 +73,7 @@ impl Reader<'_> {
 
     /// An event that may be broadcast.
     #[tactic(auto, using(crate::proofs::EventSteps::cast_name, crate::proofs::EventSteps::key_reads))]
-    pub(crate) fn cast(&mut self, place: &Context) -> Result<CastEvent, ReadFailure>
+    pub(crate) fn cast(&mut self, place: &Context) -> Result<BroadcastEvent, ReadFailure>
         ensures no_longer { length self.new.cursor ≤ length self.old.cursor }
         ensures same { self.new.scope ≡ self.old.scope }
         ensures ok { IfOk result (λ e. Reads (scope_of self.old.scope) (scope_of self.old.scope)
@@ -89,30 +89,30 @@ impl Reader<'_> {
         match self.cursor.peek() {
             Some(Token::Name(_)) => {
                 let place = self.name(place, Class::Event)?;
-                Ok(CastEvent::Declared(DeclaredEvent { place }))
+                Ok(BroadcastEvent::Declared(DeclaredEvent { place }))
             }
             Some(Token::Keyword(Keyword::Continue)) => {
                 self.cursor.advance();
-                Ok(CastEvent::Continue)
+                Ok(BroadcastEvent::Continue)
             }
             Some(Token::Keyword(Keyword::Msg)) => {
                 self.cursor.advance();
-                Ok(CastEvent::Msg)
+                Ok(BroadcastEvent::Msg)
             }
             Some(Token::Keyword(Keyword::Com)) => {
                 self.cursor.advance();
-                Ok(CastEvent::Com)
+                Ok(BroadcastEvent::Com)
             }
             Some(Token::Keyword(Keyword::Packet)) => {
                 self.cursor.advance();
-                Ok(CastEvent::Packet)
+                Ok(BroadcastEvent::Packet)
             }
             _ => Err(self.cursor.unfit()),
         }
     }
 
     /// An event that may be posted to one process.
-    pub(crate) fn sent(&mut self, place: &Context) -> Result<SentEvent, ReadFailure>
+    pub(crate) fn sent(&mut self, place: &Context) -> Result<PostedEvent, ReadFailure>
         ensures no_longer { length self.new.cursor ≤ length self.old.cursor }
         ensures same { self.new.scope ≡ self.old.scope }
         ensures ok { IfOk result (λ e. Reads (scope_of self.old.scope) (scope_of self.old.scope)
@@ -128,14 +128,14 @@ impl Reader<'_> {
         match self.cursor.peek() {
             Some(Token::Keyword(Keyword::Exit)) => {
                 self.cursor.advance();
-                Ok(SentEvent::Exit)
+                Ok(PostedEvent::Exit)
             }
-            _ => Ok(SentEvent::Cast(self.cast(place)?)),
+            _ => Ok(PostedEvent::Cast(self.cast(place)?)),
         }
     }
 
     /// An event that a process may get.
-    pub(crate) fn any(&mut self, place: &Context) -> Result<AnyEvent, ReadFailure>
+    pub(crate) fn any(&mut self, place: &Context) -> Result<TestedEvent, ReadFailure>
         ensures no_longer { length self.new.cursor ≤ length self.old.cursor }
         ensures same { self.new.scope ≡ self.old.scope }
         ensures ok { IfOk result (λ e. Reads (scope_of self.old.scope) (scope_of self.old.scope)
@@ -151,21 +151,21 @@ impl Reader<'_> {
         match self.cursor.peek() {
             Some(Token::Keyword(Keyword::Init)) => {
                 self.cursor.advance();
-                Ok(AnyEvent::Init)
+                Ok(TestedEvent::Init)
             }
             Some(Token::Keyword(Keyword::Poll)) => {
                 self.cursor.advance();
-                Ok(AnyEvent::Poll)
+                Ok(TestedEvent::Poll)
             }
             Some(Token::Keyword(Keyword::Exited)) => {
                 self.cursor.advance();
-                Ok(AnyEvent::Exited)
+                Ok(TestedEvent::Exited)
             }
             Some(Token::Keyword(Keyword::Timer)) => {
                 self.cursor.advance();
-                Ok(AnyEvent::Timer)
+                Ok(TestedEvent::Timer)
             }
-            _ => Ok(AnyEvent::Sent(self.sent(place)?)),
+            _ => Ok(TestedEvent::Sent(self.sent(place)?)),
         }
     }
 }

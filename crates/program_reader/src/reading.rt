@@ -11,19 +11,19 @@ use program_tree::error::{ReadError, ReadErrorKind};
 use program_tree::program::Program;
 use std::alloc::Global;
 
-/// The program of a text, or its reported error: the one at the earliest token; of several there, the one with the
-/// least number. The time is linear in the length of the text, apart from looking names up.
+/// The program of a text, or its reported error: the one at the earliest token, and among several there, the one with
+/// the least number. The time is linear in the length of the text, apart from looking names up.
 ///
 /// A program has at most 64 processes, 117 events, 64 semaphores and 64 timers, each process at most 64 variables and
-/// 7 threads. It has at most 4,096 statements, counted by their first tokens over all blocks, and at most 32 levels of
-/// nested blocks and expressions, of which the body is the first.
+/// 7 threads. All blocks together have at most 4,096 statements, counted by their first tokens. Blocks and expressions
+/// are nested at most 32 levels deep, of which the body is the first.
 ///
 /// # Errors
 ///
 /// The reported error, with the line of its token; `Memory` with line 0 if an allocation failed.
 pub fn read(alloc: Global, text: &str) -> Result<Program, ReadError>
     ensures ok { IfOk result (λ p. IsTreeOf text.now (tree_of p)) }
-    ensures told { (e : ReadError) → result ≡ Err e → (e.kind ≡ ReadErrorKind.Memory → ⊥)
+    ensures recounted { (e : ReadError) → result ≡ Err e → (e.kind ≡ ReadErrorKind.Memory → ⊥)
         → IsErrorOf text.now e.kind e.line }
     ensures memory { (e : ReadError) → result ≡ Err e → e.kind ≡ ReadErrorKind.Memory → e.line ≡ 0 }
     ensures only { (t : Tree) → IsTreeOf text.now t → IfOk result (λ p. tree_of p ≡ t) }

@@ -8,8 +8,8 @@ use std::alloc::Global;
 /// The greatest depth of nested blocks and expressions.
 pub(crate) const LEVELS: usize = 32;
 
-/// The thing that a name refers to, if one of some class is expected: nothing; something of the class, by its number;
-/// or something else.
+/// The thing that a name refers to, if a certain class is expected: nothing; something of this class, by its number;
+/// or something of another class.
 #[derive(Clone, Copy)]
 pub(crate) enum Found {
     Unknown,

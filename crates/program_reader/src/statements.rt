@@ -153,7 +153,7 @@ impl Reader<'_> {
         }
     }
 
-    /// A statement that is its keyword alone.
+    /// A statement that consists only of its keyword.
     fn bare(&mut self, place: &Context, bare: Bare) -> Result<Action, ReadFailure>
         requires at_keyword { first self.old.cursor ≡ Some (token.Keyword (bare_keyword bare)) }
         ensures answers_action { AnswersAction self.old self.new place.now result }
@@ -195,8 +195,8 @@ impl Reader<'_> {
         let process = self.name(place, Class::Process)?;
         let event = self.sent(place)?;
         let word = self.expression(place)?;
-        let told = self.into_end(place)?;
-        Ok(Action::Post(process, event, word, told))
+        let recounted = self.into_end(place)?;
+        Ok(Action::Post(process, event, word, recounted))
     }
 
     fn broadcast(&mut self, place: &Context) -> Result<Action, ReadFailure>
@@ -207,8 +207,8 @@ impl Reader<'_> {
         self.begin(place, Keyword::Broadcast)?;
         let event = self.cast(place)?;
         let word = self.expression(place)?;
-        let told = self.into_end(place)?;
-        Ok(Action::Broadcast(event, word, told))
+        let recounted = self.into_end(place)?;
+        Ok(Action::Broadcast(event, word, recounted))
     }
 
     fn synch(&mut self, place: &Context) -> Result<Action, ReadFailure>

@@ -19,7 +19,7 @@ pub(crate) enum Alone {
     Mote,
 }
 
-/// A keyword that asks about what is named in parentheses after it.
+/// A keyword that asks about the thing named in the parentheses after it.
 #[derive(Clone, Copy)]
 pub(crate) enum Telling {
     Fired,
@@ -29,7 +29,7 @@ pub(crate) enum Telling {
     Count,
 }
 
-/// Any of them.
+/// A keyword of any of these kinds.
 #[derive(Clone, Copy)]
 pub(crate) enum ValueWord {
     Alone(Alone),

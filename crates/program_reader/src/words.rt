@@ -11,7 +11,7 @@ ghost use Rattle.program_tree.specs.Words as spec;
 use program_tree::keyword::Keyword;
 use program_tree::token::Token;
 
-/// A text and the token that it is.
+/// A text and its token.
 pub(crate) type Entry<'a> = (&'a [u8], Token<'a>);
 
 /// The value that numbers above 65,535 count as.
@@ -95,7 +95,7 @@ fn are_digits(word: &[u8]) -> bool
     word.iter().all(|byte| byte.is_ascii_digit())
 }
 
-/// Digits alone, without a leading zero unless it is `0` itself.
+/// Only digits, without a leading zero unless it is `0` itself.
 fn is_number(word: &[u8]) -> bool
     ensures number { result ≡ spec.is_number word.now }
     ensures digits { result ≡ true → list_all is_ascii_digit word.now ≡ true }

@@ -101,10 +101,10 @@ emits_branch c e a o after then other old mid last new same then_is other_is pus
           let is_other = for_other all left right rest is in
           let in_there = there_inner left rest there in
           let other_there = there_other left rest there in
-          let stands : rest_in all (length old) ≡ s ∷ rest = statement_enters s all left right rest (length old) (is ∙ append_assoc left (statement_rests s rest) right) there in
+          let in_state : rest_in all (length old) ≡ s ∷ rest = statement_enters s all left right rest (length old) (is ∙ append_assoc left (statement_rests s rest) right) there in
           let P : List (Statement ℕ) → Type 0 = λ here. Branches (rest_in all) (expression_of e) then other here in
           let first : P (rest_in all (length old)) =
-          subst P (sym stands) (
+          subst P (sym in_state) (
             sym same,
             ap (λ n. rest_in all n) then_is ∙ enters a all _ _ rest (length old + 1) after is_inner in_there follows,
             ap (λ n. rest_in all n) other_is ∙ other_enters o all _ _ rest (length old + 1 + size a) after is_other other_there follows,
@@ -144,11 +144,11 @@ emits_while c e a after place body old mid new same here body_is pushed q =
           λ all left right rest is there follows.
           let is_inner = for_inner all left right rest is in
           let in_there = there_inner left rest there in
-          let stands : rest_in all (length old) ≡ s ∷ rest = statement_enters s all left right rest (length old) (is ∙ append_assoc left (statement_rests s rest) right) there in
-          let again : rest_in all place ≡ s ∷ rest = ap (λ n. rest_in all n) here ∙ stands in
+          let in_state : rest_in all (length old) ≡ s ∷ rest = statement_enters s all left right rest (length old) (is ∙ append_assoc left (statement_rests s rest) right) there in
+          let again : rest_in all place ≡ s ∷ rest = ap (λ n. rest_in all n) here ∙ in_state in
           let P : List (Statement ℕ) → Type 0 = λ here. Loops (rest_in all) (expression_of e) body after here in
           let loops : P (rest_in all (length old)) =
-          subst P (sym stands)
+          subst P (sym in_state)
           (sym same, follows, ap (λ n. rest_in all n) body_is ∙ enters a all _ _ (s ∷ rest) (length old + 1) place is_inner in_there again) in
           (loops, subst (λ n. LeadFrom all n q.more) (sym count_mid) (q.leads all _ _ (s ∷ rest) is_inner (in_there ∙ count_mid) again));
     }

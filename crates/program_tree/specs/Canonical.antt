@@ -126,14 +126,14 @@ ends_line token.CloseBrace rest = true
 ends_line t rest = false
 
 -- there is no space between the token and the next one
-abbrev pub stands_close : Token → List Token → Bool
-stands_close token.Open rest = true
-stands_close token.Bang rest = true
-stands_close t (token.Semicolon ∷ rest) = true
-stands_close t (token.Comma ∷ rest) = true
-stands_close t (token.Close ∷ rest) = true
-stands_close (token.Keyword k) (token.Open ∷ rest) = tells k
-stands_close t rest = false
+abbrev pub is_close : Token → List Token → Bool
+is_close token.Open rest = true
+is_close token.Bang rest = true
+is_close t (token.Semicolon ∷ rest) = true
+is_close t (token.Comma ∷ rest) = true
+is_close t (token.Close ∷ rest) = true
+is_close (token.Keyword k) (token.Open ∷ rest) = tells k
+is_close t rest = false
 
 -- the depth of a line that begins with these tokens: a closing brace is indented as the line that opened it
 abbrev pub line_depth : (braces : ℕ) → List Token → ℕ
@@ -149,7 +149,7 @@ indentation (suc n) = codes "  " ++ indentation n
 abbrev pub gap : (braces : ℕ) → Token → (rest : List Token) → List ℕ
 gap braces t rest =
     if ends_line t rest then 10 ∷ indentation (line_depth braces rest)
-    else if stands_close t rest then []
+    else if is_close t rest then []
     else codes " "
 
 -- the text of tokens, with this many braces open before them

@@ -1,8 +1,8 @@
--- Which tokens are a program, and the first fault of those that are not.
+-- The tokens of programs, and the first fault of tokens that are not a program.
 use Rattle.std.specs.Prelude.{◌≡◌, ℕ, ◌+◌, ◌<◌, nat_lt, nat_le, List, [], ◌∷◌, ◌++◌, length, Bool, true, false, not}
 use Rattle.std.specs.Prelude.{◌&&◌, ◌||◌, IsTrue, Option, Some, None, ◌⊎◌}
 use Rattle.std.specs.Str.{bytes_eq}
-use Rattle.program_tree.specs.InScope.{Names, no_names, with_new, outside, is_a, is_among, is_in_scope}
+use Rattle.program_tree.specs.InScope.{NamesInScope, no_names, with_new, outside, is_a, is_among, is_in_scope}
 use Rattle.program_tree.specs.Grammar.{Role, new, uses, spawns, starts, value, opens, leaves, Begun, none_begins}
 use Rattle.program_tree.specs.Grammar.{statement, wait, Mark, tokens, program_marks}
 use Rattle.program_tree.specs.Kinds.{kind_number}
@@ -18,7 +18,7 @@ use Rattle.program_tree.specs.declared.error.ReadErrorKind.TheVariants.{TooMany,
 
 -- the names in scope after some marks, those that `autostart` lists, and how many statements have begun
 pub record Scope : Type 0 where
-  pub names : Names
+  pub names : NamesInScope
   pub starting : List Name
   pub statements : ℕ
 
@@ -47,7 +47,7 @@ abbrev pub scope_of : List Mark → Scope
 scope_of ms = scope_from nothing_yet ms
 
 -- no further name of this class may be declared
-abbrev pub is_full : Names → Class → Bool
+abbrev pub is_full : NamesInScope → Class → Bool
 is_full n an_event = nat_le 117 (length n.events)
 is_full n a_semaphore = nat_le 64 (length n.semaphores)
 is_full n a_process = nat_le 64 (length n.processes)
@@ -56,7 +56,7 @@ is_full n a_timer = nat_le 64 (n.first_timer + length n.timers)
 is_full n a_thread = nat_le 7 (length n.threads)
 
 -- a name in scope, but of another class than is expected
-abbrev pub is_other : Names → Class → Name → Bool
+abbrev pub is_other : NamesInScope → Class → Name → Bool
 is_other n c x = is_in_scope n x && not (is_a n c x)
 
 abbrev pub is_own : Option Name → Name → Bool

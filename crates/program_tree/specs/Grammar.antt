@@ -4,7 +4,7 @@ use Rattle.program_tree.specs.Forms as form
 use Rattle.program_tree.specs.Forms.{Operand, Form, ends, tells, takes, values, Beginning, action, beginning, waits}
 use Rattle.program_tree.specs.Forms.{Word, no_value, alone, tells_of, word_of}
 use Rattle.program_tree.specs.EventNames as event
-use Rattle.program_tree.specs.EventNames.{CastEvent, SentEvent, AnyEvent}
+use Rattle.program_tree.specs.EventNames.{BroadcastEvent, PostedEvent, TestedEvent}
 use Rattle.program_tree.specs.Shapes.{Name, OperandShape, WordShape, FormShape, ActionShape, Valued, Named, CodeShape}
 use Rattle.program_tree.specs.Shapes.{ProgramShape}
 use Rattle.program_tree.specs.Tokens as token
@@ -104,18 +104,18 @@ abbrev pub used : Context → Class → Name → Role
 used c a_thread x = spawns c.thread x
 used c k x = uses k x
 
-abbrev pub cast_mark : CastEvent Name → Mark
+abbrev pub cast_mark : BroadcastEvent Name → Mark
 cast_mark event.continue = key word.Continue
 cast_mark event.msg = key word.Msg
 cast_mark event.«com» = key word.Com
 cast_mark event.packet = key word.Packet
 cast_mark (event.declared x) = named x (uses an_event x)
 
-abbrev pub sent_mark : SentEvent Name → Mark
+abbrev pub sent_mark : PostedEvent Name → Mark
 sent_mark (event.cast e) = cast_mark e
 sent_mark event.exit = key word.Exit
 
-abbrev pub any_mark : AnyEvent Name → Mark
+abbrev pub any_mark : TestedEvent Name → Mark
 any_mark (event.sent e) = sent_mark e
 any_mark event.init = key word.Init
 any_mark event.poll = key word.Poll

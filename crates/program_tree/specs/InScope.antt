@@ -11,7 +11,7 @@ place_of names x = position (λ y. bytes_eq x y) names
 
 -- Each list is in the order of declaration. Variables, timers and threads are those of one code; `first_timer` is how
 -- many timers the program has before them.
-pub record Names : Type 0 where
+pub record NamesInScope : Type 0 where
   pub events : List Name
   pub semaphores : List Name
   pub processes : List Name
@@ -20,7 +20,7 @@ pub record Names : Type 0 where
   pub timers : List Name
   pub threads : List Name
 
-abbrev pub no_names : Names
+abbrev pub no_names : NamesInScope
 no_names = record {
   events = [];
   semaphores = [];
@@ -31,7 +31,7 @@ no_names = record {
   threads = [];
 }
 
-abbrev pub names_of : Names → Class → List Name
+abbrev pub names_of : NamesInScope → Class → List Name
 names_of n an_event = n.events
 names_of n a_semaphore = n.semaphores
 names_of n a_process = n.processes
@@ -40,7 +40,7 @@ names_of n a_timer = n.timers
 names_of n a_thread = n.threads
 
 -- with one more name
-abbrev pub with_new : Names → Class → Name → Names
+abbrev pub with_new : NamesInScope → Class → Name → NamesInScope
 with_new n an_event x = record n { events = n.events ++ x ∷ [] }
 with_new n a_semaphore x = record n { semaphores = n.semaphores ++ x ∷ [] }
 with_new n a_process x = record n { processes = n.processes ++ x ∷ [] }
@@ -49,16 +49,16 @@ with_new n a_timer x = record n { timers = n.timers ++ x ∷ [] }
 with_new n a_thread x = record n { threads = n.threads ++ x ∷ [] }
 
 -- after a code, whose own names are no longer in scope
-abbrev pub outside : Names → Names
+abbrev pub outside : NamesInScope → NamesInScope
 outside n = record n { variables = []; first_timer = n.first_timer + length n.timers; timers = []; threads = [] }
 
 abbrev pub is_among : List Name → Name → Bool
 is_among names x = is_some (place_of names x)
 
-abbrev pub is_a : Names → Class → Name → Bool
+abbrev pub is_a : NamesInScope → Class → Name → Bool
 is_a n c x = is_among (names_of n c) x
 
-abbrev pub is_in_scope : Names → Name → Bool
+abbrev pub is_in_scope : NamesInScope → Name → Bool
 is_in_scope n x = is_a n an_event x || is_a n a_semaphore x || is_a n a_process x || is_a n a_variable x
     || is_a n a_timer x || is_a n a_thread x
 
@@ -68,11 +68,11 @@ abbrev pub or_zero : Option ℕ → ℕ
 or_zero None = 0
 or_zero (Some i) = i
 
-abbrev pub number_in : Names → Class → Name → ℕ
+abbrev pub number_in : NamesInScope → Class → Name → ℕ
 number_in n a_timer x = n.first_timer + or_zero (place_of n.timers x)
 number_in n c x = or_zero (place_of (names_of n c) x)
 
 -- the name with a number
-abbrev pub name_in : Names → Class → ℕ → Name
+abbrev pub name_in : NamesInScope → Class → ℕ → Name
 name_in n a_timer i = slice_index_or n.timers (i - n.first_timer) []
 name_in n c i = slice_index_or (names_of n c) i []

@@ -1,13 +1,14 @@
 -- The meaning of the types of sources: their trees.
 use Rattle.std.specs.Prelude.{ℕ, List, [], ◌∷◌, map, Option, Some, None}
-use Rattle.program_tree.specs.declared.event_name.CastEvent.{CastEvent as CastRead}
-use Rattle.program_tree.specs.declared.event_name.CastEvent.TheVariants as cast_read
-use Rattle.program_tree.specs.declared.event_name.SentEvent.{SentEvent as SentRead}
-use Rattle.program_tree.specs.declared.event_name.SentEvent.TheVariants as sent_read
-use Rattle.program_tree.specs.declared.event_name.AnyEvent.{AnyEvent as AnyRead}
-use Rattle.program_tree.specs.declared.event_name.AnyEvent.TheVariants as any_read
-use Rattle.program_tree.specs.EventNames.{CastEvent, continue, msg, «com», packet, declared, SentEvent, cast, exit}
-use Rattle.program_tree.specs.EventNames.{AnyEvent, sent, init, poll, exited, timer}
+use Rattle.program_tree.specs.declared.event_name.BroadcastEvent.{BroadcastEvent as CastRead}
+use Rattle.program_tree.specs.declared.event_name.BroadcastEvent.TheVariants as cast_read
+use Rattle.program_tree.specs.declared.event_name.PostedEvent.{PostedEvent as SentRead}
+use Rattle.program_tree.specs.declared.event_name.PostedEvent.TheVariants as sent_read
+use Rattle.program_tree.specs.declared.event_name.TestedEvent.{TestedEvent as AnyRead}
+use Rattle.program_tree.specs.declared.event_name.TestedEvent.TheVariants as any_read
+use Rattle.program_tree.specs.EventNames.{BroadcastEvent, continue, msg, «com», packet, declared}
+use Rattle.program_tree.specs.EventNames.{PostedEvent, cast, exit}
+use Rattle.program_tree.specs.EventNames.{TestedEvent, sent, init, poll, exited, timer}
 use Rattle.program_tree.specs.declared.tree.Expr.{Expr, Number, Variable, Word, Sender, Moment, Mote, Is, Fired}
 use Rattle.program_tree.specs.declared.tree.Expr.{Expired, Gone, Running, Count, Not', Binary'}
 use Rattle.program_tree.specs.declared.tree.Action.{Action as ActionRead}
@@ -24,18 +25,18 @@ use Rattle.program_tree.specs.Tree.{broadcast, synch, poll, start, kill, set, re
 use Rattle.program_tree.specs.Tree.{does, branch, while, Body, end, next, Otherwise, nothing, otherwise}
 
 -- the meaning of the types of `src/event_name.rt`
-abbrev pub cast_of : CastRead → CastEvent ℕ
+abbrev pub cast_of : CastRead → BroadcastEvent ℕ
 cast_of cast_read.Continue = continue
 cast_of cast_read.Msg = msg
 cast_of cast_read.Com = «com»
 cast_of cast_read.Packet = packet
 cast_of (cast_read.Declared e) = declared e.place
 
-abbrev pub sent_of : SentRead → SentEvent ℕ
+abbrev pub sent_of : SentRead → PostedEvent ℕ
 sent_of (sent_read.Cast e) = cast (cast_of e)
 sent_of sent_read.Exit = exit
 
-abbrev pub any_of : AnyRead → AnyEvent ℕ
+abbrev pub any_of : AnyRead → TestedEvent ℕ
 any_of (any_read.Sent e) = sent (sent_of e)
 any_of any_read.Init = init
 any_of any_read.Poll = poll

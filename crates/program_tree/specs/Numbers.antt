@@ -1,12 +1,12 @@
 -- The tree of a shape: each name replaced by its number.
 use Rattle.std.specs.Prelude.{ℕ, ◌+◌, List, [], ◌∷◌, ◌++◌, map, option_map, Bool, true, false}
 use Rattle.program_tree.specs.Code.{Code, Tree}
-use Rattle.program_tree.specs.InScope.{Names, no_names, number_in, outside}
+use Rattle.program_tree.specs.InScope.{NamesInScope, no_names, number_in, outside}
 use Rattle.program_tree.specs.Shapes.{Name, CodeShape, ProgramShape}
 use Rattle.program_tree.specs.Tree.{a_process, Body, body_map}
 use Rattle.program_tree.specs.declared.timer.Timer.{Timer}
 
-abbrev pub block_in : Names → Body Name → Body ℕ
+abbrev pub block_in : NamesInScope → Body Name → Body ℕ
 block_in n b = body_map (number_in n) b
 
 abbrev pub named_of : {T : Type 0} → List (Name × T) → List Name
@@ -19,11 +19,11 @@ abbrev pub timers_of : CodeShape → List Name
 timers_of c = c.etimers ++ named_of c.ctimers
 
 -- the names of the program, with all names of a code
-abbrev pub inside : Names → CodeShape → Names
+abbrev pub inside : NamesInScope → CodeShape → NamesInScope
 inside n c = record n { variables = named_of c.variables; timers = timers_of c; threads = named_of c.threads }
 
 -- the tree of the code of a process, over these names
-abbrev pub code_in : (process : ℕ) → Names → CodeShape → Code
+abbrev pub code_in : (process : ℕ) → NamesInScope → CodeShape → Code
 code_in k n c = record {
   number = k;
   variables = named_of c.variables;
@@ -39,7 +39,7 @@ code_in k n c = record {
   body = block_in n c.body;
 }
 
-abbrev pub codes_in : (process : ℕ) → Names → List CodeShape → List Code
+abbrev pub codes_in : (process : ℕ) → NamesInScope → List CodeShape → List Code
 codes_in k n [] = []
 codes_in k n (c ∷ cs) = code_in k (inside n c) c ∷ codes_in (k + 1) (outside (inside n c)) cs
 
@@ -56,7 +56,7 @@ abbrev pub codes_of : ProgramShape → List CodeShape
 codes_of p = p.first.1 ∷ values_of p.others
 
 -- the names of the whole program
-abbrev pub program_names : ProgramShape → Names
+abbrev pub program_names : ProgramShape → NamesInScope
 program_names p = record no_names {
   events = p.events;
   semaphores = named_of p.semaphores;

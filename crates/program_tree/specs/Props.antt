@@ -1,7 +1,7 @@
 -- The statements of the ghost fields have at most one proof.
 use Rattle.std.specs.Prelude.{ℕ, List, [], ◌∷◌}
 use Rattle.std.proofs.Props.{props}
-use Rattle.program_tree.specs.EventNames.{CastEvent, SentEvent, AnyEvent}
+use Rattle.program_tree.specs.EventNames.{BroadcastEvent, PostedEvent, TestedEvent}
 use Rattle.program_tree.specs.declared.tree.Operator.{Operator}
 use Rattle.program_tree.specs.declared.instruction.Instruction.{Instruction}
 use Rattle.program_tree.specs.declared.instruction.Instruction.TheVariants.{Act, Branch, Loop}
@@ -9,13 +9,13 @@ use Rattle.program_tree.specs.Tree.{Expression, Action, Statement, Body, does, b
 use Rattle.program_tree.specs.Tree.{Statement-set}
 use Rattle.program_tree.specs.Flat.{Branches, Loops, Leads, IsFlat}
 
-cast_set : IsSet (CastEvent ℕ)
+cast_set : IsSet (BroadcastEvent ℕ)
 cast_set = hlevel props
 
-sent_set : IsSet (SentEvent ℕ)
+sent_set : IsSet (PostedEvent ℕ)
 sent_set = hlevel (props, cast_set)
 
-any_set : IsSet (AnyEvent ℕ)
+any_set : IsSet (TestedEvent ℕ)
 any_set = hlevel (props, sent_set)
 
 operator_set : IsSet Operator

@@ -1,7 +1,7 @@
--- Trees whose numbers all have a meaning, given which numbers of each class have one.
+-- Trees in which each number has a meaning, given the numbers of each class that have one.
 use Rattle.std.specs.Prelude.{ℕ, ◌+◌, nat_lt, Bool, true, ◌&&◌, List, [], ◌∷◌, Option, None, Some}
 use Rattle.program_tree.specs.EventNames as event
-use Rattle.program_tree.specs.EventNames.{CastEvent, SentEvent, AnyEvent}
+use Rattle.program_tree.specs.EventNames.{BroadcastEvent, PostedEvent, TestedEvent}
 use Rattle.program_tree.specs.Tree.{Class, an_event, a_semaphore, a_process, a_variable, a_timer, a_thread, Expression}
 use Rattle.program_tree.specs.Tree.{variable, is, fired, expired, gone, running, count, negation, binary, Action}
 use Rattle.program_tree.specs.Tree.{assign, print, send, wait_until, wait_while, yield, yield_until, spawn, restart}
@@ -13,15 +13,15 @@ use Rattle.program_tree.specs.Tree.{Otherwise, nothing, otherwise}
 abbrev pub Within : Type 0
 Within = Class → ℕ → Bool
 
-abbrev pub cast_fits : Within → CastEvent ℕ → Bool
+abbrev pub cast_fits : Within → BroadcastEvent ℕ → Bool
 cast_fits w (event.declared i) = w an_event i
 cast_fits w e = true
 
-abbrev pub sent_fits : Within → SentEvent ℕ → Bool
+abbrev pub sent_fits : Within → PostedEvent ℕ → Bool
 sent_fits w (event.cast e) = cast_fits w e
 sent_fits w event.exit = true
 
-abbrev pub any_fits : Within → AnyEvent ℕ → Bool
+abbrev pub any_fits : Within → TestedEvent ℕ → Bool
 any_fits w (event.sent e) = sent_fits w e
 any_fits w e = true
 

@@ -4,16 +4,16 @@ use Rattle.std.specs.List.{zip}
 use Rattle.program_tree.specs.Canonical.{canonical_text}
 use Rattle.program_tree.specs.Code.{Code, Tree}
 use Rattle.program_tree.specs.Grammar.{tokens, program_marks}
-use Rattle.program_tree.specs.InScope.{Names, no_names, name_in}
+use Rattle.program_tree.specs.InScope.{NamesInScope, no_names, name_in}
 use Rattle.program_tree.specs.Shapes.{Name, CodeShape, ProgramShape}
 use Rattle.program_tree.specs.Tokens.{Token}
 use Rattle.program_tree.specs.Tree.{a_process, Body, end, body_map}
 
 -- the names of the whole program, and all names that are in scope in one of its codes
-abbrev pub names_of_tree : Tree → Names
+abbrev pub names_of_tree : Tree → NamesInScope
 names_of_tree t = record no_names { events = t.events; semaphores = t.semaphores; processes = t.processes }
 
-abbrev pub names_of_code : Names → Code → Names
+abbrev pub names_of_code : NamesInScope → Code → NamesInScope
 names_of_code n c = record n {
   variables = c.variables;
   first_timer = c.first_timer;
@@ -21,11 +21,11 @@ names_of_code n c = record n {
   threads = c.threads;
 }
 
-abbrev pub block_with : Names → Body ℕ → Body Name
+abbrev pub block_with : NamesInScope → Body ℕ → Body Name
 block_with n b = body_map (name_in n) b
 
 -- the shape of a code, over all names that are in scope in it
-abbrev pub code_with : Names → Code → CodeShape
+abbrev pub code_with : NamesInScope → Code → CodeShape
 code_with n c = record {
   variables = zip c.variables c.starts;
   etimers = c.etimers;
@@ -36,7 +36,7 @@ code_with n c = record {
   body = block_with n c.body;
 }
 
-abbrev pub code_shape : Names → Code → CodeShape
+abbrev pub code_shape : NamesInScope → Code → CodeShape
 code_shape n c = code_with (names_of_code n c) c
 
 abbrev pub codes_of_tree : Tree → List (Name × CodeShape)

@@ -2,7 +2,7 @@
 use Rattle.std.specs.Prelude.{ℕ, List, Option}
 use Rattle.program_tree.specs.Forms.{Operand, name, cast, sent, any, Form, ends, tells, takes, values, Beginning}
 use Rattle.program_tree.specs.Forms.{action, Word, no_value, alone, tells_of}
-use Rattle.program_tree.specs.EventNames.{CastEvent, SentEvent, AnyEvent}
+use Rattle.program_tree.specs.EventNames.{BroadcastEvent, PostedEvent, TestedEvent}
 use Rattle.program_tree.specs.Tree.{Expression, Body}
 
 -- a name as it is written, by its bytes
@@ -39,9 +39,9 @@ pub record ProgramShape : Type 0 where
 -- the parts at the places that the tables mention
 abbrev pub OperandShape : Operand → Type 0
 OperandShape (name c) = Name
-OperandShape cast = CastEvent Name
-OperandShape sent = SentEvent Name
-OperandShape any = AnyEvent Name
+OperandShape cast = BroadcastEvent Name
+OperandShape sent = PostedEvent Name
+OperandShape any = TestedEvent Name
 
 abbrev pub WordShape : Word → Type 0
 WordShape no_value = ⊥

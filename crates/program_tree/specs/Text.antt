@@ -1,4 +1,4 @@
--- A text as its pieces, and the tokens that they are.
+-- A text cut into its pieces, and their tokens.
 use Rattle.std.specs.Prelude.{◌≡◌, ◌≢◌, ℕ, ◌+◌, Bool, true, false, ◌||◌, ◌==◌, nat_eq, List, [], ◌∷◌, ◌++◌, codes}
 use Rattle.std.specs.Prelude.{count_by, find, filter_map, Option, Some, None, option_map}
 use Rattle.std.specs.List.{list_all, list_any, starts_with, cons_option}
@@ -111,5 +111,5 @@ pub record IsLexed (text : List ℕ) (tokens : List Token) (lines : List ℕ) : 
   pub pieces : List Piece
   pub spelled : text ≡ text_of pieces
   pub fit : AllFit pieces
-  pub told : tokens ≡ tokens_of pieces
+  pub recounted : tokens ≡ tokens_of pieces
   pub placed : lines ≡ lines_from 1 pieces

@@ -1,7 +1,7 @@
 -- The trees of a program over its names: names as they are written, or their numbers. The types of `src/tree.rt` mean
 -- trees over numbers.
 use Rattle.std.specs.Prelude.{ℕ, suc, ◌+◌, ◌≤◌, max, List, [], ◌∷◌, Option, option_map}
-use Rattle.program_tree.specs.EventNames.{CastEvent, SentEvent, AnyEvent, cast_map, sent_map, any_map}
+use Rattle.program_tree.specs.EventNames.{BroadcastEvent, PostedEvent, TestedEvent, cast_map, sent_map, any_map}
 use Rattle.program_tree.specs.declared.tree.Operator.{Operator}
 
 -- the class of a name
@@ -22,7 +22,7 @@ pub data Expression (Name : Type 0) : Type 0 where
   moment : Expression Name
   mote : Expression Name
   -- `is(E)`, `fired(T)`, `expired(T)`, `gone(P)`, `running(P)` and `count(S)`
-  is : AnyEvent Name → Expression Name
+  is : TestedEvent Name → Expression Name
   fired : Name → Expression Name
   expired : Name → Expression Name
   gone : Name → Expression Name
@@ -48,9 +48,9 @@ pub data Action (Name : Type 0) : Type 0 where
   acquire : Name → Action Name
   signal : Name → Action Name
   -- the last of them the variable that gets the answer
-  post : Name → SentEvent Name → Expression Name → Option Name → Action Name
-  broadcast : CastEvent Name → Expression Name → Option Name → Action Name
-  synch : Name → SentEvent Name → Expression Name → Action Name
+  post : Name → PostedEvent Name → Expression Name → Option Name → Action Name
+  broadcast : BroadcastEvent Name → Expression Name → Option Name → Action Name
+  synch : Name → PostedEvent Name → Expression Name → Action Name
   poll : Name → Action Name
   start : Name → Action Name
   kill : Name → Action Name

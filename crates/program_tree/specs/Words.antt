@@ -16,7 +16,7 @@ begins test (b ∷ bs) = test b
 abbrev pub is_word_byte : ℕ → Bool
 is_word_byte b = is_ascii_lowercase b || is_ascii_digit b || b == 95
 
--- digits alone, without a leading zero unless it is `0` itself
+-- only digits, without a leading zero unless it is `0` itself
 abbrev pub is_number : List ℕ → Bool
 is_number word = list_all is_ascii_digit word && (not (begins (λ b. b == 48) word) || length word == 1)
 

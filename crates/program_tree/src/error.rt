@@ -9,8 +9,8 @@ use std::alloc::{AllocError, AllocFailed};
 pub enum ReadErrorKind {
     /// Not a token.
     BadToken = 1,
-    /// No program goes on with this token after those before it, whatever its names and numbers. At the end of a text:
-    /// no program ends there, or goes on with `process`.
+    /// This token can't follow those before it in any program, whatever the names and numbers. At the end of a text:
+    /// no program ends there, and none has `process` there.
     Unexpected = 2,
     /// A name that hasn't been declared yet.
     UnknownName = 3,

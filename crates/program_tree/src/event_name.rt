@@ -15,7 +15,7 @@ pub struct DeclaredEvent {
 
 /// An event that may be broadcast.
 #[derive(Clone, Copy, Debug, PartialEq, Eq)]
-pub enum CastEvent {
+pub enum BroadcastEvent {
     Continue,
     Msg,
     Com,
@@ -23,7 +23,7 @@ pub enum CastEvent {
     Declared(DeclaredEvent),
 }
 
-impl CastEvent {
+impl BroadcastEvent {
     ghost use Rattle.program_tree.specs.Meaning.{cast_of};
     ghost use Rattle.program_tree.specs.EventNames.{cast_number};
 
@@ -32,23 +32,23 @@ impl CastEvent {
         ensures number { result ≡ cast_number (cast_of self) }
     {
         match self {
-            CastEvent::Continue => SystemEvent::Continue.number(),
-            CastEvent::Msg => SystemEvent::Msg.number(),
-            CastEvent::Com => SystemEvent::Com.number(),
-            CastEvent::Packet => SystemEvent::Packet.number(),
-            CastEvent::Declared(event) => FIRST_DECLARED + event.place,
+            BroadcastEvent::Continue => SystemEvent::Continue.number(),
+            BroadcastEvent::Msg => SystemEvent::Msg.number(),
+            BroadcastEvent::Com => SystemEvent::Com.number(),
+            BroadcastEvent::Packet => SystemEvent::Packet.number(),
+            BroadcastEvent::Declared(event) => FIRST_DECLARED + event.place,
         }
     }
 }
 
 /// An event that may be posted to one process, or delivered to it at once.
 #[derive(Clone, Copy, Debug, PartialEq, Eq)]
-pub enum SentEvent {
-    Cast(CastEvent),
+pub enum PostedEvent {
+    Cast(BroadcastEvent),
     Exit,
 }
 
-impl SentEvent {
+impl PostedEvent {
     ghost use Rattle.program_tree.specs.Meaning.{sent_of};
     ghost use Rattle.program_tree.specs.EventNames.{sent_number};
 
@@ -57,23 +57,23 @@ impl SentEvent {
         ensures number { result ≡ sent_number (sent_of self) }
     {
         match self {
-            SentEvent::Cast(event) => event.number(),
-            SentEvent::Exit => SystemEvent::Exit.number(),
+            PostedEvent::Cast(event) => event.number(),
+            PostedEvent::Exit => SystemEvent::Exit.number(),
         }
     }
 }
 
 /// An event that a program may test for.
 #[derive(Clone, Copy, Debug, PartialEq, Eq)]
-pub enum AnyEvent {
-    Sent(SentEvent),
+pub enum TestedEvent {
+    Sent(PostedEvent),
     Init,
     Poll,
     Exited,
     Timer,
 }
 
-impl AnyEvent {
+impl TestedEvent {
     ghost use Rattle.program_tree.specs.Meaning.{any_of};
     ghost use Rattle.program_tree.specs.EventNames.{any_number};
 
@@ -82,11 +82,11 @@ impl AnyEvent {
         ensures number { result ≡ any_number (any_of self) }
     {
         match self {
-            AnyEvent::Sent(event) => event.number(),
-            AnyEvent::Init => SystemEvent::Init.number(),
-            AnyEvent::Poll => SystemEvent::Poll.number(),
-            AnyEvent::Exited => SystemEvent::Exited.number(),
-            AnyEvent::Timer => SystemEvent::Timer.number(),
+            TestedEvent::Sent(event) => event.number(),
+            TestedEvent::Init => SystemEvent::Init.number(),
+            TestedEvent::Poll => SystemEvent::Poll.number(),
+            TestedEvent::Exited => SystemEvent::Exited.number(),
+            TestedEvent::Timer => SystemEvent::Timer.number(),
         }
     }
 }

@@ -21,7 +21,7 @@ pub struct FlatBlock {
 impl FlatBlock {
     ghost use Rattle.program_tree.specs.FlatBlock.{tree_in};
 
-    /// A block, with the flat code that is made from it here. It fails only if an allocation does.
+    /// A block, with the flat code that this call makes from it.
     ///
     /// # Errors
     /// If an allocation failed.

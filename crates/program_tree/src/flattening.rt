@@ -68,7 +68,7 @@ fn other_entry(other: &Option<Block>, place: u16, after: u16) -> u16
     }
 }
 
-/// Adds the statements of a block, after which a thread goes on at `after`.
+/// Adds the statements of a block, after which a thread continues at `after`.
 #[cycle(flatten)]
 fn add_block(
     block: &Block,

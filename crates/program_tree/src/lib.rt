@@ -20,7 +20,7 @@ pub mod tree;
 pub use class::Class;
 pub use error::{ReadError, ReadErrorKind};
 pub use event::{Event, Proc, SystemEvent, Target};
-pub use event_name::{AnyEvent, CastEvent, DeclaredEvent, SentEvent};
+pub use event_name::{BroadcastEvent, DeclaredEvent, PostedEvent, TestedEvent};
 pub use flat_block::FlatBlock;
 pub use instruction::Instruction;
 pub use keyword::Keyword;

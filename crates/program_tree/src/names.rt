@@ -13,7 +13,7 @@ pub struct Names {
     set: IndexSet<String>,
 }
 
-/// By hand, so that names are dropped by one call, which is all that the check of a function that owns them sees.
+/// Implemented by hand: the check of a function that owns names then sees only one call for their drop.
 impl Drop for Names {
     fn drop(self) {
         let Names { set: _ } = self;

@@ -1,6 +1,6 @@
 //! The text of each process of a program.
 //!
-//! Its fields are public for the crates that read and print programs. Its ghost fields hold of each value.
+//! Its fields are public for the crates that read and print programs. Its ghost fields hold for each value.
 ghost use Rattle.std.specs.Prelude.{◌≡◌, ◌+◌, ◌<◌, ◌≤◌, length, map, slice_get, IsTrue, IfSome, option_map};
 ghost use Rattle.std.specs.Option.{ForSome};
 ghost use Rattle.std.specs.List.{All};

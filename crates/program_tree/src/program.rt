@@ -1,7 +1,7 @@
 //! A program.
 //!
-//! Its fields are public for the crates that read and print programs. Its ghost fields hold of each value, so each is
-//! the program of a text.
+//! Its fields are public for the crates that read and print programs. Its ghost fields hold for each value, so a
+//! value is always the program of a text.
 ghost use Rattle.std.specs.Prelude.{◌≡◌, ◌<◌, ◌≤◌, length, map, slice_get, Some, IfSome, option_map};
 ghost use Rattle.std.specs.Option.{ForSome};
 ghost use Rattle.std.specs.List.{All};
@@ -47,7 +47,7 @@ pub struct Program {
     }) },
 }
 
-/// By hand, so that a program is dropped by one call, which is all that the check of a function that owns one sees.
+/// Implemented by hand: the check of a function that owns a program then sees only one call for its drop.
 impl Drop for Program {
     fn drop(self) {
         let Program {
@@ -63,7 +63,7 @@ impl Drop for Program {
     }
 }
 
-/// By hand, and without what the processes run: `mote_program::print_program` writes the whole text.
+/// Implemented by hand, without the code of the processes: `mote_program::print_program` writes the whole text.
 impl Debug for Program {
     fn fmt<W: fmt::Write>(&self, f: &mut Formatter<W>) -> fmt::Result {
         f.debug_struct("Program")

@@ -3,7 +3,7 @@ ghost use Rattle.std.specs.Prelude.{◌≡◌, map, IfOk};
 ghost use Rattle.program_tree.specs.Meaning.{expression_of, action_of, statement_of, block_of};
 ghost use Rattle.program_tree.specs.Tree.{listed};
 
-use crate::event_name::{AnyEvent, CastEvent, SentEvent};
+use crate::event_name::{BroadcastEvent, PostedEvent, TestedEvent};
 use std::alloc::{AllocError, Global};
 
 /// An operator of two values of 16 bits.
@@ -38,15 +38,15 @@ pub enum Expr {
     Moment,
     /// The number of the mote itself.
     Mote,
-    /// 1 if the event is this one, else 0.
-    Is(AnyEvent),
-    /// 1 if the event is TIMER of this timer, else 0.
+    /// 1 if the event is this one, otherwise 0.
+    Is(TestedEvent),
+    /// 1 if the event is TIMER of this timer, otherwise 0.
     Fired(u8),
-    /// 1 if no process owns the timer, else 0.
+    /// 1 if no process owns the timer, otherwise 0.
     Expired(u8),
-    /// 1 if the event is EXITED of this process, else 0.
+    /// 1 if the event is EXITED of this process, otherwise 0.
     Gone(u8),
-    /// 1 if the process is running or called, else 0.
+    /// 1 if the process is running or called, otherwise 0.
     Running(u8),
     /// The count of a semaphore.
     Count(u8),
@@ -73,9 +73,9 @@ pub enum Action {
     Acquire(u8),
     Signal(u8),
     /// Posts an event with this word to a process; the variable, if any, gets the result.
-    Post(u8, SentEvent, Expr, Option<u8>),
-    Broadcast(CastEvent, Expr, Option<u8>),
-    Synch(u8, SentEvent, Expr),
+    Post(u8, PostedEvent, Expr, Option<u8>),
+    Broadcast(BroadcastEvent, Expr, Option<u8>),
+    Synch(u8, PostedEvent, Expr),
     Poll(u8),
     Start(u8),
     Kill(u8),

@@ -162,11 +162,11 @@ module _ (code : Code) (part : Part) (event : Event) (looks : Looks) where
   runs_away t s rest vars units same here none =
       let place : Place = thread_place code t in
       let cs : List Caller = callers_of code t in
-      let stands : place ≡ nested cs (at t.is_yielded s rest) = place_at t s rest here in
+      let in_state : place ≡ nested cs (at t.is_yielded s rest) = place_at t s rest here in
       ap (λ u. continued code part event looks place vars u) none ∙ settles place vars 0
-      ∙ ap (λ q. stepped vars 0 q) (ap settled stands ∙ settled-at cs t.is_yielded s rest)
+      ∙ ap (λ q. stepped vars 0 q) (ap settled in_state ∙ settled-at cs t.is_yielded s rest)
       ∙ without_unit cs t.is_yielded s rest vars
-      ∙ ap (λ q. record { step = step.Runaway; remainder = record { part = part; mark = RunAway; place = q }; variables = vars; units = 0 }) (sym stands)
+      ∙ ap (λ q. record { step = step.Runaway; remainder = record { part = part; mark = RunAway; place = q }; variables = vars; units = 0 }) (sym in_state)
       ∙ ap (λ u. record { step = step.Runaway; remainder = record { part = part; mark = RunAway; place = place }; variables = vars; units = u }) (sym none)
       ∙ ap (λ r. record { step = step.Runaway; remainder = r; variables = vars; units = units }) (meant (record t { mark = RunAway }) same)
 

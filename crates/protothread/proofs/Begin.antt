@@ -14,7 +14,7 @@ use Rattle.protothread.specs.declared.thread.Mark.TheVariants.{AtRest}
 use Rattle.protothread.specs.Calls.{before_number}
 use Rattle.protothread.specs.Remainder.{before, fresh_of}
 use Rattle.protothread.proofs.CallLaws.{listed-part}
-use Rattle.protothread.proofs.Reaching.{stands_at}
+use Rattle.protothread.proofs.Reaching.{leads_to_rest}
 use Rattle.protothread.specs.Places.{body_or_end, part_body, nested, callers_in, innermost, remainder_of}
 
 pub begins : (code : Code) (part : Part) (calls : List Call) → calls ≡ []
@@ -30,7 +30,7 @@ none_left b flat is none = sym (rest_at-start b) ∙ is.outside 0 (omega (arith,
 no_code : (b : Body ℕ) (flat : List Instruction) → IsFlat b flat → listed b ≡ [] → flat ≡ []
 no_code b [] is none = refl
 no_code b (i ∷ flat) is none =
-    let there = stands_at (rest_at b) i (rest_at b 0) (is.each 0 i refl) in
+    let there = leads_to_rest (rest_at b) i (rest_at b 0) (is.each 0 i refl) in
     let nothing : there.0 ∷ there.1 ≡ [] = sym there.2 ∙ rest_at-start b ∙ none in
     absurd (cc)
 

@@ -13,7 +13,7 @@ use Rattle.protothread.specs.declared.thread.Thread.{Thread}
 use Rattle.protothread.specs.Calls.{before_number, Fall, AreNested, below_last, CanSpawn, SpawnsSo, IsLast}
 use Rattle.protothread.specs.Remainder.{statements_of, thread_block, whole_of}
 use Rattle.protothread.specs.Places.{body_or_end, part_body, thread_body, innermost, callers_in}
-use Rattle.protothread.specs.Reach.{home_of, StandsIn}
+use Rattle.protothread.specs.Reach.{home_of, IsFoundIn}
 
 pub innermost-push : (code : Code) (b : Body ℕ) (cs : List Call) (c : Call) → innermost code b (cs ++ c ∷ []) ≡ thread_body code c.thread
 innermost-push code b [] c = refl
@@ -104,9 +104,9 @@ spawns_last (d ∷ cs) c b h =
     let P : ℕ → Type 0 = λ n. block_fits (earlier_threads n) b ≡ true in
     subst P (sym (below_last-push (before_number d.thread) cs c)) h
 
-pub stands_in_last : (code : Code) (t : Thread) (flat : List Instruction) (cs : List Call) (c : Call) → t.calls ≡ cs ++ c ∷ []
-    → IsFlat (thread_body code c.thread) flat → block_fits (earlier_threads (before_number c.thread)) (thread_body code c.thread) ≡ true → StandsIn code t flat
-stands_in_last code t flat cs c is h below =
+pub is_found_in_last : (code : Code) (t : Thread) (flat : List Instruction) (cs : List Call) (c : Call) → t.calls ≡ cs ++ c ∷ []
+    → IsFlat (thread_body code c.thread) flat → block_fits (earlier_threads (before_number c.thread)) (thread_body code c.thread) ≡ true → IsFoundIn code t flat
+is_found_in_last code t flat cs c is h below =
     let b : Body ℕ = part_body code t.part in
     let same : innermost code b t.calls ≡ thread_body code c.thread = ap (λ ds. innermost code b ds) is ∙ innermost-push code b cs c in
     let P : Body ℕ → Type 0 = λ x. IsFlat x flat in
@@ -115,8 +115,8 @@ stands_in_last code t flat cs c is h below =
     record { flat_of = subst P (sym same) h; earlier = subst Q (sym same) (subst R (sym is) (spawns_last cs c (thread_body code c.thread) below)) }
 
 -- and that of a part that has spawned nothing
-pub stands_in_part : (code : Code) (t : Thread) (flat : List Instruction) → t.calls ≡ [] → IsFlat (part_body code t.part) flat → StandsIn code t flat
-stands_in_part code t flat none h =
+pub is_found_in_part : (code : Code) (t : Thread) (flat : List Instruction) → t.calls ≡ [] → IsFlat (part_body code t.part) flat → IsFoundIn code t flat
+is_found_in_part code t flat none h =
     let b : Body ℕ = part_body code t.part in
     let P : List Call → Type 0 = λ ds. IsFlat (innermost code b ds) flat in
     let Q : List Call → Type 0 = λ ds. SpawnsSo ds (innermost code b ds) in

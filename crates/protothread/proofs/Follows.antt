@@ -26,12 +26,12 @@ use Rattle.protothread.specs.Step.{Advanced, goes_on, operates as stops, answers
 use Rattle.protothread.specs.Step.{spawner_reached, reached, continued, passed, yield_answer, advanced_of}
 use Rattle.protothread.specs.Step.{variables_answered}
 use Rattle.protothread.proofs.Units.{follows, stepped, settles}
-use Rattle.protothread.specs.Reading.{Sight, Happening, operates, gives_up, Completion, done, restarts, exits, stands}
+use Rattle.protothread.specs.Reading.{Sight, Happening, operates, gives_up, Completion, done, restarts, exits, in_state}
 use Rattle.protothread.specs.Reading.{IsDone, Restarts, with_answer, resumed, meaning, Awaits, met, again, never}
 use Rattle.protothread.specs.Reading.{Reads, passes, assigns, performs, waits, waits_last, yields, yields_until}
 use Rattle.protothread.specs.Reading.{yields_until_last, pauses, pauses_last, posts_last, spawn_ends, spawn_exits}
-use Rattle.protothread.specs.Reading.{spawn_stands, restarted, restarted_last, exited, chooses, repeats, leaves}
-use Rattle.protothread.specs.Reading.{ReadsAll, nothing_left, in_turn, breaks_off, ReadsThread, once, anew}
+use Rattle.protothread.specs.Reading.{spawn_in_state, restarted, restarted_last, exited, chooses, repeats, leaves}
+use Rattle.protothread.specs.Reading.{ReadsAll, nothing_left, in_turn, breaks_off, ReadsThread, once, block_again}
 use Rattle.protothread.specs.Runs.{Runs, operated, operated_last, gave_up, gave_up_last, has_exited, has_ended}
 
 -- a run from a remainder whose next step, with this many more units, is the same
@@ -163,11 +163,11 @@ module _ (code : Code) (part : Part) where
 
   gives_last : (p q : Place) (a : PtState) (now : Sight) (vars : List ℕ) (h : List Happening) (out : Completion)
       → IsLive p → state_number a < 2 → reached code whole vars now.event now.looks p ≡ answers a q
-      → h ≡ [] → out ≡ stands vars → From p now [] vars (gives_up a ∷ h) out
+      → h ≡ [] → out ≡ in_state vars → From p now [] vars (gives_up a ∷ h) out
   unfolding advanced_of
-  gives_last p q a now vars h out live low does_so none standing =
+  gives_last p q a now vars h out live low does_so none window_position =
       subst (λ (x : List Happening). From p now [] vars (gives_up a ∷ x) out) (sym none)
-      (subst (λ (o : Completion). From p now [] vars (gives_up a ∷ []) o) (sym standing)
+      (subst (λ (o : Completion). From p now [] vars (gives_up a ∷ []) o) (sym window_position)
       (gave_up_last _ (record { part = part; mark = AtRest; place = q }) vars vars now a
       (1, 0, steps p now vars 0 live ∙ ap (λ r. follows code part now.event now.looks vars 0 r) does_so) low))
 
@@ -244,7 +244,7 @@ module _ (code : Code) (part : Part) where
   Next home y c rest (done now later vars) h out = From (c.place (before false rest)) now later vars h out
   Next home y c rest (restarts now later vars) h out = From (c.place (before false home)) now later vars h out
   Next home y c rest (exits now later vars) h out = Left c.behind now later vars h out
-  Next home y c rest (stands vars) h out = (h ≡ []) × (out ≡ stands vars)
+  Next home y c rest (in_state vars) h out = (h ≡ []) × (out ≡ in_state vars)
 
   -- a statement that isn't done
   elsewhere : (home : List (Statement ℕ)) (y : PtState) (c : Context home y) (rest others : List (Statement ℕ)) (became : Completion) (h : List Happening) (out : Completion)
@@ -252,7 +252,7 @@ module _ (code : Code) (part : Part) where
   elsewhere home y c rest others (done now later vars) h out over f = absurd (over tt)
   elsewhere home y c rest others (restarts now later vars) h out over f = f
   elsewhere home y c rest others (exits now later vars) h out over f = f
-  elsewhere home y c rest others (stands vars) h out over f = f
+  elsewhere home y c rest others (in_state vars) h out over f = f
 
   -- an operation
   does_op : (home : List (Statement ℕ)) (y : PtState) (c : Context home y) (p : Place) (rest : List (Statement ℕ)) (o : Op) (into : Option ℕ) (now : Sight) (later : List Sight) (vars : List ℕ) (h : List Happening) (out : Completion)
@@ -284,7 +284,7 @@ module _ (code : Code) (part : Part) where
 
   yields_at_last : (home : List (Statement ℕ)) (y : PtState) (c : Context home y) (p q : Place) (now : Sight) (vars : List ℕ) (h : List Happening) (out : Completion)
       → IsLive p → reached code home vars now.event now.looks p ≡ answers Yielded q
-      → (h ≡ []) × (out ≡ stands vars) → From (c.place p) now [] vars (gives_up y ∷ h) out
+      → (h ≡ []) × (out ≡ in_state vars) → From (c.place p) now [] vars (gives_up y ∷ h) out
   yields_at_last home y c p q now vars h out live e f =
       gives_last (c.place p) (c.place q) y now vars h out (c.live p live) c.low (c.yielding vars now p q e) f.0 f.1
 
@@ -296,7 +296,7 @@ module _ (code : Code) (part : Part) where
 
   waits_at_last : (home : List (Statement ℕ)) (y : PtState) (c : Context home y) (p q : Place) (now : Sight) (vars : List ℕ) (h : List Happening) (out : Completion)
       → IsLive p → reached code home vars now.event now.looks p ≡ answers Waiting q
-      → (h ≡ []) × (out ≡ stands vars) → From (c.place p) now [] vars (gives_up Waiting ∷ h) out
+      → (h ≡ []) × (out ≡ in_state vars) → From (c.place p) now [] vars (gives_up Waiting ∷ h) out
   waits_at_last home y c p q now vars h out live e f =
       gives_last (c.place p) (c.place q) Waiting now vars h out (c.live p live) (omega arith) (c.waiting vars now p q e) f.0 f.1
 
@@ -353,7 +353,7 @@ module _ (code : Code) (part : Part) where
       (called_again (c.place (at true (does pause) rest)) second later vars h out run))
 
   paused_last : (home : List (Statement ℕ)) (y : PtState) (c : Context home y) (rest : List (Statement ℕ)) (now next : Sight) (vars : List ℕ) (h : List Happening) (out : Completion)
-      → (h ≡ []) × (out ≡ stands vars)
+      → (h ≡ []) × (out ≡ in_state vars)
       → From (c.place (at false (does pause) rest)) now (next ∷ []) vars (operates (Post (One (Own code.number)) 0x85 0) ∷ gives_up y ∷ h) out
   unfolding advanced_of
   paused_last home y c rest now next vars h out f =
@@ -361,13 +361,13 @@ module _ (code : Code) (part : Part) where
       let resting : Remainder = record { part = part; mark = AtRest; place = c.place (at true (does pause) rest) } in
       subst (λ (x : List Happening). From (c.place (at false (does pause) rest)) now (next ∷ []) vars (operates (Post (One (Own code.number)) 0x85 0) ∷ gives_up y ∷ x) out) (sym f.0)
       (subst (λ (z : Completion). From (c.place (at false (does pause) rest)) now (next ∷ []) vars (operates (Post (One (Own code.number)) 0x85 0) ∷ gives_up y ∷ []) z) (sym f.1)
-      (operated _ held vars vars now next [] (Post (One (Own code.number)) 0x85 0) (gives_up y ∷ []) (stands vars)
+      (operated _ held vars vars now next [] (Post (One (Own code.number)) 0x85 0) (gives_up y ∷ []) (in_state vars)
       (1, 0, steps (c.place (at false (does pause) rest)) now vars 0 (c.live (at false (does pause) rest) tt) ∙ ap (λ r. follows code part now.event now.looks vars 0 r) (c.pausing vars now (at false (does pause) rest) (at true (does pause) rest) (Post (One (Own code.number)) 0x85 0) refl))
       (gave_up_last held resting vars vars next y
       (0, 0, ap (λ a. record { step = step.Done a; remainder = resting; variables = vars; units = 0 }) (c.answers_at true (does pause) rest)) c.low)))
 
   posted_last : (home : List (Statement ℕ)) (y : PtState) (c : Context home y) (rest : List (Statement ℕ)) (now : Sight) (vars : List ℕ) (h : List Happening) (out : Completion)
-      → (h ≡ []) × (out ≡ stands vars)
+      → (h ≡ []) × (out ≡ in_state vars)
       → From (c.place (at false (does pause) rest)) now [] vars (operates (Post (One (Own code.number)) 0x85 0) ∷ h) out
   unfolding advanced_of
   posted_last home y c rest now vars h out f =
@@ -413,7 +413,7 @@ module _ (code : Code) (part : Part) where
         λ home c rest k o f.
         past home y c (at false (does (spawn t)) rest) (within t (before false (thread_block code t)) rest) now later vars vars (h ++ k) o tt refl
         (leads_thread more (child c t rest) k o f)
-    leads (spawn_stands y t now later vars h changed more) =
+    leads (spawn_in_state y t now later vars h changed more) =
         λ home c rest k o f.
         past home y c (at false (does (spawn t)) rest) (within t (before false (thread_block code t)) rest) now later vars vars (h ++ k) o tt refl
         (leads_thread more (child c t rest) k o f)
@@ -452,9 +452,9 @@ module _ (code : Code) (part : Part) where
     leads_thread : {y : PtState} {block : List (Statement ℕ)} {now : Sight} {later : List Sight} {vars : List ℕ} {h : List Happening} {out : Completion}
         → ReadsThread code y block now later vars h out → (c : Context block y) (k : List Happening) (o : Completion)
         → Next block y c [] out k o → From (c.place (before false block)) now later vars (h ++ k) o
-    leads_thread (once y block now later vars h out never_anew all) =
+    leads_thread (once y block now later vars h out never_again all) =
         λ c k o f. subst (λ (l : List (Statement ℕ)). From (c.place (before false l)) now later vars (h ++ k) o) (append-nil block) (leads_all all block c [] k o f)
-    leads_thread (anew y block now later vars h j call calls changed out all more) =
+    leads_thread (block_again y block now later vars h j call calls changed out all more) =
         λ c k o f.
         subst (λ (x : List Happening). From (c.place (before false block)) now later vars x o) (sym (append_assoc h j k))
         (subst (λ (l : List (Statement ℕ)). From (c.place (before false l)) now later vars (h ++ (j ++ k)) o) (append-nil block)
@@ -463,15 +463,15 @@ module _ (code : Code) (part : Part) where
   -- a thread comes to an end, or waits
   pub comes_to_an_end : {y : PtState} {block : List (Statement ℕ)} {now : Sight} {later : List Sight} {vars : List ℕ} {h : List Happening} {out : Completion}
       → ReadsThread code y block now later vars h out → Restarts out → ⊥
-  comes_to_an_end (once y block now later vars h out never_anew all) = never_anew
-  comes_to_an_end (anew y block now later vars h j call calls changed out all more) = comes_to_an_end more
+  comes_to_an_end (once y block now later vars h out never_again all) = never_again
+  comes_to_an_end (block_again y block now later vars h j call calls changed out all more) = comes_to_an_end more
 
   at_last : (out : Completion) → (Restarts out → ⊥) → Next whole Yielded top [] out [] out
   unfolding advanced_of
   at_last (done now later vars) over = has_ended _ (fresh_of code part) vars vars now later (0, 0, refl)
   at_last (restarts now later vars) over = absurd (over tt)
   at_last (exits now later vars) over = (refl, refl)
-  at_last (stands vars) over = (refl, refl)
+  at_last (in_state vars) over = (refl, refl)
 
 pub text_runs : (code : Code) (part : Part) (vars : List ℕ) (now : Sight) (later : List Sight) (h : List Happening) (out : Completion)
     → ReadsThread code Yielded (whole_of code part) now later vars h out → Runs code (fresh_of code part) vars now later h out

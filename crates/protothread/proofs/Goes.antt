@@ -12,14 +12,14 @@ use Rattle.protothread.specs.declared.step.Step.TheVariants as step
 use Rattle.protothread.specs.State.{state_number}
 use Rattle.protothread.specs.Remainder.{Place, ended, at, within, settled, Remainder, whole_of}
 use Rattle.protothread.specs.Step.{Advanced, Reached, goes_on, operates as stops, answers, reached, continued, passed, yield_answer, advanced_of, marked_answered, variables_answered}
-use Rattle.protothread.specs.Reading.{Sight, Happening, operates, gives_up, Completion, done, exits, stands}
+use Rattle.protothread.specs.Reading.{Sight, Happening, operates, gives_up, Completion, done, exits, in_state}
 use Rattle.protothread.specs.Runs.{Runs, operated, operated_last, gave_up, gave_up_last, has_exited, has_ended}
 use Rattle.protothread.proofs.Units.{follows, stepped, called}
 use Rattle.protothread.proofs.Follows.{IsLive, still}
 
 -- a run after an answer that yields control
 abbrev pub Again : (G : Place → Sight → List Sight → List ℕ → List Happening → Completion → Type 0) → PtState → Place → (later : List Sight) → List ℕ → List Happening → Completion → Type 0
-Again G a q [] vars h out = (h ≡ gives_up a ∷ []) × (out ≡ stands vars)
+Again G a q [] vars h out = (h ≡ gives_up a ∷ []) × (out ≡ in_state vars)
 Again G a q (next ∷ later) vars h out = (k : List Happening) × (h ≡ gives_up a ∷ k) × G q next later vars k out
 
 -- a run from a place, by the mark
@@ -32,7 +32,7 @@ Held G RunAway q now later vars h out = ⊥
 -- a run after a statement
 abbrev pub Behind : (G : Place → Sight → List Sight → List ℕ → List Happening → Completion → Type 0) → Reached → (now : Sight) → (later : List Sight) → List ℕ → List Happening → Completion → Type 0
 Behind G (goes_on changed q) now later vars h out = G q now later changed h out
-Behind G (stops o mark q) now [] vars h out = (h ≡ operates o ∷ []) × (out ≡ stands vars)
+Behind G (stops o mark q) now [] vars h out = (h ≡ operates o ∷ []) × (out ≡ in_state vars)
 Behind G (stops o mark q) now (next ∷ later) vars h out =
     (k : List Happening) × (h ≡ operates o ∷ k) × Held G mark q next later (variables_answered mark vars next.answer) k out
 Behind G (answers Waiting q) now later vars h out = Again G Waiting q later vars h out
@@ -67,13 +67,13 @@ module _ (code : Code) (part : Part) where
 
   -- a run after a step
   abbrev BehindStep : Step → Mark → Place → List ℕ → (now : Sight) → (later : List Sight) → List Happening → Completion → Type 0
-  BehindStep (step.Op o) mark q vars now [] h out = (h ≡ operates o ∷ []) × (out ≡ stands vars)
+  BehindStep (step.Op o) mark q vars now [] h out = (h ≡ operates o ∷ []) × (out ≡ in_state vars)
   BehindStep (step.Op o) mark q vars now (next ∷ later) h out =
       (k : List Happening) × (h ≡ operates o ∷ k) × ((n : ℕ) × Held (λ q call calls v k o. Goes n q call calls v k o) mark q next later (variables_answered mark vars next.answer) k out)
-  BehindStep (step.Done Waiting) mark q vars now [] h out = (h ≡ gives_up Waiting ∷ []) × (out ≡ stands vars)
+  BehindStep (step.Done Waiting) mark q vars now [] h out = (h ≡ gives_up Waiting ∷ []) × (out ≡ in_state vars)
   BehindStep (step.Done Waiting) mark q vars now (next ∷ later) h out =
       (k : List Happening) × (h ≡ gives_up Waiting ∷ k) × ((n : ℕ) × Held (λ q call calls v k o. Goes n q call calls v k o) mark q next later vars k out)
-  BehindStep (step.Done Yielded) mark q vars now [] h out = (h ≡ gives_up Yielded ∷ []) × (out ≡ stands vars)
+  BehindStep (step.Done Yielded) mark q vars now [] h out = (h ≡ gives_up Yielded ∷ []) × (out ≡ in_state vars)
   BehindStep (step.Done Yielded) mark q vars now (next ∷ later) h out =
       (k : List Happening) × (h ≡ gives_up Yielded ∷ k) × ((n : ℕ) × Held (λ q call calls v k o. Goes n q call calls v k o) mark q next later vars k out)
   BehindStep (step.Done Exited) mark q vars now later h out = (h ≡ []) × (out ≡ exits now later vars)
@@ -207,7 +207,7 @@ behind_gave_up code part Exited m q now next later vars h out low g = absurd (om
 behind_gave_up code part Ended m q now next later vars h out low g = absurd (omega arith)
 
 behind_last : (code : Code) (part : Part) (answer : PtState) (m : Mark) (q : Place) (now : Sight) (vars : List ℕ)
-    → state_number answer < 2 → BehindStep code part (step.Done answer) m q vars now [] (gives_up answer ∷ []) (stands vars)
+    → state_number answer < 2 → BehindStep code part (step.Done answer) m q vars now [] (gives_up answer ∷ []) (in_state vars)
 behind_last code part Waiting m q now vars low = (refl, refl)
 behind_last code part Yielded m q now vars low = (refl, refl)
 behind_last code part Exited m q now vars low = absurd (omega arith)
@@ -221,12 +221,12 @@ runs_go code (operated r next vars changed now call later o h out s run) =
     from_step code r now (call ∷ later) vars s.0 (record { step = step.Op o; remainder = next; variables = changed; units = s.1 }) (operates o ∷ h) out s.2
     (h, refl, (g.0, unmarked (λ q call calls v k o. Goes code next.part g.0 q call calls v k o) next.mark next.place call later (variables_answered next.mark changed call.answer) h out g.1))
 runs_go code (operated_last r next vars changed now o s) =
-    from_step code r now [] vars s.0 (record { step = step.Op o; remainder = next; variables = changed; units = s.1 }) (operates o ∷ []) (stands changed) s.2 (refl, refl)
+    from_step code r now [] vars s.0 (record { step = step.Op o; remainder = next; variables = changed; units = s.1 }) (operates o ∷ []) (in_state changed) s.2 (refl, refl)
 runs_go code (gave_up r next vars changed now call later answer h out s low run) =
     from_step code r now (call ∷ later) vars s.0 (record { step = step.Done answer; remainder = next; variables = changed; units = s.1 }) (gives_up answer ∷ h) out s.2
     (behind_gave_up code next.part answer next.mark next.place now call later changed h out low (runs_go code run))
 runs_go code (gave_up_last r next vars changed now answer s low) =
-    from_step code r now [] vars s.0 (record { step = step.Done answer; remainder = next; variables = changed; units = s.1 }) (gives_up answer ∷ []) (stands changed) s.2
+    from_step code r now [] vars s.0 (record { step = step.Done answer; remainder = next; variables = changed; units = s.1 }) (gives_up answer ∷ []) (in_state changed) s.2
     (behind_last code next.part answer next.mark next.place now changed low)
 runs_go code (has_exited r next vars changed now later s) =
     from_step code r now later vars s.0 (record { step = step.Done Exited; remainder = next; variables = changed; units = s.1 }) [] (exits now later changed) s.2 (refl, refl)

@@ -9,7 +9,7 @@ use Rattle.program_tree.specs.declared.event.Target.TheVariants.{One, All}
 use Rattle.program_tree.specs.declared.event.SystemEvent.TheVariants.{Exit}
 use Rattle.program_tree.specs.Events.{system_number}
 use Rattle.program_tree.specs.EventNames as event_name
-use Rattle.program_tree.specs.EventNames.{CastEvent, cast_number}
+use Rattle.program_tree.specs.EventNames.{BroadcastEvent, cast_number}
 use Rattle.program_tree.specs.Tree.{Action, assign, print, send, wait_until, wait_while, yield, yield_until, spawn}
 use Rattle.program_tree.specs.Tree.{restart, exit, pause, acquire, signal, post, broadcast, synch, poll, start, kill}
 use Rattle.program_tree.specs.Tree.{set, reset, restart_timer, stop, Statement, does, branch, while}
@@ -58,7 +58,7 @@ abbrev ReachedNamesOwn : Reached → Type 0
 ReachedNamesOwn (operates o mark p) = NamesOwn o
 ReachedNamesOwn r = Unit {0}
 
-cast_is_no_exit : (e : CastEvent ℕ) → cast_number e ≡ system_number Exit → ⊥
+cast_is_no_exit : (e : BroadcastEvent ℕ) → cast_number e ≡ system_number Exit → ⊥
 cast_is_no_exit event_name.continue q = omega arith
 cast_is_no_exit event_name.msg q = omega arith
 cast_is_no_exit event_name.«com» q = omega arith

@@ -28,7 +28,7 @@ use Rattle.protothread.specs.Remainder.{Place, at, within, before, thread_block,
 use Rattle.protothread.specs.Step.{goes_on, operates, answers, spawner_reached, statement_reached, reached}
 use Rattle.protothread.specs.Places.{part_body, thread_body, innermost, Caller, callers_in, nested, yielding}
 use Rattle.protothread.specs.Places.{body_of_thread, callers_of, thread_place, place_by}
-use Rattle.protothread.specs.Reach.{home_of, made_of, reached_at, IsDoneBy, DeedCanSpawn, StandsIn, GoesOnAt}
+use Rattle.protothread.specs.Reach.{home_of, made_of, reached_at, IsDoneBy, DeedCanSpawn, IsFoundIn, GoesOnAt}
 use Rattle.protothread.proofs.CallLaws.{innermost-push, callers_in-push, listed-thread, listed-part, home_of-calls}
 
 -- the statement of the innermost thread
@@ -118,14 +118,14 @@ takes_loop left_at c body after code whole y vars event looks (while d a) rest h
     either false = sym h.1
 
 -- at an instruction, a statement is left
-pub stands_at : (left_at : ℕ → List (Statement ℕ)) (i : Instruction) (here : List (Statement ℕ)) → Leads left_at i here → (s : Statement ℕ) × (rest : List (Statement ℕ)) × (here ≡ s ∷ rest)
-stands_at left_at (Act a after) here h = (does (action_of a), left_at after, h)
-stands_at left_at (Branch c held failed) here h = by_cases _ here h
+pub leads_to_rest : (left_at : ℕ → List (Statement ℕ)) (i : Instruction) (here : List (Statement ℕ)) → Leads left_at i here → (s : Statement ℕ) × (rest : List (Statement ℕ)) × (here ≡ s ∷ rest)
+leads_to_rest left_at (Act a after) here h = (does (action_of a), left_at after, h)
+leads_to_rest left_at (Branch c held failed) here h = by_cases _ here h
   where
     by_cases : (e : Expression ℕ) (l : List (Statement ℕ)) → Branches left_at e held failed l → (s : Statement ℕ) × (rest : List (Statement ℕ)) × (l ≡ s ∷ rest)
     by_cases e [] k = absurd k
     by_cases e (s ∷ rest) k = (s, rest, refl)
-stands_at left_at (Loop c body after) here h = by_cases _ here h
+leads_to_rest left_at (Loop c body after) here h = by_cases _ here h
   where
     by_cases : (e : Expression ℕ) (l : List (Statement ℕ)) → Loops left_at e body after l → (s : Statement ℕ) × (rest : List (Statement ℕ)) × (l ≡ s ∷ rest)
     by_cases e [] k = absurd k
@@ -161,11 +161,11 @@ module _ (code : Code) (old : Thread) (s : Statement ℕ) (rest : List (Statemen
       ∙ ap (λ l. nested (callers_of code old) (within c.thread (before false (thread_block code c.thread)) l)) after
 
   -- the flat code stays the same
-  pub same_code : (flat : List Instruction) (mark : Mark) (y : Bool) (p : ℕ) (new : Thread) → StandsIn code old flat → new ≡ record old { mark = mark; is_yielded = y; position = p } → StandsIn code new flat
-  same_code flat mark y p new inside moved = subst (λ t. StandsIn code t flat) (sym moved) (record { flat_of = inside.flat_of; earlier = inside.earlier })
+  pub same_code : (flat : List Instruction) (mark : Mark) (y : Bool) (p : ℕ) (new : Thread) → IsFoundIn code old flat → new ≡ record old { mark = mark; is_yielded = y; position = p } → IsFoundIn code new flat
+  same_code flat mark y p new inside moved = subst (λ t. IsFoundIn code t flat) (sym moved) (record { flat_of = inside.flat_of; earlier = inside.earlier })
 
   -- an `if` or a `while`
-  pub goes_by_test : (flat : List Instruction) (vars : List ℕ) (event : Event) (looks : Looks) (p : ℕ) (new : Thread) → StandsIn code old flat
+  pub goes_by_test : (flat : List Instruction) (vars : List ℕ) (event : Event) (looks : Looks) (p : ℕ) (new : Thread) → IsFoundIn code old flat
       → new ≡ record old { is_yielded = false; position = p }
       → statement_reached code (listed (body_of_thread code old)) old.is_yielded vars event looks s rest ≡ goes_on vars (before false (rest_at (body_of_thread code old) p))
       → GoesOnAt code flat (reached_at code old vars event looks s rest) old new vars

@@ -23,12 +23,12 @@ use Rattle.protothread.specs.Remainder.{Place, ended, at, within, before, spawne
 use Rattle.protothread.specs.Remainder.{whole_of, fresh_of}
 use Rattle.protothread.specs.Step.{goes_on, operates as stops, answers, passes_where, performed, other_block}
 use Rattle.protothread.specs.Step.{spawner_reached, reached, yield_answer}
-use Rattle.protothread.specs.Reading.{Sight, Happening, operates, gives_up, Completion, done, restarts, exits, stands}
+use Rattle.protothread.specs.Reading.{Sight, Happening, operates, gives_up, Completion, done, restarts, exits, in_state}
 use Rattle.protothread.specs.Reading.{Restarts, with_answer, deed, meaning, Awaits, met, again, never, Reads, passes}
 use Rattle.protothread.specs.Reading.{assigns, performs, waits, waits_last, yields, yields_until, yields_until_last}
-use Rattle.protothread.specs.Reading.{pauses, pauses_last, posts_last, spawn_ends, spawn_exits, spawn_stands}
+use Rattle.protothread.specs.Reading.{pauses, pauses_last, posts_last, spawn_ends, spawn_exits, spawn_in_state}
 use Rattle.protothread.specs.Reading.{restarted, restarted_last, exited, chooses, repeats, leaves, ReadsAll}
-use Rattle.protothread.specs.Reading.{nothing_left, in_turn, breaks_off, ReadsThread, once, anew}
+use Rattle.protothread.specs.Reading.{nothing_left, in_turn, breaks_off, ReadsThread, once, block_again}
 use Rattle.protothread.proofs.Follows.{IsLive, behind_end, is_true, is_false, heard, comes_to_an_end}
 use Rattle.protothread.proofs.Goes.{Again, Behind, StepOf, Goes, entering, runs_go}
 use Rattle.protothread.specs.Runs.{Runs}
@@ -148,7 +148,7 @@ module _ (code : Code) (part : Part) where
   NextTo home y c rest m (done now later vars) h out = To m (c.place (before false rest)) now later vars h out
   NextTo home y c rest m (restarts now later vars) h out = To m (c.place (before false home)) now later vars h out
   NextTo home y c rest m (exits now later vars) h out = LeftTo m c.behind now later vars h out
-  NextTo home y c rest m (stands vars) h out = (h ≡ []) × (out ≡ stands vars)
+  NextTo home y c rest m (in_state vars) h out = (h ≡ []) × (out ≡ in_state vars)
 
   abbrev One_split : (home : List (Statement ℕ)) (y : PtState) → Inside home y → (s : Statement ℕ) (rest : List (Statement ℕ)) → ℕ → (now : Sight) (later : List Sight) (vars : List ℕ) (h : List Happening) (out : Completion) → Type 0
   One_split home y c s rest n now later vars h out = Split (λ a b. Reads code y s now later vars a b) (λ m b x o. NextTo home y c rest m b x o) n h out
@@ -182,9 +182,9 @@ module _ (code : Code) (part : Part) where
         → m ≤ n → h ≡ a ++ k → Q a became → NextTo home y c rest m became k out → Split Q (λ m b x o. NextTo home y c rest m b x o) n h out
     simple Q n m h a k became out low same r g = record { became = became; m = m; few = low; first = a; next = k; parts = same; reads = r; goes = g }
 
-    standing : (Q : List Happening → Completion → Type 0) (n : ℕ) (h a : List Happening) (vars : List ℕ) (out : Completion)
-        → h ≡ a → out ≡ stands vars → Q a (stands vars) → Split Q (λ m b x o. NextTo home y c rest m b x o) n h out
-    standing Q n h a vars out same o r = simple Q n n h a [] (stands vars) out (omega arith) (same ∙ sym (append-nil a)) r (refl, o)
+    window_position : (Q : List Happening → Completion → Type 0) (n : ℕ) (h a : List Happening) (vars : List ℕ) (out : Completion)
+        → h ≡ a → out ≡ in_state vars → Q a (in_state vars) → Split Q (λ m b x o. NextTo home y c rest m b x o) n h out
+    window_position Q n h a vars out same o r = simple Q n n h a [] (in_state vars) out (omega arith) (same ∙ sym (append-nil a)) r (refl, o)
 
     module _ (s : Statement ℕ) (e : Expression ℕ)
         (passing : (now : Sight) (vars : List ℕ) → holds (meaning e now vars) ≡ true → reached code home vars now.event now.looks (at true s rest) ≡ goes_on vars (before false rest))
@@ -193,7 +193,7 @@ module _ (code : Code) (part : Part) where
           → ((next : Sight) (others : List Sight) (k : List Happening) → To n (c.place (at true s rest)) next others vars k out → Split (λ a b. Awaits y e next others vars a b) (λ m b x o. NextTo home y c rest m b x o) n k out)
           → Again (λ q call calls v k o. To n q call calls v k o) y (c.place (at true s rest)) later vars h out
           → Split (λ a b. Awaits y e now later vars a b) (λ m b x o. NextTo home y c rest m b x o) (suc n) h out
-      not_yet n now [] vars h out t further f = standing (λ a b. Awaits y e now [] vars a b) (suc n) h (gives_up y ∷ []) vars out f.0 f.1 (never now vars t)
+      not_yet n now [] vars h out t further f = window_position (λ a b. Awaits y e now [] vars a b) (suc n) h (gives_up y ∷ []) vars out f.0 f.1 (never now vars t)
       not_yet n now (next ∷ later) vars h out t further f =
           mapped (λ a b. Awaits y e next later vars a b) (λ a b. Awaits y e now (next ∷ later) vars a b) (λ m b x o. NextTo home y c rest m b x o) (suc n) n h f.0 out (gives_up y ∷ []) (omega arith) f.1
           (λ x o r. again now next later vars x o t r)
@@ -220,7 +220,7 @@ module _ (code : Code) (part : Part) where
         → Behind (λ q call calls v k o. To n q call calls v k o) (stops o (UnderWay into) (c.place (before false rest))) now later vars h out
         → One_split home y c (does a) rest n now later vars h out
     operates_so o into n now [] vars h out e f =
-        standing home y c rest (λ a' b. Reads code y (does a) now [] vars a' b) n h (operates o ∷ []) vars out f.0 f.1 (performs y a o into now [] vars e)
+        window_position home y c rest (λ a' b. Reads code y (does a) now [] vars a' b) n h (operates o ∷ []) vars out f.0 f.1 (performs y a o into now [] vars e)
     operates_so o into n now (next ∷ later) vars h out e f =
         simple home y c rest (λ a' b. Reads code y (does a) now (next ∷ later) vars a' b) n n h (operates o ∷ []) f.0 (done next later (with_answer into vars next.answer)) out (omega arith) f.1 (performs y a o into now (next ∷ later) vars e)
         (subst (λ (v : List ℕ). To n (c.place (before false rest)) next later v f.0 out) (sym (heard into vars next.answer)) f.2)
@@ -230,7 +230,7 @@ module _ (code : Code) (part : Part) where
         → Again (λ q call calls v k o. To n q call calls v k o) Waiting (c.place (at false (does a) rest)) later vars h out
         → One_split home y c (does a) rest n now later vars h out
     waits_so n low now [] vars h out e f =
-        standing home y c rest (λ a' b. Reads code y (does a) now [] vars a' b) n h (gives_up Waiting ∷ []) vars out f.0 f.1 (waits_last y a now vars e)
+        window_position home y c rest (λ a' b. Reads code y (does a) now [] vars a' b) n h (gives_up Waiting ∷ []) vars out f.0 f.1 (waits_last y a now vars e)
     waits_so zero low now (next ∷ later) vars h out e f = absurd f.2
     waits_so (suc n) low now (next ∷ later) vars h out e f =
         mapped (λ a' b. Reads code y (does a) next later vars a' b) (λ a' b. Reads code y (does a) now (next ∷ later) vars a' b) (λ m b x o. NextTo home y c rest m b x o) (suc n) n h f.0 out (gives_up Waiting ∷ []) (omega arith) f.1
@@ -264,7 +264,7 @@ module _ (code : Code) (part : Part) where
         → Again (λ q call calls v k o. To n q call calls v k o) y (c.place (at true (does yield) rest)) later vars h out
         → One_split home y c (does yield) rest n now later vars h out
     yields_so n now [] vars h out f =
-        standing home y c rest (λ a b. Reads code y (does yield) now [] vars a b) n h (gives_up y ∷ []) vars out f.0 f.1 (yields y now [] vars)
+        window_position home y c rest (λ a b. Reads code y (does yield) now [] vars a b) n h (gives_up y ∷ []) vars out f.0 f.1 (yields y now [] vars)
     yields_so zero now (next ∷ later) vars h out f = absurd f.2
     yields_so (suc n) now (next ∷ later) vars h out f =
         simple home y c rest (λ a b. Reads code y (does yield) now (next ∷ later) vars a b) (suc n) n h (gives_up y ∷ []) f.0 (done next later vars) out (omega arith) f.1 (yields y now (next ∷ later) vars)
@@ -275,7 +275,7 @@ module _ (code : Code) (part : Part) where
         → Again (λ q call calls v k o. To n q call calls v k o) y (c.place (at true (does (yield_until e)) rest)) later vars h out
         → One_split home y c (does (yield_until e)) rest n now later vars h out
     yields_until_so e n now [] vars h out f =
-        standing home y c rest (λ a b. Reads code y (does (yield_until e)) now [] vars a b) n h (gives_up y ∷ []) vars out f.0 f.1 (yields_until_last y e now vars)
+        window_position home y c rest (λ a b. Reads code y (does (yield_until e)) now [] vars a b) n h (gives_up y ∷ []) vars out f.0 f.1 (yields_until_last y e now vars)
     yields_until_so e n now (next ∷ later) vars h out f =
         mapped (λ a b. Awaits y e next later vars a b) (λ a b. Reads code y (does (yield_until e)) now (next ∷ later) vars a b) (λ m b x o. NextTo home y c rest m b x o) n n h f.0 out (gives_up y ∷ []) (omega arith) f.1
         (λ x o r. yields_until y e now next later vars x o r)
@@ -289,7 +289,7 @@ module _ (code : Code) (part : Part) where
         → Again (λ q call calls v k o. To n q call calls v k o) y (c.place (at true (does pause) rest)) later vars j out
         → One_split home y c (does pause) rest n now (next ∷ later) vars h out
     pauses_on n now next [] vars h j out e f =
-        standing home y c rest (λ a b. Reads code y (does pause) now (next ∷ []) vars a b) n h (operates (Post (One (Own code.number)) 0x85 0) ∷ gives_up y ∷ []) vars out
+        window_position home y c rest (λ a b. Reads code y (does pause) now (next ∷ []) vars a b) n h (operates (Post (One (Own code.number)) 0x85 0) ∷ gives_up y ∷ []) vars out
         (e ∙ ap (λ x. operates (Post (One (Own code.number)) 0x85 0) ∷ x) f.0) f.1 (pauses_last y now next vars)
     pauses_on n now next (second ∷ later) vars h j out e f =
         mapped (λ a b. Awaits y (is (sent (cast continue))) second later vars a b) (λ a b. Reads code y (does pause) now (next ∷ second ∷ later) vars a b) (λ m b x o. NextTo home y c rest m b x o) n n h f.0 out
@@ -304,7 +304,7 @@ module _ (code : Code) (part : Part) where
         → Behind (λ q call calls v k o. To n q call calls v k o) (stops (Post (One (Own code.number)) 0x85 0) Pausing (c.place (at true (does pause) rest))) now later vars h out
         → One_split home y c (does pause) rest n now later vars h out
     pauses_so n now [] vars h out f =
-        standing home y c rest (λ a b. Reads code y (does pause) now [] vars a b) n h (operates (Post (One (Own code.number)) 0x85 0) ∷ []) vars out f.0 f.1 (posts_last y now vars)
+        window_position home y c rest (λ a b. Reads code y (does pause) now [] vars a b) n h (operates (Post (One (Own code.number)) 0x85 0) ∷ []) vars out f.0 f.1 (posts_last y now vars)
     pauses_so n now (next ∷ later) vars h out f =
         pauses_on n now next later vars h f.0 out f.1
         (subst (λ (a : PtState). Again (λ q call calls v k o. To n q call calls v k o) a (c.place (at true (does pause) rest)) later vars f.0 out) (c.answers_at true (does pause) rest) f.2)
@@ -313,7 +313,7 @@ module _ (code : Code) (part : Part) where
         → Again (λ q call calls v k o. To n q call calls v k o) Waiting (c.place (before false home)) later vars h out
         → One_split home y c (does restart) rest n now later vars h out
     restarts_so n now [] vars h out f =
-        standing home y c rest (λ a b. Reads code y (does restart) now [] vars a b) n h (gives_up Waiting ∷ []) vars out f.0 f.1 (restarted_last y now vars)
+        window_position home y c rest (λ a b. Reads code y (does restart) now [] vars a b) n h (gives_up Waiting ∷ []) vars out f.0 f.1 (restarted_last y now vars)
     restarts_so n now (next ∷ later) vars h out f =
         simple home y c rest (λ a b. Reads code y (does restart) now (next ∷ later) vars a b) n n h (gives_up Waiting ∷ []) f.0 (restarts next later vars) out (omega arith) f.1 (restarted y now next later vars) f.2
 
@@ -328,8 +328,8 @@ module _ (code : Code) (part : Part) where
     spawn_so t n m now later vars h a b (restarts call calls changed) out low same r g = absurd (comes_to_an_end code part r tt)
     spawn_so t n m now later vars h a b (exits call calls changed) out low same r g =
         simple home y c rest (λ a b. Reads code y (does (spawn t)) now later vars a b) n m h a b (done call calls changed) out low same (spawn_exits y t now later vars a call calls changed r) g
-    spawn_so t n m now later vars h a b (stands changed) out low same r g =
-        simple home y c rest (λ a b. Reads code y (does (spawn t)) now later vars a b) n m h a b (stands changed) out low same (spawn_stands y t now later vars a changed r) g
+    spawn_so t n m now later vars h a b (in_state changed) out low same r g =
+        simple home y c rest (λ a b. Reads code y (does (spawn t)) now later vars a b) n m h a b (in_state changed) out low same (spawn_in_state y t now later vars a changed r) g
 
   -- a whole thread
   thread_so : (n : ℕ) (block : List (Statement ℕ)) (y : PtState) (c : Inside block y) (now : Sight) (later : List Sight) (vars : List ℕ) (h a b : List Happening) (became out : Completion) (m : ℕ)
@@ -340,12 +340,12 @@ module _ (code : Code) (part : Part) where
       simple block y c [] (λ a b. ReadsThread code y block now later vars a b) n m h a b (done call calls changed) out low same (once y block now later vars a (done call calls changed) (λ x. x) r) g
   thread_so n block y c now later vars h a b (restarts call calls changed) out m low fewer same r g deeper =
       mapped (λ a b. ReadsThread code y block call calls changed a b) (λ a b. ReadsThread code y block now later vars a b) (λ m b x o. NextTo block y c [] m b x o) n m h b out a low same
-      (λ x o s. anew y block now later vars a x call calls changed o r s)
+      (λ x o s. block_again y block now later vars a x call calls changed o r s)
       (deeper call calls changed (fewer tt) g)
   thread_so n block y c now later vars h a b (exits call calls changed) out m low fewer same r g deeper =
       simple block y c [] (λ a b. ReadsThread code y block now later vars a b) n m h a b (exits call calls changed) out low same (once y block now later vars a (exits call calls changed) (λ x. x) r) g
-  thread_so n block y c now later vars h a b (stands changed) out m low fewer same r g deeper =
-      simple block y c [] (λ a b. ReadsThread code y block now later vars a b) n m h a b (stands changed) out low same (once y block now later vars a (stands changed) (λ x. x) r) g
+  thread_so n block y c now later vars h a b (in_state changed) out m low fewer same r g deeper =
+      simple block y c [] (λ a b. ReadsThread code y block now later vars a b) n m h a b (in_state changed) out low same (once y block now later vars a (in_state changed) (λ x. x) r) g
 
   threads : (k : ℕ) → AllAt k → (j n : ℕ) → n ≤ j → n ≤ k → (block : List (Statement ℕ)) (y : PtState) (c : Inside block y) (now : Sight) (later : List Sight) (vars : List ℕ) (h : List Happening) (out : Completion)
       → To n (c.place (before false block)) now later vars h out
@@ -446,8 +446,8 @@ module _ (code : Code) (part : Part) where
     split = record { became = exits call calls changed; m = m; few = omega arith; first = a; next = b; parts = same; reads = breaks_off y s ss now later vars a (exits call calls changed) (λ x. x) r; goes = g };
     fewer = λ x. absurd x;
   }
-  joined k all n low home y c s ss rest now later vars h out (stands changed) m few a b same r g = record {
-    split = record { became = stands changed; m = m; few = omega arith; first = a; next = b; parts = same; reads = breaks_off y s ss now later vars a (stands changed) (λ x. x) r; goes = g };
+  joined k all n low home y c s ss rest now later vars h out (in_state changed) m few a b same r g = record {
+    split = record { became = in_state changed; m = m; few = omega arith; first = a; next = b; parts = same; reads = breaks_off y s ss now later vars a (in_state changed) (λ x. x) r; goes = g };
     fewer = λ x. absurd x;
   }
 
@@ -494,7 +494,7 @@ module _ (code : Code) (part : Part) where
   whole_read (suc m) now later vars h a b (done call calls changed) out same r g = at_its_end now later vars h a b (done call calls changed) out same r g.0 g.1
   whole_read m now later vars h a b (restarts call calls changed) out same r g = absurd (comes_to_an_end code part r tt)
   whole_read m now later vars h a b (exits call calls changed) out same r g = at_its_end now later vars h a b (exits call calls changed) out same r g.0 g.1
-  whole_read m now later vars h a b (stands changed) out same r g = at_its_end now later vars h a b (stands changed) out same r g.0 g.1
+  whole_read m now later vars h a b (in_state changed) out same r g = at_its_end now later vars h a b (in_state changed) out same r g.0 g.1
 
 pub reads_the_text : (code : Code) (part : Part) (vars : List ℕ) (now : Sight) (later : List Sight) (h : List Happening) (out : Completion)
     → Runs code (fresh_of code part) vars now later h out → ReadsThread code Yielded (whole_of code part) now later vars h out

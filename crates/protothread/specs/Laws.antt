@@ -32,7 +32,7 @@ RunAwayIsForGood =
       units = more;
     }
 
--- an operation costs a unit at least, and no step makes units
+-- an operation costs at least one unit, and no step makes units
 abbrev pub OperationsCostWork : Type 0
 OperationsCostWork =
     (code : Code) (event : Event) (looks : Looks) (r : Remainder) (variables : List ℕ) (units : ℕ)
@@ -66,7 +66,7 @@ pub record GivesUpAtAWait (code : Code) (a : Advanced) : Type 0 where
       → (a.remainder.mark ≡ AtRest) × IsHeld code (whole_of code a.remainder.part) a.remainder.place
   pub stays_sound : IsSound code a.remainder
 
--- control is given up at waits alone, from a fresh thread on
+-- control is given up only at waits, from a fresh thread on
 abbrev pub ControlIsGivenUpAtWaits : Type 0
 ControlIsGivenUpAtWaits =
     (code : Code) (event : Event) (looks : Looks) (r : Remainder) (variables : List ℕ) (units : ℕ)

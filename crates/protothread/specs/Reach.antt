@@ -55,7 +55,7 @@ DeedCanSpawn cs (Spawns t) = CanSpawn cs t
 DeedCanSpawn cs d = Unit {0}
 
 -- a thread is in this flat code, that of its innermost thread, which spawns only threads before itself
-pub record StandsIn (code : Code) (t : Thread) (flat : List Instruction) : Type 0 where
+pub record IsFoundIn (code : Code) (t : Thread) (flat : List Instruction) : Type 0 where
   pub flat_of : IsFlat (body_of_thread code t) flat
   pub earlier : SpawnsSo t.calls (body_of_thread code t)
 
@@ -63,7 +63,7 @@ pub record StandsIn (code : Code) (t : Thread) (flat : List Instruction) : Type 
 pub record GoesOnAt (code : Code) (flat : List Instruction) (made : Reached) (old new : Thread)
     (after : List ℕ) : Type 0 where
   pub part : new.part ≡ old.part
-  pub inside : StandsIn code new flat
+  pub inside : IsFoundIn code new flat
   pub made_so : made ≡ goes_on after (thread_place code new)
 
 -- the thread stops with an operation

@@ -33,13 +33,13 @@ pub data Happening : Type 0 where
   operates : Op → Happening
   gives_up : PtState → Happening
 
--- The fate of statements: they were executed, or were left since the thread restarts or exits, and the thread continues
--- in the sight `now`, with the later ones after it; or the thread is still in them, and no sight is left.
+-- The fate of statements: they were executed, or were left because the thread restarts or exits, and the thread
+-- continues in the sight `now`, with the later ones after it; or the thread is still in them, and no sight is left.
 pub data Completion : Type 0 where
   done : (now : Sight) → (later : List Sight) → (variables : List ℕ) → Completion
   restarts : (now : Sight) → (later : List Sight) → (variables : List ℕ) → Completion
   exits : (now : Sight) → (later : List Sight) → (variables : List ℕ) → Completion
-  stands : (variables : List ℕ) → Completion
+  in_state : (variables : List ℕ) → Completion
 
 abbrev pub IsDone : Completion → Type 0
 IsDone (done now later vars) = Unit {0}
@@ -56,7 +56,7 @@ with_answer (Some i) vars answer = slice_set vars i answer
 
 -- a statement that continues in the next sight
 abbrev pub resumed : (into : Option ℕ) → (later : List Sight) → (variables : List ℕ) → Completion
-resumed into [] vars = stands vars
+resumed into [] vars = in_state vars
 resumed into (next ∷ later) vars = done next later (with_answer into vars next.answer)
 
 -- the immediate effect of a statement that is reached
@@ -75,7 +75,7 @@ pub data Awaits (yields : PtState) (c : Expression ℕ) : (now : Sight) → (lat
       → holds (meaning c now vars) ≡ false → Awaits yields c next later vars h out
       → Awaits yields c now (next ∷ later) vars (gives_up yields ∷ h) out
   never : (now : Sight) (vars : List ℕ) → holds (meaning c now vars) ≡ false
-      → Awaits yields c now [] vars (gives_up yields ∷ []) (stands vars)
+      → Awaits yields c now [] vars (gives_up yields ∷ []) (in_state vars)
 
 mutual
   -- The effect of one statement. `yields` is the answer that the part's caller gets when the thread yields: YIELDED, or
@@ -97,7 +97,7 @@ mutual
         → deed code a now vars ≡ Waits → Reads code y (does a) next later vars h out
         → Reads code y (does a) now (next ∷ later) vars (gives_up Waiting ∷ h) out
     waits_last : (y : PtState) (a : Action ℕ) (now : Sight) (vars : List ℕ)
-        → deed code a now vars ≡ Waits → Reads code y (does a) now [] vars (gives_up Waiting ∷ []) (stands vars)
+        → deed code a now vars ≡ Waits → Reads code y (does a) now [] vars (gives_up Waiting ∷ []) (in_state vars)
     -- control is given up once
     yields : (y : PtState) (now : Sight) (later : List Sight) (vars : List ℕ)
         → Reads code y (does yield) now later vars (gives_up y ∷ []) (resumed None later vars)
@@ -106,7 +106,7 @@ mutual
         → Awaits y c next later vars h out
         → Reads code y (does (yield_until c)) now (next ∷ later) vars (gives_up y ∷ h) out
     yields_until_last : (y : PtState) (c : Expression ℕ) (now : Sight) (vars : List ℕ)
-        → Reads code y (does (yield_until c)) now [] vars (gives_up y ∷ []) (stands vars)
+        → Reads code y (does (yield_until c)) now [] vars (gives_up y ∷ []) (in_state vars)
     -- CONTINUE to its own process, and then as `yield_until is(continue)`
     pauses : (y : PtState) (now next second : Sight) (later : List Sight) (vars : List ℕ) (h : List Happening)
         (out : Completion)
@@ -115,10 +115,10 @@ mutual
         (operates (Post (One (Own code.number)) (system_number Continue) 0) ∷ gives_up y ∷ h) out
     pauses_last : (y : PtState) (now next : Sight) (vars : List ℕ)
         → Reads code y (does pause) now (next ∷ []) vars
-        (operates (Post (One (Own code.number)) (system_number Continue) 0) ∷ gives_up y ∷ []) (stands vars)
+        (operates (Post (One (Own code.number)) (system_number Continue) 0) ∷ gives_up y ∷ []) (in_state vars)
     posts_last : (y : PtState) (now : Sight) (vars : List ℕ)
         → Reads code y (does pause) now [] vars
-        (operates (Post (One (Own code.number)) (system_number Continue) 0) ∷ []) (stands vars)
+        (operates (Post (One (Own code.number)) (system_number Continue) 0) ∷ []) (in_state vars)
     -- the block of the thread, in the same call; its spawner continues after the spawn if the thread ends or exits
     spawn_ends : (y : PtState) (t : ℕ) (now : Sight) (later : List Sight) (vars : List ℕ) (h : List Happening)
         (call : Sight) (calls : List Sight) (changed : List ℕ)
@@ -128,14 +128,14 @@ mutual
         (call : Sight) (calls : List Sight) (changed : List ℕ)
         → ReadsThread code Waiting (thread_block code t) now later vars h (exits call calls changed)
         → Reads code y (does (spawn t)) now later vars h (done call calls changed)
-    spawn_stands : (y : PtState) (t : ℕ) (now : Sight) (later : List Sight) (vars : List ℕ) (h : List Happening)
+    spawn_in_state : (y : PtState) (t : ℕ) (now : Sight) (later : List Sight) (vars : List ℕ) (h : List Happening)
         (changed : List ℕ)
-        → ReadsThread code Waiting (thread_block code t) now later vars h (stands changed)
-        → Reads code y (does (spawn t)) now later vars h (stands changed)
+        → ReadsThread code Waiting (thread_block code t) now later vars h (in_state changed)
+        → Reads code y (does (spawn t)) now later vars h (in_state changed)
     restarted : (y : PtState) (now next : Sight) (later : List Sight) (vars : List ℕ)
         → Reads code y (does restart) now (next ∷ later) vars (gives_up Waiting ∷ []) (restarts next later vars)
     restarted_last : (y : PtState) (now : Sight) (vars : List ℕ)
-        → Reads code y (does restart) now [] vars (gives_up Waiting ∷ []) (stands vars)
+        → Reads code y (does restart) now [] vars (gives_up Waiting ∷ []) (in_state vars)
     exited : (y : PtState) (now : Sight) (later : List Sight) (vars : List ℕ)
         → Reads code y (does exit) now later vars [] (exits now later vars)
     -- the block that the condition chooses
@@ -172,7 +172,7 @@ mutual
         (h : List Happening) (out : Completion)
         → (Restarts out → ⊥) → ReadsAll code y block now later vars h out
         → ReadsThread code y block now later vars h out
-    anew : (y : PtState) (block : List (Statement ℕ)) (now : Sight) (later : List Sight) (vars : List ℕ)
+    block_again : (y : PtState) (block : List (Statement ℕ)) (now : Sight) (later : List Sight) (vars : List ℕ)
         (h k : List Happening)
         (call : Sight) (calls : List Sight) (changed : List ℕ) (out : Completion)
         → ReadsAll code y block now later vars h (restarts call calls changed)

@@ -1,4 +1,4 @@
--- Runs of a thread: it is advanced once for each sight, with units of work that suffice, up to an answer 2 or 3.
+-- Runs of a thread: it is advanced once for each sight, with enough units of work, up to an answer 2 or 3.
 use Rattle.std.specs.Prelude.{ℕ, ◌≡◌, ◌<◌, ◌↔◌, List, [], ◌∷◌}
 use Rattle.program_tree.specs.Code.{Code}
 use Rattle.protothread.specs.declared.answer.PtState.{PtState}
@@ -10,7 +10,7 @@ use Rattle.protothread.specs.declared.step.Step.TheVariants as step
 use Rattle.protothread.specs.State.{state_number}
 use Rattle.protothread.specs.Remainder.{Remainder, whole_of, fresh_of}
 use Rattle.protothread.specs.Step.{advanced_of, answered_of}
-use Rattle.protothread.specs.Reading.{Sight, Happening, operates, gives_up, Completion, done, exits, stands}
+use Rattle.protothread.specs.Reading.{Sight, Happening, operates, gives_up, Completion, done, exits, in_state}
 use Rattle.protothread.specs.Reading.{ReadsThread}
 
 -- with some number of units of work, the thread answers this step and leaves this remainder and these variables
@@ -35,7 +35,7 @@ pub data Runs (code : Code) : Remainder → (variables : List ℕ) → (now : Si
       → Runs code r vars now (resumed ∷ later) (operates o ∷ h) out
   operated_last : (r next : Remainder) (vars changed : List ℕ) (now : Sight) (o : Op)
       → Steps code now r vars (step.Op o) next changed
-      → Runs code r vars now [] (operates o ∷ []) (stands changed)
+      → Runs code r vars now [] (operates o ∷ []) (in_state changed)
   -- an answer 0 or 1
   gave_up : (r next : Remainder) (vars changed : List ℕ) (now resumed : Sight) (later : List Sight) (answer : PtState)
       (h : List Happening) (out : Completion)
@@ -44,7 +44,7 @@ pub data Runs (code : Code) : Remainder → (variables : List ℕ) → (now : Si
       → Runs code r vars now (resumed ∷ later) (gives_up answer ∷ h) out
   gave_up_last : (r next : Remainder) (vars changed : List ℕ) (now : Sight) (answer : PtState)
       → Steps code now r vars (step.Done answer) next changed → state_number answer < 2
-      → Runs code r vars now [] (gives_up answer ∷ []) (stands changed)
+      → Runs code r vars now [] (gives_up answer ∷ []) (in_state changed)
   -- an answer 2 or 3
   has_exited : (r next : Remainder) (vars changed : List ℕ) (now : Sight) (later : List Sight)
       → Steps code now r vars (step.Done Exited) next changed → Runs code r vars now later [] (exits now later changed)

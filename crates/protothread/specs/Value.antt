@@ -17,11 +17,11 @@ use Rattle.protothread.specs.Looks.{Looks}
 abbrev pub truth : Bool → ℕ
 truth b = if b then 1 else 0
 
--- any value but 0 is true
+-- any value except 0 is true
 abbrev pub holds : ℕ → Bool
 holds n = not (n == 0)
 
--- sums, differences and products wrap at 16 bits, and a division by 0 gives 0
+-- sums, differences and products wrap at 16 bits, and the result of a division by 0 is 0
 abbrev pub applied : Operator → ℕ → ℕ → ℕ
 applied Add a b = (a + b) % 2 ^ 16
 applied Subtract a b = (a + (2 ^ 16 - b)) % 2 ^ 16

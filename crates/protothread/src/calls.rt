@@ -5,8 +5,8 @@ ghost use Rattle.protothread.specs.Calls.{CanSpawn, IsLast};
 use arrayvec::ArrayVec;
 use std::marker::Model;
 
-/// The greatest depth to which spawned threads can be nested: the one that a part spawns, whatever its number, and
-/// those inside it, each one of the process's 7 and before the one around it.
+/// The greatest depth to which spawned threads can be nested. A part may spawn any of the process's 7 threads, and a
+/// thread only those with a number below its own.
 const DEPTH: usize = 8;
 
 /// A thread that was spawned, and the place from which its spawner continues after the spawn.

@@ -9,7 +9,7 @@ use crate::value::{evaluate, evaluate_by_call};
 use crate::vars::Vars;
 use program_tree::{Action, Event, Proc, SystemEvent, Target};
 
-/// The effect of a statement on the thread that is at it.
+/// The effect of a statement on the thread that has reached it.
 #[derive(Clone, Copy)]
 pub(crate) enum StatementEffect {
     /// Nothing; the thread continues after it.

@@ -4,8 +4,8 @@ ghost use Rattle.protothread.specs.Laws.{RunAwayIsForGood};
 ghost use Rattle.protothread.specs.Runs.{RunsAreTheText};
 ghost use Rattle.protothread.specs.Semaphores.{CountsAreSignalsLessTakes};
 
-/// More units of work change nothing: a step that answers an operation or gives up control answers the same with more
-/// units, and as many more are left.
+/// More units of work change nothing: a step that answers an operation or gives up control answers the same if it is
+/// given more units, and then has that many more left.
 pub fn more_units_change_nothing()
     ensures more_units_change_nothing { MoreUnitsChangeNothing }
 {}
@@ -15,7 +15,7 @@ pub fn run_away_is_for_good()
     ensures run_away_is_for_good { RunAwayIsForGood }
 {}
 
-/// An operation costs a unit of work at least, so that a caller that performs one after another comes to an end.
+/// An operation costs at least one unit of work, so that a caller that performs one after another comes to an end.
 pub fn operations_cost_work()
     ensures operations_cost_work { OperationsCostWork }
 {}
@@ -32,9 +32,10 @@ pub fn counts_are_signals_less_takes()
 {}
 
 /// The runs of a fresh thread are exactly those of the block of its part, read by its structure: the same operations
-/// and answers in the same order, over the sights that it gets each time that it is advanced. Spawned threads are read
-/// as blocks of their own: a `restart` or `exit` is that thread's alone, and while it yields or waits its spawner
-/// answers WAITING. The reading knows statements, blocks and threads, and nothing of how a thread keeps its place.
+/// and answers in the same order, for the same sights. A sight is the answer, the event and the view of the mote that
+/// the thread gets each time it is advanced. Spawned threads are read as blocks of their own: a `restart` or `exit`
+/// affects only that thread, and while it yields or waits its spawner answers WAITING. The reading knows statements,
+/// blocks and threads, and nothing of how a thread keeps its place.
 pub fn runs_are_the_text()
     ensures runs_are_the_text { RunsAreTheText }
 {}

@@ -8,7 +8,7 @@ ghost use Rattle.program_tree.specs.Program.{code_of};
 ghost use Rattle.protothread.specs.Remainder.{fresh_of};
 ghost use Rattle.protothread.specs.Step.{advanced_of, answered_of, PaysFor};
 ghost use Rattle.protothread.specs.Places.{place_by, yielding, body_of_thread, remainder_of};
-ghost use Rattle.protothread.specs.Reach.{DeedCanSpawn, StandsIn, Reaches, Resumes, performed_at, reached_at};
+ghost use Rattle.protothread.specs.Reach.{DeedCanSpawn, IsFoundIn, Reaches, Resumes, performed_at, reached_at};
 
 use crate::answer::PtState;
 use crate::calls::{Call, Calls};
@@ -81,7 +81,7 @@ impl Thread {
 
     /// The flat code of the innermost thread.
     fn innermost<'a>(&self, text: &'a ProcessText) -> &'a [Instruction]
-        ensures stands_in { StandsIn (code_of text.now) self.now result.now }
+        ensures is_found_in { IsFoundIn (code_of text.now) self.now result.now }
     {
         match self.calls.last() {
             None => self.part.code(text),
@@ -134,7 +134,7 @@ impl Thread {
         next: u16,
         vars: &mut Vars,
     ) -> Reach<'a>
-        requires inside { StandsIn (code_of text.now) self.old flat.now }
+        requires inside { IsFoundIn (code_of text.now) self.old flat.now }
         requires earlier { DeedCanSpawn self.old.calls deed }
         ensures kept { length vars.new ≡ length vars.old }
         ensures calls { length self.new.calls ≤ length self.old.calls + 1 }
@@ -207,7 +207,7 @@ impl Thread {
         vars: &mut Vars,
         look: &L,
     ) -> Reach<'a>
-        requires inside { StandsIn (code_of text.now) self.old flat.now }
+        requires inside { IsFoundIn (code_of text.now) self.old flat.now }
         requires leads { Leads (rest_at (body_of_thread (code_of text.now) self.old)) instruction.now
             (rest_at (body_of_thread (code_of text.now) self.old) self.old.position) }
         ensures kept { length vars.new ≡ length vars.old }
@@ -235,8 +235,8 @@ impl Thread {
     }
 
     /// Returns to the thread's position, and pays for the spawns that a new call passes. The step ends here if they
-    /// can't be paid for, after the post of a `pause`, and if the thread has run away. A thread that continues after an
-    /// operation, or is called without spawned threads, has nothing to pay, and this is the most frequent case.
+    /// can't be paid for, if the post of a `pause` was the last action, or if the thread has run away. A thread that
+    /// continues after an operation, or is called without spawned threads, has nothing to pay: the most frequent case.
     #[inline(always)]
     #[tactic(auto, unfolding(crate::specs::Step::advanced_of))]
     fn resume(&mut self, fuel: &mut Fuel) -> Option<Step>
@@ -276,10 +276,10 @@ impl Thread {
         }
     }
 
-    /// Continues up to the next operation or answer. Each statement that the thread reaches costs a unit of work, and
-    /// so do each further test of a `while`, each spawn that a call passes on its way to the thread's position, and the
-    /// statement at which it is when it is resumed, each time. After the answers `Exited` and `Ended` the thread is
-    /// fresh; once it has run away, it answers `Runaway` for good.
+    /// Continues up to the next operation or answer. Each statement that the thread reaches costs a unit of work; so
+    /// do each further test of a `while`, each spawn that a call passes on its way to the thread's position, and, each
+    /// time the thread is resumed, the statement at that position. After the answers `Exited` and `Ended` the thread
+    /// is fresh; once it has run away, it always answers `Runaway`.
     ///
     /// The text is the same at each call, and the variables are made from it.
     #[inline(always)]

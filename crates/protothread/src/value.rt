@@ -81,7 +81,7 @@ fn plain_or_word(operand: &Expr, vars: &Vars, event: &Event) -> Option<u16>
     }
 }
 
-/// The value of an expression with at most one operator, by the variables and the event alone. It is inlined, so that
+/// The value of an expression with at most one operator, only by the variables and the event. It is inlined, so that
 /// the tests and assignments of most statements cost little.
 #[inline(always)]
 fn short_value(expression: &Expr, vars: &Vars, event: &Event) -> Option<u16>

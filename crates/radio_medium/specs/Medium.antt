@@ -1,4 +1,4 @@
--- The radio medium: who hears whom, how much later, and which copies are lost, by places and losses alone.
+-- The radio medium: who hears whom, how much later, and which copies are lost, determined only by places and losses.
 use Rattle.std.specs.Prelude.{ℕ, ◌+◌, ◌*◌, ◌/◌, ◌%◌, ◌≤◌, ◌==◌, nat_le, nat_lt, min, pos, ◌-ℤ◌, unsigned_abs, Bool}
 use Rattle.std.specs.Prelude.{false, not, ◌&&◌, ◌||◌, if◌then◌else◌, Option, Some, None, unwrap_or, option_map, List}
 use Rattle.std.specs.Prelude.{[], ◌∷◌, length, map, filter, find, slice_index_or, All}
@@ -52,7 +52,7 @@ hears radio r s =
     is_mote radio r && (is_mote radio s && (not (r == s)
     && nat_le (square_distance (place_at radio s) (place_at radio r)) (square radio.range)))
 
--- how long a packet of mote s takes to mote r
+-- how long a packet of mote s needs to mote r
 unfoldable pub delay : Radio → (s r : ℕ) → ℕ
 delay radio s r = radio.base + square_distance (place_at radio s) (place_at radio r) / radio.per
 

@@ -1,4 +1,4 @@
-//! The radio medium: who hears whom, how much later, and what becomes of the copies of a packet.
+//! The radio medium: who hears whom, how much later, and the fates of a packet's copies.
 #![tactic(auto)]
 
 mod error;

@@ -21,7 +21,7 @@ pub(crate) struct Link {
     pub(crate) to: u16,
     /// The number of moments that a packet needs.
     pub(crate) delay: u64,
-    /// The medium loses the last of each so many packets on this link, if it loses any.
+    /// If the medium loses packets on this link, it loses the last one in each group of this many.
     pub(crate) every: Option<u32>,
 }
 

@@ -18,7 +18,7 @@ pub struct Loss {
     pub every: u32,
 }
 
-/// For each pair of a sender and a receiver with a loss: of how many packets the last one is lost.
+/// For each pair of a sender and a receiver with a loss, the length of the groups of packets whose last one is lost.
 pub(crate) type EveryByPair = HashMap<(u32, u32), u32>;
 
 /// All losses by their pairs; a bad one is an error.
@@ -57,7 +57,8 @@ fn is_good(motes: usize, loss: Loss) -> bool
     is_there && loss.sender != loss.to && loss.every != 0
 }
 
-/// Returns `true` if packet `number` is lost, if the last of each `every` packets is; without `every` none is.
+/// Returns `true` if packet `number` is lost, given that the last of each `every` packets is lost; without `every`
+/// none is.
 pub(crate) fn is_lost(number: u64, every: Option<u32>) -> bool
     requires positive { ForSome every (λ k. 0 < k) }
     ensures value { result ≡ is_lost number every }

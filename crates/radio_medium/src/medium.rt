@@ -28,7 +28,7 @@ pub struct Medium {
     least_delay: Option<u64>,
 }
 
-/// By hand, so that a medium is dropped by one call: the check of a function that owns one sees that call alone.
+/// Implemented by hand: the check of a function that owns a medium then sees only one call for its drop.
 impl Drop for Medium {
     fn drop(self) {
         let Medium {

@@ -1,17 +1,17 @@
 -- Blocks that name only processes and events of their program.
 use Rattle.std.proofs.Common.{ℕ, ◌<◌, Bool, true, false, if◌then◌else◌, List, [], ◌∷◌, ◌++◌, length}
 use Rattle.program_tree.specs.EventNames as event
-use Rattle.program_tree.specs.EventNames.{CastEvent, SentEvent}
+use Rattle.program_tree.specs.EventNames.{BroadcastEvent, PostedEvent}
 use Rattle.program_tree.specs.Code.{Code, Tree}
 use Rattle.program_tree.specs.Tree.{Action, post, broadcast, synch, start, kill, Statement, does, branch, while, Body, end, next, Otherwise, nothing, otherwise, listed, other_block}
 use Rattle.protothread.specs.declared.part.Part.{Part}
 use Rattle.protothread.specs.Remainder.{thread_block, whole_of}
 
-abbrev pub FitsCast : Tree → CastEvent ℕ → Type 0
+abbrev pub FitsCast : Tree → BroadcastEvent ℕ → Type 0
 FitsCast t (event.declared i) = i < length t.events
 FitsCast t e = Unit {0}
 
-abbrev pub FitsSent : Tree → SentEvent ℕ → Type 0
+abbrev pub FitsSent : Tree → PostedEvent ℕ → Type 0
 FitsSent t (event.cast e) = FitsCast t e
 FitsSent t event.exit = Unit {0}
 

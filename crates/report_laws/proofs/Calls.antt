@@ -29,7 +29,7 @@ use Rattle.process_kernel.specs.Members.{is_same}
 use Rattle.process_kernel.specs.State.{State, Outcome, Went, Goes, ◌>>=◌}
 use Rattle.process_kernel.specs.Processes.{has_process, is_busy, is_listed, is_running, is_on_list, process_needs_poll}
 use Rattle.process_kernel.specs.Operation.{take_of, signal_of}
-use Rattle.process_kernel.specs.Calls.{Calls, Answer, told, is_system_event, walk_of}
+use Rattle.process_kernel.specs.Calls.{Calls, Answer, own_event, is_system_event, walk_of}
 use Rattle.process_kernel.specs.Etimer.{post_due, walk_timers, walks_of, pass_of, etimer_of}
 use Rattle.process_kernel.specs.Ctimer.{callback_of, waits_for, ctimer_of}
 use Rattle.process_kernel.specs.Radio.{packet_of, hand_to, empty_ring, radio_of}
@@ -110,7 +110,7 @@ module _ (t : Tree) (whole : IsWhole t) where
   due_led : (again on : State → Went) → ((s : State) → Holds s → Ok (again s)) → ((s : State) → Holds s → Ok (on s)) → (s : State) (timer : ℕ) (owner : Option Proc) → Holds s → HasOwner t owner → Ok (post_due again on s timer owner)
   due_led again on f g s timer None h n = g s h
   due_led again on f g s timer (Some owner) h n =
-      chain _ _ (posts t whole s (One owner) (told Timer timer) h n (inl (Timer, refl))) (λ full u i. ok_if full _ _ (g _ (is_polled t whole u Etimer i)) (f _ (is_fired t whole u timer i)))
+      chain _ _ (posts t whole s (One owner) (own_event Timer timer) h n (inl (Timer, refl))) (λ full u i. ok_if full _ _ (g _ (is_polled t whole u Etimer i)) (f _ (is_fired t whole u timer i)))
 
   walk_timers_led : (again : State → Went) → ((s : State) → Holds s → Ok (again s)) → (ts : List ℕ) (s : State) → Holds s → Ok (walk_timers again ts s)
   walk_timers_led again f [] s h = rests s h
@@ -217,13 +217,13 @@ module _ (t : Tree) (whole : IsWhole t) where
     exit_led : (s : State) (p behalf : Proc) → Holds s → HasProcess t p → Ok (exit_of calls s p behalf)
     unfolding exit_of
     exit_led s p behalf h n =
-        ok_if (is_listed s p) _ _ (chain _ _ (walk_led (told Exited (process_number p)) p s.members _ h.members (is_exiting t whole s p h)) (λ a u i.
+        ok_if (is_listed s p) _ _ (chain _ _ (walk_led (own_event Exited (process_number p)) p s.members _ h.members (is_exiting t whole s p h)) (λ a u i.
         chain _ _ (ok_if (is_same p behalf) _ _ (rests u i) (last_run_led u p i)) (λ b v j. leaves t whole v p j n))) (rests s h)
 
     pub start_led : (s : State) (p : Proc) → Holds s → HasProcess t p → Ok (start_of calls s p)
     unfolding start_of
     start_led s p h n =
-        ok_if (is_busy s p) _ _ (writes t whole s (what.Busy p) h n) (ok_if (has_process s p && not (is_listed s p)) _ _ (chain _ _ (enlists t whole s p h n) (λ a u i. are.call u p (told Init 0) i n)) (rests s h))
+        ok_if (is_busy s p) _ _ (writes t whole s (what.Busy p) h n) (ok_if (has_process s p && not (is_listed s p)) _ _ (chain _ _ (enlists t whole s p h n) (λ a u i. are.call u p (own_event Init 0) i n)) (rests s h))
 
     kill_led : (s : State) (p : Proc) (current : ℕ) → Holds s → HasProcess t p → Ok (kill_of calls s p current)
     unfolding kill_of
@@ -298,7 +298,7 @@ module _ (t : Tree) (whole : IsWhole t) where
     unfolding poll_turn_of
     polls_led [] s m h = rests s h
     polls_led (x ∷ ms) s m h =
-        chain _ _ (ok_if (is_on_list s x && process_needs_poll s x.process) _ _ (are.call _ x.process (told Poll 0) (is_needing t whole s x.process false h) m.0) (rests s h)) (λ a u i. polls_led ms u m.1 i)
+        chain _ _ (ok_if (is_on_list s x && process_needs_poll s x.process) _ _ (are.call _ x.process (own_event Poll 0) (is_needing t whole s x.process false h) m.0) (rests s h)) (λ a u i. polls_led ms u m.1 i)
 
     polls_due_led : (s : State) → Holds s → Ok (polls_due_of calls s)
     unfolding polls_due_of polls_of

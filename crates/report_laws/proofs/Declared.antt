@@ -3,7 +3,7 @@ use Rattle.std.proofs.Common.{ℕ, ◌≡◌, ◌+◌, ◌-◌, ◌<◌, nat_le,
 use Rattle.std.specs.List.{AllByRecursion as Each}
 use Rattle.std.proofs.lemmas.List.Elements.{recursion_from_All}
 use Rattle.program_tree.specs.EventNames as event
-use Rattle.program_tree.specs.EventNames.{CastEvent, SentEvent}
+use Rattle.program_tree.specs.EventNames.{BroadcastEvent, PostedEvent}
 use Rattle.program_tree.specs.Code.{Code, Tree, callback_at}
 use Rattle.program_tree.specs.Tree.{Class, Action, assign, print, send, wait_until, wait_while, yield, yield_until, spawn, restart, exit, pause, acquire, signal, post, broadcast, synch, poll, start, kill, set, reset, restart_timer, stop, Statement, does, branch, while, Body, end, next, Otherwise, nothing, otherwise}
 use Rattle.protothread.specs.declared.part.Part.{Part}
@@ -31,14 +31,14 @@ module _ (t : Tree) (d : Declarations) (events : d.events ≡ length t.events) (
   process_fits : (p : ℕ) → p < d.processes → p < length t.processes
   process_fits p h = subst (λ (n : ℕ). p < n) processes h
 
-  cast_fits : (e : CastEvent ℕ) → Each (One d) (named_by_cast e) → FitsCast t e
+  cast_fits : (e : BroadcastEvent ℕ) → Each (One d) (named_by_cast e) → FitsCast t e
   cast_fits event.continue h = tt
   cast_fits event.msg h = tt
   cast_fits event.«com» h = tt
   cast_fits event.packet h = tt
   cast_fits (event.declared i) h = subst (λ (n : ℕ). i < n) events h.0
 
-  sent_fits : (e : SentEvent ℕ) → Each (One d) (named_by_sent e) → FitsSent t e
+  sent_fits : (e : PostedEvent ℕ) → Each (One d) (named_by_sent e) → FitsSent t e
   sent_fits (event.cast e) h = cast_fits e h
   sent_fits event.exit h = tt
 

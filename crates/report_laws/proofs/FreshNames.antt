@@ -7,7 +7,7 @@ use Rattle.std.proofs.lemmas.List.{append-nil, map-append}
 use Rattle.program_tree.specs.Code.{Tree}
 use Rattle.program_tree.specs.Faults.{Scope, nothing_yet, scope_after, scope_from, scope_of, role_breaks, begun_breaks, IsProgram}
 use Rattle.program_tree.specs.Grammar.{Mark, tokens, event_marks, semaphore_marks, process_marks, program_marks}
-use Rattle.program_tree.specs.InScope.{Names, with_new, is_a, is_among, is_in_scope}
+use Rattle.program_tree.specs.InScope.{NamesInScope, with_new, is_a, is_among, is_in_scope}
 use Rattle.program_tree.specs.InScope.{place_of}
 use Rattle.program_tree.specs.Numbers.{named_of, tree_of_shape}
 use Rattle.program_tree.specs.Reading.{IsTreeOf}
@@ -120,12 +120,12 @@ no_process false true c d e f h is = h refl
 no_process false false true d e f h is = h refl
 no_process false false false d e f h is = absurd cc
 
-new_event : (n : Names) (x : Name) → (is_in_scope n x ≡ true → ⊥) → IsNew n.events x
+new_event : (n : NamesInScope) (x : Name) → (is_in_scope n x ≡ true → ⊥) → IsNew n.events x
 new_event n x h =
     new_among n.events x
     (no_event (is_a n an_event x) (is_a n a_semaphore x) (is_a n a_process x) (is_a n a_variable x) (is_a n a_timer x) (is_a n a_thread x) h)
 
-new_process : (n : Names) (x : Name) → (is_in_scope n x ≡ true → ⊥) → IsNew n.processes x
+new_process : (n : NamesInScope) (x : Name) → (is_in_scope n x ≡ true → ⊥) → IsNew n.processes x
 new_process n x h =
     new_among n.processes x
     (no_process (is_a n an_event x) (is_a n a_semaphore x) (is_a n a_process x) (is_a n a_variable x) (is_a n a_timer x) (is_a n a_thread x) h)

@@ -5,7 +5,7 @@ use Rattle.std.specs.Prelude.{nat_lt, not, slice_index, ◌==◌}
 use Rattle.program_tree.specs.declared.event.Event.{Event}
 use Rattle.program_tree.specs.declared.event.SystemEvent.TheVariants as system
 use Rattle.program_tree.specs.EventNames as event_name
-use Rattle.program_tree.specs.EventNames.{CastEvent, SentEvent, cast_number, sent_number}
+use Rattle.program_tree.specs.EventNames.{BroadcastEvent, PostedEvent, cast_number, sent_number}
 use Rattle.program_tree.specs.Tree.{Action, assign, print, send, wait_until, wait_while, yield, yield_until, spawn, restart, exit, pause, acquire, signal, post, broadcast, synch, poll, start, kill, set, reset, restart_timer, stop, Statement, does, branch, while, listed, other_block}
 use Rattle.program_tree.specs.Code.{Code, Tree}
 use Rattle.protothread.specs.declared.part.Part.{Part}
@@ -50,14 +50,14 @@ FitsReached t (goes_on vars p) = FitsPlace t p
 FitsReached t (operates o mark p) = FitsOp t o × FitsPlace t p
 FitsReached t (answers a p) = FitsPlace t p
 
-cast_known : (t : Tree) (e : CastEvent ℕ) → FitsCast t e → HasEvent t (cast_number e)
+cast_known : (t : Tree) (e : BroadcastEvent ℕ) → FitsCast t e → HasEvent t (cast_number e)
 cast_known t event_name.continue h = inl (system.Continue, refl)
 cast_known t event_name.msg h = inl (system.Msg, refl)
 cast_known t event_name.«com» h = inl (system.Com, refl)
 cast_known t event_name.packet h = inl (system.Packet, refl)
 cast_known t (event_name.declared i) h = inr (omega arith, omega arith)
 
-sent_known : (t : Tree) (e : SentEvent ℕ) → FitsSent t e → HasEvent t (sent_number e)
+sent_known : (t : Tree) (e : PostedEvent ℕ) → FitsSent t e → HasEvent t (sent_number e)
 sent_known t (event_name.cast e) h = cast_known t e h
 sent_known t event_name.exit h = inl (system.Exit, refl)
 

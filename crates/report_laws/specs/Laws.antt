@@ -39,7 +39,7 @@ pub record AreComparable (m n : NetModel) : Type 0 where
   pub differ : NetNamesDiffer m
 
 -- Comparing bytes is comparing runs: two runs of the same motes that write the same text have the same traces, the
--- same log, and as many copies left.
+-- same log, and the same number of copies left.
 abbrev pub ComparingBytesIsComparingRuns : Type 0
 ComparingBytesIsComparingRuns = (m n : NetModel) → AreComparable m n → (a b : ReportModel) → IsRunOf m a → IsRunOf n b
     → report_text m a ≡ report_text n b → a ≡ b

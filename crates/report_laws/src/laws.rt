@@ -22,10 +22,10 @@ pub fn runs_name_only()
     ensures runs_name_only { RunsNameOnly }
 {}
 
-/// Comparing bytes is comparing runs. Let two nets have the same motes, with programs that declare what they name and
-/// whose names differ; their ends and their media may differ. Of two reports of their runs, in numbers of 64 bits, the
-/// texts are equal only if the traces, the logs and the numbers of copies left are; and neither text is a proper
-/// prefix of the other.
+/// Comparing bytes is comparing runs. Let two nets have the same motes, and let their programs declare what they name,
+/// each under a name of its own; the ends and the media of the nets may differ. If the numbers in two reports of their
+/// runs have 64 bits, the texts are equal only if the traces, the logs and the numbers of copies left are equal; and
+/// neither text is a proper prefix of the other.
 pub fn comparing_bytes_is_comparing_runs()
     ensures same { ComparingBytesIsComparingRuns }
     ensures no_run_begins_another { NoRunBeginsAnother }
@@ -34,8 +34,8 @@ pub fn comparing_bytes_is_comparing_runs()
     no_text_begins_another();
 }
 
-/// The same of the nets of two scenarios' texts, if they have the same motes: their programs have such names, so equal
-/// bytes of two runs mean equal runs, given that the numbers in the reports have 64 bits.
+/// The same for the nets of two scenarios' texts, if they have the same motes. Their programs have such names, so
+/// equal bytes of two runs mean equal runs, if the numbers in the reports have 64 bits.
 pub fn same_bytes_of_scenarios()
     ensures comparable { ScenariosAreComparable }
     ensures same { SameBytesOfScenarios }

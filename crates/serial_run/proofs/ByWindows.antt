@@ -31,7 +31,7 @@ nets_run_forward n fault placed = system_is n fault placed
 pub report_is_there : ReportIsThere
 report_is_there n fault placed =
     let r = run_is_there (system_of n) (system_is n fault placed) n.end in
-    (report_at n r.0, record { last = r.0; run = r.1; told = refl })
+    (report_at n r.0, record { last = r.0; run = r.1; recounted = refl })
 
 -- packets that are numbered on: the first, and the rest
 number_first : (k : ℕ) (x : Sent) (xs : List Sent) → AreNumberedFrom k (x ∷ xs) → x.number ≡ k
@@ -74,18 +74,18 @@ numbers_rise next (x ∷ xs) h = (later, numbers_rise (put next x.sender (next x
         every_weaker (λ (y : Sent). eqb y.sender x.sender ≡ true → next x.sender + 1 ≤ y.number) (λ (y : Sent). x.sender ≡ y.sender → x.number < y.number) (λ (y : Sent) g e. let k = g (eq-eqb y.sender x.sender (sym e)) in omega arith) xs
         (of_passed (λ (y : Sent). next x.sender + 1 ≤ y.number) (λ (y : Sent). eqb y.sender x.sender) xs (at_least (next x.sender + 1) (sent_by x.sender xs) (number_rest (next x.sender) x (sent_by x.sender xs) own)))
 
-abbrev told_of : List (List Line) → List Packet → ℕ → ReportModel
-told_of traces log left = record { traces = traces; log = log; left = left }
+abbrev reported_of : List (List Line) → List Packet → ℕ → ReportModel
+reported_of traces log left = record { traces = traces; log = log; left = left }
 
 pub windows_commute : WindowsCommuteInNets
 unfolding system_of
 windows_commute n fault placed motes windows log is rest left = record {
   last = r.net;
   run = r.run;
-  told =
-      ap (λ traces. told_of traces (map (packet_with_fates n.radio) log) (length rest)) r.traces_are
-      ∙ (ap (λ l. told_of (map r.net.traces (up_to (length n.motes))) (map (packet_with_fates n.radio) l) (length rest)) log_is
-      ∙ ap (told_of (map r.net.traces (up_to (length n.motes))) (map (packet_with_fates n.radio) r.net.log)) r.left_is);
+  recounted =
+      ap (λ traces. reported_of traces (map (packet_with_fates n.radio) log) (length rest)) r.traces_are
+      ∙ (ap (λ l. reported_of (map r.net.traces (up_to (length n.motes))) (map (packet_with_fates n.radio) l) (length rest)) log_is
+      ∙ ap (reported_of (map r.net.traces (up_to (length n.motes))) (map (packet_with_fates n.radio) r.net.log)) r.left_is);
 }
   where
     r : IsReport (system_of n) n.end (map (λ number. (motes number).lines) (up_to (system_of n).motes)) (as_log is.joined) (length rest)

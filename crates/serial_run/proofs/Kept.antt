@@ -16,7 +16,7 @@ use Rattle.window_laws.proofs.Agenda.{wakes_other, wakes_own}
 use Rattle.net_agenda.specs.Buckets.{wake_but_at}
 use Rattle.window_laws.specs.NetStep.{NetState, stamped, sends_of, turned_at, turn_at}
 use Rattle.net_agenda.specs.NetSystem.{system_of}
-use Rattle.serial_run.specs.Stands.{KeepsWakes}
+use Rattle.serial_run.specs.IsInState.{KeepsWakes}
 use Rattle.window_laws.proofs.Ahead.{turn_every}
 use Rattle.window_laws.proofs.Puts.{put_each}
 use Rattle.window_laws.proofs.Lists.{every_filter, every_weaker}

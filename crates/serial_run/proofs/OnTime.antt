@@ -22,7 +22,7 @@ use Rattle.window_laws.proofs.Puts.{put_each}
 use Rattle.net_agenda.specs.NetSystem.{system_of, tree_at}
 use Rattle.serial_run.specs.declared.engine.Engine.{Engine}
 use Rattle.serial_run.specs.OnTime.{CanTurn, IsNotAfter, IsOnTime}
-use Rattle.serial_run.specs.Stands.{StandsAt}
+use Rattle.serial_run.specs.IsInState.{IsEngineAt}
 
 -- tests over plain numbers
 then_later : (t m u k : ℕ) → k ≡ m → (ltb t u || (eqb u t && not (ltb k (suc m)))) ≡ true → nat_le u t ≡ false
@@ -92,9 +92,9 @@ module _ (n : NetModel) where
         ahead = turn_ahead (system_of n) fine t m net least.is_first
 
   -- the mote whose turn is next can take it
-  pub least_can_turn : (at t m : ℕ) (engine : Engine) (net : NetState Node Line) → StandsAt n engine net → IsOnTime at net → IsLeast t m net.agenda → m < length n.motes
+  pub least_can_turn : (at t m : ℕ) (engine : Engine) (net : NetState Node Line) → IsEngineAt n engine net → IsOnTime at net → IsLeast t m net.agenda → m < length n.motes
       → (d : Mote) → CanTurn t (node_in (tree_at n m) (get_or engine.motes.items m d))
-  least_can_turn at t m engine net stands on_time least there d = subst (CanTurn t) (sym (stands.nodes m there d)) now
+  least_can_turn at t m engine net in_state on_time least there d = subst (CanTurn t) (sym (in_state.nodes m there d)) now
     where
       now : is_past t (net.states m).last ≡ false
       now = due_has (λ u k. is_past u (net.states k).last ≡ false) t m net.agenda least.is_there on_time.ahead

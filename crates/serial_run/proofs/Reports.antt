@@ -13,7 +13,7 @@ use Rattle.mote_net.specs.Report.{lines_in, report_of}
 use Rattle.serial_run.specs.declared.engine.Engine.{Engine}
 use Rattle.window_laws.specs.Agenda.{packets, up_to}
 use Rattle.serial_run.specs.NetRun.{report_at, IsReportOf}
-use Rattle.serial_run.specs.Stands.{IsWhole}
+use Rattle.serial_run.specs.IsInState.{IsWhole}
 use Rattle.serial_run.specs.Ended.{HasEnded}
 use Rattle.serial_run.proofs.Handed.{traces_hand_on}
 
@@ -40,15 +40,15 @@ pub report_is : (n : NetModel) (engine : Engine) (report : Report) → IsWhole n
 report_is n engine report whole at traces log left = record {
   last = at.last;
   run = at.run;
-  told = rw (traces, log, left, all, at.stands.log) refl;
+  recounted = rw (traces, log, left, all, at.in_state.log) refl;
 }
   where
     all : map lines_in engine.traces.items ≡ map at.last.traces (up_to (length n.motes))
     all =
-        family lines_in at.last.traces engine.traces.items (λ k h d. at.stands.traces k (let e = whole.traces in omega arith) d)
+        family lines_in at.last.traces engine.traces.items (λ k h d. at.in_state.traces k (let e = whole.traces in omega arith) d)
         ∙ ap (λ j. map at.last.traces (up_to j)) whole.traces
 
 pub all_in_order : (n : NetModel) (engine : Engine) → IsWhole n engine → HasEnded n engine → All (λ (v : Vec Line Global). IsInOrder v.items) engine.traces.items
 all_in_order n engine whole at k d h =
     let there : k < length n.motes = (let e = whole.traces in omega arith) in
-    subst IsInOrder (sym (at.stands.traces k there d)) (traces_hand_on n (report_at n at.last) (record { last = at.last; run = at.run; told = refl }) k there)
+    subst IsInOrder (sym (at.in_state.traces k there d)) (traces_hand_on n (report_at n at.last) (record { last = at.last; run = at.run; recounted = refl }) k there)

@@ -28,7 +28,7 @@ use Rattle.net_agenda.specs.Buckets.{Holds, arrivals_at, wake_but_at}
 use Rattle.net_agenda.specs.NetSystem.{system_of, tree_at}
 use Rattle.serial_run.specs.NetRun.{packet_with_fates}
 use Rattle.window_laws.specs.NetStep.{NetState, stamped, turn_at}
-use Rattle.serial_run.specs.Stands.{StandsAt, KeepsWakes, OneTakesTurn}
+use Rattle.serial_run.specs.IsInState.{IsEngineAt, KeepsWakes, OneTakesTurn}
 use Rattle.net_agenda.specs.Traces.{AddsLines}
 use Rattle.window_laws.proofs.Lists.{filter_filter, filter_both}
 use Rattle.window_laws.proofs.Puts.{put_each}
@@ -75,16 +75,16 @@ module _ (n : NetModel) (t m : ℕ) (state : NetState Node Line) where
       (filter (λ item. not (is_wake_of m item)) (filter (λ item. not (comes_at t m item)) state.agenda) ++ wake_items m wake)
       ++ map Packet (flat_map (copies n.radio) sends)
 
-  pub stands_turn : (old new : Engine) (tree : Tree) (packets : List Arrival) (out : TurnOut)
-      → m < length n.motes → length old.motes.items ≡ length n.motes → length old.traces.items ≡ length n.motes → StandsAt n old state
+  pub in_state_turn : (old new : Engine) (tree : Tree) (packets : List Arrival) (out : TurnOut)
+      → m < length n.motes → length old.motes.items ≡ length n.motes → length old.traces.items ≡ length n.motes → IsEngineAt n old state
       → tree ≡ tree_at n m → packets ≡ arrivals_at t m state.agenda
       → OneTakesTurn tree t packets m old.motes.items new.motes.items out → PacketsBear t m out.sends.items
       → AddsLines m out.lines.items old.traces.items new.traces.items
       → Holds new.agenda.buckets (agenda_after out.wake out.sends.items)
       → map line_model new.log.items ≡ map line_model old.log.items ++ map (packet_with_fates n.radio) out.sends.items
-      → StandsAt n new (turn_at (system_of n) t m state)
+      → IsEngineAt n new (turn_at (system_of n) t m state)
   unfolding system_of
-  stands_turn old new tree packets out there motes traces at tree_is packets_are takes bear adds agenda log = record {
+  in_state_turn old new tree packets out there motes traces at tree_is packets_are takes bear adds agenda log = record {
     nodes =
         put_each (λ k (x : Node). k < length n.motes → (d : Mote) → node_in (tree_at n k) (get_or new.motes.items k d) ≡ Some x) state.states m turned.node
         (λ h d. ap (λ l. node_in (tree_at n m) (get_or l m d)) takes.put ∙ (ap (node_in (tree_at n m)) (get_or-set_same old.motes.items m takes.after d inside) ∙ is.node))
@@ -129,7 +129,7 @@ module _ (n : NetModel) (t m : ℕ) (state : NetState Node Line) where
           ∙ ap (λ l. filter (is_left t m) state.agenda ++ (wake_items m turned.wake ++ map Packet (flat_map (copies n.radio) l))) sent))
 
   -- the mote's wake, if it isn't due with the turn
-  pub wake_to_drop : (wake other : Option ℕ) (engine : Engine) → m < length n.motes → StandsAt n engine state → KeepsWakes n state
+  pub wake_to_drop : (wake other : Option ℕ) (engine : Engine) → m < length n.motes → IsEngineAt n engine state → KeepsWakes n state
       → ((x : Tree) (d : Mote) → wake ≡ wake_in (node_in x (get_or engine.motes.items m d))) → (d : Mote)
       → other ≡ wake_but_at t wake
       → filter (is_wake_of m) (filter (λ item. not (comes_at t m item)) state.agenda) ≡ wake_items m other

@@ -1,4 +1,4 @@
--- How far a run has come.
+-- The progress of a run.
 use Rattle.std.specs.Prelude.{◌≡◌, ℕ}
 use Rattle.trace_lines.specs.declared.line.Line.{Line}
 use Rattle.mote_node.specs.Node.{Node}
@@ -7,7 +7,7 @@ use Rattle.serial_run.specs.declared.engine.Engine.{Engine}
 use Rattle.net_agenda.specs.NetSystem.{system_of}
 use Rattle.window_laws.specs.NetStep.{NetState, Run, boot}
 use Rattle.serial_run.specs.OnTime.{IsOnTime}
-use Rattle.serial_run.specs.Stands.{StandsAt, KeepsWakes}
+use Rattle.serial_run.specs.IsInState.{IsEngineAt, KeepsWakes}
 
 -- each mote has its number
 abbrev pub AreNumbered : NetState Node Line → Type 0
@@ -17,7 +17,7 @@ AreNumbered net = (k : ℕ) → (net.states k).mote.state.mote ≡ k
 -- from boot.
 pub record HasReached (n : NetModel) (engine : Engine) : Type 0 where
   pub state : NetState Node Line
-  pub stands : StandsAt n engine state
+  pub in_state : IsEngineAt n engine state
   pub kept : KeepsWakes n state
   pub numbered : AreNumbered state
   pub at : ℕ
@@ -28,5 +28,5 @@ pub record HasReached (n : NetModel) (engine : Engine) : Type 0 where
 -- the engine's state is the end of the run
 pub record HasEnded (n : NetModel) (engine : Engine) : Type 0 where
   pub last : NetState Node Line
-  pub stands : StandsAt n engine last
+  pub in_state : IsEngineAt n engine last
   pub run : Run (system_of n) n.end (boot (system_of n)) last

@@ -43,7 +43,7 @@ pub record IsMediumLog (n : NetModel) (motes : (number : ℕ) → LoneMote Node 
   pub same : IsPermutation joined log
   pub sorted : IsSortedBy is_sooner log
 
--- the report if each mote ran alone: its lines, the packets that all sent as a log, and how many copies are left
+-- the report if each mote ran by itself: its lines, the packets that all sent as a log, and how many copies are left
 abbrev pub report_by : (n : NetModel) → (motes : (number : ℕ) → LoneMote Node Line) → (log : List Sent)
     → (rest : List RadioCopy) → ReportModel
 report_by n motes log rest = record {
@@ -52,8 +52,8 @@ report_by n motes log rest = record {
   left = length rest;
 }
 
--- Windows commute. Cut 0 to end + 1 at any rising bounds whose steps are at most the lookahead, and run each mote
--- alone through each window, the motes of a window in any order, on the copies that earlier windows sent to it: the
+-- Windows commute. Cut 0 to end + 1 at any rising bounds whose steps are at most the lookahead, and run each mote by
+-- itself through each window, the motes of a window in any order, on the copies that earlier windows sent to it: the
 -- lines of each mote, the medium's log sorted by moment, sender and number, and the copies that arrive after the end
 -- are those of the net's run.
 abbrev pub WindowsCommuteInNets : Type 0
@@ -62,8 +62,8 @@ WindowsCommuteInNets = (n : NetModel) → medium_fault n.radio ≡ None → leng
     → (log : List Sent) → IsMediumLog n motes log → (rest : List RadioCopy) → IsLeft (system_of n) n.end motes rest
     → IsReportOf n (report_by n motes log rest)
 
--- the lines of each mote deliver each accepted event, in order, nothing follows a halt, and only a process that is not
--- listed starts
+-- in the lines of each mote, each accepted event is delivered in order, nothing follows a halt, and only a process
+-- that is not listed starts
 abbrev pub TracesHandOn : Type 0
 TracesHandOn = (n : NetModel) (r : ReportModel) (report : IsReportOf n r) (k : ℕ) → k < length n.motes
     → IsInOrder (report.last.traces k)
@@ -78,7 +78,7 @@ abbrev pub agendas : {S L : Type 0} {system : System S L} {end : ℕ} {net last 
 agendas {net = net} (Done late) = net.agenda ∷ []
 agendas {net = net} (Turn moment mote least le rest) = net.agenda ∷ agendas rest
 
--- of each mote at most one wake
+-- at most one wake for each mote
 abbrev pub OneWake : List Item → Type 0
 OneWake items = (mote : ℕ) → length (filter (is_wake_of mote) items) ≤ 1
 

@@ -5,4 +5,4 @@ pub mod NetRun
 pub mod OnTime
 pub mod RunErrors
 pub mod Stamps
-pub mod Stands
+pub mod IsInState

@@ -9,7 +9,8 @@ ghost use Rattle.mote_net.specs.Meaning.{net_of};
 ghost use Rattle.net_agenda.specs.Buckets.{wake_but_at};
 ghost use Rattle.net_agenda.specs.NetSystem.{system_of, tree_at};
 ghost use Rattle.window_laws.specs.NetStep.{boot};
-ghost use Rattle.serial_run.specs.Stands.{StandsAt, IsWhole, TurnLeads, CanTurnAt, HasNumberAt, IsWakeAt, OneTakesTurn};
+ghost use Rattle.serial_run.specs.IsInState.{IsEngineAt, IsWhole, TurnLeads, CanTurnAt, HasNumberAt, IsWakeAt};
+ghost use Rattle.serial_run.specs.IsInState.{OneTakesTurn};
 
 use crate::sends::send_all;
 use mote_net::{LogLine, Net};
@@ -33,7 +34,7 @@ pub struct Engine {
     pub out: Out,
 }
 
-/// A wake at another moment than this.
+/// Returns `wake`, unless it is at this moment.
 fn wake_but_at(moment: u64, wake: Option<u64>) -> Option<u64>
     ensures value { result ≡ wake_but_at moment wake }
 {
@@ -48,8 +49,8 @@ fn wake_but_at(moment: u64, wake: Option<u64>) -> Option<u64>
     }
 }
 
-/// The turn of one of the motes, which has not failed, and whose last turn was before this moment. Returns when it
-/// wakes next. The packets that it sends have the moment and the number of the mote.
+/// Takes the turn of a mote that has not failed, and whose last turn was before this moment. Returns the mote's next
+/// wake. The packets that it sends have the moment and the number of the mote.
 fn turn_mote(
     motes: &mut Vec<Mote>,
     program: &Program,
@@ -73,7 +74,7 @@ fn turn_mote(
     }
 }
 
-/// When one of the motes wakes next.
+/// The next wake of one of the motes.
 fn wake_at(motes: &[Mote], number: u16) -> Option<u64>
     requires mote_exists { number < length motes.now }
     ensures is_wake_at { IsWakeAt motes.now number result }
@@ -87,7 +88,7 @@ impl Engine {
     /// # Errors
     /// `AllocError` if an allocation fails.
     pub fn boot(alloc: Global, net: &Net) -> Result<Engine, AllocError>
-        ensures stands { let n = net_of net.now in IfOk result (λ engine. StandsAt n engine (boot (system_of n))) }
+        ensures in_state { let n = net_of net.now in IfOk result (λ engine. IsEngineAt n engine (boot (system_of n))) }
         ensures is_whole { let n = net_of net.now in IfOk result (λ engine. IsWhole n engine) }
     {
         let mut engine = Engine {
@@ -107,7 +108,7 @@ impl Engine {
         Ok(engine)
     }
 
-    /// The turn of a mote on all that is due for it. It has not failed, and its last turn was before this moment.
+    /// Takes a mote's turn, on all that is due. The mote has not failed, and its last turn was before this moment.
     ///
     /// # Errors
     /// `AllocError` if an allocation fails. The engine may have changed in part then.
@@ -117,7 +118,7 @@ impl Engine {
         requires is_whole { IsWhole (net_of net.now) self.old }
         requires ready { CanTurnAt (tree_at (net_of net.now) number) moment self.old.motes.items number }
         requires numbered { HasNumberAt (tree_at (net_of net.now) number) self.old.motes.items number }
-        ensures stands { OnOk result (TurnLeads (net_of net.now) moment number self.old self.new) }
+        ensures in_state { OnOk result (TurnLeads (net_of net.now) moment number self.old self.new) }
         ensures is_whole { OnOk result (IsWhole (net_of net.now) self.new) }
     {
         self.agenda

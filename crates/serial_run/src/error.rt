@@ -12,7 +12,7 @@ use std::fmt;
 pub enum RunError {
     /// The number of workers isn't from 1 to 16.
     Workers = 1,
-    /// The cut doesn't name a worker for each mote of the net, or names one for more.
+    /// The cut has too few or too many entries: it must name one worker for each mote of the net.
     CutLength = 2,
     /// The cut gives a mote to a worker that doesn't exist.
     CutWorker = 3,

@@ -21,24 +21,24 @@ pub fn report_is_there()
     ensures report_is_there { ReportIsThere }
 {}
 
-/// Windows commute. Cut 0 to end + 1 at any rising bounds whose steps are at most the lookahead, and run each mote
-/// alone through each window, the motes of a window in any order, on the copies that earlier windows sent to it. The
-/// lines of each mote, the medium's log sorted by moment, sender and number, and the copies left are those of the
-/// net's run.
+/// Windows commute. Cut the time from 0 to end + 1 at any rising bounds whose steps are at most the lookahead. Run
+/// each mote by itself through each window, on the copies that earlier windows sent to it; the order of the motes in a
+/// window is free. Then the lines of each mote, the medium's log sorted by moment, sender and number, and the copies
+/// left are those of the net's run.
 pub fn windows_commute()
     ensures windows_commute_in_nets { WindowsCommuteInNets }
 {}
 
-/// The lines of each mote of a net deliver each accepted event, in order, nothing follows a halt, and only a process
-/// that is not listed starts.
+/// In the lines of each mote of a net, each accepted event is delivered in order, nothing follows a halt, and a
+/// process starts only if it isn't listed.
 pub fn traces_hand_on()
     ensures traces_hand_on { TracesHandOn }
 {}
 
-/// The items in the buckets of an agenda, read back from one bucket after another, are those of the net's one list: the
-/// same packets, each as often, and a wake of a mote at a moment if the list has one; so they are a permutation of the
-/// list if no mote has two wakes at one moment. The map is asked for its length since it then says that its keys rise:
-/// no two buckets are of one moment.
+/// The buckets of an agenda, read one after another, have the items of the net's one list: each packet as often as in
+/// the list, and a wake of a mote at a moment if the list has one. So they are a permutation of the list, if no mote
+/// has two wakes at one moment. The function asks the map for its length because the contract of that call says that
+/// the keys rise: no two buckets have the same moment.
 pub fn buckets_hold_items(agenda: &Agenda)
     ensures buckets_hold_items { BucketsHoldItems agenda.now.buckets }
 {
@@ -51,24 +51,24 @@ pub fn at_most_one_wake()
     ensures differ { WakesAlwaysDiffer }
 {}
 
-/// At the end the agenda has those copies, of all packets of the log, that arrive after the end: none else, and in the
-/// order of the log. So a copy that the medium didn't lose arrives at or before the end, or is on its way when the run
+/// At the end the agenda has exactly the copies that arrive after the end, for all packets of the log, in the order of
+/// the log. So a copy that the medium didn't lose arrives at or before the end, or is on its way when the run
 /// ends.
 pub fn late_copies_stay()
     ensures late_copies_stay { LateCopiesStay }
 {}
 
-/// A report counts the copies, of all packets of its log, that arrive after the end.
+/// The number of copies left in a report is that of the copies, for all packets of its log, that arrive after the end.
 pub fn left_is_counted()
     ensures left_is_counted { LeftIsCounted }
 {}
 
-/// A report counts as many copies left as its log has fates with an arrival after the end.
+/// The number of copies left in a report is that of the fates in its log with an arrival after the end.
 pub fn fates_tell_left()
     ensures fates_tell_left { FatesTellLeft }
 {}
 
-/// The turns of a run are given the copies, of all packets of the log, that arrive at or before the end, each once.
+/// Each copy, of all packets of the log, that arrives at or before the end is given to a turn of the run exactly once.
 pub fn copies_are_given()
     ensures copies_are_given { CopiesAreGiven }
 {}

@@ -7,7 +7,7 @@ ghost use Rattle.net_agenda.specs.NetSystem.{system_of};
 ghost use Rattle.mote_net.specs.Report.{report_of};
 ghost use Rattle.serial_run.specs.NetRun.{IsReportOf};
 ghost use Rattle.window_laws.specs.NetStep.{boot};
-ghost use Rattle.serial_run.specs.Stands.{StandsAt, IsWhole};
+ghost use Rattle.serial_run.specs.IsInState.{IsEngineAt, IsWhole};
 ghost use Rattle.serial_run.specs.Ended.{HasEnded};
 
 use crate::engine::Engine;
@@ -18,7 +18,7 @@ use std::alloc::{AllocError, Global};
 /// Takes turns until no event is pending at or before the end.
 fn run_to_end(engine: &mut Engine, net: &Net) -> Result<(), AllocError>
     requires is_whole { IsWhole (net_of net.now) engine.old }
-    requires boot { let n = net_of net.now in StandsAt n engine.old (boot (system_of n)) }
+    requires boot { let n = net_of net.now in IsEngineAt n engine.old (boot (system_of n)) }
     ensures is_whole { OnOk result (IsWhole (net_of net.now) engine.new) }
     ensures ended { OnOk result (HasEnded (net_of net.now) engine.new) }
 {
@@ -43,8 +43,8 @@ pub fn run_serial(alloc: Global, net: &Net) -> Result<Report, RunError>
     ensures report { IfOk result (λ r. IsReportOf (net_of net.now) (report_of r)) }
     // There is a trace for each mote.
     ensures traces { IfOk result (λ r. vec_len r.traces ≡ length (net_of net.now).motes) }
-    // Each trace delivers events in the order in which they were accepted, nothing follows a halt in it, and only a
-    // process that is not listed starts.
+    // Each trace delivers events in the order in which they were accepted, nothing follows a halt in it, and a process
+    // starts only if it isn't listed.
     ensures handed_on { IfOk result (λ r. All (λ trace. IsInOrder trace.items) r.traces.items) }
     ensures err { IfErr result (λ e. e ≡ RunError.Memory) }
 {

@@ -52,8 +52,8 @@ abbrev after_use : Rule → Option Text → List Row → List Row
 after_use a None rows = rows
 after_use a (Some t) rows = used a (t ∷ []) rows
 
-abbrev standing : Held → Walk
-standing h = record { held = h; waiting = idle; position = 1; is_trailing = false; stopped = None }
+abbrev window_position : Held → Walk
+window_position h = record { held = h; waiting = idle; position = 1; is_trailing = false; stopped = None }
 
 module _ (cuts syncs : Choices) where
   abbrev top : Shape
@@ -82,8 +82,8 @@ module _ (cuts syncs : Choices) where
   -- the words, with any after them, are walked without a fault from these rows to those
   abbrev Passes : List Text → (before after : List Row) → Type 0
   Passes words before after = (h : Held) → Settled h before → (k : Held) × Settled k after
-      × ((rest : List Text) → fold (walked args []) (standing h) (words ++ rest) ≡ fold (walked args []) (standing k) rest)
-      × ((rest : List Text) → walk_fault top [] (standing h) (words ++ rest) ≡ walk_fault top [] (standing k) rest)
+      × ((rest : List Text) → fold (walked args []) (window_position h) (words ++ rest) ≡ fold (walked args []) (window_position k) rest)
+      × ((rest : List Text) → walk_fault top [] (window_position h) (words ++ rest) ≡ walk_fault top [] (window_position k) rest)
 
   -- an option that waits for its value, and that got it
   abbrev waiting_held : Rule → Held → Held
@@ -94,10 +94,10 @@ module _ (cuts syncs : Choices) where
 
   -- how the walk takes the option: with its value attached, or apart
   record IsOption (a : Rule) (name : Text) : Type 0 where
-    attached : (t : Text) (h : Held) → walked args [] (standing h) (codes "--" ++ name ++ codes "=" ++ t) ≡ standing (reacted args a (t ∷ []) h)
-    attached_turn : (t : Text) (h : Held) → turn_fault top [] (standing h) (codes "--" ++ name ++ codes "=" ++ t) ≡ or_else (react_fault args false a (t ∷ []) h) []
-    flag : (h : Held) → walked args [] (standing h) (codes "--" ++ name) ≡ record (standing (waiting_held a h)) { waiting = option a.id }
-    flag_turn : (h : Held) → turn_fault top [] (standing h) (codes "--" ++ name) ≡ or_else (settle_fault args false h) []
+    attached : (t : Text) (h : Held) → walked args [] (window_position h) (codes "--" ++ name ++ codes "=" ++ t) ≡ window_position (reacted args a (t ∷ []) h)
+    attached_turn : (t : Text) (h : Held) → turn_fault top [] (window_position h) (codes "--" ++ name ++ codes "=" ++ t) ≡ or_else (react_fault args false a (t ∷ []) h) []
+    flag : (h : Held) → walked args [] (window_position h) (codes "--" ++ name) ≡ record (window_position (waiting_held a h)) { waiting = option a.id }
+    flag_turn : (h : Held) → turn_fault top [] (window_position h) (codes "--" ++ name) ≡ or_else (settle_fault args false h) []
     apart : (t : Text) (h : Held) → plain_word args (option a.id) t (waiting_held a h) ≡ (got a t h, next idle)
     settles : (t : Text) (h : Held) → settled args (got a t h) ≡ record (settled args h) { rows = used a (t ∷ []) (settled args h).rows }
     fair : (t : Text) (h : Held) → settle_fault args false (got a t h) ≡ use_fault false a (t ∷ []) (settled args h).rows
@@ -133,8 +133,8 @@ module _ (cuts syncs : Choices) where
   passes a name is false (Some []) rows clean h s = absurd clean.0
   passes a name is false (Some (b ∷ bs)) rows clean h s =
       let t : Text = b ∷ bs in
-      let w : Walk = record (standing (waiting_held a h)) { waiting = option a.id } in
-      let step : walked args [] w t ≡ standing (got a t h) =
+      let w : Walk = record (window_position (waiting_held a h)) { waiting = option a.id } in
+      let step : walked args [] w t ≡ window_position (got a t h) =
       plain_step args (waiting_held a h) (option a.id) 1 b bs clean.0
       ∙ ap (λ (m : Held × Step). after_step args t w m.0 m.1) (is.apart t h) in
       let turn : turn_fault top [] w t ≡ [] =
@@ -159,7 +159,7 @@ module _ (cuts syncs : Choices) where
 
   abbrev Finishes : List Text → (before after : List Row) → Type 0
   Finishes words before after = (h : Held) → Settled h before
-      → Ends (fold (walked args []) (standing h) words) after × (walk_fault top [] (standing h) words ≡ [])
+      → Ends (fold (walked args []) (window_position h) words) after × (walk_fault top [] (window_position h) words ≡ [])
 
   no_company : (h : Held) → (is_pending file_arg h.pending && takes_several file_arg) ≡ false
   no_company h = and_right (is_pending file_arg h.pending) (takes_several file_arg) refl
@@ -269,9 +269,9 @@ module _ (cuts syncs : Choices) where
     words = all_words joined v c s f
 
     abbrev end : Walk
-    end = fold (walked args []) (standing nothing_held) words
+    end = fold (walked args []) (window_position nothing_held) words
 
-    walks : Ends end (rows_with v c s f) × (walk_fault top [] (standing nothing_held) words ≡ [])
+    walks : Ends end (rows_with v c s f) × (walk_fault top [] (window_position nothing_held) words ≡ [])
     walks =
         let one = passes workers_arg (codes "workers") is_workers joined v _ (clean_workers v v_good) nothing_held (record { is = refl; fair = refl }) in
         let two = passes cut_arg (codes "cut") is_cut joined c _ (clean_cut v c c_good) one.0 one.1 in

@@ -43,7 +43,7 @@ status_of_words kind.DisplayHelp = 0
 status_of_words kind.DisplayVersion = 0
 status_of_words k = 2
 
--- the words are refused, or ask for help: nothing is read, the output gets help alone, and `errors` then nothing
+-- the words are refused, or ask for help: nothing is read, the output gets only help, and `errors` then nothing
 pub record RefusesWords (k : ErrorKind) (old new : Streams) (status : ℕ) : Type 0 where
   pub status_is : status ≡ status_of_words k
   pub unread : new.input ≡ old.input

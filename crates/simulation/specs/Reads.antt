@@ -1,4 +1,4 @@
--- How an input is read, as functions promise it.
+-- The reading of an input, as functions promise it.
 use Rattle.std.specs.Prelude.{◌≡◌, ℕ, ◌≤◌, List, length, Result, Ok, Err, Vec, String, string_bytes}
 use Rattle.std.specs.declared.alloc.Global.{Global}
 use Rattle.simulation.specs.declared.input.InputError.{InputError}

@@ -30,7 +30,7 @@ sim_fault input.Memory = fault.Memory
 pub record IsScenario (bytes : List ℕ) : Type 0 where
   pub is_text : IsText bytes
   pub net : NetModel
-  pub told : TellsNet bytes net
+  pub recounted : TellsNet bytes net
 
 -- the bytes are a scenario, and of the text of the report of its net's run the writer has got this
 pub record Reported (bytes : List ℕ) (written : List ℕ → Type 0) : Type 0 where
@@ -44,7 +44,7 @@ abbrev pub RefusesText : List ℕ → ScenarioError → Type 0
 RefusesText bytes scenario.Memory = Unit {0}
 RefusesText bytes e = TellsFault bytes e
 
--- how a net is run: on one thread, or by this many workers with this kind of synchronization
+-- how a net is run: on one thread, or by this many workers with this kind of synchronisation
 abbrev pub Way : Type 0
 Way = Option (ℕ × SyncKind)
 
@@ -65,7 +65,7 @@ abbrev pub MayRun : Way → Type 0
 MayRun None = Unit {0}
 MayRun (Some way) = MayWork way.0
 
--- the cause of a run's fault: a number of workers that isn't allowed; else a failed allocation or, with workers, a
+-- the cause of a run's fault: a number of workers that isn't allowed; otherwise a failed allocation or, with workers, a
 -- thread
 abbrev pub RefusesRun : Way → RunError → Type 0
 RefusesRun way run.Workers = ¬ MayRun way
@@ -75,7 +75,8 @@ RefusesRun way run.Memory = MayRun way
 RefusesRun way run.Thread = IsSome way × MayRun way
 RefusesRun way run.Stopped = ⊥
 
--- the answer to running a net in this way: the report is that of the net's run, whose definition knows no worker
+-- the answer to running a net in this way: the report is that of the net's run, whose definition doesn't mention
+-- workers
 abbrev pub RunsWith : Way → NetModel → Result Report RunError → Type 0
 RunsWith way net (Ok report) = MayRun way × IsReportOf net (report_of report)
 RunsWith way net (Err e) = RefusesRun way e
@@ -102,7 +103,7 @@ SimulatedSome way old new (Err (fault.Print e)) =
     (bytes : List ℕ) × SimulatedWith way bytes old new (Err (fault.Print e))
 SimulatedSome way old new (Err e) = Unit {0}
 
--- a fault has written nothing, unless it came in printing
+-- a fault has written nothing, unless it occurred in printing
 abbrev pub Unwritten : (old new : Option (List ℕ)) → SimError → Type 0
 Unwritten old new (fault.Print e) = Unit {0}
 Unwritten old new e = Keeps old new

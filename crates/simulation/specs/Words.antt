@@ -1,4 +1,4 @@
--- The request of the command line's arguments, by the matches and the errors that `clap` gives them.
+-- The request that the arguments of a command line make, by the matches or the errors of `clap` for them.
 use Rattle.std.specs.Prelude.{◌≡◌, ◌⊎◌, ℕ, pos, List, [], ◌∷◌, Option, Some, None}
 use Rattle.std.specs.Prelude.{codes, map, option_map, if◌then◌else◌}
 use Rattle.std.specs.Str.{bytes_eq}
@@ -53,7 +53,7 @@ abbrev pub cut_of : Option Text → CutKind
 cut_of None = cut.Block
 cut_of (Some name) = if bytes_eq name (codes "stripe") then cut.Stripe else cut.Block
 
--- the kind of synchronization of this name
+-- the kind of synchronisation of this name
 abbrev pub sync_of : Option Text → SyncKind
 sync_of None = sync.Joins
 sync_of (Some name) = if bytes_eq name (codes "marks") then sync.Marks else sync.Joins

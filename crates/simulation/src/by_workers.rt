@@ -14,7 +14,7 @@ use std::thread::Threads;
 use window_workers::{Gate, MOST_WORKERS, RunError, SyncKind, run_workers};
 use worker_cut::Cut;
 
-/// The cut of this kind, which fits.
+/// The cut of this kind, which fits the motes and the workers.
 fn cut_of(alloc: Global, kind: CutKind, motes: u16, workers: u16) -> Result<Cut, AllocError>
     requires motes { 0 < motes }
     requires workers { MayWork workers }
@@ -27,7 +27,7 @@ fn cut_of(alloc: Global, kind: CutKind, motes: u16, workers: u16) -> Result<Cut,
     }
 }
 
-/// The number of workers, the cut of the motes among them, and their kind of synchronization.
+/// The number of workers, the cut of the motes among them, and their kind of synchronisation.
 #[derive(Clone, Copy)]
 pub struct Team {
     pub workers: u16,
@@ -38,7 +38,7 @@ pub struct Team {
 /// The report of a net, by these workers. Their number is checked before the cut is made.
 ///
 /// # Errors
-/// `Workers` if there aren't 1 to 16 of them, else `Memory` or `Thread`.
+/// `Workers` if there aren't 1 to 16 of them, otherwise `Memory` or `Thread`.
 pub fn run_by<T, G>(
     rt: &T,
     alloc: Global,

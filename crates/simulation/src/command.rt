@@ -46,7 +46,7 @@ pub fn status_of<E: Write>(answer: Result<(), SimError>, errors: &mut E) -> u8
 }
 
 /// The exit status if the arguments of the command line ask for help, which is written to `output`, or have a fault,
-/// which is written to `errors`. If an allocation failed it is that of a simulation that ran out of memory.
+/// which is written to `errors`. If an allocation failed, it is the status of a simulation that ran out of memory.
 fn status_of_words<W: Write, E: Write>(error: &clap::Error, output: &mut W, errors: &mut E) -> u8
     ensures status { result ≡ status_of_words (kind_of error.now) }
     ensures fault { result ≢ 0 → Keeps (W.contents output.old) (W.contents output.new) }
@@ -100,8 +100,8 @@ where
     simulate(rt, rt.alloc(), &mut input, output, options, gate)
 }
 
-/// Simulates, on one thread, the scenario in the file, or else the one that `input` holds. It never waits for another
-/// thread, so it is proved to return.
+/// Simulates, on one thread, the scenario in the file, or without a file the one that `input` holds. It never waits
+/// for another thread, so it is proved to return.
 ///
 /// # Errors
 /// As `simulate_serial`; `Read` also if the file can't be opened.
@@ -115,12 +115,12 @@ where
     T: AllocGlobal + Files,
     R: Read,
     W: Write,
-    // Without a file it is the simulation of what `input` gives.
+    // Without a file it is the simulation of the contents of `input`.
     ensures answer { file.entry ≡ None → IfSome (R.remaining input.old) (λ bytes.
         SimulatedWith None bytes (W.contents output.old) (W.contents output.new) result) }
     // With one, `input` isn't read.
     ensures unread { IsSome file.entry → R.remaining input.new ≡ R.remaining input.old }
-    // A report is that of some bytes.
+    // If there is a report, some bytes have it as their report.
     ensures simulated_some { SimulatedSome None (W.contents output.old) (W.contents output.new) result }
     ensures unwritten { IfErr result (Unwritten (W.contents output.old) (W.contents output.new)) }
 {
@@ -133,8 +133,8 @@ where
     }
 }
 
-/// Simulates what is asked for: the scenario in the file, or else the one that `input` holds, by the options. Without
-/// workers it is `simulate_alone`.
+/// Simulates the scenario in the file that the command line asks for, or without a file the one that `input` holds, as
+/// the options say. Without workers it is `simulate_alone`.
 ///
 /// # Errors
 /// As `simulate`; `Read` also if the file can't be opened.
@@ -150,12 +150,12 @@ where
     R: Read,
     W: Write,
     G: Gate + Sync,
-    // Without a file it is the simulation of what `input` gives.
+    // Without a file it is the simulation of the contents of `input`.
     ensures answer { asked.now.file ≡ None → IfSome (R.remaining input.old) (λ bytes.
         SimulatedWith (way_of asked.now.options) bytes (W.contents output.old) (W.contents output.new) result) }
     // With one, `input` isn't read.
     ensures unread { IsSome asked.now.file → R.remaining input.new ≡ R.remaining input.old }
-    // A report is that of some bytes, by the number and kind of workers that are asked for.
+    // If there is a report, some bytes have it as their report, with the workers that are asked for.
     ensures simulated_some { SimulatedSome (way_of asked.now.options) (W.contents output.old)
         (W.contents output.new) result }
     ensures unwritten { IfErr result (Unwritten (W.contents output.old) (W.contents output.new)) }
@@ -188,9 +188,10 @@ where
     status_of(answer, errors)
 }
 
-/// Runs the program with these arguments, the program's name first: simulates the scenario in the file that they name,
-/// or else the one that `input` holds, on one thread or by workers, and writes its report to `output`, or the line of
-/// its fault to `errors`. Help that is asked for goes to `output`, and an error of the arguments to `errors`.
+/// Runs the program with these arguments, of which the first is the program's name. It simulates the scenario in the
+/// file that they name, or without a file the one that `input` holds, on one thread or by workers. The report goes to
+/// `output`, and the line of a fault to `errors`. Help that is asked for goes to `output`, and an error of the
+/// arguments to `errors`.
 ///
 /// It returns the exit status: 0 for a report or help, 1 for a fault, and 2 for a fault of the arguments. A help text
 /// or a fault's line that can't be written doesn't change it.

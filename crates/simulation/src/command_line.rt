@@ -43,8 +43,8 @@ fn sync_named(name: &str) -> SyncKind
     }
 }
 
-/// The options with this number of workers, and the cut and the kind of synchronization of these names. Without a name
-/// it is that of the default options.
+/// The options with this number of workers, and the cut and the kind of synchronization of these names. If a name is
+/// missing, the cut or the kind is that of the default options.
 fn options_for(workers: Option<u16>, cut: Option<&str>, sync: Option<&str>) -> Options
     ensures workers { result.workers ≡ workers }
     ensures cut { result.cut ≡ cut_of (option_map (λ s. s.now) cut.entry) }
@@ -123,8 +123,8 @@ fn file_arg<'a>(alloc: Global) -> Arg<'a>
     Arg::new(alloc, "FILE").help("The scenario; without it, standard input is read")
 }
 
-/// The program's one command. Each argument is made once those before it have been added, so none is owned when
-/// adding one can fail.
+/// The program's one command. Each argument is made only after the earlier ones have been added, so that none waits in
+/// a variable while adding another can fail.
 fn command<'a>(alloc: Global) -> Result<Command<'a>, AllocError>
     ensures is_motesim { IfOk result (λ c. IsMotesim (app_of c)) }
 {
@@ -142,8 +142,8 @@ fn command<'a>(alloc: Global) -> Result<Command<'a>, AllocError>
 /// nor the kind of synchronization has an effect.
 ///
 /// # Errors
-/// Of the kind `DisplayHelp` if help is asked for, `OutOfMemory` if an allocation failed, and else of the fault of the
-/// arguments.
+/// Of the kind `DisplayHelp` if help is asked for, and `OutOfMemory` if an allocation failed; otherwise its kind is
+/// that of the fault of the arguments.
 pub fn asked_by<'a>(alloc: Global, words: &'a [&'a str]) -> Result<Asked<'a>, Error>
     ensures asks { IfOk result (AsksFor (texts_of words.entry.now)) }
     ensures refuses { IfErr result (λ e. FaultOf (texts_of words.entry.now) (kind_of e)) }

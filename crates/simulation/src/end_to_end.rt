@@ -55,34 +55,34 @@ where
 /// Reads a scenario to its end, simulates it on one thread, and writes its report.
 ///
 /// # Errors
-/// In this order: `Read` if a call of the reader failed before the limit was passed, an interrupted one included;
-/// `TooLong` if more than 1,048,576 bytes came, also from a reader that never ends; `NotText` if they aren't
-/// UTF-8; `Scenario` with the scenario's first fault; `Run` if an allocation of the run failed; `Print` if the
-/// writer failed or took no byte, and then a proper prefix of the report has been written. `Memory`, and `Memory` of a
-/// part, only if an allocation failed. An error other than `Print` has written nothing.
+/// In this order: `Read` if a call of the reader failed, or was interrupted, before the limit was passed; `TooLong` if
+/// the reader returned more than 1,048,576 bytes, even if it never ends; `NotText` if they aren't UTF-8; `Scenario`
+/// with the scenario's first fault; `Run` if an allocation of the run failed; `Print` if the writer failed or took no
+/// byte. With `Print`, a part of the report has been written, from its beginning; with any other error, nothing. If an
+/// allocation failed, the error can also be `Memory`, or the `Memory` of a part, which have no other cause.
 #[tactic(auto, using(crate::proofs::Printed::some_bytes))]
 pub fn simulate_serial<R: Read, W: Write>(
     alloc: Global,
     reader: &mut R,
     writer: &mut W,
 ) -> Result<(), SimError>
-    // If the reader's contents are known, the result is that of these bytes; if the writer's contents are known, the
-    // report's text is written.
+    // If the reader's contents are known, the result is that of simulating these bytes; if the writer's contents are
+    // known, the report's text is written.
     ensures answer { IfSome (R.remaining reader.old)
         (λ input. SimulatedWith None input (W.contents writer.old) (W.contents writer.new) result) }
-    // Whatever the reader, a report is that of some bytes, and a scenario's fault is that of some bytes.
+    // If there is a report, or a scenario's fault, some bytes have it, whatever the reader is.
     ensures simulated_some { SimulatedSome None (W.contents writer.old) (W.contents writer.new) result }
-    // Of the errors only `Print` may have written anything.
+    // Nothing has been written if the error isn't `Print`.
     ensures unwritten { IfErr result (Unwritten (W.contents writer.old) (W.contents writer.new)) }
 {
     let text = read_text(alloc, reader)?;
     simulate_text(alloc, text.as_str(), writer)
 }
 
-/// Reads a scenario to its end, simulates it as the options say, and writes its report: on one thread if they name
-/// no workers, else by that many workers, window by window. By joins each worker has a thread for each window, with
-/// marks one for the whole run; a long report is formatted by as many threads. The bytes of the report are the same.
-/// Workers wait for one another, so the promise holds if the run returns.
+/// Reads a scenario to its end, simulates it, and writes its report: on one thread, or by the workers that the options
+/// ask for, window by window. With joins each worker has a thread for each window, with marks one for the whole run; a
+/// long report is formatted by several threads, one for each worker. The bytes of the report are the same. Workers
+/// wait for one another, so the promise holds only if the run returns.
 ///
 /// # Errors
 /// As `simulate_serial`; `Run` with `Workers` if there aren't 1 to 16 of them, which is checked once the scenario

@@ -16,7 +16,7 @@ use window_workers::RunError;
 pub enum SimError {
     /// A call of the reader failed.
     Read,
-    /// More than 1,048,576 bytes came.
+    /// More than 1,048,576 bytes arrived.
     TooLong,
     /// The bytes aren't UTF-8.
     NotText,

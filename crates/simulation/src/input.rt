@@ -16,7 +16,7 @@ const CHUNK: usize = 4096;
 pub enum InputError {
     /// The reader failed. An interrupted call counts as a failure.
     Read,
-    /// More than `LONGEST_TEXT` bytes came.
+    /// More than `LONGEST_TEXT` bytes arrived.
     TooLong,
     /// The bytes aren't UTF-8.
     NotText,
@@ -32,10 +32,10 @@ impl From<AllocError> for InputError {
     }
 }
 
-/// All bytes of a reader, if they are at most `LONGEST_TEXT`. Reading stops at the first call that goes past that
-/// limit, so it ends also with a reader that never does.
+/// All bytes of a reader, if they are at most `LONGEST_TEXT`. Reading stops at the first call that passes this limit,
+/// so the function returns even if the reader has no end.
 fn read_all<R: Read>(alloc: Global, reader: &mut R) -> Result<Vec<u8>, InputError>
-    ensures told { IfSome (R.remaining reader.old) (λ input. ReadsBytes input result) }
+    ensures recounted { IfSome (R.remaining reader.old) (λ input. ReadsBytes input result) }
     ensures bounded { IfOk result (λ bytes. vec_len bytes ≤ longest_text) }
 {
     let mut bytes = Vec::new(alloc);
@@ -54,10 +54,10 @@ fn read_all<R: Read>(alloc: Global, reader: &mut R) -> Result<Vec<u8>, InputErro
 ///
 /// # Errors
 /// In this order: `Read` if a call of the reader failed before the limit was passed, `TooLong` if more than
-/// `LONGEST_TEXT` bytes came, `NotText` if they aren't UTF-8. `Memory` only if an allocation failed.
+/// `LONGEST_TEXT` bytes arrived, `NotText` if they aren't UTF-8. `Memory` only if an allocation failed.
 pub fn read_text<R: Read>(alloc: Global, reader: &mut R) -> Result<String, InputError>
-    // If the reader's contents are known, the result is that of these bytes.
-    ensures told { IfSome (R.remaining reader.old) (λ input. ReadsText input result) }
+    // If the reader's contents are known, the result is that of reading these bytes.
+    ensures recounted { IfSome (R.remaining reader.old) (λ input. ReadsText input result) }
     ensures bounded { IfOk result (λ text. string_len text ≤ longest_text) }
 {
     let bytes = read_all(alloc, reader)?;

@@ -11,11 +11,11 @@ use window_workers::SyncKind;
 pub enum CutKind {
     /// Each worker has motes that follow one another.
     Block,
-    /// The motes are dealt to the workers in turn.
+    /// The motes are dealt to the workers one by one.
     Stripe,
 }
 
-/// The workers that simulate a scenario, the cut of the motes among them, and their kind of synchronization.
+/// The workers that simulate a scenario, the cut of the motes among them, and their kind of synchronisation.
 #[derive(Clone, Copy, Debug, PartialEq, Eq)]
 pub struct Options {
     /// The number of workers, each in threads of its own; without a number, one thread takes all turns.

@@ -58,10 +58,10 @@ where
     Ok(run_words(rt, &words, input, output, errors)?)
 }
 
-/// Runs `run_command` with the arguments that the process was given, and returns its exit status. If one of them isn't
-/// UTF-8, that is 2, and `errors` says so.
+/// Runs `run_command` with the arguments that the process was given, and returns its exit status. If an argument isn't
+/// UTF-8, the status is 2, and a line in `errors` reports it.
 ///
-/// It is here, and not with the program's `main`, since a check of `main` would load once more all that the
+/// It is here, and not with the program's `main`, because a check of `main` would load once more all that the
 /// contract of `run_command` rests on.
 pub fn run_process<T, R, W, E>(rt: &T, input: &mut R, output: &mut W, errors: &mut E) -> u8
 where

@@ -1,6 +1,7 @@
 //! Tests of things that no scenario and no command line shows: streams that fail, gates, and calls with options that
-//! the words can't ask for. Most tests write what came of some runs into a text, and compare it in a function that
-//! they share. All runs have one reader, one writer and one gate, so that what they call is compiled for these alone.
+//! no arguments can ask for. Most tests write the results of some runs into a text, and compare it in a function that
+//! they share. All runs have one reader, one writer and one gate, so that the code that they call is compiled only for
+//! these.
 
 mod fault_lines;
 mod input;
@@ -26,19 +27,19 @@ use test_helpers::same_text;
 
 /// A scenario and its report.
 #[derive(Clone, Copy)]
-struct Told<'a> {
+struct OnRecord<'a> {
     scenario: &'a str,
     report: &'a [u8],
 }
 
 /// A process prints, and yields for ever.
-const PRINT_THEN_YIELD: Told = Told {
+const PRINT_THEN_YIELD: OnRecord = OnRecord {
     scenario: test_helpers::PRINT_THEN_YIELD,
     report: b"mote 0 p\n0 start etimer\n0 start ctimer\n0 start radio\n0 start a\n0 print a 1\nmedium\nleft 0\n",
 };
 
 /// A receiver between two senders.
-const TWO_SENDERS: Told = Told {
+const TWO_SENDERS: OnRecord = OnRecord {
     scenario: test_helpers::TWO_SENDERS,
     report: b"\
         mote 0 s\n0 start etimer\n0 start ctimer\n0 start radio\n0 start a\n0 send 0 5\n0 leave a\n\
@@ -171,7 +172,7 @@ where
 /// A simulation to be tried.
 #[derive(Clone, Copy)]
 struct Trial<'a> {
-    told: Told<'a>,
+    recounted: OnRecord<'a>,
     /// The text that is read instead of the scenario.
     instead: Option<&'a [u8]>,
     /// The worker of each mote.
@@ -189,7 +190,7 @@ struct Trial<'a> {
 
 /// One mote with one turn. The reader gives 16 bytes a call, the writer takes a byte a call, and nothing fails.
 const PRINTING: Trial<'static> = Trial {
-    told: PRINT_THEN_YIELD,
+    recounted: PRINT_THEN_YIELD,
     instead: None,
     of: &[0],
     shut: None,
@@ -202,7 +203,7 @@ const PRINTING: Trial<'static> = Trial {
 
 /// The same with three motes, each with a worker of its own.
 const SENDING: Trial<'static> = Trial {
-    told: TWO_SENDERS,
+    recounted: TWO_SENDERS,
     of: &[0, 1, 2],
     ..PRINTING
 };
@@ -234,13 +235,13 @@ fn write_answer(
     text.push('|')
 }
 
-/// Writes down what comes of a trial in this way.
+/// Writes down the result of a trial in this way.
 fn write_trial<T>(rt: &T, text: &mut String, trial: Trial, way: Way) -> Result<(), AllocError>
 where
     T: AllocGlobal + Files + Threads + Wait + RandomSource + Sync,
 {
     let mut reader = Source {
-        rest: trial.instead.unwrap_or(trial.told.scenario.as_bytes()),
+        rest: trial.instead.unwrap_or(trial.recounted.scenario.as_bytes()),
         most: trial.gives,
         calls: trial.reads,
     };
@@ -253,11 +254,11 @@ where
         others: AtomicU64::new(0),
     };
     let answer = simulate_by(rt, way, &mut reader, &mut writer, &gate);
-    let front = front_of(trial.told.report, writer.text.as_bytes());
+    let front = front_of(trial.recounted.report, writer.text.as_bytes());
     write_answer(text, &answer, front, &gate)
 }
 
-/// Fails unless `want` is written down of a trial in this way.
+/// Fails unless the text written about a trial in this way is `want`.
 fn tells<T>(rt: &T, trial: Trial, way: Way, want: &str) -> Result<(), Fail>
 where
     T: AllocGlobal + Files + Threads + Wait + RandomSource + Sync,
@@ -271,7 +272,8 @@ const CUTS: &[CutKind] = &[CutKind::Block, CutKind::Stripe];
 
 const SYNCS: &[SyncKind] = &[SyncKind::Joins, SyncKind::Marks];
 
-/// One trial by each of these numbers of workers, cuts and kinds of synchronization, and what is written down of each.
+/// One trial by each of these numbers of workers, cuts and kinds of synchronisation, and the text that is written
+/// about each.
 #[derive(Clone, Copy)]
 struct Trials<'a> {
     trial: Trial<'a>,
@@ -281,7 +283,7 @@ struct Trials<'a> {
     want: &'a str,
 }
 
-/// Fails unless what is wanted is written down of a trial by each of its options.
+/// Fails unless the text written about a trial, for each of its options, is the wanted one.
 fn each_tells<T>(rt: &T, trials: &Trials) -> Result<(), Fail>
 where
     T: AllocGlobal + Files + Threads + Wait + RandomSource + Sync,
@@ -301,8 +303,8 @@ where
     Ok(())
 }
 
-/// Fails unless what is wanted is written down of all these trials. The tables of trials are statics, since a function
-/// makes a constant again at each place that names it.
+/// Fails unless the texts written about all these trials are the wanted ones. The tables of trials are statics, since
+/// a function makes a constant again at each place that names it.
 fn all_tell<T>(rt: &T, table: &[Trials]) -> Result<(), Fail>
 where
     T: AllocGlobal + Files + Threads + Wait + RandomSource + Sync,

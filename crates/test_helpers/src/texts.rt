@@ -9,14 +9,14 @@ use trace_lines::Line;
 ///
 /// # Errors
 /// `Fail`, which shows both texts, if they differ.
-pub fn same_text(told: &str, want: &str) -> Result<(), Fail> {
-    if told == want {
+pub fn same_text(recounted: &str, want: &str) -> Result<(), Fail> {
+    if recounted == want {
         return Ok(());
     }
-    Err(Fail::new(format_args!("{told} in place of {want}")))
+    Err(Fail::new(format_args!("{recounted} in place of {want}")))
 }
 
-/// Writes each copy down: its moment and receiver, its sender, its number and its value.
+/// Writes down each copy: its moment and receiver, its sender, its number and its value.
 ///
 /// # Errors
 /// `AllocError` if an allocation for the text fails.

@@ -9,17 +9,17 @@ pub enum What {
     Start(Proc),
     /// A process leaves the process list.
     Leave(Proc),
-    /// An event was accepted, with this serial: whom it goes to, its number and its word.
+    /// An event was accepted, with this serial: its target, its number and its word.
     Post(u64, Target, u8, u16),
-    /// The queue was full: nobody gets the event.
+    /// The queue was full, so the event was refused.
     Full(Target, u8, u16),
     /// The event with this serial reaches a process.
     Take(u64, Proc),
-    /// The event with this serial was for a process that isn't, or no longer is, on the process list.
+    /// The event with this serial was for a process that isn't, or is no longer, on the process list.
     Drop(u64, Proc),
     /// A process prints a value.
     Print(Proc, u16),
-    /// A process was to be started or killed while it was busy.
+    /// A process couldn't be started or killed, because it was busy.
     Busy(Proc),
     /// The mote halts for good.
     Halt,
@@ -29,7 +29,7 @@ pub enum What {
     Recv(u16, u64, u16),
     /// A packet found the receive ring full.
     Lost(u16, u64),
-    /// A packet arrived in a mote whose program has no receiver.
+    /// A packet arrived at a mote whose program has no receiver.
     Deaf(u16, u64),
     /// A packet was lost by a collision.
     Collide(u16, u64),

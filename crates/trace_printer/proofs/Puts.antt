@@ -23,8 +23,8 @@ put_both at k l m from n room first text within part starts ends begins long =
     rw (take-put_mid from l (put_mid at k room first) (drop m text) n (omega (arith, length-drop m text)) (omega arith), put_front at k from room first (take m text) (omega arith) (omega arith) front (omega arith), append_assoc, take-append-drop) refl
 
 -- the first byte that was put is overwritten
-pub put_anew : (at end : ℕ) (before room : List ℕ) (old new : ℕ) (rest : List ℕ) → at ≤ length before → at < end → take end room ≡ take at before ++ old ∷ rest → take end (set room at new) ≡ take at before ++ new ∷ rest
-put_anew at end before room old new rest within more is =
+pub put_again : (at end : ℕ) (before room : List ℕ) (old new : ℕ) (rest : List ℕ) → at ≤ length before → at < end → take end room ≡ take at before ++ old ∷ rest → take end (set room at new) ≡ take at before ++ new ∷ rest
+put_again at end before room old new rest within more is =
     let there : length (take at before) ≡ at = length-take-le at before within in
     take-set-lt end room at new more ∙ ap (λ l. set l at new) is
     ∙ subst (λ k. set (take at before ++ old ∷ rest) k new ≡ take at before ++ new ∷ rest) there (set-append_seam (take at before) old rest new)

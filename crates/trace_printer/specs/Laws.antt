@@ -5,7 +5,8 @@ use Rattle.mote_net.specs.Report.{ReportModel}
 use Rattle.trace_printer.specs.Named.{IsNamed, NetNamesDiffer}
 use Rattle.trace_printer.specs.ReportText.{report_text}
 
--- Two reports of one net with the same text are the same: the same traces, the same log, and as many copies left.
+-- Two reports of one net with the same text are the same: the same traces, the same log, and the same number of copies
+-- left.
 abbrev pub TextDeterminesReport : Type 0
 TextDeterminesReport = (net : NetModel) → NetNamesDiffer net → (a b : ReportModel) → IsNamed net a → IsNamed net b
     → report_text net a ≡ report_text net b → a ≡ b

@@ -51,7 +51,7 @@ pub record NamesDiffer (t : Tree) : Type 0 where
   pub targets_differ : (a b : Target) → HasTarget t a → HasTarget t b → target_word t a ≡ target_word t b → a ≡ b
   pub events_differ : (d e : ℕ) → HasEvent t d → HasEvent t e → event_word t d ≡ event_word t e → d ≡ e
 
--- what happened names only processes and events that there are
+-- the event names only processes and events that exist
 abbrev pub HasNames : Tree → What → Type 0
 HasNames t (Start p) = HasProcess t p
 HasNames t (Leave p) = HasProcess t p

@@ -1,4 +1,4 @@
--- A text that goes to a writer by way of a page.
+-- A text that goes to a writer through a page.
 use Rattle.std.specs.Prelude.{◌≡◌, ℕ, ◌++◌, List, Option, Result, Ok, Err}
 use Rattle.std.specs.Io.KnownBytes.{Appends}
 

@@ -1,4 +1,4 @@
--- The lines of a report but the last, numbered through, and the text of some of them.
+-- The lines of a report except the last, numbered through, and the text of some of them.
 use Rattle.std.specs.Prelude.{ℕ, ◌+◌, List, [], ◌∷◌, ◌++◌, codes, decimal, map, take, drop}
 use Rattle.std.specs.List.{concat}
 use Rattle.trace_lines.specs.declared.line.Line.{Line}

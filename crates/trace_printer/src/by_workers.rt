@@ -53,8 +53,8 @@ fn write_traces<R: Threads + Wait + Sync, W: Write>(
     Ok(())
 }
 
-/// The number of lines of the traces, if workers are to format them and those of the medium: if there are two workers
-/// or more, and `MANY` lines or more.
+/// The number of lines of the traces, if workers are to format these lines and the medium's: there are at least two
+/// workers, and at least `MANY` lines.
 fn many_lines(workers: u16, traces: &[Vec<Line>], log: &[LogLine]) -> Option<usize>
     ensures lines { (net : NetModel) → length traces.now ≡ length net.motes
         → IfSome result (λ count. length (lines_of net (map lines_in traces.now)) ≡ count) }
@@ -69,7 +69,7 @@ fn many_lines(workers: u16, traces: &[Vec<Line>], log: &[LogLine]) -> Option<usi
     }
 }
 
-/// Writes a report by workers, whose traces have `lines` lines. The page for its last line is made first.
+/// Writes, by workers, a report whose traces have `lines` lines. The page for its last line is made first.
 fn write_by<R: Threads + Wait + Sync, W: Write>(
     rt: &R,
     alloc: Global,

@@ -2,8 +2,8 @@
 ghost use Rattle.trace_printer.specs.Laws.{NoTextBeginsAnother, TextDeterminesReport};
 ghost use Rattle.trace_printer.specs.NamedCases.{OneProcessDiffers, TextsMeetWithoutNames};
 
-/// Equal bytes mean equal reports. In two reports of one net let each process and event have a name, in programs whose
-/// names differ: if their texts are equal, so are their traces, their logs, and the numbers of copies left.
+/// Equal bytes mean equal reports. If each process and event in two reports of a net has a name, and the names in each
+/// program differ, then equal texts have equal traces, equal logs, and the same number of copies left.
 pub fn text_determines_report()
     ensures text_determines_report { TextDeterminesReport }
 {}
@@ -14,8 +14,8 @@ pub fn no_text_begins_another()
     ensures no_text_begins_another { NoTextBeginsAnother }
 {}
 
-/// The names of a small program differ. Of processes that it doesn't have, two different reports have the same text, so
-/// both laws need the names.
+/// The names of a small program differ. Two different reports have the same text, because they are about processes
+/// that the program lacks. So both laws need the condition that each process has a name.
 pub fn names_are_needed()
     ensures differ { OneProcessDiffers }
     ensures meet { TextsMeetWithoutNames }

@@ -15,7 +15,7 @@ use radio_packet::{Fate, Sent};
 use std::alloc::AllocError;
 use trace_lines::{Line, What};
 
-/// Room for all of a line but its keyword, its names and its fates.
+/// Room for everything in a line except its keyword, its names and its fates.
 const LINE: usize = 128;
 
 /// Appends the line that begins the trace of a mote with this number and the name of its program.

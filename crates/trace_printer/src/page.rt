@@ -10,8 +10,8 @@ use std::marker::Model;
 /// The number of bytes that a page has room for without growing.
 const ROOM: usize = 65_536;
 
-/// The number of bytes from which on a page is written. After them there is still room for a line half as long as the
-/// page, and some to spare.
+/// A page is written once it has this many bytes. After them there is still room for a line half as long as the page,
+/// and some to spare.
 const FULL: usize = 32_640;
 
 /// Lines that wait to be written, so that the writer is called once for many of them: the first `len` bytes. The

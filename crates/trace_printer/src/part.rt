@@ -3,7 +3,7 @@ ghost use Rattle.std.specs.Prelude.{◌≡◌, []};
 
 use crate::numbered::put_all_part;
 use crate::page::Page;
-use fork_join::{Refused, Watch, Work};
+use fork_join::{Watch, Work, WorkerError};
 use mote_net::{LogLine, Net};
 use std::alloc::Global;
 use std::sync::ledger::Ledger;
@@ -59,7 +59,7 @@ impl Work<Part> for Traces<'_> {
 
     ghost makes = { λ traces old new. IsPut traces old new };
 
-    fn work<L: Ledger>(&self, part: Part, _watch: &mut Watch<'_, L>) -> Result<Part, Refused> {
+    fn work<L: Ledger>(&self, part: Part, _watch: &mut Watch<'_, L>) -> Result<Part, WorkerError> {
         let Part {
             skip,
             count,
@@ -69,7 +69,7 @@ impl Work<Part> for Traces<'_> {
         Ok(Part { skip, count, page })
     }
 
-    // No gate is asked: that is for the threads of the run.
+    // No gate is called: gates are for the threads of the run.
     fn may_start(&self, _part: &Part) -> bool {
         true
     }

@@ -126,7 +126,7 @@ fn print_medium<W: Write>(
     print_packets(writer, page, log)
 }
 
-/// Appends the last line, and writes all that waits.
+/// Appends the last line, and writes all of the waiting text.
 ///
 /// # Errors
 /// `Write` if the writer failed or took no byte, `Memory` if an allocation failed.
@@ -137,8 +137,8 @@ pub fn write_end<W: Write>(writer: &mut W, page: &mut Page, left: u64) -> Result
     Ok(page.write_to(writer)?)
 }
 
-/// Writes what waits on the page, and what comes after the traces in a report: the log of the medium, and the count of
-/// copies still on their way.
+/// Writes the waiting text of the page, and then the part of a report after the traces: the log of the medium, and the
+/// count of copies still on their way.
 ///
 /// # Errors
 /// `Write` if the writer failed or took no byte, `Memory` if an allocation failed.
@@ -147,8 +147,8 @@ pub fn write_medium<W: Write>(
     page: &mut Page,
     report: &Report,
 ) -> Result<(), PrintError>
-    ensures writes { let told = report_of report.now
-        in let text = page.old ++ (medium_text told.log ++ left_text told.left)
+    ensures writes { let recounted = report_of report.now
+        in let text = page.old ++ (medium_text recounted.log ++ left_text recounted.left)
         in Writes (W.contents writer.old) (W.contents writer.new) result text }
 {
     print_medium(writer, page, &report.medium)?;

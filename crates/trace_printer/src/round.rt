@@ -11,7 +11,7 @@ use crate::numbered::put_all_part;
 use crate::output::WriteFault;
 use crate::page::Page;
 use crate::part::{Part, Traces};
-use fork_join::{Refused, fork_join};
+use fork_join::{WorkerError, fork_join};
 use std::alloc::{AllocError, Global};
 use std::io::Write;
 use std::sync::Wait;
@@ -45,7 +45,7 @@ fn put<R: Threads + Wait + Sync>(
     traces: &Traces<'_>,
     skip: usize,
     count: usize,
-) -> Result<Vec<Part>, Refused>
+) -> Result<Vec<Part>, WorkerError>
     requires positive { 1 ≤ workers }
     requires traces { HasTraces traces.now }
     requires end_bounded { skip + count < 2 ^ 64 }

@@ -1,4 +1,4 @@
--- The same net, run window by window, each mote alone in a window.
+-- The same net, run window by window, each mote by itself in a window.
 use Rattle.std.specs.Prelude.{◌≡◌, ℕ, suc, ◌+◌, ◌<◌, ◌≤◌, Bool, true, false, if◌then◌else◌, not, ◌&&◌, ◌||◌, ◌==◌}
 use Rattle.std.specs.Prelude.{nat_lt, List, [], ◌++◌, length, map, Option, Some, None}
 use Rattle.std.specs.List.{filter, flat_map, list_any, AllByRecursion}
@@ -57,7 +57,7 @@ pub record IsQuiet (moment : ℕ) (wake : Option ℕ) (given : List RadioCopy) :
   pub no_wake : NoneBefore moment wake
   pub no_copies : AllByRecursion (λ copy. moment ≤ copy.at) given
 
--- A mote alone, up to a bound: while the lesser of its wake and the least moment of a copy is below the bound, it
+-- A mote by itself, up to a bound: while the lesser of its wake and the least moment of a copy is below the bound, it
 -- takes its turn at that moment on all copies of the moment, in order.
 pub data Alone {S L : Type 0} (system : System S L) (number bound : ℕ) : (given : List RadioCopy)
     → (mote last : LoneMote S L) → Type 0 where
@@ -93,7 +93,7 @@ IsGiven system from bound motes number given = (moment sender : ℕ)
     → filter (is_from_sender sender) (filter (is_at moment) given)
     ≡ filter (is_at moment) (filter (is_within number from bound) (copies_by system motes sender))
 
--- the effect of a window on one mote: it runs alone, on copies that it may be given
+-- the effect of a window on one mote: it runs by itself, on copies that it may be given
 pub record RunsAlone {S L : Type 0} (system : System S L) (from bound : ℕ) (motes next : (number : ℕ) → LoneMote S L)
     (number : ℕ) : Type 0 where
   pub given : List RadioCopy

@@ -5,8 +5,8 @@ ghost use Rattle.window_laws.specs.System.{System};
 ghost use Rattle.window_laws.specs.Report.{LogIsInOrder, RunIsOne, RunIsThere};
 ghost use Rattle.window_laws.specs.Windows.{WindowsAreThere, WindowsCommute, WindowsReport};
 
-/// A turn's copies in order are those copies, sorted by sender and number; those with the same of both keep their
-/// order.
+/// A turn's copies in order are those copies, sorted by sender and number; those with the same sender and number keep
+/// their order.
 pub fn in_order_sorts()
     ensures in_order_sorts { InOrderSorts }
 {}
@@ -26,9 +26,10 @@ pub fn log_is_in_order<S, L>()
     ensures log_is_in_order { (system : System S L) → LogIsInOrder system }
 {}
 
-/// Cut 0 to end + 1 at any rising bounds whose steps are at most the lookahead, and run each mote alone through each
-/// window, the motes of a window in any order, on the copies that earlier windows sent to it. The lines of each mote,
-/// the packets of all motes sorted by moment and sender, and the number of copies left are those of the net's run.
+/// Cut the time from 0 to end + 1 at any rising bounds whose steps are at most the lookahead. Run each mote by itself
+/// through each window, on the copies that earlier windows sent to it; the order of the motes in a window is free.
+/// Then the lines of each mote, the packets of all motes sorted by moment and sender, and the number of copies left
+/// are those of the net's run.
 pub fn windows_commute<S, L>()
     ensures windows_commute { (system : System S L) → WindowsCommute system }
 {}

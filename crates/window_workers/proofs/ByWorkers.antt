@@ -24,8 +24,8 @@ use Rattle.copy_exchange.specs.Takers.{taken_by, gathered_by}
 use Rattle.worker_cut.proofs.CrossesTo.{crossed_once}
 use Rattle.worker_cut.proofs.Windows.{coming, coming_pending, senders}
 use Rattle.worker_window.specs.declared.share.Ended.{Ended}
-use Rattle.all_workers.specs.declared.workers.Workers.{Workers}
-use Rattle.all_workers.specs.Workers.{IsAt, IsWorkerAt}
+use Rattle.all_workers.specs.declared.workers.WorkerGroup.{WorkerGroup}
+use Rattle.all_workers.specs.WorkerGroup.{IsAt, IsWorkerAt}
 use Rattle.all_workers.proofs.Lookups.{there, read, zip_inside, zip_long}
 use Rattle.mote_net.specs.declared.report.Report.{Report}
 use Rattle.mote_net.specs.Report.{Packet, ReportModel, lines_in, line_model, report_of}
@@ -39,10 +39,10 @@ use Rattle.window_workers.proofs.Pairs.{each_mapped, second_at}
 use Rattle.serial_run.proofs.Stamps.{sent_packets}
 use Rattle.window_workers.proofs.Waiting.{taken_by_end}
 
-abbrev told_of : List (List Line) → List Packet → ℕ → ReportModel
-told_of traces log left = record { traces = traces; log = log; left = left }
+abbrev reported_of : List (List Line) → List Packet → ℕ → ReportModel
+reported_of traces log left = record { traces = traces; log = log; left = left }
 
-module _ (n : NetModel) (fault : medium_fault n.radio ≡ None) (placed : length n.radio.places ≡ length n.motes) (of : List ℕ) (group : Workers) (at : IsAt n of (suc n.end) group) (ended : List Ended) (ends : AllZip TellsWhatItKept group.shares.items ended) where
+module _ (n : NetModel) (fault : medium_fault n.radio ≡ None) (placed : length n.radio.places ≡ length n.motes) (of : List ℕ) (group : WorkerGroup) (at : IsAt n of (suc n.end) group) (ended : List Ended) (ends : AllZip TellsWhatItKept group.shares.items ended) where
   fine : RunsForward (system_of n)
   fine = system_is n fault placed
 
@@ -50,7 +50,7 @@ module _ (n : NetModel) (fault : medium_fault n.radio ≡ None) (placed : length
   abbrev all_left : ℕ
   all_left = length (coming (system_of n) fine (suc n.end) at.motes)
 
-  by_windows : (log : List Packet) (is : IsLogOf n (logs_of ended) log) → IsReportOf n (told_of (map (λ number. (at.motes number).lines) (up_to (length n.motes))) (map (packet_with_fates n.radio) is.sorted) all_left)
+  by_windows : (log : List Packet) (is : IsLogOf n (logs_of ended) log) → IsReportOf n (reported_of (map (λ number. (at.motes number).lines) (up_to (length n.motes))) (map (packet_with_fates n.radio) is.sorted) all_left)
   by_windows log is = windows_commute n fault placed at.motes at.led is.sorted (record {
     joined = logs_of ended;
     is_joined = is_joined n fine of group at ended ends;
@@ -63,19 +63,19 @@ module _ (n : NetModel) (fault : medium_fault n.radio ≡ None) (placed : length
       let w = by_windows r.log is in record {
         last = w.last;
         run = w.run;
-        told =
-            ap (λ t. told_of t r.log r.left) traces
-            ∙ (ap (λ l. told_of (map (λ number. (at.motes number).lines) (up_to (length n.motes))) l r.left) is.told
-            ∙ (ap (told_of (map (λ number. (at.motes number).lines) (up_to (length n.motes))) (map (packet_with_fates n.radio) is.sorted)) left
-            ∙ w.told));
+        recounted =
+            ap (λ t. reported_of t r.log r.left) traces
+            ∙ (ap (λ l. reported_of (map (λ number. (at.motes number).lines) (up_to (length n.motes))) l r.left) is.recounted
+            ∙ (ap (reported_of (map (λ number. (at.motes number).lines) (up_to (length n.motes))) (map (packet_with_fates n.radio) is.sorted)) left
+            ∙ w.recounted));
       }
 
   -- the results of the workers, joined, are the report of the net
-  pub told_is : (r : Report) → AreTracesOf of ended r.traces.items → IsLogOf n (logs_of ended) (map line_model r.medium.items)
+  pub reported_equals : (r : Report) → AreTracesOf of ended r.traces.items → IsLogOf n (logs_of ended) (map line_model r.medium.items)
       → sum_by (λ (one : Ended). one.left) ended + sum_by (λ (pair : Pair). length (gathered_by pair.1)) (zip group.inboxes.items group.takers.items)
       ≡ r.left + sum_by (λ (pair : Pair). length (taken_by pair.1)) (zip group.inboxes.items group.takers.items)
       → IsReportOf n (report_of r)
-  told_is r traces log sums =
+  reported_equals r traces log sums =
       report_is (report_of r) (traces_are n fine of group at ended ends r.traces.items traces) log
       (left_is n fine of group at ended ends r.left (zip group.inboxes.items group.takers.items) (zip_long group.inboxes.items group.takers.items (takers_long n fine of group at ended ends))
       (λ v pair e. second_at group.inboxes.items group.takers.items v pair e) sums)
@@ -84,7 +84,7 @@ module _ (n : NetModel) (fault : medium_fault n.radio ≡ None) (placed : length
   packets_are : (r : ReportModel) → IsReportOf n r → logged_packets r ≡ as_log (logs_of ended)
   packets_are r report =
       let by = is_report n fine of group at ended ends in
-      ap logged_packets report.told
+      ap logged_packets report.recounted
       ∙ (sent_packets n report.last.log
       ∙ (ap (λ net. net.log) (run_is_one (system_of n) n.end by.run report.run) ∙ sym by.log_is))
 
@@ -105,7 +105,7 @@ module _ (n : NetModel) (fault : medium_fault n.radio ≡ None) (placed : length
 -- ---- the properties of every report
 pub one_trace_each : (n : NetModel) (r : Report) → IsReportOf n (report_of r) → length r.traces.items ≡ length n.motes
 one_trace_each n r report =
-    sym (length-map r.traces.items lines_in) ∙ (ap (λ (t : ReportModel). length t.traces) report.told ∙ (length-map (up_to (length n.motes)) report.last.traces ∙ counted (length n.motes)))
+    sym (length-map r.traces.items lines_in) ∙ (ap (λ (t : ReportModel). length t.traces) report.recounted ∙ (length-map (up_to (length n.motes)) report.last.traces ∙ counted (length n.motes)))
   where
     counted : (k : ℕ) → length (up_to k) ≡ k
     counted zero = refl
@@ -114,5 +114,5 @@ one_trace_each n r report =
 pub all_hand_on : (n : NetModel) (r : Report) → IsReportOf n (report_of r) → All (λ (v : Vec Line Global). IsInOrder v.items) r.traces.items
 all_hand_on n r report =
     All-from_recursion (λ (v : Vec Line Global). IsInOrder v.items) r.traces.items
-    (each_mapped IsInOrder lines_in r.traces.items (subst (Each IsInOrder) (sym (ap (λ (t : ReportModel). t.traces) report.told)) (every_map IsInOrder report.last.traces (up_to (length n.motes))
+    (each_mapped IsInOrder lines_in r.traces.items (subst (Each IsInOrder) (sym (ap (λ (t : ReportModel). t.traces) report.recounted)) (every_map IsInOrder report.last.traces (up_to (length n.motes))
     (every_weaker (λ k. k < length n.motes) (λ k. IsInOrder (report.last.traces k)) (λ k h. traces_hand_on n (report_of r) report k h) (up_to (length n.motes)) (below_all (length n.motes))))))

@@ -18,7 +18,7 @@ use Rattle.worker_cut.specs.Crossed.{is_own, is_to, copies_seen}
 use Rattle.worker_cut.proofs.Windows.{coming}
 use Rattle.worker_window.specs.declared.share.Share.{Share}
 use Rattle.worker_window.specs.Share.{Motes, is_to_come}
-use Rattle.all_workers.specs.Workers.{IsWorkerAt}
+use Rattle.all_workers.specs.WorkerGroup.{IsWorkerAt}
 use Rattle.all_workers.proofs.Waiting.{same_copies, rest_later, waiting, gathered_is, to_come_is}
 use Rattle.serial_run.specs.Counted.{is_by}
 
@@ -37,9 +37,9 @@ module _ (n : NetModel) (fine : RunsForward (system_of n)) (of : List ℕ) (from
   -- this worker's part of the copies left
   pub left_here : (left : ℕ) (rest : List RadioCopy) → left ≡ length rest → ((s : ℕ) → filter (is_from_sender s) rest ≡ filter (is_to_come (is_own of v) from) (copies_seen (system_of n) (is_own of v) motes (taken_by taker) s))
       → left + length (gathered_by taker) ≡ length (filter (is_to of v) (coming (system_of n) fine from motes)) + length (taken_by taker)
-  left_here left rest is told =
+  left_here left rest is recounted =
       let gathered = length_permutation (gathered_by taker) (taken_by taker ++ lying) (gathered_is n fine of from motes led first starts v share taker here) in
-      let comes = length_permutation (filter (is_to of v) (coming (system_of n) fine from motes)) (rest ++ lying) (to_come_is n fine of from motes led first starts v share taker here rest told) in
+      let comes = length_permutation (filter (is_to of v) (coming (system_of n) fine from motes)) (rest ++ lying) (to_come_is n fine of from motes led first starts v share taker here rest recounted) in
       let taken_and = length-append (taken_by taker) lying in
       let rest_and = length-append rest lying in
       omega arith

@@ -1,10 +1,10 @@
--- Whether a partition fits a net, and the error that is reported if it doesn't.
+-- The partitions that fit a net, and the error that is reported for one that doesn't.
 use Rattle.std.specs.Prelude.{ℕ, ◌≡◌, ◌==◌, ◌||◌, nat_lt, not, if◌then◌else◌, List, length, Option, Some, None}
 use Rattle.std.specs.List.{list_all}
 use Rattle.serial_run.specs.declared.error.RunError.{RunError}
 use Rattle.serial_run.specs.declared.error.RunError.TheVariants.{Workers, CutLength, CutWorker, Memory, Thread, Stopped}
-use Rattle.fork_join.specs.declared.work.Refused.{Refused}
-use Rattle.fork_join.specs.declared.work.Refused.TheVariants as refused
+use Rattle.fork_join.specs.declared.work.WorkerError.{WorkerError}
+use Rattle.fork_join.specs.declared.work.WorkerError.TheVariants as worker_error
 
 abbrev pub most_workers : ℕ
 most_workers = 16
@@ -17,8 +17,8 @@ cut_fault motes workers of =
     else (if not (length of == motes) then Some CutLength
     else (if list_all (λ worker. nat_lt worker workers) of then None else Some CutWorker))
 
--- The errors that a call may return, if the cut has this fault or none: the fault; else out of memory, or an error of
--- a thread. It is never `Stopped`.
+-- The errors that a call may return, if the cut has this fault or none: the fault; otherwise out of memory, or an
+-- error of a thread. It is never `Stopped`.
 abbrev pub IsAnswerTo : Option RunError → RunError → Type 0
 IsAnswerTo (Some fault) error = error ≡ fault
 IsAnswerTo None Workers = ⊥
@@ -28,8 +28,8 @@ IsAnswerTo None Memory = Unit {0}
 IsAnswerTo None Thread = Unit {0}
 IsAnswerTo None Stopped = ⊥
 
--- why a worker failed, as an error of the run
-abbrev pub of_refused : Refused → RunError
-of_refused refused.Memory = Memory
-of_refused refused.Thread = Thread
-of_refused refused.Stopped = Stopped
+-- the reason why a worker failed, as an error of the run
+abbrev pub of_refused : WorkerError → RunError
+of_refused worker_error.Memory = Memory
+of_refused worker_error.Thread = Thread
+of_refused worker_error.Stopped = Stopped

@@ -14,15 +14,15 @@ use Rattle.worker_window.specs.declared.share.Ended.{Ended}
 use Rattle.worker_window.specs.Share.{Motes, Keeps}
 use Rattle.worker_window.specs.Ended.{TellsAtEnd}
 use Rattle.worker_window.specs.Log.{packets_in}
-use Rattle.all_workers.specs.declared.workers.Workers.{Workers}
+use Rattle.all_workers.specs.declared.workers.WorkerGroup.{WorkerGroup}
 use Rattle.all_workers.specs.WindowLength.{IsSound}
-use Rattle.all_workers.specs.Workers.{IsAt}
+use Rattle.all_workers.specs.WorkerGroup.{IsAt}
 use Rattle.mote_net.specs.declared.report.LogLine.{LogLine}
 use Rattle.mote_net.specs.Report.{Packet}
 use Rattle.serial_run.specs.NetRun.{packet_with_fates}
 
 -- the workers of a net at its end
-pub record AreAtEnd (n : NetModel) (of : List ℕ) (group : Workers) : Type 0 where
+pub record AreAtEnd (n : NetModel) (of : List ℕ) (group : WorkerGroup) : Type 0 where
   pub sound : IsSound n
   pub at : IsAt n of (suc n.end) group
 
@@ -59,7 +59,7 @@ pub record IsLogOf (n : NetModel) (sends : List Sent) (log : List Packet) : Type
   pub sorted : List Sent
   pub same : IsPermutation sends sorted
   pub in_order : IsSortedBy is_sooner sorted
-  pub told : log ≡ map (packet_with_fates n.radio) sorted
+  pub recounted : log ≡ map (packet_with_fates n.radio) sorted
 
 -- one mote's trace, as one worker reports it
 abbrev pub trace_at : List Ended → (worker mote : ℕ) → Ended → Vec Line Global → Vec Line Global

@@ -1,4 +1,4 @@
--- The kinds of synchronization between workers, and the inboxes for each.
+-- The kinds of synchronisation between workers, and the inboxes for each.
 use Rattle.std.specs.Prelude.{◌≡◌, Bool, true, false}
 use Rattle.copy_inbox.specs.Handles.{TakerView}
 use Rattle.window_workers.specs.declared.sync.SyncKind.{SyncKind}

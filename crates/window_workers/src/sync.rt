@@ -1,9 +1,9 @@
-//! The kinds of synchronization between workers.
+//! The kinds of synchronisation between workers.
 
 ghost use Rattle.std.specs.Prelude.{◌≡◌};
 ghost use Rattle.window_workers.specs.Sync.{has_marks};
 
-/// The kind of synchronization between workers. The report doesn't depend on it.
+/// The kind of synchronisation between workers. The report doesn't depend on it.
 #[derive(Clone, Copy, Debug, Default, PartialEq, Eq)]
 pub enum SyncKind {
     /// Each window has threads of its own, which are joined at its end. The inboxes have no marks.

@@ -7,7 +7,7 @@ ghost use Rattle.mote_net.specs.Meaning.{net_of};
 ghost use Rattle.mote_net.specs.Net.{NetModel};
 ghost use Rattle.copy_inbox.specs.Gathered.{Whole, known_of};
 ghost use Rattle.copy_exchange.specs.Inboxes.{IsFresh, IsSettled};
-ghost use Rattle.all_workers.specs.Workers.{IsAt};
+ghost use Rattle.all_workers.specs.WorkerGroup.{IsAt};
 ghost use Rattle.all_workers.specs.Start.{AreReady};
 ghost use Rattle.mote_net.specs.Report.{report_of};
 ghost use Rattle.window_workers.specs.Crossed.{AllCrossed};
@@ -23,7 +23,7 @@ use crate::medium_log::medium_log;
 use crate::refusal::of_refused;
 use crate::sync::SyncKind;
 use crate::traces::joined_traces;
-use all_workers::Workers;
+use all_workers::WorkerGroup;
 use copy_exchange::{make_inboxes, pair_inboxes, split_pairs};
 use copy_inbox::{Inbox, Taker};
 use joined_workers::run_by_joins;
@@ -42,7 +42,7 @@ fn make_report<R: Threads + Wait + Sync>(
     rt: &R,
     alloc: Global,
     of: &[u16],
-    group: Workers,
+    group: WorkerGroup,
 ) -> Result<(Report, Vec<(Inbox, Taker)>), RunError>
     requires at_end { (n : NetModel) × AreAtEnd n of.now group }
     ensures report { IfOk result (λ r. (n : NetModel) → AreAtEnd n of.now group → IsReportOf n (report_of r.0)) }
@@ -53,7 +53,7 @@ fn make_report<R: Threads + Wait + Sync>(
         (λ r. (n : NetModel) → AreAtEnd n of.now group → AllCrossed n of.now (report_of r.0) r.1.items) }
     ensures err { IfErr result (IsAnswerTo None) }
 {
-    let Workers {
+    let WorkerGroup {
         shares,
         inboxes,
         takers,
@@ -74,7 +74,7 @@ fn make_report<R: Threads + Wait + Sync>(
     Ok((report, pairs))
 }
 
-/// Runs all windows, by workers with this kind of synchronization.
+/// Runs all windows, by workers with this kind of synchronisation.
 fn run_by_kind<R, G>(
     rt: &R,
     alloc: Global,
@@ -83,8 +83,8 @@ fn run_by_kind<R, G>(
     longest: u32,
     sync: SyncKind,
     gate: &G,
-    group: Workers,
-) -> Result<Workers, RunError>
+    group: WorkerGroup,
+) -> Result<WorkerGroup, RunError>
 where
     R: Threads + Wait + RandomSource + AllocGlobal + Sync,
     G: Gate + Sync,
@@ -136,7 +136,7 @@ where
     let Ok((inboxes, takers)) = split_pairs(alloc, pairs) else {
         return Err(RunError::Memory);
     };
-    let Ok(group) = Workers::new(alloc, net, of, inboxes, takers) else {
+    let Ok(group) = WorkerGroup::new(alloc, net, of, inboxes, takers) else {
         return Err(RunError::Memory);
     };
     let group = run_by_kind(rt, alloc, net, of, cut.longest, sync, gate, group)?;
@@ -144,14 +144,14 @@ where
 }
 
 /// The report of a net, by one worker for each inbox: copies from a mote of one worker to a mote of another go through
-/// the inbox of the receiver's worker. It is the report of the run on one thread, whatever the cut, and whatever the
-/// kind of synchronization: with joins the inboxes have no marks, and with marks they have. At the end every sender is
-/// gathered.
+/// the inbox of the receiver's worker. It is the report of the run on one thread, whatever the cut and the kind of
+/// synchronisation. The inboxes have marks if the workers are synchronised with marks, and none with joins. At the end
+/// every sender is gathered.
 ///
 /// # Errors
-/// `Workers`, `CutLength` or `CutWorker` exactly when the cut doesn't fit, the first of them that applies; else
+/// `Workers`, `CutLength` or `CutWorker` exactly when the cut doesn't fit, the first of them that applies; otherwise
 /// `Memory`, or `Thread` if a thread couldn't be started, the gate refused a start, or an executor returned an error:
-/// that of the lowest worker that has one. The inboxes are then dropped.
+/// that of the first worker, by number, that has one. The inboxes are then dropped.
 pub fn run_inboxes<R, G>(
     rt: &R,
     alloc: Global,
@@ -168,7 +168,7 @@ where
     requires kind { Each (λ pair. IsFor sync pair.1) pairs.items }
     ensures report { IfOk result (λ r. IsReportOf (net_of net.now) (report_of r.0)) }
     // There is a trace for each mote. Each delivers events in the order in which they were accepted, nothing follows a
-    // halt in it, and only a process that is not listed starts.
+    // halt in it, and a process starts only if it isn't listed.
     ensures traces { IfOk result (λ r. (vec_len r.0.traces ≡ length (net_of net.now).motes)
         × All (λ trace. IsInOrder trace.items) r.0.traces.items) }
     // The inboxes come back, in order, each with its taker, which has gathered all senders. With marks nothing is left
@@ -176,7 +176,7 @@ where
     ensures inboxes { IfOk result (λ r. (map (λ pair. pair.0) r.1.items ≡ map (λ pair. pair.0) pairs.items)
         × Each (λ pair. IsSettled pair.0 pair.1) r.1.items
         × (sync ≡ Marks → Each (λ pair. known_of pair.1.state.gathered pair.1.state.taken ≡ 0) r.1.items)) }
-    // Through them went the copies from worker to worker, each once and nothing else.
+    // The copies from worker to worker went through them, each exactly once, and nothing else did.
     ensures crossed { IfOk result (λ r. AllCrossed (net_of net.now) cut.now.of.items (report_of r.0) r.1.items) }
     // A fault of the cut is returned exactly when there is one.
     ensures fault { let fault = cut_fault (length (net_of net.now).motes) (length pairs.items) cut.now.of.items in
@@ -189,13 +189,13 @@ where
 }
 
 /// The report of a net, by this many workers, each in threads of its own: that of the run on one thread, whatever the
-/// cut, and whatever the kind of synchronization. The inboxes are made for the run, and dropped at its end with the
+/// cut, and whatever the kind of synchronisation. The inboxes are made for the run, and dropped at its end with the
 /// copies that are left in them.
 ///
 /// # Errors
-/// `Workers`, `CutLength` or `CutWorker` exactly when the cut doesn't fit, the first of them that applies; else
+/// `Workers`, `CutLength` or `CutWorker` exactly when the cut doesn't fit, the first of them that applies; otherwise
 /// `Memory`, or `Thread` if a thread couldn't be started, the gate refused a start, or an executor returned an error:
-/// that of the lowest worker that has one.
+/// that of the first worker, by number, that has one.
 pub fn run_workers<R, G>(
     rt: &R,
     alloc: Global,
@@ -211,8 +211,8 @@ where
     ensures report { IfOk result (λ r. IsReportOf (net_of net.now) (report_of r)) }
     // There is a trace for each mote.
     ensures traces { IfOk result (λ r. vec_len r.traces ≡ length (net_of net.now).motes) }
-    // Each trace delivers events in the order in which they were accepted, nothing follows a halt in it, and only a
-    // process that is not listed starts.
+    // Each trace delivers events in the order in which they were accepted, nothing follows a halt in it, and a process
+    // starts only if it isn't listed.
     ensures handed_on { IfOk result (λ r. All (λ trace. IsInOrder trace.items) r.traces.items) }
     // A fault of the cut is returned exactly when there is one.
     ensures fits { IfOk result (λ r. cut_fault (length (net_of net.now).motes) workers cut.now.of.items ≡ None) }

@@ -30,7 +30,7 @@ abbrev pub crossed : {S L : Type 0} → System S L → (of : List ℕ) → (mote
 crossed system of motes worker sender =
     if is_own of worker sender then [] else filter (is_to of worker) (copies_by system motes sender)
 
--- the copies of this mote that a worker has seen: all of them if the mote is its own, else those that it took
+-- the copies of this mote that a worker has seen: all of them if the mote is its own, otherwise those that it took
 abbrev pub copies_seen : {S L : Type 0} → System S L → (own : ℕ → Bool) → (motes : (number : ℕ) → LoneMote S L)
     → (taken : List RadioCopy) → (sender : ℕ) → List RadioCopy
 copies_seen system own motes taken sender =

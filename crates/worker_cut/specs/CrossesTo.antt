@@ -1,4 +1,4 @@
--- The copies that cross to one worker: each copy from a mote of another for a mote of its own, once.
+-- The copies that cross to one worker: each copy from a mote of another worker to a mote of its own, once.
 use Rattle.std.specs.Prelude.{ℕ, Bool, not, ◌&&◌, List, IsPermutation}
 use Rattle.std.specs.List.{filter, flat_map}
 use Rattle.radio_packet.specs.declared.sent.Sent.{Sent}

@@ -10,13 +10,13 @@ use Rattle.window_laws.specs.Windows.{IsJoined, as_log}
 use Rattle.worker_cut.specs.Crossed.{is_own, crossed, copies_seen}
 use Rattle.worker_cut.specs.CrossesTo.{AreThoseTo}
 
--- this worker gathered, of each mote, the copies that the mote has sent across to it
+-- this worker gathered, for each mote, the copies that the mote has sent across to it
 abbrev pub GatheredCopies : {S L : Type 0} → System S L → (of : List ℕ) → (motes : (number : ℕ) → LoneMote S L)
     → (worker : ℕ) → List RadioCopy → Type 0
 GatheredCopies system of motes worker gathered =
     (sender : ℕ) → filter (is_from_sender sender) gathered ≡ crossed system of motes worker sender
 
--- the copies taken are, of each mote, those that were gathered
+-- the copies taken are, for each mote, those that were gathered
 abbrev pub HasTaken : (gathered taken : List RadioCopy) → Type 0
 HasTaken gathered taken = (sender : ℕ) → filter (is_from_sender sender) taken ≡ filter (is_from_sender sender) gathered
 

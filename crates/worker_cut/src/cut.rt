@@ -42,7 +42,7 @@ impl Cut {
         Ok(Cut { of, longest: 0 })
     }
 
-    /// Deals the motes out in turn: mote i goes to the worker `i` mod `workers`.
+    /// Deals the motes out one by one: mote i goes to the worker `i` mod `workers`.
     ///
     /// # Errors
     /// `AllocError` if an allocation fails.

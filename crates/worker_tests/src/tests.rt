@@ -1,5 +1,5 @@
-//! Most tests write their observations into one text and compare it once, in a function that they share: so a test owns
-//! little at the points at which it can end early, which would cost its proof most.
+//! Most tests write their observations into one text and compare it once, in a function that they share. So a test
+//! owns little wherever it can end early; owning much there would cost its proof most.
 
 mod failing_executor;
 mod held_back;
@@ -111,7 +111,7 @@ const BUSY_TRIO: &str = "\
     y = 0\n\
     program = \"p\"\n";
 
-/// The common data of runs: a net, the text of its report by one thread, and a kind of synchronization.
+/// The common data of runs: a net, the text of its report by one thread, and a kind of synchronisation.
 #[derive(Clone, Copy)]
 struct Scene<'a> {
     net: &'a Net,
@@ -156,28 +156,28 @@ fn write_report(
     report: &Report,
     text: &mut String,
 ) -> Result<(), AllocError> {
-    let told = format!(in alloc; "{report:?}")?;
-    if told.as_str() == one {
+    let recounted = format!(in alloc; "{report:?}")?;
+    if recounted.as_str() == one {
         write!(text, "Same({})", report.left)
     } else {
         text.push_str("Other")
     }
 }
 
-/// Writes the result of a run down: a report or an error.
-fn write_told(
+/// Writes down the result of a run: a report or an error.
+fn write_result(
     alloc: Global,
     one: &str,
-    told: Result<Report, RunError>,
+    recounted: Result<Report, RunError>,
     text: &mut String,
 ) -> Result<(), AllocError> {
-    match told {
+    match recounted {
         Ok(report) => write_report(alloc, one, &report, text),
         Err(error) => write!(text, "Fault({error:?})"),
     }
 }
 
-/// Writes the result of a run with this gate down.
+/// Writes down the result of a run with this gate.
 fn write_run<R, G>(
     rt: &R,
     scene: Scene<'_>,
@@ -190,11 +190,11 @@ where
     R: Threads + Wait + Sync + RandomSource + AllocGlobal,
     G: Gate + Sync,
 {
-    let told = run_workers(rt, rt.alloc(), scene.net, workers, cut, scene.sync, gate);
-    write_told(rt.alloc(), scene.one, told, text)
+    let recounted = run_workers(rt, rt.alloc(), scene.net, workers, cut, scene.sync, gate);
+    write_result(rt.alloc(), scene.one, recounted, text)
 }
 
-/// Writes the observation in a run down.
+/// Writes down the observation in a run.
 fn write_case<R>(rt: &R, scene: Scene<'_>, case: &Case<'_>, text: &mut String) -> Result<(), Fail>
 where
     R: Threads + Wait + Sync + RandomSource + AllocGlobal,
@@ -213,7 +213,7 @@ where
     Ok(())
 }
 
-/// Fails unless `want` is written of these runs.
+/// Fails unless the text written about these runs is `want`.
 fn tells_by<R>(rt: &R, scene: Scene<'_>, cases: &[Case<'_>], want: &str) -> Result<(), Fail>
 where
     R: Threads + Wait + Sync + RandomSource + AllocGlobal,
@@ -226,18 +226,18 @@ where
 }
 
 /// The text of the report of one thread.
-fn told_by_one_thread(alloc: Global, net: &Net) -> Result<String, Fail> {
+fn text_of_one_thread(alloc: Global, net: &Net) -> Result<String, Fail> {
     let report = run_serial(alloc, net)?;
     Ok(format!(in alloc; "{report:?}")?)
 }
 
-/// Fails unless the expected text is written of these runs, with fork-join and with null messages.
+/// Fails unless the text written about these runs is the expected one, with fork-join and with null messages.
 fn tells<R>(rt: &R, runs: &Trials<'_>) -> Result<(), Fail>
 where
     R: Threads + Wait + Sync + RandomSource + AllocGlobal,
 {
     let net = read_scenario(rt.alloc(), runs.scenario)?;
-    let one = told_by_one_thread(rt.alloc(), &net)?;
+    let one = text_of_one_thread(rt.alloc(), &net)?;
     let scene = Scene {
         net: &net,
         one: one.as_str(),
@@ -251,7 +251,7 @@ where
     tells_by(rt, scene, runs.cases, runs.marks)
 }
 
-/// Fails unless that is so of each of them.
+/// Fails unless each of these runs has the expected text, as [`tells`] tests it.
 fn all_tell<R>(rt: &R, table: &[Trials<'_>]) -> Result<(), Fail>
 where
     R: Threads + Wait + Sync + RandomSource + AllocGlobal,

@@ -161,10 +161,10 @@ module _ (n : NetModel) (of : List ℕ) (worker from until : ℕ) (before now : 
           ap (λ l. cond (own s) (filter (is_for_others own) l) []) (copies_put s ne)
           ∙ sym (ap (λ l. outgoing_by n own now s ++ l) (from_others (is_for_others own) s ne) ∙ append-nil (outgoing_by n own now s))
 
-  module _ (old share : Share) (stands : IsShare n of worker outgoing until now taken old) (gone later : List RadioCopy)
+  module _ (old share : Share) (in_state : IsShare n of worker outgoing until now taken old) (gone later : List RadioCopy)
       (wake : Option ℕ) (pending : wake ≡ wake_from until (before k).wake) (ret : MoteReturns n.radio of k wake out old share gone later) where
     abbrev has : HasToCome n own until now taken old.agenda.buckets
-    has = stands.agenda
+    has = in_state.agenda
 
     abbrev items : List Item
     items = (without_wakes k has.items ++ wake_items k out.wake) ++ map Packet sent_own
@@ -173,10 +173,10 @@ module _ (n : NetModel) (of : List ℕ) (worker from until : ℕ) (before now : 
     awake = has.wakes k ∙ (ap (λ b. cond b (wake_items k (wake_from until (now k).wake)) []) back.mine ∙ ap (wake_items k) (ap (λ m. wake_from until m.wake) waits ∙ sym pending))
 
     worker_own : filter (λ copy. is_own of old.worker copy.to) sent ≡ sent_own
-    worker_own = ap (λ w. filter (λ copy. is_own of w copy.to) sent) stands.is_worker
+    worker_own = ap (λ w. filter (λ copy. is_own of w copy.to) sent) in_state.is_worker
 
     within : k < length old.motes.items
-    within = let a = back.there in let b = stands.places in omega arith
+    within = let a = back.there in let b = in_state.places in omega arith
 
     mote_k : mote_here share.motes.items k ≡ Some out.mote
     mote_k = ap (λ l. mote_here l k) ret.motes ∙ get_or-set_same old.motes.items k (Some out.mote) None within
@@ -244,29 +244,29 @@ module _ (n : NetModel) (of : List ℕ) (worker from until : ℕ) (before now : 
 
     pub is_back : IsShare n of worker here until next taken share
     is_back = record {
-      is_worker = ret.worker ∙ stands.is_worker;
-      places = ap length ret.motes ∙ (length-set old.motes.items k (Some out.mote) ∙ stands.places);
-      numbers = all_here (λ j m. number_of m.state ≡ j) back.number_is stands.numbers;
+      is_worker = ret.worker ∙ in_state.is_worker;
+      places = ap length ret.motes ∙ (length-set old.motes.items k (Some out.mote) ∙ in_state.places);
+      numbers = all_here (λ j m. number_of m.state ≡ j) back.number_is in_state.numbers;
       nodes =
           by_mote (λ j. here j ≡ true → node_at (tree_at n j) (mote_here share.motes.items j) ≡ Some (next j).state)
           (λ _. ap (node_at (tree_at n k)) mote_k ∙ (back.node ∙ ap (λ m. Some m.state) (sym at_k)))
-          (λ j ne h. ap (node_at (tree_at n j)) (mote_else j ne) ∙ (stands.nodes j (same_here j ne ∙ h) ∙ ap (λ m. Some m.state) (sym (elsewhere j ne))));
-      wakes = all_here (λ j m. m.wake ≡ wake_of m.state) back.wakes stands.wakes;
-      quiet = all_here (λ j m. NoneBefore until m.wake) back.quiet stands.quiet;
-      turned_before = all_here (λ j m. is_past until m.state.last ≡ false) back.turned_before stands.turned_before;
-      traces_kept = ret.traces_kept ∙ stands.traces_kept;
+          (λ j ne h. ap (node_at (tree_at n j)) (mote_else j ne) ∙ (in_state.nodes j (same_here j ne ∙ h) ∙ ap (λ m. Some m.state) (sym (elsewhere j ne))));
+      wakes = all_here (λ j m. m.wake ≡ wake_of m.state) back.wakes in_state.wakes;
+      quiet = all_here (λ j m. NoneBefore until m.wake) back.quiet in_state.quiet;
+      turned_before = all_here (λ j m. is_past until m.state.last ≡ false) back.turned_before in_state.turned_before;
+      traces_kept = ret.traces_kept ∙ in_state.traces_kept;
       traces =
           by_mote (λ j. here j ≡ true → (d : Vec Line Global) → (get_or share.traces.items j d).items ≡ (next j).lines)
           (λ h d. ret.traces k d ∙ (ap (λ b. cond b out.lines.items (get_or old.traces.items k d).items) (eq-eqb k k refl) ∙ (sym back.lines ∙ ap (λ m. m.lines) (sym at_k))))
           (λ j ne h d. ret.traces j d ∙ (ap (λ b. cond b out.lines.items (get_or old.traces.items j d).items) (ne_eqb j k ne)
-          ∙ (stands.traces j (same_here j ne ∙ h) d ∙ ap (λ m. m.lines) (sym (elsewhere j ne)))));
+          ∙ (in_state.traces j (same_here j ne ∙ h) d ∙ ap (λ m. m.lines) (sym (elsewhere j ne)))));
       log =
           by_mote (λ s. filter (is_sent_by s) (packets_in share.log.items) ≡ cond (own s) (next s).sends [])
           (log_split k ∙ (let e = back.mine in rw e (ap (λ l. (now k).sends ++ l) (filter_every (is_sent_by k) out.sends.items (every_weaker _ _ (λ x h. eq-eqb x.sender k h.sender) out.sends.items back.sent))
           ∙ (ap (λ m. m.sends ++ out.sends.items) waits ∙ (sym back.sends ∙ ap (λ m. m.sends) (sym at_k))))))
           (λ s ne. log_split s ∙ (ap (λ l. cond (own s) (now s).sends [] ++ l) (filter_none (is_sent_by s) out.sends.items (every_weaker _ _ (λ x h. ne_eqb x.sender s (λ f. ne (sym f ∙ h.sender))) out.sends.items back.sent))
           ∙ (append-nil (cond (own s) (now s).sends []) ∙ ap (λ m. cond (own s) m.sends []) (sym (elsewhere s ne)))));
-      fates = ret.fates stands.fates;
+      fates = ret.fates in_state.fates;
       agenda = record {
         items = items;
         holds = subst (λ l. Holds share.agenda.buckets ((without_wakes k has.items ++ wake_items k out.wake) ++ map Packet l)) worker_own (ret.agenda has.items has.holds awake);
@@ -278,4 +278,4 @@ module _ (n : NetModel) (of : List ℕ) (worker from until : ℕ) (before now : 
         log_split : (s : ℕ) → filter (is_sent_by s) (packets_in share.log.items) ≡ cond (own s) (now s).sends [] ++ filter (is_sent_by s) out.sends.items
         log_split s =
             ap (filter (is_sent_by s)) ret.log
-            ∙ (filter-append (is_sent_by s) (packets_in old.log.items) out.sends.items ∙ ap (λ l. l ++ filter (is_sent_by s) out.sends.items) (stands.log s))
+            ∙ (filter-append (is_sent_by s) (packets_in old.log.items) out.sends.items ∙ ap (λ l. l ++ filter (is_sent_by s) out.sends.items) (in_state.log s))

@@ -107,7 +107,7 @@ pub record PendingEvent (n : NetModel) (of : List ℕ) (worker from until : ℕ)
   pub now : Motes
   pub backs : AllZip (IsBack n (is_own of worker) from until motes window_copies) rest outs
   pub pending : AllZip (IsPending until motes) rest wakes
-  pub stands : IsShare n of worker (λ j. is_own of worker j && not (is_one_of j rest)) until now taken share
+  pub in_state : IsShare n of worker (λ j. is_own of worker j && not (is_one_of j rest)) until now taken share
   pub waits : (k : ℕ) → is_one_of k rest ≡ true → now k ≡ motes k
   pub others : (k : ℕ) → is_own of worker k ≡ false → now k ≡ motes k
   pub alone : (k : ℕ) → is_own of worker k ≡ true → is_one_of k rest ≡ false → Alone (system_of n) k until (window_copies k) (motes k) (now k)
@@ -159,8 +159,8 @@ module _ (n : NetModel) (of : List ℕ) (worker from until : ℕ) (motes : Motes
     else_same : (j : ℕ) → (j ≡ k → ⊥) → after_it j ≡ coming.now j
     else_same j ne = elsewhere n of worker from until motes coming.now taken window_copies placed short front k d.1 out l.last waited j ne
 
-    stands_then : IsShare n of worker (λ j. mine j && not (is_one_of j (front ++ k ∷ []))) until coming.now taken old
-    stands_then = subst (λ ks. IsShare n of worker (λ j. mine j && not (is_one_of j ks)) until coming.now taken old) l.is coming.stands
+    in_state_then : IsShare n of worker (λ j. mine j && not (is_one_of j (front ++ k ∷ []))) until coming.now taken old
+    in_state_then = subst (λ ks. IsShare n of worker (λ j. mine j && not (is_one_of j ks)) until coming.now taken old) l.is coming.in_state
 
     among_else : (j : ℕ) → (j ≡ k → ⊥) → is_one_of j coming.rest ≡ is_one_of j front
     among_else j ne = among j ∙ (ap (λ b. is_one_of j front || b) (ne_eqb k j (λ f. ne (sym f))) ∙ or_none (is_one_of j front))
@@ -174,7 +174,7 @@ module _ (n : NetModel) (of : List ℕ) (worker from until : ℕ) (motes : Motes
         ]
 
     away_is : after ≡ before ++ filter (is_for_others mine) (flat_map (copies n.radio) out.sends.items)
-    away_is = ret.outgoing ∙ ap (λ w. before ++ filter (is_for_others (is_own of w)) (flat_map (copies n.radio) out.sends.items)) coming.stands.is_worker
+    away_is = ret.outgoing ∙ ap (λ w. before ++ filter (is_for_others (is_own of w)) (flat_map (copies n.radio) out.sends.items)) coming.in_state.is_worker
 
     sent_then : (s : ℕ) → outgoing_by n mine after_it s ≡ outgoing_by n mine motes s ++ filter (is_from_sender s) after
     sent_then s =
@@ -197,7 +197,7 @@ module _ (n : NetModel) (of : List ℕ) (worker from until : ℕ) (motes : Motes
       now = after_it;
       backs = l.zip;
       pending = pending.0;
-      stands = is_back n of worker from until motes coming.now taken window_copies placed short front k d.1 out l.last waited old share stands_then before after wake pending.1 ret;
+      in_state = is_back n of worker from until motes coming.now taken window_copies placed short front k d.1 out l.last waited old share in_state_then before after wake pending.1 ret;
       waits = λ j e. (
           let ne : j ≡ k → ⊥ = λ f. false≢true (sym d.1 ∙ (ap (λ i. is_one_of i front) (sym f) ∙ e)) in
           else_same j ne ∙ coming.waits j (among_else j ne ∙ e));
@@ -225,18 +225,18 @@ module _ (n : NetModel) (of : List ℕ) (worker from until : ℕ) (motes : Motes
     runs = λ k h. record { given = window_copies k; is_given = given_to k h; alone = coming.alone k h (ap (is_one_of k) none) };
     others = coming.others;
     keeps = record {
-      is_worker = coming.stands.is_worker;
-      places = coming.stands.places;
-      numbers = λ k h. coming.stands.numbers k (present k h);
-      nodes = λ k h. coming.stands.nodes k (present k h);
-      wakes = λ k h. coming.stands.wakes k (present k h);
-      quiet = λ k h. coming.stands.quiet k (present k h);
-      turned_before = λ k h. coming.stands.turned_before k (present k h);
-      traces_kept = coming.stands.traces_kept;
-      traces = λ k h. coming.stands.traces k (present k h);
-      log = coming.stands.log;
-      fates = coming.stands.fates;
-      agenda = coming.stands.agenda;
+      is_worker = coming.in_state.is_worker;
+      places = coming.in_state.places;
+      numbers = λ k h. coming.in_state.numbers k (present k h);
+      nodes = λ k h. coming.in_state.nodes k (present k h);
+      wakes = λ k h. coming.in_state.wakes k (present k h);
+      quiet = λ k h. coming.in_state.quiet k (present k h);
+      turned_before = λ k h. coming.in_state.turned_before k (present k h);
+      traces_kept = coming.in_state.traces_kept;
+      traces = λ k h. coming.in_state.traces k (present k h);
+      log = coming.in_state.log;
+      fates = coming.in_state.fates;
+      agenda = coming.in_state.agenda;
     };
     out = coming.sent;
     late = coming.late;

@@ -77,8 +77,8 @@ module _ (n : NetModel) (of : List ℕ) (worker from until : ℕ) (motes : Motes
   same_mote : (k : ℕ) → here k ≡ true → mote_here new.motes.items k ≡ mote_here old.motes.items k
   same_mote k h = lent.gone k ∙ ap (λ b. cond b None (mote_here old.motes.items k)) (all k ∙ (parts k h).1)
 
-  pub stands_left : IsLeft old new → IsShare n of worker here until motes (taken ++ arrived) new
-  stands_left same = record {
+  pub in_state_left : IsLeft old new → IsShare n of worker here until motes (taken ++ arrived) new
+  in_state_left same = record {
     is_worker = same.0 ∙ keeps.is_worker;
     places = lent.places ∙ keeps.places;
     numbers = λ k h. keeps.numbers k (parts k h).0;
@@ -122,10 +122,10 @@ module _ (n : NetModel) (of : List ℕ) (worker from until : ℕ) (motes : Motes
       (λ moment next. past_later from moment (not_before from moment wake r.copies.items quiet next.comes) (motes k).state.last (keeps.turned_before k h))
 
   one_pending : (r : LentMote) (wake : Option ℕ) → IsCalled calls old.motes.items old.traces.items r → IsWakeOf until r wake → IsPending until motes r.number wake
-  one_pending r wake called told =
+  one_pending r wake called recounted =
       let k = r.number in
       let h = called_mine k (ap is_some called.copies) in
-      told (tree_at n k)
+      recounted (tree_at n k)
       ∙ (ap (λ o. wake_from until (wake_in o)) (ap (node_at (tree_at n k)) (sym called.mote) ∙ keeps.nodes k h) ∙ ap (wake_from until) (sym (keeps.wakes k h)))
 
   -- the motes that are called can go on
@@ -138,8 +138,8 @@ module _ (n : NetModel) (of : List ℕ) (worker from until : ℕ) (motes : Motes
     different = lent.different;
     now = motes;
     backs = zip_numbers (IsCalled calls old.motes.items old.traces.items) (LentMoteGives n until) (IsBack n mine from until motes boxes) one_gives lent_motes outs lent.called gives;
-    pending = zip_numbers (IsCalled calls old.motes.items old.traces.items) (IsWakeOf until) (IsPending until motes) one_pending lent_motes wakes lent.called lent.told;
-    stands = stands_left same;
+    pending = zip_numbers (IsCalled calls old.motes.items old.traces.items) (IsWakeOf until) (IsPending until motes) one_pending lent_motes wakes lent.called lent.recounted;
+    in_state = in_state_left same;
     waits = λ k e. refl;
     others = λ k e. refl;
     alone = λ k h e. idle_alone n of worker from until motes taken arrived old keeps le come k h (sym (all k) ∙ e);

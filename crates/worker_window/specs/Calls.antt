@@ -34,7 +34,7 @@ is_not_before until item = not (nat_lt (moment_of item) until)
 abbrev pub calls_for : (until mote : ℕ) → Item → Bool
 calls_for until mote item = nat_lt (moment_of item) until && (mote_of item == mote)
 
--- the copies for a mote are rising, and are those that the items have for it at each moment before a bound
+-- the copies for a mote are in rising order, and are those that the items have for it at each moment before a bound
 pub record TakesCopiesFor (until : ℕ) (items : List Item) (mote : ℕ) (copies : List RadioCopy) : Type 0 where
   pub rising : is_rising copies ≡ true
   pub all : (moment : ℕ) → filter (is_at moment) copies

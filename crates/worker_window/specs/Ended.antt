@@ -1,4 +1,4 @@
--- What a worker reports at the end.
+-- The results of a worker at the end.
 use Rattle.std.specs.Prelude.{ℕ, ◌≡◌, true, if◌then◌else◌, List, [], length, slice_index_or, Vec}
 use Rattle.std.specs.List.{filter}
 use Rattle.std.specs.declared.alloc.Global.{Global}

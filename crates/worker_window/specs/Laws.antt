@@ -15,7 +15,7 @@ EndIsOne = (window : Window) (a b : LoneNode) → EndsAs window a → EndsAs win
 abbrev pub with_earlier : List Line → List Sent → LoneNode → LoneNode
 with_earlier lines sends mote = record mote { lines = lines ++ mote.lines; sends = sends ++ mote.sends }
 
--- what was written and sent before a window stays before what its run adds
+-- the lines and packets from before a window stay before those that its run adds
 abbrev pub EarlierStaysInFront : Type 0
 EarlierStaysInFront = (window : Window) (last : LoneNode) → EndsAs window last → (lines : List Line) (sends : List Sent)
     → WindowRun (number_of window.mote.state) window.until window.copies (with_earlier lines sends window.mote)
@@ -26,10 +26,10 @@ abbrev pub EndsWithItsWake : Type 0
 EndsWithItsWake = (window : Window) (last : LoneNode) → window.mote.wake ≡ wake_of window.mote.state
     → EndsAs window last → last.wake ≡ wake_of last.state
 
--- what comes next comes after the mote's last turn
+-- the next event is after the mote's last turn
 abbrev pub IsAhead : Window → Type 0
 IsAhead window = (moment : ℕ) → IsNext moment window → is_past moment window.mote.state.last ≡ false
 
--- it does so after each turn of a window
+-- this is so after each turn of a window
 abbrev pub NoTurnIsPast : Type 0
 NoTurnIsPast = (window : Window) (moment : ℕ) → HasTurn moment window → IsAhead (window_after_turn moment window)

@@ -39,7 +39,7 @@ pub record IsCalled (calls : CalledMotes) (motes : List (Option Mote)) (traces :
   pub trace : (d : Vec Line Global) → slice_index_or traces lent_mote.number d ≡ lent_mote.trace
   pub copies : copies_for calls lent_mote.number ≡ Some lent_mote.copies.items
 
--- a trace was taken, and nothing is known of what is now in its place
+-- a trace was taken, and nothing is known about the value in its place
 pub record TakesTrace (number : ℕ) (trace : Vec Line Global) (old new : List (Vec Line Global)) : Type 0 where
   pub taken : (d : Vec Line Global) → slice_index_or old number d ≡ trace
   pub left : Vec Line Global
@@ -60,7 +60,7 @@ pub record MotesAreLent (until : ℕ) (calls : CalledMotes) (old new : List (Opt
   pub others : (k : ℕ) → is_one_of k (numbers_of lent_motes) ≡ false → (d : Vec Line Global)
       → slice_index_or left k d ≡ slice_index_or traces k d
   pub gone : (k : ℕ) → mote_here new k ≡ (if is_one_of k (numbers_of lent_motes) then None else mote_here old k)
-  pub told : AllZip (IsWakeOf until) lent_motes wakes
+  pub recounted : AllZip (IsWakeOf until) lent_motes wakes
 
 -- the mote has this number
 pub record HasNumber (number : ℕ) (mote : Mote) : Type 0 where
@@ -69,7 +69,7 @@ pub record HasNumber (number : ℕ) (mote : Mote) : Type 0 where
   pub is : node_in tree mote ≡ Some node
   pub number_is : number_of node ≡ number
 
--- what a mote of a net gave in a window
+-- the result of a mote of a net in a window
 pub record IsOutOfMote (motes : ℕ) (out : WindowOut) : Type 0 where
   pub number : ℕ
   pub numbered : HasNumber number out.mote

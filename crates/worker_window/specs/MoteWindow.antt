@@ -1,4 +1,4 @@
--- One mote alone in a window.
+-- One mote by itself in a window.
 use Rattle.std.specs.Prelude.{◌≡◌, ℕ, ◌<◌, Bool, true, not, ◌&&◌, ◌||◌, ◌==◌, nat_lt, List, [], ◌∷◌, Option, option_map}
 use Rattle.std.specs.List.{filter, list_any, list_all}
 use Rattle.program_tree.specs.Code.{Tree}
@@ -22,9 +22,9 @@ lone_node lines n = record { state = n; wake = wake_of n; lines = lines; sends =
 abbrev pub number_of : Node → ℕ
 number_of n = n.mote.state.mote
 
--- One mote alone with its copies, up to a bound: while the lesser of its wake and the least moment of a copy is below
--- the bound, a turn there on all copies of that moment, in order of sender and number. It is the law's `Alone`, in
--- whatever net the mote is.
+-- One mote by itself with its copies, up to a bound: while the lesser of its wake and the least moment of a copy is
+-- below the bound, a turn there on all copies of that moment, in order of sender and number. It is the law's `Alone`,
+-- in whatever net the mote is.
 abbrev pub WindowRun : (number until : ℕ) → (copies : List RadioCopy) → (mote last : LoneNode) → Type 0
 WindowRun number until copies mote last =
     (system : System Node Line) → system.turn ≡ node_turn → Alone system number until copies mote last
@@ -36,7 +36,7 @@ pub record Window : Type 0 where
   pub copies : List RadioCopy
   pub mote : LoneNode
 
--- what the window may end as
+-- the possible ends of the window
 abbrev pub EndsAs : Window → LoneNode → Type 0
 EndsAs window last = WindowRun (number_of window.mote.state) window.until window.copies window.mote last
 
@@ -57,7 +57,7 @@ pub record HasTurn (moment : ℕ) (window : Window) : Type 0 where
   pub next : IsNext moment window
   pub in_window : moment < window.until
 
--- what a mote is after its turn on these copies
+-- a mote after its turn on these copies
 abbrev pub lone_turn : (moment : ℕ) → LoneNode → (given : List RadioCopy) → LoneNode
 lone_turn moment mote given =
     let number = number_of mote.state in after_lone_turn moment number mote (node_turn number mote.state moment given)

@@ -1,17 +1,17 @@
--- What a window gives.
+-- The result of a window.
 use Rattle.std.specs.Prelude.{◌≡◌, Option, Some, option_map}
 use Rattle.program_tree.specs.Code.{Tree}
 use Rattle.mote_node.specs.Public.{node_in}
 use Rattle.worker_window.specs.declared.out.WindowOut.{WindowOut}
 use Rattle.worker_window.specs.MoteWindow.{LoneNode, Window, EndsAs}
 
--- the mote that a window left, with what it wrote and sent there
+-- the mote after a window, with the lines and packets that it wrote and sent there
 abbrev pub shown : Tree → WindowOut → Option LoneNode
 shown program out =
     option_map (λ n. record { state = n; wake = out.wake; lines = out.lines.items; sends = out.sends.items })
     (node_in program out.mote)
 
--- this is what the window's run gives
+-- this is the result of the window's run
 pub record Gives (window : Window) (out : WindowOut) : Type 0 where
   pub last : LoneNode
   pub run : EndsAs window last

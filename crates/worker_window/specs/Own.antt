@@ -1,4 +1,4 @@
--- The window that an `OwnWindow`, the state of a mote's window in the code, stands for.
+-- The window that an `OwnWindow`, the state of a mote's window in the code, represents.
 use Rattle.std.specs.Prelude.{◌≡◌, ℕ, ◌<◌, List, [], drop, Option, None, option_map}
 use Rattle.program_tree.specs.Code.{Tree}
 use Rattle.program_tree.specs.Program.{tree_of}
@@ -22,7 +22,7 @@ window_over program until copies wake lines sends n = record {
   mote = record { state = n; wake = wake; lines = lines; sends = sends };
 }
 
--- the window that an `OwnWindow` stands for; there is none if its mote has failed
+-- the window that an `OwnWindow` represents; there is none if its mote has failed
 unfoldable pub window_in : OwnWindow → Option Window
 window_in w =
     let program = tree_of w.program.now in
@@ -30,7 +30,7 @@ window_in w =
     (node_in program w.mote)
 
 -- ---- of any mote, even one that has failed
--- the pending events of a window, and what the mote wrote and sent there so far
+-- the pending events of a window, and the lines and packets of the mote there so far
 pub record Course : Type 0 where
   pub program : Tree
   pub until : ℕ
@@ -49,7 +49,7 @@ course_in w = record {
   sends = w.sends.items;
 }
 
--- before the first turn, of a mote that wrote these lines before; to one that has failed only copies come
+-- before the first turn, of a mote that wrote these lines before; for one that has failed there are only copies
 abbrev pub course_of : Tree → (until : ℕ) → (copies : List RadioCopy) → (lines : List Line) → Option Node → Course
 course_of program until copies lines mote = record {
   program = program;
@@ -60,23 +60,23 @@ course_of program until copies lines mote = record {
   sends = [];
 }
 
--- nothing more comes before the bound
+-- there are no more events before the bound
 abbrev pub IsSpent : Course → Type 0
 IsSpent c = IsQuiet c.until c.wake c.copies
 
--- what comes next comes at this moment, before the bound
+-- the next event is at this moment, before the bound
 pub record ComesNext (moment : ℕ) (c : Course) : Type 0 where
   pub next : IsNextOf moment c.wake c.copies
   pub in_window : moment < c.until
 
--- a mote that has failed, with what it had before
+-- a mote that has failed, with its earlier lines and packets
 pub record StaysFailed (c : Course) (out : WindowOut) : Type 0 where
   pub failed : node_in c.program out.mote ≡ None
   pub wake : out.wake ≡ c.wake
   pub lines : out.lines.items ≡ c.lines
   pub sends : out.sends.items ≡ c.sends
 
--- what a mote that had failed gives, to which nothing more comes
+-- the result of a mote that had failed, if there is no further event for it
 pub record GivesNoMore (c : Course) (out : WindowOut) : Type 0 where
   pub spent : IsSpent c
   pub left : StaysFailed c out

@@ -1,4 +1,4 @@
--- What one worker of a net has: its motes, their traces and packets so far, and their pending events.
+-- The data of one worker of a net: its motes, their traces and packets so far, and their pending events.
 use Rattle.std.specs.Prelude.{ℕ, ◌≡◌, Bool, true, not, ◌&&◌, nat_lt, if◌then◌else◌, false}
 use Rattle.std.specs.Prelude.{List, [], length, Option, Some, None, slice_index_or, Vec}
 use Rattle.std.specs.List.{filter}
@@ -42,8 +42,8 @@ abbrev pub wake_from : (from : ℕ) → Option ℕ → Option ℕ
 wake_from from None = None
 wake_from from (Some wake) = if nat_lt wake from then None else Some wake
 
--- the agenda has the next wake of each of the worker's motes, unless that is before the moment, and of each sender all
--- copies for them that arrive at the moment or later, in the order of sending
+-- the agenda has the next wake of each of the worker's motes, unless that is before the moment, and, for each sender,
+-- all copies for them that arrive at the moment or later, in the order of sending
 pub record HasToCome (n : NetModel) (own : ℕ → Bool) (from : ℕ) (motes : Motes) (taken : List RadioCopy)
     (buckets : Buckets) : Type 0 where
   pub items : List Item

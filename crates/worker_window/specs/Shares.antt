@@ -1,4 +1,4 @@
--- What the motes of a worker give.
+-- The results of a worker's motes.
 use Rattle.std.specs.Prelude.{◌≡◌, ℕ, ◌≤◌, List, [], Option, None, IfSome, MatchOption, slice_get}
 use Rattle.std.specs.List.{AllZip, AllByRecursion}
 use Rattle.program_tree.specs.Code.{Tree}
@@ -17,8 +17,8 @@ abbrev pub window_of : (until : ℕ) → MoteSetup → LentMote → Option Windo
 window_of until m lent_mote =
     opened m.tree until lent_mote.copies.items lent_mote.trace.items (node_in m.tree lent_mote.mote)
 
--- a mote that had failed, to which these copies come, returns only these lines, which it wrote before, and none of the
--- copies came in the window
+-- if a mote had failed, its result has only these lines, which it wrote before, and none of these copies arrived in
+-- the window
 pub record GivesNothing (program : Tree) (until : ℕ) (copies : List RadioCopy) (lines : List Line) (out : WindowOut)
     : Type 0 where
   pub no_copies : AllByRecursion (λ copy. until ≤ copy.at) copies
@@ -27,7 +27,7 @@ pub record GivesNothing (program : Tree) (until : ℕ) (copies : List RadioCopy)
   pub no_lines : out.lines.items ≡ lines
   pub no_sends : out.sends.items ≡ []
 
--- a lent mote, which is this mote of the net, gives what its window's run says
+-- a lent mote, which is this mote of the net, has the result of its window's run
 abbrev pub LentMoteGives : NetModel → (until : ℕ) → LentMote → WindowOut → Type 0
 LentMoteGives n until lent_mote out = IfSome (slice_get n.motes lent_mote.number)
     (λ m. MatchOption (window_of until m lent_mote)
@@ -37,11 +37,11 @@ LentMoteGives n until lent_mote out = IfSome (slice_get n.motes lent_mote.number
 abbrev pub GivesList : NetModel → (until : ℕ) → List LentMote → List WindowOut → Type 0
 GivesList n until lent_motes outs = AllZip (LentMoteGives n until) lent_motes outs
 
--- a lent mote, which is this mote of the net, has not failed, and what comes to it next comes after its last turn
+-- a lent mote, which is this mote of the net, has not failed, and its next event is after its last turn
 abbrev pub LentMoteGoesOn : NetModel → (until : ℕ) → LentMote → Type 0
 LentMoteGoesOn n until lent_mote =
     IfSome (slice_get n.motes lent_mote.number) (λ m. CanGoOn (window_of until m lent_mote))
 
--- the same of all lent motes
+-- the same for all lent motes
 abbrev pub AreGoingOn : NetModel → (until : ℕ) → List LentMote → Type 0
 AreGoingOn n until lent_motes = AllByRecursion (LentMoteGoesOn n until) lent_motes

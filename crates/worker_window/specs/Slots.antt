@@ -1,4 +1,4 @@
--- What a worker's slots give.
+-- The results of a worker's slots.
 use Rattle.std.specs.Prelude.{◌≡◌, ℕ, Bool, true, false, List, [], ◌∷◌, Option, Result, Ok, Err, Vec}
 use Rattle.std.specs.List.{AllZip, AllByRecursion, list_all}
 use Rattle.std.specs.declared.alloc.Global.{Global}
@@ -19,7 +19,7 @@ abbrev pub is_done : {G : Type 0} → Slot G → Bool
 is_done (Open window) = false
 is_done (Done made) = true
 
--- what the slot's window may give, or what it gave
+-- the possible results of the slot's window, or its result
 abbrev pub SlotGives : {G : Type 0} → Slot G → WindowOut → Type 0
 SlotGives (Open window) out = MayGive window.own out
 SlotGives (Done made) out = out ≡ made
@@ -27,7 +27,7 @@ SlotGives (Done made) out = out ≡ made
 abbrev pub SlotsGive : {G : Type 0} → List (Slot G) → List WindowOut → Type 0
 SlotsGive slots outs = AllZip SlotGives slots outs
 
--- what is left of the slot's window can be run
+-- the rest of the slot's window can be run
 abbrev pub SlotGoesOn : {G : Type 0} → Slot G → Type 0
 SlotGoesOn (Open window) = HasTurns window.own
 SlotGoesOn (Done made) = Unit {0}
@@ -35,13 +35,13 @@ SlotGoesOn (Done made) = Unit {0}
 abbrev pub SlotsGoOn : {G : Type 0} → List (Slot G) → Type 0
 SlotsGoOn slots = AllByRecursion SlotGoesOn slots
 
--- what the slot may give, the lent mote's window gives; and the slot can go on if the lent mote can
+-- each possible result of the slot is one of the lent mote's window; and the slot can continue if the lent mote can
 pub record IsOf {G : Type 0} (n : NetModel) (until : ℕ) (lent_mote : LentMote) (slot : Slot G) : Type 0 where
   pub gives : (out : WindowOut) → SlotGives slot out → LentMoteGives n until lent_mote out
   pub goes_on : LentMoteGoesOn n until lent_mote → SlotGoesOn slot
 
--- the motes that are called are lent, these are the slots of their windows, and these their wakes; what else the share
--- has is unchanged
+-- the motes that are called are lent, these are the slots of their windows, and these are their wakes; the rest of the
+-- share is unchanged
 pub record AreLent {G : Type 0} (n : NetModel) (until : ℕ) (calls : CalledMotes) (old new : Share)
     (slots : List (Slot G)) (wakes : List (Option ℕ)) : Type 0 where
   pub lent_motes : List LentMote
@@ -51,17 +51,18 @@ pub record AreLent {G : Type 0} (n : NetModel) (until : ℕ) (calls : CalledMote
   pub log : new.log ≡ old.log
   pub agenda : new.agenda ≡ old.agenda
 
--- these slots are what the others may become: all are done, and they gave what the others may give
+-- the other slots may become these: all are done, with results that are possible for the others
 pub record MayEndAs {G : Type 0} (slots ended : List (Slot G)) : Type 0 where
   pub done : list_all is_done ended ≡ true
   pub gives : (outs : List WindowOut) → SlotsGive ended outs → SlotsGive slots outs
 
--- what the worker may return: its slots, once all are done, or an error, which is out of memory if all can go on
+-- the possible results of the worker: its slots, once all are done, or an error, which is out of memory if all can
+-- continue
 abbrev pub WorkerMayAnswer : {G : Type 0} → List (Slot G) → Result (Vec (Slot G) Global) MoteError → Type 0
 WorkerMayAnswer slots (Ok ended) = MayEndAs slots ended.items
 WorkerMayAnswer slots (Err e) = SlotsGoOn slots → e ≡ Memory
 
--- what slots that are done gave
+-- the results of slots that are done
 abbrev pub outs_of : {G : Type 0} → List (Slot G) → List WindowOut
 outs_of [] = []
 outs_of (Open window ∷ slots) = outs_of slots

@@ -1,4 +1,4 @@
--- What a poll does to a mote's window, even to that of a mote that had failed before.
+-- The effect of a poll on a mote's window, even on that of a mote that had failed before.
 use Rattle.std.specs.Prelude.{◌≡◌, ◌⊎◌, ℕ, true, Option, Some, None, Result, Ok, Err, IfSome, IsSomeAnd, MatchOption}
 use Rattle.mote_node.specs.declared.mote.MoteError.{MoteError}
 use Rattle.mote_node.specs.declared.mote.MoteError.TheVariants.{Failed, Memory, Past}
@@ -10,12 +10,12 @@ use Rattle.worker_window.specs.Own.{window_in, Course, course_in, ComesNext, Giv
 use Rattle.worker_window.specs.MoteWindow.{Window, HasTurn, IsOver, window_after_turn}
 use Rattle.worker_window.specs.Out.{shown, Gives}
 
--- what a window may give that hasn't been dropped
+-- the possible results of a window that hasn't been dropped
 abbrev pub MayGive : Option OwnWindow → WindowOut → Type 0
 MayGive None out = ⊥
 MayGive (Some own) out = MatchOption (window_in own) (GivesNoMore (course_in own) out) (λ w. Gives w out)
 
--- the mote has not failed, and what comes to it next comes after its last turn
+-- the mote has not failed, and its next event is after its last turn
 abbrev pub CanGoOn : Option Window → Type 0
 CanGoOn window = IsSomeAnd window IsAhead
 
@@ -24,7 +24,7 @@ abbrev pub HasTurns : Option OwnWindow → Type 0
 HasTurns None = ⊥
 HasTurns (Some own) = CanGoOn (window_in own)
 
--- what a poll may return: what the window gives, or an error, which is out of memory if the mote can go on
+-- the possible results of a poll: that of the window, or an error, which is out of memory if the mote can continue
 abbrev pub MayAnswer : Option OwnWindow → Result WindowOut MoteError → Type 0
 MayAnswer own (Ok out) = MayGive own out
 MayAnswer own (Err e) = HasTurns own → e ≡ Memory
@@ -48,7 +48,7 @@ TakesTurn _ _ = ⊥
 abbrev pub IsErrorAt : (moment : ℕ) → MoteError → Window → Type 0
 IsErrorAt moment e window = (e ≡ Memory) ⊎ ((e ≡ Past) × (is_past moment window.mote.state.last ≡ true))
 
--- the mote had failed before, or an allocation for what came to it failed
+-- the mote had failed before, or an allocation for its arrivals failed
 abbrev pub IsRefusal : MoteError → Type 0
 IsRefusal e = (e ≡ Failed) ⊎ (e ≡ Memory)
 
@@ -65,7 +65,7 @@ abbrev pub ErrsAs : Option OwnWindow → MoteError → Type 0
 ErrsAs None e = e ≡ Failed
 ErrsAs (Some own) e = IsFirstError (course_in own) (window_in own) e
 
--- no turn is left, and this is what was made
+-- no turn is left, and this is the result
 pub record IsMade (window : Option Window) (out : WindowOut) : Type 0 where
   pub over : IfSome window IsOver
   pub made : IfSome window (λ w. shown w.program out ≡ Some w.mote)

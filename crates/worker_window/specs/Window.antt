@@ -1,4 +1,4 @@
--- What a window makes of a worker's motes, and what they send to others.
+-- The effect of a window on a worker's motes, and the copies that they send to others.
 use Rattle.std.specs.Prelude.{ℕ, ◌≡◌, ◌+◌, ◌<◌, ◌≤◌, Bool, true, false, if◌then◌else◌, List, [], ◌++◌, length}
 use Rattle.std.specs.List.{filter, AllByRecursion as Each}
 use Rattle.radio_packet.specs.declared.copy.RadioCopy.{RadioCopy}
@@ -10,8 +10,8 @@ use Rattle.worker_cut.specs.Laws.{IsFromSources}
 use Rattle.worker_window.specs.declared.share.Share.{Share}
 use Rattle.worker_window.specs.Share.{Motes, Keeps}
 
--- A mote runs alone on what it is given of the copies that the worker has seen: at each moment of the window, of each
--- sender, the copies for it, in the order of sending, and nothing at other moments.
+-- A mote runs by itself on copies that the worker has seen: at each moment of the window, for each sender, the copies
+-- for it, in the order of sending, and none at other moments.
 pub record RunsOwnMote (n : NetModel) (own : ℕ → Bool) (from until : ℕ) (motes next : Motes) (taken : List RadioCopy)
     (number : ℕ) : Type 0 where
   pub given : List RadioCopy
@@ -24,9 +24,9 @@ abbrev pub outgoing_by : NetModel → (own : ℕ → Bool) → Motes → (sender
 outgoing_by n own motes sender =
     if own sender then filter (is_for_others own) (copies_by (system_of n) motes sender) else []
 
--- The worker's motes after the window: each ran alone, and the others are as before. The new share keeps them at the
--- window's end; the outgoing copies are, of each sender, what it sent to other workers in the window, and none of them
--- comes before the window's end.
+-- The worker's motes after the window: each ran by itself, and the others are unchanged. The new share keeps them at
+-- the window's end; the outgoing copies are, for each sender, the copies that it sent to other workers in the window,
+-- and none of them arrives before the window's end.
 pub record RunsWindow (n : NetModel) (of : List ℕ) (worker from until : ℕ) (motes : Motes) (taken : List RadioCopy)
     (new : Share) (outgoing : List RadioCopy) : Type 0 where
   pub next : Motes
@@ -38,7 +38,7 @@ pub record RunsWindow (n : NetModel) (of : List ℕ) (worker from until : ℕ) (
   pub late : Each (λ (copy : RadioCopy). until ≤ copy.at) outgoing
 
 -- For each moment `from` <= `until` at which `old` was a whole share (`Keeps`): if until - from <= lookahead and each
--- arrived copy is expected, then `new` is what the window makes of it, and `outgoing` are the outgoing copies.
+-- arrived copy is expected, then `new` is the share after the window, and `outgoing` are the outgoing copies.
 abbrev pub RunsThrough : NetModel → (of : List ℕ) → (until : ℕ) → (arrived : List RadioCopy) → (old new : Share)
     → (outgoing : List RadioCopy) → Type 0
 RunsThrough n of until arrived old new outgoing = (worker from : ℕ) (motes : Motes) (taken : List RadioCopy)

@@ -13,8 +13,8 @@ use net_agenda::Agenda;
 use radio_packet::{Arrival, RadioCopy};
 use std::alloc::{AllocError, Global};
 
-/// The motes that have a turn in a window, which are called, each with the copies that come to it. The place at the
-/// number of a mote that isn't called is `None`.
+/// The motes that have a turn in a window (the motes that are called), each with the copies that come to it. The place
+/// at the number of a mote that isn't called is `None`.
 #[derive(Drop)]
 pub struct CalledMotes {
     pub alloc: Global,
@@ -44,7 +44,7 @@ impl CalledMotes {
         Ok(())
     }
 
-    /// Takes the copies out that have come to a mote so far.
+    /// Takes out the copies that have come to a mote so far.
     fn take(&mut self, mote: u16, rooms: &mut Rooms) -> Vec<RadioCopy>
         requires in_range { mote < length self.old.copies.items }
         ensures copies { result.items ≡ unwrap_or (copies_for self.old.copies.items mote) [] }

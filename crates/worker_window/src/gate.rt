@@ -1,4 +1,4 @@
-//! A way into the turns of workers, for tests and measurements.
+//! A hook in the turns of workers, for tests and measurements.
 
 /// A hook that is called from inside the workers.
 pub trait Gate {

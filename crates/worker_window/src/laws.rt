@@ -7,7 +7,7 @@ pub fn one_window_run()
     ensures end_is_one { EndIsOne }
 {}
 
-/// Whatever lines and packets came before the window, its run is the same.
+/// The run of a window doesn't depend on the lines and packets before it.
 pub fn earlier_stays_in_front()
     ensures earlier_stays_in_front { EarlierStaysInFront }
 {}

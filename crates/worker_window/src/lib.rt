@@ -1,6 +1,6 @@
-//! Windows of time. A mote's window: the run of a mote alone up to a bound, as a relation; the state of such a window,
-//! and a future that takes one turn of it per poll; a worker's own future over the windows of its motes. And the data
-//! of one worker of a net, and its run through one window.
+//! Windows of time. For one mote: its run by itself up to a bound, as a relation; the state of such a window; and a
+//! future that runs one turn of it at each poll. For one worker of a net: its own future over the windows of its
+//! motes; its data; and its run through one window.
 #![tactic(auto)]
 
 mod calls;

@@ -22,8 +22,8 @@ use radio_packet::RadioCopy;
 use std::alloc::Global;
 use std::mem;
 
-/// A mote in its window, until the future is ready. A poll with a turn left takes exactly that turn, at the lesser of
-/// the mote's wake and the next copy's moment, and yields; with no turn left below the bound it is ready.
+/// A mote in its window, until the future is ready. If a turn is left below the bound, a poll takes exactly that turn,
+/// at the lesser of the mote's wake and the next copy's moment, and yields. Otherwise the future is ready.
 pub struct MoteWindow<'a, G> {
     own: Option<OwnWindow<'a>>,
     worker: u16,
@@ -117,8 +117,8 @@ impl<G: Gate> Future for MoteWindow<'_, G> {
     /// result, if nothing comes to it in the window.
     ///
     /// # Errors
-    /// That of the turn, and then the mote is dropped; `Failed` at a poll after that, and if something comes to a mote
-    /// that had failed before.
+    /// The error of the turn, after which the mote is dropped; `Failed` at a later poll, and if an event comes to a
+    /// mote that had failed before.
     fn poll(&mut self, cx: &mut Context<'_>) -> Poll<Self::Output>
         ensures value { IfReady result (MayAnswer self.old.own) }
         ensures again { OnPending result ⊤ }

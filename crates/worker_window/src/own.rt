@@ -107,8 +107,8 @@ impl<'a> OwnWindow<'a> {
         }
     }
 
-    /// Takes the turn at `moment`, which `next_moment` gave, with the scratch buffers of an earlier turn, or with new
-    /// ones. Once the copies for the turn were collected, the gate is called, and then the mote takes them.
+    /// Takes the turn at `moment`, which `next_moment` returned, with the scratch buffers of an earlier turn, or with
+    /// new ones. Once the copies for the turn were collected, the gate is called, and then the mote takes them.
     ///
     /// # Errors
     /// That of `Mote::turn_into`, so `Failed` if the mote had failed; `Memory` also if an allocation for buffers,

@@ -34,7 +34,7 @@ pub struct Share {
     pub(crate) rooms: Rooms,
 }
 
-/// By hand, so that dropping a share is one call, which is all that the check of a function that owns one sees.
+/// Implemented by hand: the check of a function that owns a share then sees only one call for its drop.
 impl Drop for Share {
     fn drop(self) {
         let Share {

@@ -3,7 +3,7 @@
 ghost use Rattle.std.specs.Prelude.{◌≡◌, ◌<◌, ◌≤◌, ◌^◌, ◌++◌, ◌∷◌, ◌==◌, ℕ, true, [], length};
 ghost use Rattle.std.specs.Prelude.{◌≢◌, map, List, Some, None, IfErr, IfOk, OnOk, IsSome, slice_set};
 ghost use Rattle.std.specs.List.{filter, flat_map, list_all, AllByRecursion};
-ghost use Rattle.fork_join.specs.declared.work.Refused.TheVariants.{Stopped};
+ghost use Rattle.fork_join.specs.declared.work.WorkerError.TheVariants.{Stopped};
 ghost use Rattle.radio_medium.specs.Medium.{copies};
 ghost use Rattle.window_laws.specs.Agenda.{Packet};
 ghost use Rattle.worker_window.specs.MoteWindow.{is_rising};
@@ -26,7 +26,7 @@ use crate::scratch::Rooms;
 use crate::share::Share;
 use crate::slot::Slot;
 use crate::worker::run_slots;
-use fork_join::Refused;
+use fork_join::WorkerError;
 use mote_net::{LogLine, Net};
 use mote_node::Mote;
 use net_agenda::Agenda;
@@ -282,8 +282,9 @@ impl Share {
     /// the pending events of its own motes. It returns the copies for other workers' motes, those of each mote in the
     /// order of sending. `of` is the worker of each mote.
     ///
-    /// Time: it grows with the window's turns and the copies that it takes and makes; besides, there is one slot per
-    /// mote number up to the highest with a turn, and each poll of the worker's future looks at all motes with a turn.
+    /// The time grows with the window's turns and the copies that it takes and makes; in addition, there is one slot
+    /// per mote number up to the highest with a turn, and each poll of the worker's future looks at all motes with a
+    /// turn.
     ///
     /// # Errors
     /// `Memory`, and `Thread` if the executor returned an error.
@@ -295,7 +296,7 @@ impl Share {
         arrived: Vec<RadioCopy>,
         until: u64,
         gate: &G,
-    ) -> Result<Vec<RadioCopy>, Refused>
+    ) -> Result<Vec<RadioCopy>, WorkerError>
     where
         R: Wait + RandomSource + AllocGlobal,
         G: Gate,

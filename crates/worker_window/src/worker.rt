@@ -3,7 +3,7 @@
 ghost use Rattle.std.specs.Prelude.{◌≡◌, ◌≢◌, List, IfOk, IfErr, OnOk};
 ghost use Rattle.std.specs.List.{list_all};
 ghost use Rattle.mote_node.specs.declared.mote.MoteError.TheVariants.{Memory};
-ghost use Rattle.fork_join.specs.declared.work.Refused.TheVariants.{Stopped};
+ghost use Rattle.fork_join.specs.declared.work.WorkerError.TheVariants.{Stopped};
 ghost use Rattle.futures.specs.Task.{Keeps};
 ghost use Rattle.worker_window.specs.declared.out.WindowOut.{WindowOut as OutOfCode};
 ghost use Rattle.worker_window.specs.Slots.{MayEndAs, SlotsGive, SlotsGoOn, WorkerMayAnswer, is_done};
@@ -11,7 +11,7 @@ ghost use Rattle.worker_window.specs.Slots.{MayEndAs, SlotsGive, SlotsGoOn, Work
 use crate::gate::Gate;
 use crate::room::TurnBuffers;
 use crate::slot::Slot;
-use fork_join::Refused;
+use fork_join::WorkerError;
 use futures::Future;
 use futures::executor::block_on;
 use futures::task::{Context, Poll};
@@ -21,8 +21,8 @@ use std::mem;
 use std::random::RandomSource;
 use std::sync::Wait;
 
-/// Polls each unfinished window once in turn, and then yields. It is ready once all are, with the slots in their order;
-/// or once one returned an error.
+/// Polls each unfinished window once, one after another, and then yields. It is ready once all are, with the slots in
+/// their order; or once one returned an error.
 pub struct ShareWindow<'a, 'b, G> {
     alloc: Global,
     slots: Vec<Slot<'a, G>>,
@@ -92,7 +92,7 @@ pub fn run_slots<'a, R, G>(
     alloc: Global,
     slots: Vec<Slot<'a, G>>,
     room: &mut Option<Box<TurnBuffers>>,
-) -> Result<Vec<Slot<'a, G>>, Refused>
+) -> Result<Vec<Slot<'a, G>>, WorkerError>
 where
     R: Wait + RandomSource + AllocGlobal,
     G: Gate,
@@ -107,8 +107,8 @@ where
     let worker = ShareWindow { alloc, slots, room };
     match block_on(rt, worker) {
         Ok(Ok(done)) => Ok(done),
-        Ok(Err(MoteError::Memory)) => Err(Refused::Memory),
+        Ok(Err(MoteError::Memory)) => Err(WorkerError::Memory),
         Ok(Err(MoteError::Failed | MoteError::Past)) => unreachable!(),
-        Err(_) => Err(Refused::Thread),
+        Err(_) => Err(WorkerError::Thread),
     }
 }

@@ -35,7 +35,7 @@ fn write_drained<R: Wait>(
 }
 
 /// Both senders push a copy, sender 0 first, and only sender 1 is gathered before one copy is drained: that of sender
-/// 0, since it is in the shared queue too.
+/// 0, because it is in the shared queue too.
 fn write_shared<R: Wait>(rt: &R, alloc: Global, text: &mut String) -> Result<(), InboxError> {
     let (inbox, mut taker, mut first, mut second) = with_two(alloc, false)?;
     push(rt, &inbox, &mut first, copy(0, 7))?;
@@ -172,7 +172,7 @@ fn write_three_threads<R: Threads + Wait + Sync>(
     write_thousands(rt, text, inbox, taker, first, second, third)
 }
 
-/// All of these.
+/// Writes down all of these observations.
 fn write_plain<R: Threads + Wait + Sync>(
     rt: &R,
     alloc: Global,

@@ -7,7 +7,7 @@ use super::push_mark;
 use super::windows::Scene;
 use copy_exchange::{MarkEndpoint, WindowPosition};
 use copy_inbox::{Inbox, InboxError, Sender};
-use fork_join::{Refused, Watch, Work, fork_join};
+use fork_join::{Watch, Work, WorkerError, fork_join};
 use radio_packet::RadioCopy;
 use std::alloc::{AllocError, Global};
 use std::sync::atomic::AtomicU64;
@@ -46,12 +46,12 @@ fn write_window<R: Wait, L: Ledger>(
     ensures counts { IfOk result
         (λ took. IsTrue took → Counts worker_2.new.marks.items worker_2.new.base.taker.state) }
 {
-    let standing = WindowPosition {
+    let window_position = WindowPosition {
         worker: 2,
         of: &OF,
         from,
     };
-    match worker_2.take_window(rt, alloc, inbox, watch, &standing, window) {
+    match worker_2.take_window(rt, alloc, inbox, watch, &window_position, window) {
         Ok(copies) => {
             write_copies(text, copies.as_slice())?;
             Ok(true)
@@ -63,7 +63,7 @@ fn write_window<R: Wait, L: Ledger>(
     }
 }
 
-/// The record of a worker: of worker 2 its endpoint, and of worker 1 its sender.
+/// The record of a worker: for worker 2 its endpoint, and for worker 1 its sender.
 #[derive(Drop)]
 struct Member {
     worker_2: Option<MarkEndpoint>,
@@ -170,15 +170,19 @@ impl<R: Wait + Clock> Work<Member> for Team<'_, R> {
 
     ghost makes = { λ _ _ _. Unit {0} };
 
-    fn work<L: Ledger>(&self, member: Member, watch: &mut Watch<'_, L>) -> Result<Member, Refused> {
+    fn work<L: Ledger>(
+        &self,
+        member: Member,
+        watch: &mut Watch<'_, L>,
+    ) -> Result<Member, WorkerError> {
         let Member { worker_2, second } = member;
         if let Some(worker_2) = worker_2 {
             self.take(worker_2, watch)?;
         }
         if let Some(second) = second {
             return match self.push_late(second, watch) {
-                Ok(()) => Err(Refused::Thread),
-                Err(InboxError::Memory) => Err(Refused::Memory),
+                Ok(()) => Err(WorkerError::Thread),
+                Err(InboxError::Memory) => Err(WorkerError::Memory),
             };
         }
         Ok(Member {

@@ -168,7 +168,7 @@ fn write_scene<R: Threads + Wait + Clock + Sync>(
     Ok(())
 }
 
-/// Writes all scenes down.
+/// Writes down all scenes.
 fn write_scenes<R: Threads + Wait + Clock + Sync>(
     rt: &R,
     alloc: Global,
@@ -180,8 +180,8 @@ fn write_scenes<R: Threads + Wait + Clock + Sync>(
     write_scene(rt, alloc, text, Scene::Late)
 }
 
-/// The windows that come, though the flag is set; one whose mark is missing; that with a worker that sleeps when the
-/// flag is set; and windows above 1,000.
+/// The windows that arrive although the flag is set; a window whose mark is missing; the same with a worker that
+/// sleeps when the flag is set; and windows above 1,000.
 #[test]
 fn windows_by_hand(rt: HostRuntime) -> Result<(), Fail> {
     let mut text = String::new(rt.alloc());

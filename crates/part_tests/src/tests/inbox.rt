@@ -114,7 +114,8 @@ fn write_taken<R: Wait>(rt: &R, text: &mut String, inbox: &Inbox, taker: &mut Ta
     write_known(text, inbox, taker);
 }
 
-// Two senders push these copies. Writes down what is taken after each is gathered, and what is left at the end.
+// Two senders push these copies. Writes down the copies that are taken after each is gathered, and those that are left
+// at the end.
 fn write_of_two<R: Wait>(
     rt: &R,
     alloc: Global,
@@ -137,13 +138,13 @@ fn write_of_two<R: Wait>(
 static OF_TWO: [(&str, &[(u16, u64)], (u64, u64)); 3] = [
     // Two copies of each sender: three are drained, and closing the inbox gives the last.
     ("", &[(0, 0), (1, 0), (1, 1), (0, 1)], (0, 3)),
-    // A copy lies in the inbox before its sender is gathered: the taker takes it, though only the other sender's copy
+    // A copy is in the inbox before its sender is gathered: the taker takes it, though only the other sender's copy
     // is known.
     ("of both|", &[(1, 8), (0, 7)], (1, 0)),
     ("of nobody|", &[], (0, 0)),
 ];
 
-// Writes down what comes of each row.
+// Writes down the result of each row.
 fn write_in_one_thread<R: Wait>(
     rt: &R,
     alloc: Global,

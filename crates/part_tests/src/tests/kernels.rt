@@ -20,7 +20,7 @@ const RECEIVER: &str = "process r; autostart r; receiver r; code r { body { whil
 /// The calls of a kernel.
 #[derive(Clone, Copy)]
 enum Act {
-    /// Its readers are asked: its number, and whether it is booted, halted and pending.
+    /// Its number is read, and whether it is booted, halted and pending.
     Look,
     /// It is booted at moment 0.
     Boot,
@@ -78,7 +78,7 @@ fn write_ran(text: &mut String, ran: Result<Ran, KernelError>) {
     };
 }
 
-/// Does it, and writes down what is answered.
+/// Makes the call, and writes down the answer.
 fn write_act(text: &mut String, program: &Program, kernel: &mut Kernel, out: &mut Out, act: Act) {
     match act {
         Act::Look => write_look(text, kernel),
@@ -100,7 +100,7 @@ fn write_out(text: &mut String, out: &mut Out) {
     out.sends.clear();
 }
 
-/// Does all this to a new kernel of mote 7, and writes down the answer to each and its lines and packets.
+/// Makes all these calls of a new kernel of mote 7, and writes down the answer to each and its lines and packets.
 fn write_acts(alloc: Global, text: &mut String, program: &Program, acts: &[Act]) {
     let Ok(mut kernel) = Kernel::new(alloc, program, 7, 32) else {
         return;
@@ -115,7 +115,7 @@ fn write_acts(alloc: Global, text: &mut String, program: &Program, acts: &[Act])
     }
 }
 
-/// Fails unless `want` is written of that.
+/// Fails unless the text written about that is `want`.
 fn tells(alloc: Global, program: &str, acts: &[Act], want: &str) -> Result<(), Fail> {
     let program = read(alloc, program)?;
     let mut text = String::new(alloc);
@@ -123,7 +123,7 @@ fn tells(alloc: Global, program: &str, acts: &[Act], want: &str) -> Result<(), F
     same_text(text.as_str(), want)
 }
 
-/// Programs, what is done to their kernels, and what is written of that.
+/// Programs, the calls of their kernels, and the text that is written about that.
 const CASES: &[(&str, &[Act], &str)] = &[
     (
         SENDER,

@@ -31,7 +31,7 @@ fn write_item(text: &mut String, item: Item) {
     };
 }
 
-// Takes the next item `count` times, and writes down how many are known before each, and what came.
+// Takes the next item `count` times, and writes down how many are known before each, and the item.
 fn write_nexts<R: Wait>(rt: &R, text: &mut String, inbox: &Inbox, taker: &mut Taker, count: u8)
     requires inbox { taker.old.inbox ≡ inbox.now }
     ensures taker { (taker.new.inbox ≡ inbox.now) × (taker.new.state.marked ≡ taker.old.state.marked)
@@ -158,8 +158,8 @@ fn all_come<R: Threads + Wait + Sync>(
     Ok(all)
 }
 
-/// Two threads push copies and marks at once, and one of them then takes what both push: before each mark come all
-/// copies of its window.
+/// Two threads push copies and marks at once, and one of them then takes what both push: all copies of a window arrive
+/// before its mark.
 #[test]
 fn between_threads(rt: HostRuntime) -> Result<(), Fail> {
     assert!(rt; all_come(&rt, rt.alloc(), 1000)?);

@@ -8,7 +8,7 @@ use std::alloc::Global;
 use std::test::Fail;
 use test_helpers::{same_text, write_copies};
 
-/// Writes down what becomes of a packet that was sent at 1 with value 7, and its copies.
+/// Writes down the fates of a packet that was sent at 1 with value 7, and its copies.
 fn write_packet(text: &mut String, medium: &Medium, sender: u16, number: u64)
     requires sender { sender < length medium.now.places }
 {
@@ -26,7 +26,7 @@ fn write_packet(text: &mut String, medium: &Medium, sender: u16, number: u64)
     }
 }
 
-/// Two motes at a distance of 5. A packet takes 2 moments and one more for each 10 of the square of the distance.
+/// Two motes at a distance of 5. A packet needs 2 moments and one more for each 10 of the square of the distance.
 fn two_motes(alloc: Global, range: u32, losses: &[Loss]) -> Result<Medium, MediumError>
     requires range_bounded { range ≤ 100000 }
     ensures two_places { IfOk result (λ medium. length medium.places ≡ 2) }
@@ -35,8 +35,8 @@ fn two_motes(alloc: Global, range: u32, losses: &[Loss]) -> Result<Medium, Mediu
     Medium::new(alloc, &places, range, 2, 10, losses)
 }
 
-/// Writes down whether each of two motes hears the other, and one itself, how long a packet takes and at least takes,
-/// and what becomes of some packets.
+/// Writes down whether each of two motes hears the other, whether one hears itself, the delay and the least delay of a
+/// packet, and the fates of some packets.
 fn write_hearing(text: &mut String, medium: &Medium)
     requires two_places { length medium.now.places ≡ 2 }
 {

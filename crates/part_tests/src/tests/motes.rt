@@ -67,8 +67,8 @@ fn write_wake(text: &mut String, mote: &Mote) {
     let _ = write!(text, "{wake:?}|");
 }
 
-/// Takes these turns with a new mote of this number, and writes down what each gives and when the mote says that it
-/// wakes next.
+/// Takes these turns with a new mote of this number, and writes down the result of each, and when the mote says that
+/// it wakes next.
 fn write_turns(alloc: Global, text: &mut String, number: u16, program: &Program, turns: &[Turn]) {
     let Ok(mut mote) = Mote::new(alloc, number, program, 32) else {
         return;
@@ -83,7 +83,7 @@ fn write_turns(alloc: Global, text: &mut String, number: u16, program: &Program,
     }
 }
 
-/// Fails unless `want` is written of that.
+/// Fails unless the text written about that is `want`.
 fn tells(
     alloc: Global,
     number: u16,
@@ -124,7 +124,7 @@ const SENT: &str =
     "Some(0)|0 Start(Etimer)|0 Start(Ctimer)|0 Start(Radio)|0 Start(Own(0))|0 Send(0, 5)|\
      0 Leave(Own(0))|sent 0 0 0 5|wake None|None|";
 
-/// The numbers of motes, their programs and turns, and what is written of them.
+/// The numbers of motes, their programs and turns, and the text that is written about them.
 const CASES: &[(u16, &str, &[Turn], &str)] = &[
     (
         7,

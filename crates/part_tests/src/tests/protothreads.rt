@@ -1,4 +1,4 @@
-//! Whole protothreads, by `advance` alone.
+//! Whole protothreads, only by `advance`.
 
 ghost use Rattle.std.specs.Prelude.{[], ◌∷◌};
 
@@ -88,7 +88,7 @@ struct Bench {
 }
 
 impl Bench {
-    /// Does it, and writes down each step with the units that are left.
+    /// Makes the call, and writes down each step with the units that are left.
     fn write_act(&mut self, text: &mut String, code: &ProcessText, act: Act) {
         match act {
             Act::Event(number, word) => {
@@ -110,7 +110,7 @@ impl Bench {
     }
 }
 
-/// Does all this with a thread of the body, and writes down its steps.
+/// Makes all these calls with a thread of the body, and writes down its steps.
 fn write_acts(text: &mut String, code: &ProcessText, units: u32, acts: &[Act]) {
     let mut bench = Bench {
         thread: Thread::fresh(Part::Body),
@@ -122,7 +122,7 @@ fn write_acts(text: &mut String, code: &ProcessText, units: u32, acts: &[Act]) {
     }
 }
 
-/// Fails unless `want` is written of that with a program's first process.
+/// Fails unless the text written about that is `want`, with a program's first process.
 fn tells(alloc: Global, program: &str, units: u32, acts: &[Act], want: &str) -> Result<(), Fail> {
     let program = read(alloc, program)?;
     let mut text = String::new(alloc);
@@ -135,7 +135,7 @@ fn tells(alloc: Global, program: &str, units: u32, acts: &[Act], want: &str) -> 
 /// CONTINUE of `process.h`, with a word.
 const GO_ON: Act = Act::Event(0x85, 3);
 
-/// Programs with their units, what is done with them, and what is written of that.
+/// Programs with their units, the calls of their threads, and the text that is written about that.
 const CASES: &[(&str, u32, &[Act], &str)] = &[
     // From wait to wait.
     (
@@ -166,7 +166,7 @@ const CASES: &[(&str, u32, &[Act], &str)] = &[
         &[INIT; 2],
         "Op(Print(4996)) 2|Done(Yielded) 1|",
     ),
-    // With one pass more there are no units left to yield.
+    // With one more pass there are no units left to yield.
     (
         "process a; code a { var i = 0; body { while (i < 4997) { i = (i + 1); } print i; yield; } }",
         9_996,
@@ -188,7 +188,7 @@ const CASES: &[(&str, u32, &[Act], &str)] = &[
         &[INIT; 5],
         "Done(Yielded) 8|Op(Print(6)) 6|Done(Ended) 6|Done(Yielded) 4|Op(Print(7)) 2|",
     ),
-    // It continues at its place, in a loop of a loop that waits inside an `if`, three levels deep.
+    // It continues at its wait inside an `if` of a loop within a loop, three levels deep.
     (
         "process a; code a { var i = 0; body { while (i < 2) { i = (i + 1); if (i == 2) { print 8; } else { while \
          data { yield; print i; } } print 9; } } }",

@@ -44,14 +44,14 @@ pub(crate) fn report_of_trace(alloc: Global, trace: Vec<Line>) -> Result<Report,
 }
 
 /// Fails unless these are the bytes of this text.
-fn same_bytes(told: &[u8], want: &str) -> Result<(), Fail> {
-    match str::from_utf8(told) {
-        Ok(told) => same_text(told, want),
+fn same_bytes(recounted: &[u8], want: &str) -> Result<(), Fail> {
+    match str::from_utf8(recounted) {
+        Ok(recounted) => same_text(recounted, want),
         Err(_) => Err(Fail::new(format_args!("no text"))),
     }
 }
 
-/// The lines of what happens at which moment.
+/// The lines of these events with their moments.
 fn lines_of(alloc: Global, happens: &[(u64, What)]) -> Result<Vec<Line>, AllocError> {
     let mut lines = Vec::new(alloc);
     for (at, what) in happens {

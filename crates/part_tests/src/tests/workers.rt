@@ -2,7 +2,7 @@
 
 ghost use Rattle.std.specs.Prelude.{◌≡◌, ◌+◌, ◌^◌, ◌%◌, true};
 
-use fork_join::{Refused, Watch, Work, fork_join};
+use fork_join::{Watch, Work, WorkerError, fork_join};
 use std::alloc::Global;
 use std::sync::Wait;
 use std::sync::atomic::AtomicU64;
@@ -79,15 +79,15 @@ impl<R: Wait> Work<u64> for AddTen<'_, R> {
 
     ghost makes = { λ _ old new. new ≡ (old + 10) % 2 ^ 64 };
 
-    fn work<L: Ledger>(&self, worker: u64, watch: &mut Watch<'_, L>) -> Result<u64, Refused> {
+    fn work<L: Ledger>(&self, worker: u64, watch: &mut Watch<'_, L>) -> Result<u64, WorkerError> {
         if worker == self.no_memory {
-            return Err(Refused::Memory);
+            return Err(WorkerError::Memory);
         }
         if worker == self.no_thread {
-            return Err(Refused::Thread);
+            return Err(WorkerError::Thread);
         }
         if (worker == self.stopped || self.waits) && is_stopped(self.rt, watch) {
-            return Err(Refused::Stopped);
+            return Err(WorkerError::Stopped);
         }
         Ok(worker.wrapping_add(10))
     }

@@ -24,7 +24,7 @@ const OUTPUT: &str = "mote 0 p\n0 start a\n0 print a 1\nmedium\nleft 0\n";
 const LINES: u64 = 66_000;
 
 /// A writer that takes at most `most` bytes a call. Once it has taken `room` bytes a call fails, and those after it
-/// work, so a call that is tried again goes well.
+/// work, so a call that is tried again succeeds.
 struct Roomy {
     bytes: Vec<u8>,
     most: usize,
@@ -76,8 +76,8 @@ fn write_by<R: Threads + Wait + AllocGlobal + Sync>(
 }
 
 /// Writes a report, by this many workers if there is a number, to a writer that takes at most `most` bytes a call, and
-/// whose call after `room` bytes fails. Tests whether it gets the first `room` bytes of what is wanted, and whether the
-/// result is `Ok` if these are all, and else an error of the writer.
+/// whose call after `room` bytes fails. Tests whether it gets the first `room` bytes of the wanted text, and whether
+/// the result is `Ok` if these are all, and otherwise an error of the writer.
 fn gets<R: Threads + Wait + AllocGlobal + Sync>(
     rt: &R,
     workers: Option<u16>,
@@ -95,14 +95,14 @@ fn gets<R: Threads + Wait + AllocGlobal + Sync>(
         most,
         room,
     };
-    let told = write_by(rt, workers, net, report, &mut writer);
+    let recounted = write_by(rt, workers, net, report, &mut writer);
     let bytes = writer.bytes.as_slice();
     let answer = if room == wanted.len() {
         Ok(())
     } else {
         Err(PrintError::Write)
     };
-    told == answer && bytes.len() == room && wanted.starts_with(bytes)
+    recounted == answer && bytes.len() == room && wanted.starts_with(bytes)
 }
 
 /// Tests the same for each number of bytes by which the room falls short.

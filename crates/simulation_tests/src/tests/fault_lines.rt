@@ -79,8 +79,8 @@ const EMPTY: Streams<'static> = Streams {
     ..TAKES_NONE
 };
 
-/// The input fails; the output fails, or takes nothing; a fault's line can't be written, as a whole or from some place
-/// on.
+/// The input fails; the output fails, or takes nothing; and no byte of a fault's line can be written, or only the
+/// first bytes.
 static FAILING: [Streams<'static>; 6] = [
     WHOLE,
     Streams { reads: 3, ..WHOLE },

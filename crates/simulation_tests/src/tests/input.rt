@@ -17,8 +17,8 @@ fn reads(alloc: Global, bytes: &[u8], most: usize, calls: usize) -> Result<bool,
     Ok(text.as_bytes() == bytes)
 }
 
-/// Tests whether a reader whose call after so many calls of one byte fails is reported, for each number of calls up to
-/// 19. Its next call would work.
+/// Tests whether a failing reader is reported. Its calls return one byte each, and one fails, after each number of
+/// calls up to 19. The next call would work.
 fn tells_failures(alloc: Global) -> bool {
     for calls in 0..20usize {
         if reads(alloc, &[b' '; 20], 1, calls) != Err(InputError::Read) {
@@ -49,7 +49,7 @@ fn reads_chunks(alloc: Global, bytes: &[u8]) -> bool {
     true
 }
 
-/// Of these digits and letters, over and over, any two that are 4,096 apart differ.
+/// Repeats some digits and letters, of which any two that are 4,096 apart in the text differ.
 #[test]
 fn texts_in_pieces(rt: HostRuntime) -> Result<(), Fail> {
     let mut bytes = Vec::new(rt.alloc());

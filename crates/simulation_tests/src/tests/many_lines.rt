@@ -1,6 +1,6 @@
 //! A run to the last moment that a scenario can have, with lines enough for workers to print them.
 
-use super::{PRINTING, SYNCS, Told, Trial, Trials, Way, each_tells, tells};
+use super::{OnRecord, PRINTING, SYNCS, Trial, Trials, Way, each_tells, tells};
 use simulation::CutKind;
 use std::alloc::AllocError;
 use std::random::RandomSource;
@@ -44,7 +44,7 @@ fn write_report_of_125(text: &mut String) -> Result<(), AllocError> {
 /// The run, with streams that give and take all bytes in one call.
 fn running(report: &str) -> Trial<'_> {
     Trial {
-        told: Told {
+        recounted: OnRecord {
             scenario: EACH_125,
             report: report.as_bytes(),
         },

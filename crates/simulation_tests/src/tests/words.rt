@@ -10,7 +10,7 @@ use std::test::Fail;
 use std::thread::Threads;
 use test_helpers::same_text;
 
-/// Writes down what these words ask for: the file, the number of workers, the cut, and the kind of synchronization.
+/// Writes down what these arguments ask for: file, number of workers, cut, and kind of synchronisation.
 fn write_asked(alloc: Global, text: &mut String, words: &[&str]) -> Result<(), AllocError> {
     let Some(asked) = asked_by(alloc, words).ok() else {
         return text.push_str("a fault|");
@@ -44,7 +44,7 @@ const WIDE: Trial<'static> = Trial {
     ..SENDING
 };
 
-/// Writes down the number of workers that these words ask for, and what comes of a run by them.
+/// Writes down the number of workers that these arguments ask for, and the result of a run by them.
 fn write_run<T>(rt: &T, text: &mut String, words: &[&str]) -> Result<(), AllocError>
 where
     T: AllocGlobal + Files + Threads + Wait + RandomSource + Sync,

@@ -1,11 +1,11 @@
 //! Simulations by workers: who takes which turn, how many threads there are, and what happens when one isn't started.
 
-use super::{CUTS, PRINTING, SENDING, SYNCS, Told, Trial, Trials, all_tell};
+use super::{CUTS, OnRecord, PRINTING, SENDING, SYNCS, Trial, Trials, all_tell};
 use simulation::{CutKind, SyncKind};
 use std::test::Fail;
 
 /// Four motes that don't hear one another, with one turn each.
-const FOUR_MOTES: Told = Told {
+const FOUR_MOTES: OnRecord = OnRecord {
     scenario: "\
         version = 1\n\
         end = 5\n\
@@ -38,12 +38,12 @@ const FOUR_MOTES: Told = Told {
         0 start etimer\n0 start ctimer\n0 start radio\n0 start a\n0 print a 1\nmedium\nleft 0\n",
 };
 
-/// Trials by workers, and what is written down of each.
+/// Trials by workers, and the text that is written about each.
 static TRIALS: [Trials<'static>; 21] = [
     // Each turn is taken by the worker of its mote, in one window with a start for each of two workers.
     Trials {
         trial: Trial {
-            told: FOUR_MOTES,
+            recounted: FOUR_MOTES,
             of: &[0, 0, 1, 1],
             ..PRINTING
         },
@@ -54,7 +54,7 @@ static TRIALS: [Trials<'static>; 21] = [
     },
     Trials {
         trial: Trial {
-            told: FOUR_MOTES,
+            recounted: FOUR_MOTES,
             of: &[0, 1, 0, 1],
             ..PRINTING
         },
@@ -71,8 +71,8 @@ static TRIALS: [Trials<'static>; 21] = [
         syncs: SYNCS,
         want: "Ok(()) Some(405) 0 0 0|",
     },
-    // With joins each worker is started in each window, with marks once: first runs of one mote with one turn, and so
-    // one window, and then runs of two windows.
+    // With joins each worker is started in each window, with marks once. The first runs have one mote with one turn,
+    // so they have one window; the later ones have two windows.
     Trials {
         trial: PRINTING,
         workers: &[Some(1)],

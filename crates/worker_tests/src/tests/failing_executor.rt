@@ -1,6 +1,6 @@
 //! Runs in which the executor of a worker returns an error.
 
-use super::{BUSY_PAIR, Scene, told_by_one_thread, write_run};
+use super::{BUSY_PAIR, Scene, text_of_one_thread, write_run};
 use net_scenario::{Net, read_scenario};
 use std::alloc::{Alloc, AllocError, AllocGlobal, Global};
 use std::io;
@@ -13,7 +13,7 @@ use std::thread::Threads;
 use test_helpers::same_text;
 use window_workers::{Cut, NoGate, SyncKind};
 
-/// A runtime whose source of random bytes fails after so many calls. An executor calls it once.
+/// A runtime whose source of random bytes fails after `most` calls. An executor calls it once.
 struct FewBytes<R> {
     rt: R,
     most: u64,
@@ -51,7 +51,7 @@ impl<R: RandomSource> RandomSource for FewBytes<R> {
     }
 }
 
-/// Writes the results of runs by two workers in three windows each down, if executors fail after so many.
+/// Writes down the results of runs by two workers in three windows, with executors that fail after 0 to 6 calls.
 fn write_failing<R>(
     rt: &R,
     scene: Scene<'_>,
@@ -73,7 +73,7 @@ where
     Ok(())
 }
 
-/// The same with both kinds of synchronization.
+/// The same with both kinds of synchronisation.
 fn write_both<R>(rt: &R, net: &Net, one: &str, text: &mut String) -> Result<(), AllocError>
 where
     R: Threads + Wait + Sync + RandomSource + AllocGlobal,
@@ -92,7 +92,7 @@ where
 #[test]
 fn executors_that_fail(rt: HostRuntime) -> Result<(), Fail> {
     let net = read_scenario(rt.alloc(), BUSY_PAIR)?;
-    let one = told_by_one_thread(rt.alloc(), &net)?;
+    let one = text_of_one_thread(rt.alloc(), &net)?;
     let mut text = String::new(rt.alloc());
     write_both(&rt, &net, one.as_str(), &mut text)?;
     same_text(

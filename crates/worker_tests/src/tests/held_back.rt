@@ -1,5 +1,5 @@
-//! That no window is longer than was asked for, by workers of either kind: no worker comes to its next window while
-//! another is in this one.
+//! Tests that no window is longer than was asked for, with workers of either kind: no worker begins its next window
+//! before all others have ended the current one.
 
 use super::{Scene, write_run};
 use std::alloc::{AllocError, AllocGlobal};
@@ -35,7 +35,7 @@ impl Gate for Ahead {
     }
 }
 
-/// Writes the result of a run down, and whether worker 0 got ahead.
+/// Writes down the result of a run, and whether worker 0 got ahead.
 pub(super) fn write_ahead<R>(
     rt: &R,
     scene: Scene<'_>,

@@ -2,7 +2,7 @@
 ghost use Rattle.std.specs.List.{AllByRecursion as Each};
 ghost use Rattle.copy_exchange.specs.Inboxes.{IsSettled};
 
-use super::{Scene, write_told};
+use super::{Scene, write_result};
 use copy_exchange::make_inboxes;
 use copy_inbox::{Inbox, InboxError, Taker};
 use std::alloc::AllocGlobal;
@@ -11,7 +11,7 @@ use std::sync::Wait;
 use std::thread::Threads;
 use window_workers::{Cut, Gate, run_inboxes};
 
-/// Writes down how many copies lie in an inbox, and which.
+/// Writes down how many copies are in an inbox, and which.
 fn write_closed<R: Wait>(
     rt: &R,
     inbox: Inbox,
@@ -26,7 +26,7 @@ fn write_closed<R: Wait>(
     Ok(())
 }
 
-/// Writes that down of each inbox.
+/// Writes down how many copies are in each inbox, and which.
 fn write_all_closed<R: Wait>(
     rt: &R,
     pairs: Vec<(Inbox, Taker)>,
@@ -41,7 +41,7 @@ fn write_all_closed<R: Wait>(
     Ok(())
 }
 
-/// Writes the result of a run over new inboxes down, one for each worker, and the contents of each after it.
+/// Writes down the result of a run over new inboxes, one for each worker, and the contents of each inbox at the end.
 pub(super) fn write_inboxes<R, G>(
     rt: &R,
     scene: Scene<'_>,
@@ -57,7 +57,7 @@ where
     let pairs = make_inboxes(rt.alloc(), usize::from(workers), scene.sync.has_marks())?;
     match run_inboxes(rt, rt.alloc(), scene.net, cut, scene.sync, gate, pairs) {
         Ok((report, pairs)) => {
-            write_told(rt.alloc(), scene.one, Ok(report), text)?;
+            write_result(rt.alloc(), scene.one, Ok(report), text)?;
             write_all_closed(rt, pairs, text)
         }
         Err(error) => Ok(write!(text, "Fault({error:?})|")?),

@@ -7,7 +7,7 @@ ghost use Rattle.worker_window.specs.Slots.{SlotsGoOn};
 ghost use Rattle.worker_window.specs.MoteWindow.{is_rising};
 
 use super::BUSY_PAIR;
-use fork_join::Refused;
+use fork_join::WorkerError;
 use mote_node::Mote;
 use net_scenario::{Net, read_scenario};
 use radio_packet::RadioCopy;
@@ -26,14 +26,14 @@ fn lent_mote(
     net: &Net,
     number: u16,
     copies: Vec<RadioCopy>,
-) -> Result<LentMote, Refused>
+) -> Result<LentMote, WorkerError>
     requires mote_exists { number < length (net_of net.now).motes }
     requires rising { is_rising copies.items ≡ true }
     ensures number { IfOk result (λ lent. lent.number ≡ number) }
     ensures goes_on { IfOk result (λ lent. (until : ℕ) → LentMoteGoesOn (net_of net.now) until lent) }
 {
     let Ok(mote) = Mote::new(alloc, number, net.program(number), 32) else {
-        return Err(Refused::Memory);
+        return Err(WorkerError::Memory);
     };
     Ok(LentMote {
         number,
@@ -51,7 +51,7 @@ fn windows_of_two<'a, G: Gate>(
     copies: Vec<RadioCopy>,
     until: u64,
     gate: &'a G,
-) -> Result<Vec<Slot<'a, G>>, Refused>
+) -> Result<Vec<Slot<'a, G>>, WorkerError>
     requires two_motes { 2 ≤ length (net_of net.now).motes }
     requires rising { is_rising copies.items ≡ true }
     requires until { until ≤ 2 ^ 40 }
@@ -84,7 +84,7 @@ fn done_with_a_copy<'a, R: Wait + RandomSource + AllocGlobal>(
     rt: &R,
     net: &'a Net,
     gate: &'a NoGate,
-) -> Result<Vec<Slot<'a, NoGate>>, Refused>
+) -> Result<Vec<Slot<'a, NoGate>>, WorkerError>
     requires two_motes { 2 ≤ length (net_of net.now).motes }
 {
     let copies = one_copy(rt.alloc())?;
@@ -104,7 +104,7 @@ fn write_outs(text: &mut String, slots: &[Slot<'_, NoGate>]) -> Result<(), Alloc
     Ok(())
 }
 
-/// Fails unless `want` is written of them.
+/// Fails unless the text written about them is `want`.
 fn outs_tell(alloc: Global, slots: &[Slot<'_, NoGate>], want: &str) -> Result<(), Fail> {
     let mut text = String::new(alloc);
     write_outs(&mut text, slots)?;
@@ -138,7 +138,7 @@ impl Gate for Diary {
 fn order_of_turns<R: Wait + RandomSource + AllocGlobal>(
     rt: &R,
     net: &Net,
-) -> Result<(u64, usize), Refused>
+) -> Result<(u64, usize), WorkerError>
     requires two_motes { 2 ≤ length (net_of net.now).motes }
 {
     let diary = Diary {

@@ -1,6 +1,6 @@
 //! Runs of 200 motes, of which each worker takes the turns of its own.
 
-use super::{Scene, told_by_one_thread, write_run};
+use super::{Scene, text_of_one_thread, write_run};
 use net_scenario::{Net, read_scenario};
 use std::alloc::{AllocError, AllocGlobal, Global};
 use std::random::RandomSource;
@@ -69,7 +69,7 @@ fn write_counts(text: &mut String, counts: u64) -> Result<(), AllocError> {
     text.push_str("|")
 }
 
-/// Writes the result of a run by four workers down, and how often each was started and took a turn.
+/// Writes down the result of a run by four workers, and how often each was started and took a turn.
 fn write_tally<R>(rt: &R, scene: Scene<'_>, cut: &Cut, text: &mut String) -> Result<(), AllocError>
 where
     R: Threads + Wait + Sync + RandomSource + AllocGlobal,
@@ -83,7 +83,7 @@ where
     write_counts(text, gate.turns.load(SeqCst))
 }
 
-/// The same with both kinds of synchronization, by blocks and windows of five moments.
+/// The same with both kinds of synchronisation, by blocks and windows of five moments.
 fn write_tallies<R>(rt: &R, net: &Net, one: &str, text: &mut String) -> Result<(), AllocError>
 where
     R: Threads + Wait + Sync + RandomSource + AllocGlobal,
@@ -106,7 +106,7 @@ where
 fn starts_and_turns_of_many_motes(rt: HostRuntime) -> Result<(), Fail> {
     let scenario = scenario(rt.alloc())?;
     let net = read_scenario(rt.alloc(), scenario.as_str())?;
-    let one = told_by_one_thread(rt.alloc(), &net)?;
+    let one = text_of_one_thread(rt.alloc(), &net)?;
     let mut text = String::new(rt.alloc());
     write_tallies(&rt, &net, one.as_str(), &mut text)?;
     same_text(

@@ -82,7 +82,7 @@ fn write_net(text: &mut String, net: &Net) -> Result<(), AllocError> {
     Ok(())
 }
 
-/// Writes down all values of a scenario's net, or of a refused text the number of bytes, and that of the first fault.
+/// Writes down all values of a scenario's net, or, of a refused text, its number of bytes and its fault's number.
 fn write_scenario(alloc: Global, scenario: &str, text: &mut String) -> Result<(), AllocError> {
     match read_scenario(alloc, scenario) {
         Ok(net) => write_net(text, &net),
@@ -90,7 +90,7 @@ fn write_scenario(alloc: Global, scenario: &str, text: &mut String) -> Result<()
     }
 }
 
-/// Fails unless `want` is written of a scenario.
+/// Fails unless the text written about a scenario is `want`.
 fn tells(alloc: Global, scenario: &str, want: &str) -> Result<(), Fail> {
     let mut text = String::new(alloc);
     write_scenario(alloc, scenario, &mut text)?;
@@ -106,7 +106,7 @@ fn long_comment(alloc: Global) -> Result<String, AllocError> {
     Ok(text)
 }
 
-/// Two nets, and a text that is one byte too long: it is refused for that, before anything that it lacks.
+/// Two nets, and a text that is one byte too long: it is refused for its length, before any other fault is found.
 #[test]
 fn values_of_nets(rt: HostRuntime) -> Result<(), Fail> {
     tells(rt.alloc(), PRINT_THEN_YIELD, "1 5 false 6|p 1 32|")?;

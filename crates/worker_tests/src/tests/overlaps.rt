@@ -1,4 +1,4 @@
-//! That turns of workers overlap in time, shown by gates at which they wait for one another. The gate is called inside
+//! Tests that turns of workers overlap in time: the workers wait for one another at gates. The gate is called inside
 //! a turn, so with a lock held around each turn none of them would meet.
 
 use super::inboxes::write_inboxes;
@@ -51,7 +51,7 @@ impl Gate for Rendezvous {
     }
 }
 
-/// Writes the result of a run down, perhaps over inboxes made for it, and the number of workers that saw all others
+/// Writes down the result of a run, perhaps over inboxes made for it, and the number of workers that saw all others
 /// inside their turns of each moment.
 pub(super) fn write_meetings<R>(
     rt: &R,

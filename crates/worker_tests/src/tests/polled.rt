@@ -26,13 +26,13 @@ const THREE_TIMERS: &str = "\
     s; while 1 { yield; if is(timer) { print data; } } } }";
 
 /// The results of three polls of its window.
-const THREE_TIMERS_TOLD: &str = "\
+const THREE_TIMERS_RESULTS: &str = "\
     pending|pending|0 Start(Etimer)|0 Start(Ctimer)|0 Start(Radio)|0 Start(Own(0))|\
     4 Post(0, One(Own(0)), 136, 2)|4 Post(1, One(Own(0)), 136, 1)|4 Post(2, One(Own(0)), 136, 0)|\
     4 Take(0, Own(0))|4 Print(Own(0), 2)|4 Take(1, Own(0))|4 Print(Own(0), 1)|4 Take(2, Own(0))|\
     4 Print(Own(0), 0)|";
 
-/// Polls a window once, and writes its answer down.
+/// Polls a window once, and writes down its answer.
 fn write_poll(
     text: &mut String,
     task: &MockTask,
@@ -45,7 +45,7 @@ fn write_poll(
     }
 }
 
-/// Polls a mote's window up to 6 three times, and writes its answers down.
+/// Polls a mote's window up to 6 three times, and writes down its answers.
 fn write_three_polls(
     text: &mut String,
     alloc: Global,
@@ -77,8 +77,8 @@ fn one_copy(alloc: Global) -> Result<Vec<RadioCopy>, AllocError>
     Ok(vec![in alloc; copy]?)
 }
 
-/// Writes the results of three polls of the window of a new mote to which no copy comes down, or of a mote that had a
-/// turn at 5 and to which a copy comes too late.
+/// Writes down the results of three polls of a window: that of a new mote to which no copy comes, or that of a mote
+/// that had a turn at 5 and to which a copy comes too late.
 fn write_mote(
     text: &mut String,
     alloc: Global,
@@ -97,7 +97,7 @@ fn write_mote(
     Ok(())
 }
 
-/// Fails unless `want` is written of a mote of this program.
+/// Fails unless the text written about a mote of this program is `want`.
 fn tells<R>(rt: &R, program: &str, is_late: bool, want: &str) -> Result<(), Fail>
 where
     R: RandomSource + AllocGlobal,
@@ -115,10 +115,10 @@ const BUSY: &str = "\
     if (n == 192) { print n; } } } }";
 
 /// The results of the polls of its window up to 3.
-const BUSY_TOLD: &str = "\
+const BUSY_RESULTS: &str = "\
     pending|pending|pending|0 Start(Etimer)|0 Start(Ctimer)|0 Start(Radio)|0 Start(Own(0))|2 Print(Own(0), 192)|";
 
-/// Polls the windows of two new motes, up to 5 and up to 3, in this order, and writes the answer of each down.
+/// Polls the windows of two new motes, up to 5 and up to 3, in this order, and writes down the answer of each.
 fn write_two_windows(
     texts: &mut (String, String),
     alloc: Global,
@@ -150,11 +150,11 @@ where
     let task = MockTask::new(rt)?;
     let mut texts = (String::new(rt.alloc()), String::new(rt.alloc()));
     write_two_windows(&mut texts, rt.alloc(), &task, programs, is_second)?;
-    same_text(texts.0.as_str(), THREE_TIMERS_TOLD)?;
-    same_text(texts.1.as_str(), BUSY_TOLD)
+    same_text(texts.0.as_str(), THREE_TIMERS_RESULTS)?;
+    same_text(texts.1.as_str(), BUSY_RESULTS)
 }
 
-/// The windows of two motes give the same, polled in turn and one after the other.
+/// The windows of two motes have the same results, polled alternately and one after the other.
 #[test]
 fn two_mote_futures(rt: HostRuntime) -> Result<(), Fail> {
     let timers = read(rt.alloc(), THREE_TIMERS)?;
@@ -167,13 +167,13 @@ fn two_mote_futures(rt: HostRuntime) -> Result<(), Fail> {
 }
 
 /// The results of three polls of the window of a mote that has one turn: pending, then ready; polled again it fails.
-const ONE_TURN_TOLD: &str =
+const ONE_TURN_RESULTS: &str =
     "pending|0 Start(Etimer)|0 Start(Ctimer)|0 Start(Radio)|0 Start(Own(0))|0 Print(Own(0), 1)|Failed|";
 
 /// The copy that comes before a mote's last turn is too late, so the turn is refused, and the window is given up.
 #[test]
 fn windows_of_one_mote(rt: HostRuntime) -> Result<(), Fail> {
-    tells(&rt, PRINT_THEN_YIELD, false, ONE_TURN_TOLD)?;
-    tells(&rt, THREE_TIMERS, false, THREE_TIMERS_TOLD)?;
+    tells(&rt, PRINT_THEN_YIELD, false, ONE_TURN_RESULTS)?;
+    tells(&rt, THREE_TIMERS, false, THREE_TIMERS_RESULTS)?;
     tells(&rt, PRINT_THEN_YIELD, true, "Past|Failed|Failed|")
 }

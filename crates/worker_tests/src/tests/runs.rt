@@ -39,7 +39,7 @@ impl Gate for Starts<'_> {
     }
 }
 
-/// Writes the result of a run in which this worker isn't allowed to start down, the number of starts that were
+/// Writes down the result of a run in which this worker isn't allowed to start, the number of starts that were
 /// requested, and the number of turns that the motes' own workers took.
 pub(super) fn write_starts<R>(
     rt: &R,
@@ -177,7 +177,7 @@ static RUNS: [Trials<'static>; 11] = [
         joins: "Same(0) 0|",
         marks: "Same(0) 0|",
     },
-    // The copy that would arrive after the end lies in the inbox of its receiver's worker; with marks that worker has
+    // The copy that would arrive after the end is in the inbox of its receiver's worker; with marks that worker has
     // taken it out.
     Trials {
         scenario: COPY_PAST_THE_END,
@@ -239,9 +239,9 @@ where
     same_text(text.as_str(), "Fault(Thread) 2 3|")
 }
 
-/// The error of the lowest worker is reported: the refused start of worker 1 only if worker 0, which was started, came
-/// through its three turns. This is checked with each allocation failing in turn (`--fail-alloc`); with ample memory
-/// the start is reported.
+/// The error of the worker with the lowest number is reported: that of worker 0, or, if it ended its three turns,
+/// the refused start of worker 1. This is checked with each allocation failing (`--fail-alloc`), one in each run; with
+/// ample memory the start is reported.
 #[test]
 fn the_lowest_workers_error(rt: HostRuntime) -> Result<(), Fail> {
     let net = read_scenario(rt.alloc(), BUSY_PAIR)?;

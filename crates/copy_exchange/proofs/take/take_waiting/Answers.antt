@@ -17,7 +17,7 @@ of_error (Err x) e this Q is h = λ u. h (sym is ∙ u)
 
 pub loop-init : goal.loop-init
 loop-init g c =
-    let p = position_of c.args.standing.now in
+    let p = position_of c.args.window_position.now in
     let taker = c.args.taker.now in
     record {
       took = subst (λ (copies : List RadioCopy). TakesExpected p taker taker copies)
@@ -28,16 +28,16 @@ loop-init g c =
 pub loop-preserved-in-Continue-1 : goal.loop-preserved-in-Continue-1
 loop-preserved-in-Continue-1 g c =
     let item = c.in-Some-take_next.item in
-    let told = c.in-Some-take_next.ensures in
+    let recounted = c.in-Some-take_next.ensures in
     let heard = c.in_ok-hear-in-Some-take_next.ensures in
     record {
-      took = takes_more (position_of c.args.standing.now) c.args.taker.now c.loop.taker c.take_next.new.taker item c.loop.arrived.items c.hear.new.arrived.items c.loop.invariant.took told.next.number told.taken heard.arrived;
-      counts = subst (λ (t : TakerView). Counts c.hear.new.marks.items t.state) (sym told.taken) (heard.counts c.loop.taker.state c.loop.invariant.counts told.next);
+      took = takes_more (position_of c.args.window_position.now) c.args.taker.now c.loop.taker c.take_next.new.taker item c.loop.arrived.items c.hear.new.arrived.items c.loop.invariant.took recounted.next.number recounted.taken heard.arrived;
+      counts = subst (λ (t : TakerView). Counts c.hear.new.marks.items t.state) (sym recounted.taken) (heard.counts c.loop.taker.state c.loop.invariant.counts recounted.next);
     }
 
 pub loop-preserved : goal.loop-preserved
 loop-preserved g c =
-    let p = position_of c.args.standing.now in
+    let p = position_of c.args.window_position.now in
     let same = sym c.in-None-take_next.ensures.same in
     record {
       took = subst (λ (t : TakerView). TakesExpected p c.args.taker.now t c.loop.arrived.items)
@@ -48,7 +48,7 @@ loop-preserved g c =
 pub returns-in_err-hear-in-Some-take_next-clause-unexpected :
     goal.returns-in_err-hear-in-Some-take_next-clause-unexpected
 returns-in_err-hear-in-Some-take_next-clause-unexpected g c =
-    let p = position_of c.args.standing.now in
+    let p = position_of c.args.window_position.now in
     let refused = c.in_err-hear-in-Some-take_next.ensures.refused in
     of_error c.from_residual.result c.in_err-hear-in-Some-take_next.field-0.0 Unexpected _ c.from_residual.ensures.1
     (λ e. takes_unexpected p c.args.taker.now c.loop.taker c.take_next.new.taker c.in-Some-take_next.item
@@ -65,7 +65,7 @@ returns-in_err-wait-in-None-take_next-clause-unexpected g c =
 pub returns-in_err-hear-in-Some-take_next-clause-stopped :
     goal.returns-in_err-hear-in-Some-take_next-clause-stopped
 returns-in_err-hear-in-Some-take_next-clause-stopped g c =
-    let p = position_of c.args.standing.now in
+    let p = position_of c.args.window_position.now in
     let refused = c.in_err-hear-in-Some-take_next.ensures.refused in
     of_error c.from_residual.result c.in_err-hear-in-Some-take_next.field-0.0 Stopped _ c.from_residual.ensures.1
     (λ e. absurd (subst (Refuses p c.in-Some-take_next.item) e refused))

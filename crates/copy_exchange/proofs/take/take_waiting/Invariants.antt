@@ -4,6 +4,6 @@ use Rattle.copy_exchange.proofs.take.take_waiting.Given as goal
 
 abbrev pub invariant-loop : goal.invariant-loop
 invariant-loop g l = record {
-  took : TakesExpected (position_of l.standing) l.fn.taker l.taker l.arrived.items;
+  took : TakesExpected (position_of l.window_position) l.fn.taker l.taker l.arrived.items;
   counts : Counts l.marks.items l.taker.state;
 }

@@ -1,6 +1,6 @@
 use Rattle.std.proofs.Common.{◌≡◌, ◌+◌, length, List, Option, None}
 use Rattle.std.specs.List.{AllZip}
-use Rattle.fork_join.specs.declared.work.Refused.{Refused}
+use Rattle.fork_join.specs.declared.work.WorkerError.{WorkerError}
 use Rattle.fork_join.specs.Kept.{AllKept}
 use Rattle.fork_join.specs.Reported.{MayEnd, reported}
 use Rattle.fork_join.proofs.Tokens.{HaveTokens}
@@ -10,7 +10,7 @@ use Rattle.fork_join.proofs.fork.join_all.Given as goal
 abbrev pub invariant-loop-handle : goal.invariant-loop-handle
 invariant-loop-handle g l = record {
   kept : l.failed ≡ None → AllKept g.W.Work.makes l.yielded l.done.items;
-  ended : (ends : List (Option Refused))
+  ended : (ends : List (Option WorkerError))
       × AllZip (λ handle end. MayEnd (g.W.Work.errs handle.promise.work.value handle.promise.worker.value) end) l.yielded ends
       × (reported ends ≡ l.failed);
   parts : l.all.parts ≡ l.fn.all.parts + length l.yielded;

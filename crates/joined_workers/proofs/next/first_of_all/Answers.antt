@@ -1,6 +1,6 @@
 use Rattle.std.proofs.Common.{subst, sym}
 use Rattle.window_laws.specs.Windows.{NoneBefore}
-use Rattle.all_workers.specs.Workers.{IsNotBefore}
+use Rattle.all_workers.specs.WorkerGroup.{IsNotBefore}
 use Rattle.joined_workers.specs.Next.{FirstOfAll}
 use Rattle.joined_workers.proofs.Nexts.{first_of_next, taken_all}
 use Rattle.joined_workers.proofs.next.first_of_all.Goals as goal

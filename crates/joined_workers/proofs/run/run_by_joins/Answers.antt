@@ -1,17 +1,17 @@
 use Rattle.std.proofs.Common.{◌≡◌, ◌∙◌, ℕ, suc, ◌<◌, ◌≤◌, ap, sym, refl, subst, arith}
 use Rattle.mote_net.specs.Meaning.{net_of}
 use Rattle.net_agenda.specs.NetSystem.{system_of}
-use Rattle.all_workers.specs.declared.workers.Workers.{Workers}
+use Rattle.all_workers.specs.declared.workers.WorkerGroup.{WorkerGroup}
 use Rattle.joined_workers.specs.Laws.{GroupRunsUntil}
 use Rattle.joined_workers.specs.Run.{BeginsAt, GroupRunsNext}
 use Rattle.all_workers.specs.WindowLength.{end_of_window, length_of_window}
 use Rattle.joined_workers.proofs.Moved.{moved}
-use Rattle.joined_workers.proofs.Runs.{begins_later, short_enough, stands_there}
+use Rattle.joined_workers.proofs.Runs.{begins_later, short_enough, in_state_there}
 use Rattle.joined_workers.proofs.run.run_by_joins.Goals as goal
 
 pub windows-init : goal.windows-init
 windows-init g c = record {
-  at = stands_there (net_of c.args.net.now) c.args.of.now 0 c.end-end.result c.args.group c.window_start-from.result c.requires.at (omega arith) c.window_start-from.ensures.value c.lookahead_of.ensures.forward;
+  at = in_state_there (net_of c.args.net.now) c.args.of.now 0 c.end-end.result c.args.group c.window_start-from.result c.requires.at (omega arith) c.window_start-from.ensures.value c.lookahead_of.ensures.forward;
   plain = c.requires.plain;
   early = c.window_start-from.ensures.within;
   inboxes = refl;
@@ -47,7 +47,7 @@ windows-preserved g c =
       runs = subst (λ (until : ℕ). GroupRunsUntil n c.args.of.now until c.windows.group c.in_ok-group.group) is c.in_ok-group.ensures.runs;
     } in
     record {
-      at = stands_there (net_of c.args.net.now) c.args.of.now c.window_end-until.result c.end-end.result c.in_ok-group.group _ then c.window_end-until.ensures.within c.window_start-from-in-windows.ensures.value c.lookahead_of.ensures.forward;
+      at = in_state_there (net_of c.args.net.now) c.args.of.now c.window_end-until.result c.end-end.result c.in_ok-group.group _ then c.window_end-until.ensures.within c.window_start-from-in-windows.ensures.value c.lookahead_of.ensures.forward;
       plain = c.in_ok-group.ensures.plain;
       early = c.window_start-from-in-windows.ensures.within;
       inboxes = c.in_ok-group.ensures.runs.inboxes ∙ c.windows.invariant.inboxes;

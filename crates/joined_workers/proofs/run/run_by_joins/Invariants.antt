@@ -3,7 +3,7 @@ use Rattle.mote_net.specs.Meaning.{net_of}
 use Rattle.std.specs.List.{AllByRecursion as Each}
 use Rattle.copy_exchange.specs.Inboxes.{IsPlain}
 use Rattle.net_agenda.specs.NetSystem.{system_of}
-use Rattle.all_workers.specs.Workers.{IsAt}
+use Rattle.all_workers.specs.WorkerGroup.{IsAt}
 use Rattle.joined_workers.specs.Run.{BeginsAt, GroupRunsWindows}
 use Rattle.all_workers.specs.WindowLength.{length_of_window}
 use Rattle.joined_workers.proofs.run.run_by_joins.Given as goal

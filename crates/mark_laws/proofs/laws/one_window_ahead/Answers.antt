@@ -1,4 +1,4 @@
-use Rattle.mark_laws.proofs.Stands.{one_window_ahead}
+use Rattle.mark_laws.proofs.IsInState.{one_window_ahead}
 use Rattle.mark_laws.proofs.laws.one_window_ahead.Goals as goal
 
 pub returns : goal.returns

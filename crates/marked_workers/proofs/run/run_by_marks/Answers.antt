@@ -7,9 +7,9 @@ use Rattle.window_laws.proofs.Lists.{every_weaker}
 use Rattle.copy_inbox.specs.Gathered.{Whole}
 use Rattle.copy_inbox.specs.Handles.{TakerView}
 use Rattle.all_workers.specs.WindowLength.{length_of_window}
-use Rattle.all_workers.specs.Workers.{IsAt}
+use Rattle.all_workers.specs.WorkerGroup.{IsAt}
 use Rattle.all_workers.specs.declared.worker.Worker.{Worker}
-use Rattle.all_workers.specs.declared.workers.Workers.{Workers}
+use Rattle.all_workers.specs.declared.workers.WorkerGroup.{WorkerGroup}
 use Rattle.all_workers.proofs.Starts.{all_settled}
 use Rattle.marked_workers.specs.Bounds.{windows_of}
 use Rattle.marked_workers.specs.Run.{GroupRunsMarked}
@@ -59,7 +59,7 @@ gather_back-requires-clause-on_inboxes g c =
     (all_on_inboxes n c.args.of.now width (windows_of width n.end) c.args.group.inboxes.items w.first c.in_ok-done.done.items w.ran)
 
 -- the workers at the end
-abbrev after : (g : _) (c : goal.In-Ok g) → Workers
+abbrev after : (g : _) (c : goal.In-Ok g) → WorkerGroup
 after g c = record { shares = c.in_ok-shares.shares; inboxes = c.args.group.inboxes; takers = c.in-Ok.takers; first_out = None }
 
 -- their run

@@ -15,5 +15,5 @@ returns-clause-leads_on g c =
     let inboxes = c.args.run.now.inboxes.now in
     IfOk-weaker c.take_window.result (λ _. TakesWindow of c.args.window c.args.until c.send_window.new.worker c.take_window.new.worker)
     (λ _. width ≤ (system_of n).lookahead → (first : MarkWorker) → HasRun n of width c.args.window inboxes first c.args.worker.now → HasRun n of width (suc c.args.window) inboxes first c.take_window.new.worker)
-    (λ _ takes short first stands. one_more n of width c.args.window c.args.until inboxes c.requires.wide c.requires.window_exists c.requires.until first c.args.worker.now stands short c.send_window.new.worker c.take_window.new.worker c.in_ok-send_window.ensures.sends c.in_ok-send_window.ensures.on_inboxes takes)
+    (λ _ takes short first in_state. one_more n of width c.args.window c.args.until inboxes c.requires.wide c.requires.window_exists c.requires.until first c.args.worker.now in_state short c.send_window.new.worker c.take_window.new.worker c.in_ok-send_window.ensures.sends c.in_ok-send_window.ensures.on_inboxes takes)
     c.take_window.ensures.takes

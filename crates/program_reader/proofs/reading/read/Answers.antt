@@ -13,7 +13,7 @@ use Rattle.program_tree.specs.declared.error.ReadError.{ReadError}
 use Rattle.program_reader.specs.declared.fault.ReadFailure.{ReadFailure}
 use Rattle.program_reader.specs.declared.fault.ReadFailure.TheVariants as refusal
 use Rattle.program_tree.specs.declared.program.Program.{Program}
-use Rattle.program_reader.proofs.Texts.{one_tree, tree_read, told_within, line_within, told_read, told_no_memory}
+use Rattle.program_reader.proofs.Texts.{one_tree, tree_read, reported_within, line_within, reported_read, reports_no_memory}
 use Rattle.program_reader.proofs.Texts.{never_both}
 use Rattle.program_reader.proofs.reading.read.Goals as goal
 
@@ -42,7 +42,7 @@ overflow_sub-len c =
     ≡ fault c.in-Err-Fault.fault.kind c.in-Err-Fault.fault.left =
     subst (λ z. tell nothing_yet (from_events ∷ []) (map token_of z) ≡ fault c.in-Err-Fault.fault.kind
     c.in-Err-Fault.fault.left) c.deref.ensures.value (c.in-Err-Fault.ensures.err c.in-Err-Fault.fault q) in
-    let w : c.in-Err-Fault.fault.left ≤ length c.in_ok-lexed.lexed.tokens.items = told_within _ _ _ t in
+    let w : c.in-Err-Fault.fault.left ≤ length c.in_ok-lexed.lexed.tokens.items = reported_within _ _ _ t in
     omega arith
 
 pub index-requires : goal.index-requires
@@ -51,8 +51,8 @@ index-requires c =
     < length c.in_ok-lexed.lexed.lines.items = line_within _ _ _ c.in-Err-Fault.fault.left c.in_ok-lexed.ensures.is_lexed in
     omega arith
 
-told_here : (c : goal.After-drop-lexed-3) → IsErrorOf c.args.text.now c.in-Err-Fault.fault.kind c.index.result.now
-told_here c =
+reported_here : (c : goal.After-drop-lexed-3) → IsErrorOf c.args.text.now c.in-Err-Fault.fault.kind c.index.result.now
+reported_here c =
     let q : ◌≡◌ {A = Result Program ReadFailure} (Err c.in-Err-Fault.field-0) (Err (refusal.Fault c.in-Err-Fault.fault)) =
     ap Err c.in-Err-Fault.field-0-is in
     let t : tell nothing_yet (from_events ∷ []) (map token_of c.in_ok-lexed.lexed.tokens.items)
@@ -67,18 +67,18 @@ told_here c =
     c.in-Err-Fault.fault.left = omega arith in
     slice_get_read _ _ _ _ refl w (c.index.ensures
     ∙ ap (λ i. get_or c.in_ok-lexed.lexed.lines.items i c.index.result.now) same) in
-    told_read _ _ _ _ c.in-Err-Fault.fault.left _ c.in_ok-lexed.ensures.is_lexed t at
+    reported_read _ _ _ _ c.in-Err-Fault.fault.left _ c.in_ok-lexed.ensures.is_lexed t at
 
-pub returns-clause-told : goal.returns-clause-told
-returns-clause-told c = λ e is other.
+pub returns-clause-recounted : goal.returns-clause-recounted
+returns-clause-recounted c = λ e is other.
     let same : ◌≡◌ {A = ReadError} (record { kind = c.in-Err-Fault.fault.kind; line = c.index.result.now }) e = cc is in
-    subst (λ z. IsErrorOf c.args.text.now z.kind z.line) same (told_here c)
+    subst (λ z. IsErrorOf c.args.text.now z.kind z.line) same (reported_here c)
 
 pub returns-clause-memory : goal.returns-clause-memory
 returns-clause-memory c = λ e is m.
     let same : ◌≡◌ {A = ReadError} (record { kind = c.in-Err-Fault.fault.kind; line = c.index.result.now }) e = cc is in
-    absurd (told_no_memory _ _ (subst (λ k. IsErrorOf c.args.text.now k c.index.result.now) (ap (λ z. z.kind) same ∙ m)
-    (told_here c)))
+    absurd (reports_no_memory _ _ (subst (λ k. IsErrorOf c.args.text.now k c.index.result.now) (ap (λ z. z.kind) same ∙ m)
+    (reported_here c)))
 
 pub returns-clause-accepts : goal.returns-clause-accepts
-returns-clause-accepts c = λ t h e is. absurd (never_both _ _ _ _ h (told_here c))
+returns-clause-accepts c = λ t h e is. absurd (never_both _ _ _ _ h (reported_here c))

@@ -6,7 +6,7 @@ use Rattle.serial_run.proofs.serial.run_serial.Goals as goal
 pub returns-clause-report : goal.returns-clause-report
 returns-clause-report c =
     let at = c.in_ok-run_to_end.ensures.ended in
-    report_is (net_of c.args.net.now) c.run_to_end.new.engine _ c.in_ok-run_to_end.ensures.is_whole at refl refl (c.in_ok-left.ensures.count at.last.agenda at.stands.agenda)
+    report_is (net_of c.args.net.now) c.run_to_end.new.engine _ c.in_ok-run_to_end.ensures.is_whole at refl refl (c.in_ok-left.ensures.count at.last.agenda at.in_state.agenda)
 
 pub returns-clause-handed_on : goal.returns-clause-handed_on
 returns-clause-handed_on c =

@@ -17,7 +17,7 @@ turns-init c = record { whole = c.requires.is_whole; reached = reached_first (ne
 pub turn-requires-clause-mote_exists : goal.turn-requires-clause-mote_exists
 turn-requires-clause-mote_exists c =
     let at = c.turns.invariant.reached in
-    inside_least (net_of c.args.net.now) c.in-Some.moment c.in-Some.number at.state at.kept (c.in-Some.ensures.least at.state.agenda at.stands.agenda)
+    inside_least (net_of c.args.net.now) c.in-Some.moment c.in-Some.number at.state at.kept (c.in-Some.ensures.least at.state.agenda at.in_state.agenda)
 
 pub turn-requires-clause-ready : goal.turn-requires-clause-ready
 turn-requires-clause-ready c =
@@ -25,13 +25,13 @@ turn-requires-clause-ready c =
     let at = c.turns.invariant.reached in
     let t = c.in-Some.moment in
     let m = c.in-Some.number in
-    let least = c.in-Some.ensures.least at.state.agenda at.stands.agenda in
-    least_can_turn n at.at t m c.turns.engine at.state at.stands at.on_time least (inside_least n t m at.state at.kept least)
+    let least = c.in-Some.ensures.least at.state.agenda at.in_state.agenda in
+    least_can_turn n at.at t m c.turns.engine at.state at.in_state at.on_time least (inside_least n t m at.state at.kept least)
 
 pub turn-requires-clause-numbered : goal.turn-requires-clause-numbered
 turn-requires-clause-numbered c =
     let at = c.turns.invariant.reached in
-    let least = c.in-Some.ensures.least at.state.agenda at.stands.agenda in
+    let least = c.in-Some.ensures.least at.state.agenda at.in_state.agenda in
     numbered_at (net_of c.args.net.now) c.turns.engine c.in-Some.number at (inside_least (net_of c.args.net.now) c.in-Some.moment c.in-Some.number at.state at.kept least)
 
 pub turns-smaller : goal.turns-smaller
@@ -43,8 +43,8 @@ turns-smaller c =
     let m = c.in-Some.number in
     let fault : medium_fault n.radio ≡ None = ap medium_fault (sym c.medium.ensures.value) ∙ c.lookahead-ahead.ensures.no_fault in
     let placed : length n.radio.places ≡ length n.motes = ap (λ (r : Radio). length r.places) (sym c.medium.ensures.value) ∙ c.medium.ensures.placed in
-    let least = c.in-Some.ensures.least at.state.agenda at.stands.agenda in
-    let next = c.in_ok-turn.ensures.stands at.state at.stands at.kept in
+    let least = c.in-Some.ensures.least at.state.agenda at.in_state.agenda in
+    let next = c.in_ok-turn.ensures.in_state at.state at.in_state at.kept in
     left_falls (length n.motes) c.end-end.result t m (turn_at (system_of n) t m at.state).agenda (first_key c.turns.engine.agenda.buckets) (first_key c.turn.new.self.agenda.buckets)
     c.turn.new.self.agenda.buckets (sym c.in-Some.ensures.first) (inside_least n t m at.state at.kept least) c.if-moment-end.false
     (turn_ahead (system_of n) (system_is n fault placed) t m at.state least.is_first) next.agenda refl
@@ -58,15 +58,15 @@ turns-preserved c =
     record {
       whole = c.in_ok-turn.ensures.is_whole;
       reached = reached_next n (system_is n fault placed) c.turns.engine c.turn.new.self c.in-Some.moment c.in-Some.number c.end-end.result c.end-end.ensures.value at
-          (c.in-Some.ensures.least at.state.agenda at.stands.agenda) c.if-moment-end.false c.in_ok-turn.ensures.stands;
+          (c.in-Some.ensures.least at.state.agenda at.in_state.agenda) c.if-moment-end.false c.in_ok-turn.ensures.in_state;
     }
 
 pub returns-then-moment-end-clause-ended : goal.returns-then-moment-end-clause-ended
 returns-then-moment-end-clause-ended c =
     let at = c.turns.invariant.reached in
-    ended_past (net_of c.args.net.now) c.turns.engine c.in-Some.moment c.in-Some.number c.end-end.result c.end-end.ensures.value at (c.in-Some.ensures.least at.state.agenda at.stands.agenda) c.if-moment-end.true
+    ended_past (net_of c.args.net.now) c.turns.engine c.in-Some.moment c.in-Some.number c.end-end.result c.end-end.ensures.value at (c.in-Some.ensures.least at.state.agenda at.in_state.agenda) c.if-moment-end.true
 
 pub returns-in_default-clause-ended : goal.returns-in_default-clause-ended
 returns-in_default-clause-ended c =
     let at = c.turns.invariant.reached in
-    ended_empty (net_of c.args.net.now) c.turns.engine at (c.in_default.ensures.least at.state.agenda at.stands.agenda)
+    ended_empty (net_of c.args.net.now) c.turns.engine at (c.in_default.ensures.least at.state.agenda at.in_state.agenda)

@@ -2,7 +2,7 @@ use Rattle.std.proofs.Common.{length}
 use Rattle.mote_net.specs.Meaning.{net_of}
 use Rattle.net_agenda.specs.Buckets.{first_key}
 use Rattle.serial_run.specs.Ended.{HasReached}
-use Rattle.serial_run.specs.Stands.{IsWhole}
+use Rattle.serial_run.specs.IsInState.{IsWhole}
 use Rattle.net_agenda.proofs.Ranks.{turns_left}
 use Rattle.serial_run.proofs.serial.run_to_end.Given as goal
 

@@ -7,7 +7,7 @@ use Rattle.worker_window.specs.declared.share.Ended.{Ended}
 use Rattle.mote_net.specs.declared.report.Report.{Report}
 use Rattle.mote_net.specs.Report.{report_of}
 use Rattle.window_workers.specs.Crossed.{Pair, AllCrossed}
-use Rattle.window_workers.proofs.ByWorkers.{told_is, all_crossed}
+use Rattle.window_workers.proofs.ByWorkers.{reported_equals, all_crossed}
 use Rattle.window_workers.proofs.Joined.{all_fates, all_places, workers_there}
 use Rattle.window_workers.proofs.Logs.{as_many, places_kept, traces_kept}
 use Rattle.window_workers.proofs.Pairs.{each_zip, firsts}
@@ -37,7 +37,7 @@ joined_traces-requires-clause-places g c =
 pub returns-clause-report : goal.returns-clause-report
 returns-clause-report g c = λ n end.
     let r : Report = record { traces = c.in_ok-traces.traces; medium = c.in_ok-medium.medium; left = c.in_ok-left.left } in
-    told_is n end.sound.0 end.sound.1 c.args.of.now c.args.group end.at c.in_ok-ended.ended.items c.in_ok-ended.ensures.tells_what_it_kept r
+    reported_equals n end.sound.0 end.sound.1 c.args.of.now c.args.group end.at c.in_ok-ended.ended.items c.in_ok-ended.ensures.tells_what_it_kept r
     (traces_kept c.args.of.now c.in_ok-ended.ended.items c.in_ok-medium.rest.items c.in_ok-traces.traces.items c.in_ok-medium.ensures.traces c.in_ok-traces.ensures.are_traces_of)
     (c.in_ok-medium.ensures.log n (all_fates n (system_is n end.sound.0 end.sound.1) c.args.of.now c.args.group end.at c.in_ok-ended.ended.items c.in_ok-ended.ensures.tells_what_it_kept))
     (subst (λ l. sum_by (λ (one : Ended). one.left) c.in_ok-ended.ended.items + sum_by (λ (pair : Pair). length (gathered_by pair.1)) l ≡ c.in_ok-left.left + sum_by (λ (pair : Pair). length (taken_by pair.1)) l) (c.deref-2.ensures.value ∙ c.in-Ok.ensures.pairs)

@@ -11,7 +11,7 @@ use Rattle.copy_inbox.specs.Gathered.{known_of}
 use Rattle.copy_inbox.specs.Handles.{InboxId, TakerView}
 use Rattle.copy_exchange.specs.Inboxes.{IsFresh, IsSettled}
 use Rattle.all_workers.specs.Start.{AreFirst}
-use Rattle.all_workers.specs.Workers.{IsCut}
+use Rattle.all_workers.specs.WorkerGroup.{IsCut}
 use Rattle.mote_net.specs.declared.report.Report.{Report}
 use Rattle.mote_net.specs.Report.{report_of}
 use Rattle.window_workers.specs.Crossed.{Pair, AllCrossed}

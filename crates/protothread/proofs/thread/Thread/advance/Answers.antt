@@ -11,7 +11,7 @@ use Rattle.protothread.specs.declared.step.Step.TheVariants as step
 use Rattle.protothread.specs.declared.answer.PtState.TheVariants.{Ended}
 use Rattle.protothread.specs.Remainder.{fresh_of}
 use Rattle.protothread.specs.Places.{body_of_thread, remainder_of}
-use Rattle.protothread.proofs.Reaching.{stands_at}
+use Rattle.protothread.proofs.Reaching.{leads_to_rest}
 use Rattle.protothread.proofs.Advance.{runs_away, goes_on_from, operates_at, answers_at, ends, leaves}
 use Rattle.protothread.proofs.thread.Thread.advance.Goals as goal
 
@@ -36,7 +36,7 @@ loop-self-preserved-in-Some-pop g c =
     let past : rest_at (body_of_thread code t) t.position ≡ [] = c.loop-self.invariant.inside.flat_of.outside t.position (omega (arith, c.from.ensures, c.in-None.ensures.lookup.3)) in
     record {
       part = ap (λ (n : Thread). n.part) c.go_on.ensures.after ∙ c.loop-self.invariant.part;
-      inside = c.innermost-flat-in-Some-pop.ensures.stands_in;
+      inside = c.innermost-flat-in-Some-pop.ensures.is_found_in;
       units = c.loop-self.invariant.units;
       kept = c.loop-self.invariant.kept;
       goes_on =
@@ -57,7 +57,7 @@ returns-then-not-spend-clause-exact g c =
     let leads : Leads (rest_at (body_of_thread code t)) c.in-Some-get.instruction.now (rest_at (body_of_thread code t) t.position) =
     c.loop-self.invariant.inside.flat_of.each t.position c.in-Some-get.instruction.now
     (found c.loop-self.flat.now _ _ c.in-Some-get.instruction.now c.from.ensures c.in-Some-get.ensures.lookup.3.0 c.in-Some-get.ensures.lookup.1) in
-    let here = stands_at (rest_at (body_of_thread code t)) c.in-Some-get.instruction.now (rest_at (body_of_thread code t) t.position) leads in
+    let here = leads_to_rest (rest_at (body_of_thread code t)) c.in-Some-get.instruction.now (rest_at (body_of_thread code t) t.position) leads in
     let none : c.loop-self.fuel ≡ 0 = grind (arith, common_steps) in
     let left : c.spend.new.self ≡ c.loop-self.fuel = omega (arith, none, c.if-not-spend.ensures.units) in
     c.loop-self.invariant.goes_on
@@ -71,7 +71,7 @@ loop-self-preserved g c =
     let leads : Leads (rest_at (body_of_thread code t)) c.in-Some-get.instruction.now (rest_at (body_of_thread code t) t.position) =
     c.loop-self.invariant.inside.flat_of.each t.position c.in-Some-get.instruction.now
     (found c.loop-self.flat.now _ _ c.in-Some-get.instruction.now c.from.ensures c.in-Some-get.ensures.lookup.3.0 c.in-Some-get.ensures.lookup.1) in
-    let here = stands_at (rest_at (body_of_thread code t)) c.in-Some-get.instruction.now (rest_at (body_of_thread code t) t.position) leads in
+    let here = leads_to_rest (rest_at (body_of_thread code t)) c.in-Some-get.instruction.now (rest_at (body_of_thread code t) t.position) leads in
     let spent : c.loop-self.fuel ≡ suc c.spend.new.self = grind (arith, common_steps) in
     let does = c.in-GoesOn.ensures.reaches here.0 here.1 here.2 in
     record {
@@ -91,7 +91,7 @@ returns-in-Operates-clause-exact g c =
     let leads : Leads (rest_at (body_of_thread code t)) c.in-Some-get.instruction.now (rest_at (body_of_thread code t) t.position) =
     c.loop-self.invariant.inside.flat_of.each t.position c.in-Some-get.instruction.now
     (found c.loop-self.flat.now _ _ c.in-Some-get.instruction.now c.from.ensures c.in-Some-get.ensures.lookup.3.0 c.in-Some-get.ensures.lookup.1) in
-    let here = stands_at (rest_at (body_of_thread code t)) c.in-Some-get.instruction.now (rest_at (body_of_thread code t) t.position) leads in
+    let here = leads_to_rest (rest_at (body_of_thread code t)) c.in-Some-get.instruction.now (rest_at (body_of_thread code t) t.position) leads in
     let spent : c.loop-self.fuel ≡ suc c.spend.new.self = grind (arith, common_steps) in
     c.loop-self.invariant.goes_on
     ∙ operates_at code c.args.self.now.part c.args.event.now (g.L.Look.looks c.args.look.now) t here.0 here.1 c.in-Operates.op c.reach.new.self c.loop-self.vars c.reach.new.vars c.loop-self.fuel c.spend.new.self c.loop-self.invariant.part here.2 spent (c.in-Operates.ensures.reaches here.0 here.1 here.2)
@@ -103,7 +103,7 @@ returns-in-Answers-clause-exact g c =
     let leads : Leads (rest_at (body_of_thread code t)) c.in-Some-get.instruction.now (rest_at (body_of_thread code t) t.position) =
     c.loop-self.invariant.inside.flat_of.each t.position c.in-Some-get.instruction.now
     (found c.loop-self.flat.now _ _ c.in-Some-get.instruction.now c.from.ensures c.in-Some-get.ensures.lookup.3.0 c.in-Some-get.ensures.lookup.1) in
-    let here = stands_at (rest_at (body_of_thread code t)) c.in-Some-get.instruction.now (rest_at (body_of_thread code t) t.position) leads in
+    let here = leads_to_rest (rest_at (body_of_thread code t)) c.in-Some-get.instruction.now (rest_at (body_of_thread code t) t.position) leads in
     let spent : c.loop-self.fuel ≡ suc c.spend.new.self = grind (arith, common_steps) in
     c.loop-self.invariant.goes_on
     ∙ answers_at code c.args.self.now.part c.args.event.now (g.L.Look.looks c.args.look.now) t here.0 here.1 c.in-Answers.state c.reach.new.self c.loop-self.vars c.reach.new.vars c.loop-self.fuel c.spend.new.self c.loop-self.invariant.part here.2 spent (c.in-Answers.ensures.reaches here.0 here.1 here.2)

@@ -2,14 +2,14 @@ use Rattle.std.proofs.Common.{◌≡◌, ◌+◌, ◌*◌, ◌≤◌, length}
 use Rattle.program_tree.specs.Program.{code_of}
 use Rattle.protothread.specs.Places.{thread_place, remainder_of}
 use Rattle.protothread.specs.Step.{advanced_of, continued}
-use Rattle.protothread.specs.Reach.{StandsIn}
+use Rattle.protothread.specs.Reach.{IsFoundIn}
 use Rattle.protothread.proofs.thread.Thread.advance.Given as goal
 
 abbrev pub invariant-loop-self : goal.invariant-loop-self
 invariant-loop-self g l =
     record {
       part : l.self.part ≡ l.fn.self.part;
-      inside : StandsIn (code_of l.fn.text) l.self l.flat;
+      inside : IsFoundIn (code_of l.fn.text) l.self l.flat;
       units : l.fuel ≤ l.fn.fuel;
       kept : length l.vars ≡ length l.fn.vars;
       goes_on :

@@ -10,7 +10,7 @@ use Rattle.protothread.specs.Remainder.{at, before}
 use Rattle.protothread.specs.Step.{goes_on, operates, answers}
 use Rattle.protothread.specs.Places.{part_body, nested, callers_of, yielding, body_of_thread}
 use Rattle.protothread.specs.Reach.{performed_at}
-use Rattle.protothread.proofs.CallLaws.{length-callers_in, stands_in_last}
+use Rattle.protothread.proofs.CallLaws.{length-callers_in, is_found_in_last}
 use Rattle.protothread.proofs.Reaching.{made_of-goes_on, made_of-operates, made_of-waits, made_of-yields, moves_so, stays_so, restarts_so, enters_thread, same_code, exits_so, exits_last}
 use Rattle.protothread.proofs.thread.Thread.perform.Goals as goal
 
@@ -139,7 +139,7 @@ returns-in-Spawns-clause-reaches c =
     let moved = c.go_on-in-Spawns.ensures.after ∙ ap (λ ds. record old { is_yielded = false; position = 0; calls = ds }) c.push.ensures.appended in
     record {
       part = ap (λ t. t.part) moved;
-      inside = stands_in_last code new c.thread_code.result.now old.calls call (ap (λ t. t.calls) moved) c.thread_code.ensures.flat c.thread_code.ensures.earlier;
+      inside = is_found_in_last code new c.thread_code.result.now old.calls call (ap (λ t. t.calls) moved) c.thread_code.ensures.flat c.thread_code.ensures.earlier;
       made_so =
           ap (λ d. performed_at code old vars s rest d) c.in-Spawns.is
           ∙ made_of-goes_on cs vars vars _
@@ -176,7 +176,7 @@ returns-in-Some-clause-reaches c =
     let new = c.go_on-in-Some.new.self in
     record {
       part = ap (λ t. t.part) c.go_on-in-Some.ensures.after;
-      inside = c.innermost.ensures.stands_in;
+      inside = c.innermost.ensures.is_found_in;
       made_so =
           ap (λ d. performed_at code old vars s rest d) c.in-Exits.is
           ∙ exits_so code old s rest here c.pop.new.self c.in-Some.call new vars (before false (listed b)) c.in-Some.ensures.items c.go_on-in-Some.ensures.after;

@@ -26,9 +26,9 @@ loop-number-preserved c =
       agenda = subst (λ l. Holds c.put_wake.new.self.buckets l) (wakes_more i) (c.in_ok-put_wake.ensures.adds _ inv.agenda);
     }
 
-pub returns-clause-stands : goal.returns-clause-stands
+pub returns-clause-in_state : goal.returns-clause-in_state
 unfolding system_of
-returns-clause-stands c =
+returns-clause-in_state c =
     let n = net_of c.args.net.now in
     let inv = c.loop-number.invariant in
     let all : c.loop-number.number ≡ length n.motes = omega (arith, c.motes-number-end.ensures.value, c.loop-number-test.false, c.loop-number.auto.number-end) in

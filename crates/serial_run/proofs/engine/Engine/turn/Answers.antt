@@ -17,7 +17,7 @@ use Rattle.mote_net.specs.Report.{line_model}
 use Rattle.serial_run.specs.NetRun.{packet_with_fates}
 use Rattle.net_agenda.proofs.Systems.{tree_is}
 use Rattle.serial_run.specs.OnTime.{CanTurn}
-use Rattle.serial_run.proofs.Steps.{stands_turn, wake_to_drop, sent_of}
+use Rattle.serial_run.proofs.Steps.{in_state_turn, wake_to_drop, sent_of}
 use Rattle.serial_run.proofs.engine.Engine.turn.Goals as goal
 
 pub turn_mote-requires-clause-ready : goal.turn_mote-requires-clause-ready
@@ -45,8 +45,8 @@ send_all-requires c =
     let sends = c.turn_mote.new.out.sends.items in
     record { sendable = subst (AllByRecursion Sendable) (sym c.deref-3.ensures.value) (every_weaker Bears Sendable each sends (recursion_from_All Bears sends c.in_ok-next.ensures.stamped)) }
 
-pub returns-clause-stands : goal.returns-clause-stands
-returns-clause-stands c = λ state at kept.
+pub returns-clause-in_state : goal.returns-clause-in_state
+returns-clause-in_state c = λ state at kept.
     let n = net_of c.args.net.now in
     let t = c.args.moment in
     let m = c.args.number in
@@ -57,7 +57,7 @@ returns-clause-stands c = λ state at kept.
     let next = c.in_ok-next.next in
     let base : List Item = filter (λ item. not (is_wake_of m item)) (filter (λ item. not (comes_at t m item)) state.agenda) ++ wake_items m next in
     let sent = c.in_ok-send_all.ensures.agenda _ woken in
-    stands_turn n t m state c.args.self.now _ (tree_of c.program.result.now) c.deref-2.result.now (turn_out_of c.turn_mote.new.out next) c.requires.mote_exists c.requires.is_whole.motes c.requires.is_whole.traces at
+    in_state_turn n t m state c.args.self.now _ (tree_of c.program.result.now) c.deref-2.result.now (turn_out_of c.turn_mote.new.out next) c.requires.mote_exists c.requires.is_whole.motes c.requires.is_whole.traces at
     (tree_is n.motes m (tree_of c.program.result.now) c.program.ensures.tree) (c.deref-2.ensures.value ∙ c.in_ok-take_due_into.ensures.copies state.agenda at.agenda)
     takes c.in_ok-next.ensures.stamped c.in_ok-add_lines.ensures.adds_lines
     (sent_of (λ (r : Radio) (s : List Sent). Holds c.send_all.new.agenda.buckets (base ++ map Packet (flat_map (copies r) s))) c.medium.ensures.value c.deref-3.ensures.value sent)

@@ -17,11 +17,11 @@ returns c = record {
       λ number numbered.
       let old = c.args.self.now in
       let out = c.args.out in
-      let told = rw numbered.is at (c.number-number.ensures.node numbered.tree) in
-      let same : c.number-number.result ≡ number = told ∙ numbered.number_is in
+      let recounted = rw numbered.is at (c.number-number.ensures.node numbered.tree) in
+      let same : c.number-number.result ≡ number = recounted ∙ numbered.number_is in
       let fit = c.requires.traces in
-      let told_too = rw fit.numbered.is at (c.number-number.ensures.node fit.numbered.tree) in
-      let low : c.number-number.result < length old.traces.items = subst (λ k. k < length old.traces.items) (sym (told_too ∙ fit.numbered.number_is)) fit.there in
+      let known_too = rw fit.numbered.is at (c.number-number.ensures.node fit.numbered.tree) in
+      let low : c.number-number.result < length old.traces.items = subst (λ k. k < length old.traces.items) (sym (known_too ∙ fit.numbered.number_is)) fit.there in
       record {
         worker = refl;
         motes = ap (λ i. slice_set old.motes.items i (Some out.mote)) (c.from-2.ensures ∙ same);

@@ -15,11 +15,11 @@ use Rattle.worker_cut.specs.Crossed.{is_own, is_to, copies_seen}
 use Rattle.worker_cut.proofs.Windows.{idle, receivers}
 use Rattle.worker_window.specs.declared.share.Share.{Share}
 use Rattle.worker_window.specs.Share.{Keeps, is_to_come}
-use Rattle.all_workers.specs.declared.workers.Workers.{Workers}
-use Rattle.all_workers.specs.Workers.{IsAt, IsWorkerAt}
+use Rattle.all_workers.specs.declared.workers.WorkerGroup.{WorkerGroup}
+use Rattle.all_workers.specs.WorkerGroup.{IsAt, IsWorkerAt}
 use Rattle.joined_workers.specs.Next.{IsNextOfAll}
 use Rattle.worker_window.specs.Next.{TellsNext}
-use Rattle.all_workers.specs.Workers.{IsNotBefore}
+use Rattle.all_workers.specs.WorkerGroup.{IsNotBefore}
 use Rattle.all_workers.proofs.Lookups.{there, read, inside, as_long, each_at, each_from}
 use Rattle.all_workers.proofs.Step.{own_by, some_worker}
 
@@ -56,7 +56,7 @@ by_some : (workers : ℕ) (A : ℕ → RadioCopy → Type 0) (Q : RadioCopy → 
 by_some workers A Q [] h k = tt
 by_some workers A Q (x ∷ xs) h k = ((h k.0.0 k.0.1).0 k.0.2, by_some workers A Q xs (λ v l. (h v l).1) k.1)
 
-module _ (n : NetModel) (fine : RunsForward (system_of n)) (of : List ℕ) (from moment : ℕ) (group : Workers) (next : Option ℕ) (at : IsAt n of from group) (is : IsNextOfAll group.first_out group.shares.items next) (le : from ≤ moment) (wakes : NoneBefore moment next) where
+module _ (n : NetModel) (fine : RunsForward (system_of n)) (of : List ℕ) (from moment : ℕ) (group : WorkerGroup) (next : Option ℕ) (at : IsAt n of from group) (is : IsNextOfAll group.first_out group.shares.items next) (le : from ≤ moment) (wakes : NoneBefore moment next) where
   abbrev workers : ℕ
   workers = length group.inboxes.items
 
@@ -112,8 +112,8 @@ module _ (n : NetModel) (fine : RunsForward (system_of n)) (of : List ℕ) (from
           every_weaker (λ (c : RadioCopy). is_own of v c.to ≡ true → not (ltb c.at from) ≡ true → moment ≤ c.at) (λ (c : RadioCopy). is_own of v c.to ≡ true → (from ≤ c.at → moment ≤ c.at)) (λ c g a l. g a (not_late c.at from l)) _ (unfiltered (λ (c : RadioCopy). moment ≤ c.at) (λ c. is_own of v c.to) (λ c. not (ltb c.at from)) _ k)
       of_case (inr e) =
           let k = rw e at known in
-          let told = p.here.gathered s in
-          let crossed_is = rw e at told in
+          let recounted = p.here.gathered s in
+          let crossed_is = rw e at recounted in
           let taken = every_weaker (λ (c : RadioCopy). is_own of v c.to ≡ true → not (ltb c.at from) ≡ true → moment ≤ c.at) (λ (c : RadioCopy). is_own of v c.to ≡ true → (from ≤ c.at → moment ≤ c.at)) (λ c g a l. g a (not_late c.at from l)) _ (unfiltered (λ (c : RadioCopy). moment ≤ c.at) (λ c. is_own of v c.to) (λ c. not (ltb c.at from)) _ k) in
           let rest = every_weaker (IsNotBefore group.first_out) (λ (c : RadioCopy). is_own of v c.to ≡ true → (from ≤ c.at → moment ≤ c.at)) (λ c g a l. not_sooner moment group.first_out c (is.out moment wakes) g) _ (p.here.waits s).later in
           let both = every_append (λ (c : RadioCopy). is_own of v c.to ≡ true → (from ≤ c.at → moment ≤ c.at)) _ _ taken rest in
@@ -126,9 +126,9 @@ module _ (n : NetModel) (fine : RunsForward (system_of n)) (of : List ℕ) (from
       by_some workers (λ v (c : RadioCopy). is_own of v c.to ≡ true) (λ (c : RadioCopy). from ≤ c.at → moment ≤ c.at) _ (λ v h. no_copy_to s v (piece v h))
       (every_weaker (λ (c : RadioCopy). c.to < length n.motes) (λ (c : RadioCopy). (v : ℕ) × (v < workers) × (is_own of v c.to ≡ true)) (λ c h. let w = some_worker (length n.motes) workers of at.cut c.to h in (w.0, w.2, own_by of w.0 c.to w.1)) _ (receivers (system_of n) fine at.motes s))
 
-  pub stands : IsAt n of moment group
+  pub in_state : IsAt n of moment group
   unfolding system_of
-  stands = record {
+  in_state = record {
     motes = at.motes;
     led = idle (system_of n) fine from moment at.motes le at.led no_wake no_copy;
     cut = at.cut;
@@ -143,7 +143,7 @@ module _ (n : NetModel) (fine : RunsForward (system_of n)) (of : List ℕ) (from
           subst (λ x. IsWorkerAt n of moment at.motes group.first_out v x (get_or group.takers.items v taker)) (sym (read group.shares.items v p.share share p.share_at))
           (subst (λ x. IsWorkerAt n of moment at.motes group.first_out v p.share x) (sym (read group.takers.items v p.taker taker p.taker_at)) (record { keeps = keeps_on v p; gathered = p.here.gathered; waits = p.here.waits }))
 
-module _ (n : NetModel) (of : List ℕ) (from : ℕ) (group : Workers) (next : Option ℕ) (at : IsAt n of from group) (is : IsNextOfAll group.first_out group.shares.items next) where
+module _ (n : NetModel) (of : List ℕ) (from : ℕ) (group : WorkerGroup) (next : Option ℕ) (at : IsAt n of from group) (is : IsNextOfAll group.first_out group.shares.items next) where
   takers_here : length group.takers.items ≡ length group.inboxes.items
   takers_here = as_long _ group.inboxes.items group.takers.items at.settled
 

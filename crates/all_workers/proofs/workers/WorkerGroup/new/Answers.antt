@@ -2,7 +2,7 @@ use Rattle.std.proofs.Common.{rules, ◌≡◌, ◌∙◌, refl, subst, vec_len,
 use Rattle.mote_net.specs.Meaning.{net_of}
 use Rattle.all_workers.specs.Start.{AreFirst}
 use Rattle.all_workers.proofs.Starts.{starts}
-use Rattle.all_workers.proofs.workers.Workers.new.Goals as goal
+use Rattle.all_workers.proofs.workers.WorkerGroup.new.Goals as goal
 
 pub returns-clause-at : goal.returns-clause-at
 returns-clause-at c =

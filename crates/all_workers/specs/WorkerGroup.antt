@@ -11,7 +11,7 @@ use Rattle.copy_exchange.specs.Takers.{taken_by, gathered_by}
 use Rattle.copy_exchange.specs.Inboxes.{Settled}
 use Rattle.worker_window.specs.declared.share.Share.{Share}
 use Rattle.worker_window.specs.Share.{Motes, Keeps}
-use Rattle.all_workers.specs.declared.workers.Workers.{Workers}
+use Rattle.all_workers.specs.declared.workers.WorkerGroup.{WorkerGroup}
 
 -- each mote has one of this many workers
 pub record IsCut (motes workers : ℕ) (of : List ℕ) : Type 0 where
@@ -30,7 +30,7 @@ pub record Waits (first : Option ℕ) (sender : ℕ) (taker : TakerView) : Type 
   pub all : filter (is_from_sender sender) (gathered_by taker) ≡ filter (is_from_sender sender) (taken_by taker) ++ rest
   pub later : Each (IsNotBefore first) rest
 
--- One worker, with the motes as they are before a moment: its share keeps its motes, and it gathered, of each mote of
+-- One worker, with the motes before a moment: its share keeps its motes, and it gathered, of each mote of
 -- another worker, all copies for its own.
 pub record IsWorkerAt (n : NetModel) (of : List ℕ) (from : ℕ) (motes : Motes) (first : Option ℕ) (worker : ℕ)
     (share : Share) (taker : TakerView) : Type 0 where
@@ -40,7 +40,7 @@ pub record IsWorkerAt (n : NetModel) (of : List ℕ) (from : ℕ) (motes : Motes
 
 -- The workers are ready before the moment `from`: windows from 0 to `from` led to these `motes`, and each worker's
 -- share and taker hold its part of them.
-pub record IsAt (n : NetModel) (of : List ℕ) (from : ℕ) (group : Workers) : Type 0 where
+pub record IsAt (n : NetModel) (of : List ℕ) (from : ℕ) (group : WorkerGroup) : Type 0 where
   pub motes : Motes
   pub led : Windows (system_of n) 0 from (first_mote (system_of n)) motes
   pub cut : IsCut (length n.motes) (length group.inboxes.items) of

@@ -58,7 +58,7 @@ pub record IsGiven (t : List Line) (s : ℕ) (lacking : List Incarnation) : Type
 abbrev pub lacking_of : ℕ → List Incarnation → ℕ → List Incarnation
 lacking_of walked lacking s = if s == walked then lacking else []
 
-pub record Stands (m : DeliveryMachine) (t : List Line) : Type 0 where
+pub record IsInState (m : DeliveryMachine) (t : List Line) : Type 0 where
   pub posts : Posts m.accepted t
   pub lists : SameList m.list m.numbered (process_list t) (length t)
   pub taken : ℕ

@@ -29,7 +29,7 @@ abbrev pub OneTrace : List (Vec Line Global) → NetState Node Line → (mote : 
 OneTrace traces net k = (d : Vec Line Global) → (slice_index_or traces k d).items ≡ net.traces k
 
 -- the engine's motes, traces, log and agenda are those of this net
-pub record StandsAt (n : NetModel) (engine : Engine) (net : NetState Node Line) : Type 0 where
+pub record IsEngineAt (n : NetModel) (engine : Engine) (net : NetState Node Line) : Type 0 where
   pub nodes : (k : ℕ) → k < length n.motes → OneNode n engine.motes.items net k
   pub traces : (k : ℕ) → k < length n.motes → OneTrace engine.traces.items net k
   pub log : map line_model engine.log.items ≡ map (packet_with_fates n.radio) net.log
@@ -45,10 +45,10 @@ pub record KeepsWakes (n : NetModel) (net : NetState Node Line) : Type 0 where
   pub wakes : (k : ℕ) → k < length n.motes → filter (is_wake_of k) net.agenda ≡ wake_items k (wake_of (net.states k))
   pub inside : AllByRecursion (λ item. mote_of item < length n.motes) net.agenda
 
--- in whatever state the net was, its next one is that after this turn
+-- whatever the state of the net before, its next state is that after this turn
 abbrev pub TurnLeads : NetModel → (moment mote : ℕ) → Engine → Engine → Type 0
-TurnLeads n moment mote old new = (state : NetState Node Line) → StandsAt n old state → KeepsWakes n state
-    → StandsAt n new (turn_at (system_of n) moment mote state)
+TurnLeads n moment mote old new = (state : NetState Node Line) → IsEngineAt n old state → KeepsWakes n state
+    → IsEngineAt n new (turn_at (system_of n) moment mote state)
 
 -- one of the motes has not failed, and its last turn was before this moment
 abbrev pub CanTurnAt : code.Tree → (moment : ℕ) → List Mote → (mote : ℕ) → Type 0

@@ -386,10 +386,10 @@ below_two : (before rest : List Token) → ((after : List Token) → rest ≡ to
 below_two before rest fine BadToken h i = fine i.0 i.1
 below_two before rest fine j h i = omega arith
 
-told_unexpected : (before ts : List Token) → (CanFollow before ts ⊎ LacksProcess before ts → ⊥)
+reports_unexpected : (before ts : List Token) → (CanFollow before ts ⊎ LacksProcess before ts → ⊥)
     → ((after : List Token) → ts ≡ token.Bad ∷ after → ⊥) → Clean before ts
     → Judged (fault Unexpected (length ts)) (before ++ ts)
-told_unexpected before ts bad fine clean = (
+reports_unexpected before ts bad fine clean = (
   before,
   ts,
   refl,
@@ -401,9 +401,9 @@ told_unexpected before ts bad fine clean = (
   },
 )
 
-told_bad : (before ts : List Token) → Clean before (token.Bad ∷ ts)
+reports_bad : (before ts : List Token) → Clean before (token.Bad ∷ ts)
     → Judged (fault BadToken (suc (length ts))) (before ++ (token.Bad ∷ ts))
-told_bad before ts clean = (
+reports_bad before ts clean = (
   before,
   token.Bad ∷ ts,
   refl,
@@ -416,9 +416,9 @@ told_bad before ts clean = (
 )
 
 -- the end of a text, if `process` can follow and the text can't end
-told_no_process : (before : List Token) → (CanFollow before [] → ⊥) → LacksProcess before [] → Clean before []
+reports_no_process : (before : List Token) → (CanFollow before [] → ⊥) → LacksProcess before [] → Clean before []
     → Judged (fault NoProcess 0) (before ++ [])
-told_no_process before bad lacks clean = (
+reports_no_process before bad lacks clean = (
   before,
   [],
   refl,
@@ -489,7 +489,7 @@ none_at_end before p text lacks j i = absurd (cc (i.at))
 at_end_unexpected : (before : List Token) (ms : List Mark) (y : Symbol) (f : Pending) (s : Scope)
     → Reached before ms (y ∷ f) s → Clean before [] → end_kind y ≡ Unexpected
     → Judged (fault Unexpected 0) (before ++ [])
-at_end_unexpected before ms y f s r clean e = told_unexpected before [] no (λ after h. absurd cc) clean
+at_end_unexpected before ms y f s r clean e = reports_unexpected before [] no (λ after h. absurd cc) clean
   where
     no : CanFollow before [] ⊎ LacksProcess before [] → ⊥
     no (inl h) = cannot_end before ms y f s r h
@@ -498,11 +498,11 @@ at_end_unexpected before ms y f s r clean e = told_unexpected before [] no (λ a
 ends_so : (before : List Token) (ms : List Mark) (y : Symbol) (f : Pending) (s : Scope) → Reached before ms (y ∷ f) s
     → Clean before [] → Judged (fault (end_kind y) 0) (before ++ [])
 ends_so before ms from_events f s r clean =
-    told_no_process before (cannot_end before ms from_events f s r)
+    reports_no_process before (cannot_end before ms from_events f s r)
     (can_begin before ms from_events f s r (([], ([], some_program)), some_parts f)
     (spell_all (first_process ∷ f) (some_program, some_parts f)) refl) clean
 ends_so before ms from_semaphores f s r clean =
-    told_no_process before (cannot_end before ms from_semaphores f s r)
+    reports_no_process before (cannot_end before ms from_semaphores f s r)
     (can_begin before ms from_semaphores f s r (([], some_program), some_parts f)
     (spell_all (first_process ∷ f) (some_program, some_parts f)) refl) clean
 ends_so before ms y f s r clean = at_end_unexpected before ms y f s r clean refl
@@ -542,8 +542,8 @@ law (t ∷ ts) before ms f s r clean = go (step f t) refl
     unexpected : (u : Token) → t ≡ u → step f t ≡ unfit
         → Judged (fault (unfit_kind u) (suc (length ts))) (before ++ (t ∷ ts))
     unexpected token.Bad e is = subst (λ z. Judged (fault BadToken (suc (length ts))) (before ++ (z ∷ ts))) (sym e)
-        (told_bad before ts (subst (λ z. Clean before (z ∷ ts)) e clean))
-    unexpected u e is = told_unexpected before (t ∷ ts) (no is) (λ after h. absurd (cc (h, e))) clean
+        (reports_bad before ts (subst (λ z. Clean before (z ∷ ts)) e clean))
+    unexpected u e is = reports_unexpected before (t ∷ ts) (no is) (λ after h. absurd (cc (h, e))) clean
 
     go : (x : Step) → step f t ≡ x →
         ((m : Mark) (f' : Pending) → Reached (before ++ (t ∷ [])) (ms ++ (m ∷ [])) f' (scope_after s m)

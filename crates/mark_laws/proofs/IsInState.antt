@@ -8,8 +8,8 @@ use Rattle.copy_exchange.proofs.Whole.{marks_pushes}
 use Rattle.mark_laws.specs.State.{Plan, State, IsPair, start, set_at}
 use Rattle.mark_laws.specs.Steps.{Event, MayPush, MayTake, MayGoOn, MayHappen, after, Run}
 use Rattle.mark_laws.specs.Steps.Event.{Push, Take, GoOn}
-use Rattle.mark_laws.specs.Stand.{IsLine, Stand}
-use Rattle.mark_laws.specs.Laws.{AllStand, OneWindowAhead}
+use Rattle.mark_laws.specs.AreInPosition.{IsLine, AreInPosition}
+use Rattle.mark_laws.specs.Laws.{AllInPosition, OneWindowAhead}
 use Rattle.mark_laws.proofs.Begins.{begins_same, begins_trans, begins_more, begins_marks, pushes_grow}
 use Rattle.mark_laws.proofs.Changes.{set_other, at_one, at_pair}
 
@@ -17,14 +17,14 @@ module _ (p : Plan) where
   abbrev Line : State → (v u : ℕ) → (pushed taken : List Carried) → Type 0
   Line w v u pushed taken = IsPair p v u → IsLine p.windows (w.finished v) (w.finished u) (p.sent v u) pushed taken
 
-  pub stand_first : Stand p start
-  stand_first = record {
+  pub in_position_first : AreInPosition p start
+  in_position_first = record {
     within = λ v low. omega arith;
     lines = λ v u pair. record { whole = ([], refl); front = (pushes (min 1 p.windows) (p.sent v u), refl); took = ([], refl); heard = omega arith };
     own = λ v. (refl, refl);
   }
 
-  line_push : (w : State) (v u : ℕ) (x : Carried) → Stand p w → MayPush p w v u x → Line w v u (w.pushed v u ++ x ∷ []) (w.taken v u)
+  line_push : (w : State) (v u : ℕ) (x : Carried) → AreInPosition p w → MayPush p w v u x → Line w v u (w.pushed v u ++ x ∷ []) (w.taken v u)
   line_push w v u x s may pair =
       let line = s.lines v u pair in
       let runs = may.runs in
@@ -36,14 +36,14 @@ module _ (p : Plan) where
         heard = line.heard;
       }
 
-  stand_push : (w : State) (v u : ℕ) (x : Carried) → Stand p w → MayPush p w v u x → Stand p (after w (Push v u x))
-  stand_push w v u x s may = record {
+  in_position_after_push : (w : State) (v u : ℕ) (x : Carried) → AreInPosition p w → MayPush p w v u x → AreInPosition p (after w (Push v u x))
+  in_position_after_push w v u x s may = record {
     within = s.within;
     lines = at_pair (λ a b pushed. Line w a b pushed (w.taken a b)) w.pushed v u (w.pushed v u ++ x ∷ []) (line_push w v u x s may) s.lines;
     own = λ a. (at_pair (λ i j pushed. i ≡ j → pushed ≡ []) w.pushed v u (w.pushed v u ++ x ∷ []) (λ e. absurd (may.pair.apart e)) (λ i j e. ap (w.pushed i) (sym e) ∙ (s.own i).0) a a refl, (s.own a).1);
   }
 
-  line_take : (w : State) (v u : ℕ) (x : Carried) → Stand p w → MayTake p w v u x → Line w u v (w.pushed u v) (w.taken u v ++ x ∷ [])
+  line_take : (w : State) (v u : ℕ) (x : Carried) → AreInPosition p w → MayTake p w v u x → Line w u v (w.pushed u v) (w.taken u v ++ x ∷ [])
   line_take w v u x s may pair =
       let line = s.lines u v pair in
       let h = line.heard in
@@ -55,14 +55,14 @@ module _ (p : Plan) where
         heard = omega arith;
       }
 
-  stand_take : (w : State) (v u : ℕ) (x : Carried) → Stand p w → MayTake p w v u x → Stand p (after w (Take v u x))
-  stand_take w v u x s may = record {
+  in_position_after_take : (w : State) (v u : ℕ) (x : Carried) → AreInPosition p w → MayTake p w v u x → AreInPosition p (after w (Take v u x))
+  in_position_after_take w v u x s may = record {
     within = s.within;
     lines = at_pair (λ a b taken. Line w a b (w.pushed a b) taken) w.taken u v (w.taken u v ++ x ∷ []) (line_take w v u x s may) s.lines;
     own = λ a. ((s.own a).0, at_pair (λ i j taken. i ≡ j → taken ≡ []) w.taken u v (w.taken u v ++ x ∷ []) (λ e. absurd (may.pair.apart e)) (λ i j e. ap (w.taken i) (sym e) ∙ (s.own i).1) a a refl);
   }
 
-  module _ (w : State) (v : ℕ) (s : Stand p w) (may : MayGoOn p w v) where
+  module _ (w : State) (v : ℕ) (s : AreInPosition p w) (may : MayGoOn p w v) where
     abbrev k : ℕ
     k = w.finished v
 
@@ -99,30 +99,30 @@ module _ (p : Plan) where
     line_there : (a b : ℕ) → NewLine a b (w.finished a) (finished b)
     line_there a b = at_one (λ j n. NewLine a j (w.finished a) n) w.finished v (suc k) (line_begun a) (λ j ne. s.lines a j) b
 
-    stand_go_on : Stand p (after w (GoOn v))
-    stand_go_on = record {
+    in_position_after_window : AreInPosition p (after w (GoOn v))
+    in_position_after_window = record {
       within = at_one (λ a n. a < p.workers → n ≤ p.windows) w.finished v (suc k) (λ low. may.runs) (λ a ne. s.within a);
       lines = λ a b. at_one (λ i n. NewLine i b n (finished b)) w.finished v (suc k) (line_here b) (λ i ne. line_there i b) a;
       own = s.own;
     }
 
-  pub stand_step : (w : State) (e : Event) → Stand p w → MayHappen p w e → Stand p (after w e)
-  stand_step w (Push v u x) s may = stand_push w v u x s may
-  stand_step w (Take v u x) s may = stand_take w v u x s may
-  stand_step w (GoOn v) s may = stand_go_on w v s may
+  pub in_position_after_step : (w : State) (e : Event) → AreInPosition p w → MayHappen p w e → AreInPosition p (after w e)
+  in_position_after_step w (Push v u x) s may = in_position_after_push w v u x s may
+  in_position_after_step w (Take v u x) s may = in_position_after_take w v u x s may
+  in_position_after_step w (GoOn v) s may = in_position_after_window w v s may
 
-  pub stand_run : (events : List Event) (w new : State) → Stand p w → Run p w events new → Stand p new
-  stand_run [] w new s run = subst (Stand p) (sym run) s
-  stand_run (e ∷ events) w new s run = stand_run events (after w e) new (stand_step w e s run.0) run.1
+  pub in_position_after_run : (events : List Event) (w new : State) → AreInPosition p w → Run p w events new → AreInPosition p new
+  in_position_after_run [] w new s run = subst (AreInPosition p) (sym run) s
+  in_position_after_run (e ∷ events) w new s run = in_position_after_run events (after w e) new (in_position_after_step w e s run.0) run.1
 
-pub all_stand : AllStand
-all_stand p w reached = stand_run p reached.0 start w (stand_first p) reached.1
+pub all_in_position : AllInPosition
+all_in_position p w reached = in_position_after_run p reached.0 start w (in_position_first p) reached.1
 
 pub one_window_ahead : OneWindowAhead
 one_window_ahead p w reached v u lv lu = elim (cases_eq v u) [
   | inl e ↦ (let same = ap w.finished e in omega arith)
   | inr ne ↦ (
-      let line = (all_stand p w reached).lines u v (record { from_there = lu; to_there = lv; apart = λ e. ne (sym e) }) in
+      let line = (all_in_position p w reached).lines u v (record { from_there = lu; to_there = lv; apart = λ e. ne (sym e) }) in
       let m : ℕ = min (suc (w.finished u)) p.windows in
       let h = line.heard in
       let a = begins_marks (w.pushed u v) (w.taken u v) line.took in

@@ -26,7 +26,7 @@ use Rattle.process_kernel.specs.ProcessList.{exiting_of, unlisted_of, leave_of}
 use Rattle.process_kernel.specs.Posts.{post_of, poll_of}
 use Rattle.process_kernel.specs.Writes.{with_line, write_of, halted_of}
 use Rattle.kernel_laws.specs.Printed.{starts_or_prints, starts_and_prints}
-use Rattle.kernel_laws.specs.Telling.{standing_of}
+use Rattle.kernel_laws.specs.Telling.{process_in_mote}
 use Rattle.kernel_laws.proofs.Steps.{others_stay}
 use Rattle.kernel_laws.proofs.Tables.{set_other, is_equal}
 use Rattle.kernel_laws.proofs.EachStep.{polled_or_not}
@@ -61,11 +61,11 @@ fresh_there (d ∷ cs) (x ∷ rs) (suc p) c r e f = fresh_there cs rs p c r e f
 
 -- lines that are added
 
-pub told_more : (p : Proc) (lines : List Line) (l : Line) → starts_and_prints p (lines ++ l ∷ []) ≡ starts_and_prints p lines ++ (if starts_or_prints p l.what then l ∷ [] else [])
-told_more p lines l = filter-append (λ k. starts_or_prints p k.what) lines (l ∷ [])
+pub traced_more : (p : Proc) (lines : List Line) (l : Line) → starts_and_prints p (lines ++ l ∷ []) ≡ starts_and_prints p lines ++ (if starts_or_prints p l.what then l ∷ [] else [])
+traced_more p lines l = filter-append (λ k. starts_or_prints p k.what) lines (l ∷ [])
 
-told_nothing : (p : Proc) (l : Line) → starts_or_prints p l.what ≡ false → (if starts_or_prints p l.what then l ∷ [] else []) ≡ []
-told_nothing p l e = rw e refl
+traced_nothing : (p : Proc) (l : Line) → starts_or_prints p l.what ≡ false → (if starts_or_prints p l.what then l ∷ [] else []) ≡ []
+traced_nothing p l e = rw e refl
 
 -- all processes other than the program's of this number
 abbrev pub IsOther : ℕ → Proc → Type 0
@@ -107,11 +107,11 @@ always_if {A} P false o q h i = i
 module _ (p : ℕ) where
   -- the process has the same position in both states
   abbrev pub IsQuiet : State → State → Type 0
-  IsQuiet s t = standing_of p t ≡ standing_of p s
+  IsQuiet s t = process_in_mote p t ≡ process_in_mote p s
 
   pub line_quiet : (s : State) (w : What) → starts_or_prints (Own p) w ≡ false → IsQuiet s (with_line s w)
   line_quiet s w e =
-      ap (λ l. record (standing_of p s) { told = l }) (told_more (Own p) s.lines (record { at = s.moment; what = w }) ∙ ap (λ l. starts_and_prints (Own p) s.lines ++ l) (told_nothing (Own p) (record { at = s.moment; what = w }) e) ∙ append-nil _)
+      ap (λ l. record (process_in_mote p s) { recounted = l }) (traced_more (Own p) s.lines (record { at = s.moment; what = w }) ∙ ap (λ l. starts_and_prints (Own p) s.lines ++ l) (traced_nothing (Own p) (record { at = s.moment; what = w }) e) ∙ append-nil _)
 
   pub print_quiet : (s : State) (q v : ℕ) → (q ≡ p → ⊥) → IsQuiet s (with_line s (what.Print (Own q) v))
   print_quiet s q v n = line_quiet s _ (other_differs p (Own q) (own_other p q n))
@@ -119,12 +119,12 @@ module _ (p : ℕ) where
   pub state_quiet : (s : State) (q : Proc) (x : ProcessState) → IsOther p q → IsQuiet s (with_state s q x)
   unfolding with_state
   state_quiet s q x n =
-      ap (λ k. record (standing_of p s) { has = nat_lt (place_of (Own p)) k; state = process_state (with_state s q x) (Own p) }) (length-set s.states (place_of q) x) ∙ ap (λ k. record (standing_of p s) { state = k }) (set_other s.states (place_of q) (place_of (Own p)) x Off n)
+      ap (λ k. record (process_in_mote p s) { has = nat_lt (place_of (Own p)) k; state = process_state (with_state s q x) (Own p) }) (length-set s.states (place_of q) x) ∙ ap (λ k. record (process_in_mote p s) { state = k }) (set_other s.states (place_of q) (place_of (Own p)) x Off n)
 
   pub exiting_set_quiet : (s : State) (q : Proc) (b : Bool) → IsOther p q → IsQuiet s (with_exiting s q b)
   unfolding with_exiting
   exiting_set_quiet s q b n =
-      ap (λ k. record (standing_of p s) { room = nat_lt (place_of (Own p)) k; exiting = at_process (slice_set s.exiting (place_of q) b) (Own p) }) (length-set s.exiting (place_of q) b) ∙ ap (λ k. record (standing_of p s) { exiting = k }) (set_other s.exiting (place_of q) (place_of (Own p)) b false n)
+      ap (λ k. record (process_in_mote p s) { room = nat_lt (place_of (Own p)) k; exiting = at_process (slice_set s.exiting (place_of q) b) (Own p) }) (length-set s.exiting (place_of q) b) ∙ ap (λ k. record (process_in_mote p s) { exiting = k }) (set_other s.exiting (place_of q) (place_of (Own p)) b false n)
 
   pub exiting_quiet : (s : State) (q : Proc) → IsOther p q → IsQuiet s (exiting_of s q)
   unfolding exiting_of
@@ -139,14 +139,14 @@ module _ (p : ℕ) where
   poll_quiet s q = polled_or_not (λ t. IsQuiet s t) s q refl refl
 
   pub variables_quiet : (s : State) (q : ℕ) (vs : List ℕ) (n : ℕ) → (q ≡ p → ⊥) → IsQuiet s (record s { variables = slice_set s.variables q vs; units = n })
-  variables_quiet s q vs n other = ap (λ k. record (standing_of p s) { vars = k }) (get_set_other s.variables q p vs (λ e. other (sym e)))
+  variables_quiet s q vs n other = ap (λ k. record (process_in_mote p s) { vars = k }) (get_set_other s.variables q p vs (λ e. other (sym e)))
 
   pub remainder_quiet : (s : State) (q : ℕ) (r : Remainder) → (q ≡ p → ⊥) → IsQuiet s (put_remainder s q r)
   unfolding put_remainder
-  remainder_quiet s q r other = ap (λ k. record (standing_of p s) { rest = k }) (get_set_other s.remainders q p r (λ e. other (sym e)))
+  remainder_quiet s q r other = ap (λ k. record (process_in_mote p s) { rest = k }) (get_set_other s.remainders q p r (λ e. other (sym e)))
 
   pub body_quiet : (s : State) (q : ℕ) → (q ≡ p → ⊥) → IsQuiet s (with_fresh_body s q)
-  body_quiet s q other = ap (λ k. record (standing_of p s) { rest = k }) (fresh_other s.program.codes s.remainders q p (λ e. other (sym e)))
+  body_quiet s q other = ap (λ k. record (process_in_mote p s) { rest = k }) (fresh_other s.program.codes s.remainders q p (λ e. other (sym e)))
 
   pub process_quiet : (s : State) (q : Proc) → IsOther p q → IsQuiet s (with_fresh_process s q)
   process_quiet s (Own q) n = body_quiet s q (λ e. other_own p q n (sym e))
@@ -168,7 +168,7 @@ module _ (p : ℕ) where
 
   unlisted_quiet : (s : State) (q : Proc) → IsOther p q → IsQuiet s (unlisted_of s q)
   unfolding unlisted_of
-  unlisted_quiet s q n = ap (λ b. record (standing_of p s) { listed = b }) (others_stay s.members q (Own p) (grind (arith, nat_tests, n)))
+  unlisted_quiet s q n = ap (λ b. record (process_in_mote p s) { listed = b }) (others_stay s.members q (Own p) (grind (arith, nat_tests, n)))
 
   pub leave_quiet : (s : State) (q : Proc) → IsOther p q → Always (λ t. IsQuiet s t) (leave_of s q)
   unfolding leave_of write_of

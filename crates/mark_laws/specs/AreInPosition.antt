@@ -7,15 +7,15 @@ use Rattle.copy_exchange.specs.Pushes.{marks_in, pushes}
 use Rattle.mark_laws.specs.State.{Plan, State, IsPair}
 
 -- From one worker to another: the first has finished `finished` windows, the other `begun`. The first has pushed all
--- of the windows that it has finished, and nothing of a window that it hasn't begun. The other has taken a prefix of
--- that, with the marks of the windows that it itself has finished.
+-- items of the windows that it has finished, and none of a window that it hasn't begun. The other has taken a prefix
+-- of these items, with the marks of the windows that it has finished itself.
 pub record IsLine (windows finished begun : ℕ) (sent : ℕ → List RadioCopy) (pushed taken : List Carried) : Type 0 where
   pub whole : BeginsWith pushed (pushes finished sent)
   pub front : BeginsWith (pushes (min (suc finished) windows) sent) pushed
   pub took : BeginsWith pushed taken
   pub heard : begun ≤ marks_in taken
 
-pub record Stand (p : Plan) (w : State) : Type 0 where
+pub record AreInPosition (p : Plan) (w : State) : Type 0 where
   pub within : (v : ℕ) → v < p.workers → w.finished v ≤ p.windows
   pub lines : (v u : ℕ) → IsPair p v u
       → IsLine p.windows (w.finished v) (w.finished u) (p.sent v u) (w.pushed v u) (w.taken v u)
