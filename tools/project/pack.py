@@ -102,7 +102,7 @@ class Sorted(NamedTuple):
     is_clone: bool
 
     def told(self) -> list[str]:
-        """The lines on what isn't the repository's own, and on what is left out."""
+        """The lines on files that aren't the repository's own, and on those that are left out."""
         lines = [] if self.is_clone else ['Git lists no files of this tree, so all files of its folders are packed.']
         lines += ['Added: %s' % one_line(it) for it in self.added]
         lines += ['Not as in the commit: %s' % one_line(it) for it in self.changed]
