@@ -290,7 +290,7 @@ def draw(shown: Shown, wish: Wish, path: Path) -> bool:
 
 
 def with_gaps(points: list[Point], shown: Shown, places: Sequence[Cell]) -> list[Point]:
-    """The points of a curve, with one that isn't drawn at each place where all its runs have no value: its line would
+    """The points of a curve, with one that isn't drawn at each place at which no run has a value: its line would
     cross the place otherwise."""
     if points[0].across is not None:
         return points
