@@ -147,6 +147,14 @@ class PlanTest(unittest.TestCase):
         self.assertEqual(scenario.places[24][:2], (12, 12))
         self.assertEqual(scenario.losses, {(0, 1): 2})
 
+    def test_a_row_of_results_names_true_and_false_as_texts_too(self) -> None:
+        plan = Plan('p', '[parameters]\ncollide = false\nname = "a"\n', Files(Path('.')))
+        for value, seen in (True, True), ('True', True), ('true', True), ('False', False), ('maybe', 'maybe'), (1, 1):
+            self.assertIs(type(plan.with_given({'collide': value})['collide']), type(seen))
+            self.assertEqual(plan.with_given({'collide': value})['collide'], seen)
+        # (a parameter that is a text stays one)
+        self.assertEqual(plan.with_given({'name': 'True'})['name'], 'True')
+
     def test_it_is_the_net_of_the_flooding_example(self) -> None:
         example = Scenario.parse((TOP / 'examples/flooding.toml').read_bytes())
         made = Scenario.parse(plan().scenario({}))

@@ -766,6 +766,23 @@ class Command(unittest.TestCase):
         self.plot(*words, status=2)
         self.assertIn('net.csv ends within its last row', self.seen)
 
+    def test_long_names_have_several_lines_in_a_narrow_picture(self) -> None:
+        interpreter_with(self, 'matplotlib')
+        long = ' '.join('word%d' % it for it in range(12))
+        for size, is_folded in ('6x6', True), ('30x40', False):
+            self.plot('--measure', 'sent', '--against', 'period', '--by', 'density', '--show', 'mean', '--size', size,
+                      '--label', 'thin=' + long, '--y', long, '-o', 'a.svg')
+            picture = (self.folder / 'a.svg').read_text()
+            self.assertEqual(picture.count('>%s<' % long), 0 if is_folded else 2)
+
+    def test_intervals_of_two_crossings_are_next_to_each_other(self) -> None:
+        interpreter_with(self, 'matplotlib')
+        self.plot('--measure', 'sent', '--against', 'period', '--by', 'density', '--show', 'mean', '--threshold', '60',
+                  '-o', 'a.svg')
+        bars = re.findall(r'd="M [0-9.]+ ([0-9.]+) \nL [0-9.]+ \1 \n" clip-path="[^"]*" style="fill: none; stroke: '
+                          r'#[0-9a-f]+; stroke-opacity: 0.4', (self.folder / 'a.svg').read_text())
+        self.assertEqual(len(set(bars)), 2, bars)
+
     def test_a_logarithmic_axis_of_a_cdf(self) -> None:
         self.plot('--measure', 'sent', '--against', 'period', '--by', 'density', '--show', 'heat', '--log', status=2)
         self.assertIn('leave it out', self.seen)

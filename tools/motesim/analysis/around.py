@@ -33,9 +33,9 @@ def width_of(figure: Any, text: str, points: float) -> float:
     return float(found[0]) * POINTS / float(figure.dpi)
 
 
-def folded(figure: Any, text: str, points: float) -> str:
-    """A text in lines that are no wider than the picture."""
-    most = figure.get_figwidth() * POINTS * ACROSS
+def folded(figure: Any, text: str, points: float, most: float | None = None) -> str:
+    """A text in lines that are no wider than so many points, or than the picture."""
+    most = figure.get_figwidth() * POINTS * ACROSS if most is None else most
     return '\n'.join(it for line in text.split('\n') for it in _lines(figure, line, points, most))
 
 

@@ -7,7 +7,7 @@ from collections.abc import Callable, Sequence
 from pathlib import Path
 from typing import Any
 
-from motesim.analysis.around import dodged, labelled, points_of, width_of, words_around
+from motesim.analysis.around import dodged, folded, labelled, points_of, width_of, words_around
 from motesim.analysis.estimates import Estimate
 from motesim.analysis.origin import origin_path
 from motesim.analysis.paired import Difference
@@ -29,6 +29,10 @@ COLUMN, OF_COLUMN = 'column', (8.8, 6.6)
 POINTS = 72
 # The part of a picture's width that its axes have, about, and the most marks of an axis that aren't all labelled.
 OF_AXES, MOST_MARKS = 0.85, 60
+# The part of a picture's height that the name of the axis upwards may need.
+OF_HEIGHT = 0.6
+# The thickness of the interval of a crossing in points, if there is one curve, and if there are several.
+THICK, THIN = 5, 3
 # The angle of labels that don't fit next to each other.
 ANGLE = 30
 # Colours that readers with colour blindness can distinguish (Okabe and Ito); lines differ by their marks too.
@@ -164,8 +168,7 @@ def _draw_heat(figure: Any, axes: Any, shown: Shown, wish: Wish) -> None:
                           color='white' if picture.norm(value) < 0.6 else 'black')
     axes.set_xticks(range(len(xs)), [text_of(it) for it in xs])
     axes.set_yticks(range(len(ys)), [dict(wish.labels).get(text_of(it), text_of(it)) for it in ys])
-    axes.set_xlabel(wish.x or wish.against)
-    axes.set_ylabel(wish.y or wish.by)
+    _name_axes(axes, wish.x or wish.against, wish.y or wish.by)
 
 
 def ticks_between(low: float, high: float) -> list[float]:
@@ -333,25 +336,37 @@ def _draw_curves(axes: Any, shown: Shown, wish: Wish) -> None:
             _scale_upwards(axes, shown, wish)
         elif 0 <= 2 * min(lows) < max(highs):
             axes.set_ylim(bottom=0)
-    axes.set_xlabel(wish.x or (wish.measure if wish.show == 'cdf' else wish.against))
-    axes.set_ylabel(wish.y or ('part of runs' if wish.show == 'cdf' else wish.measure))
+    _name_axes(axes, wish.x or (wish.measure if wish.show == 'cdf' else wish.against),
+               wish.y or ('part of runs' if wish.show == 'cdf' else wish.measure))
     axes.grid(True, color='#dddddd', linewidth=0.6)
     axes.spines[['top', 'right']].set_visible(False)
     if wish.by:
         _legend(axes)
 
 
+def _name_axes(axes: Any, across: str, up: str) -> None:
+    """The names of both axes, in several lines if they are longer than the axes."""
+    figure = axes.figure
+    points = points_of(figure.get_figwidth() * INCH, 'text')
+    axes.set_xlabel(folded(figure, across, points, figure.get_figwidth() * POINTS * OF_AXES))
+    axes.set_ylabel(folded(figure, up, points, figure.get_figheight() * POINTS * OF_HEIGHT))
+
+
 def _legend(axes: Any) -> None:
     """The legend, above the axes: in them it would hide bars."""
-    labels = axes.get_legend_handles_labels()[1]
+    handles, labels = axes.get_legend_handles_labels()
     if not labels:
         return
     inches = axes.figure.get_figwidth()
     points = points_of(inches * INCH, 'legend')
-    widest = max(width_of(axes.figure, it, points) for it in labels)
+    # (it begins at the axes, right of their name and its marks; a line and its space need as much as 4.8 letters)
+    left = (1.25 * (axes.get_ylabel().count('\n') + 1) + 4) * points_of(inches * INCH, 'text')
+    most = min(inches * POINTS * OF_AXES, inches * POINTS - left) - 4.8 * points
+    labels = [folded(axes.figure, it, points, most) for it in labels]
+    widest = max(width_of(axes.figure, line, points) for it in labels for line in it.split('\n'))
     columns = max(1, int(inches * POINTS * OF_AXES / (widest + 4.8 * points)))
-    axes.legend(frameon=False, loc='lower left', bbox_to_anchor=(0.0, 1.0), borderaxespad=0.0, fontsize=points,
-                ncols=min(columns, len(labels)), handlelength=2.4, columnspacing=1.4)
+    axes.legend(handles, labels, frameon=False, loc='lower left', bbox_to_anchor=(0.0, 1.0), borderaxespad=0.0,
+                fontsize=points, ncols=min(columns, len(labels)), handlelength=2.4, columnspacing=1.4)
 
 
 def _draw_threshold(axes: Any, shown: Shown, wish: Wish) -> None:
@@ -361,17 +376,22 @@ def _draw_threshold(axes: Any, shown: Shown, wish: Wish) -> None:
         return
     axes.axhline(threshold, color='#555555', linewidth=0.8, linestyle=(0, (6, 3)))
     first, last = min(it.x for it in shown.points), max(it.x for it in shown.points)
-    for number, found in enumerate(crossings_of(shown, wish).values()):
+    every = crossings_of(shown, wish)
+    transforms: Any = packages.load('matplotlib.transforms')
+    for number, found in enumerate(every.values()):
+        # (next to each other: on one line they would hide each other)
+        up = (number - (len(every) - 1) / 2) * (THIN + 1)
+        place = transforms.offset_copy(axes.transData, axes.figure, 0, up, units='points')
         for ends in [(found.low, found.high), found.last or (None, None)] if found else ():
             if None in ends:
                 continue
             # (an end that is beyond the axis is drawn up to its first or last point)
             drawn = [end if math.isfinite(end) else min(max(end, first), last) for end in ends if end is not None]
-            axes.plot(drawn, [threshold, threshold], linewidth=5, alpha=0.4, color=_look(number)['color'],
-                      solid_capstyle='butt')
+            axes.plot(drawn, [threshold, threshold], linewidth=THICK if len(every) == 1 else THIN, alpha=0.4,
+                      color=_look(number)['color'], solid_capstyle='butt', transform=place)
         if found and (found.low is not None or len(found.places) > 1):
             axes.plot([it.at for it in found.places], [threshold] * len(found.places), color=_look(number)['color'],
-                      marker='|', markersize=12, linestyle='')
+                      marker='|', markersize=12 if len(every) == 1 else 2 * THIN, linestyle='', transform=place)
 
 
 def draw_differences(found: Sequence[Difference], wish: Wish, words: str, notes: Sequence[str], path: Path) -> bool:
@@ -385,8 +405,7 @@ def draw_differences(found: Sequence[Difference], wish: Wish, words: str, notes:
     axes.errorbar(xs, [it.middle for it in gaps], capsize=3, elinewidth=1, yerr=lengths(gaps), **_look(0))
     axes.axhline(0, color='#555555', linewidth=0.8)
     _scale(axes, places, wish, is_scale)
-    axes.set_xlabel(wish.x or wish.against)
-    axes.set_ylabel(wish.y or 'difference of %s' % wish.measure)
+    _name_axes(axes, wish.x or wish.against, wish.y or 'difference of %s' % wish.measure)
     has_room = words_around(figure, size_of(wish.size)[0], wish, words, '\n'.join(notes),
                             _place_of_notes(path, False))
     axes.grid(True, color='#dddddd', linewidth=0.6)

@@ -15,7 +15,7 @@ from motesim.faults import Fault
 from motesim.plan.files import Files
 from motesim.plan.keys import TOP
 from motesim.plan.net import Builder, files_of
-from motesim.plan.tables import NAME, Tables, Value
+from motesim.plan.tables import NAME, Tables, Value, as_truth
 from motesim.runner.run import read_file
 
 
@@ -57,12 +57,13 @@ class Plan:
         return dict(table)
 
     def with_given(self, given: Mapping[str, Value]) -> dict[str, Value]:
-        """All parameters, some of them with other values."""
+        """All parameters, some of them with other values; `True`, as Python writes it in a table, is true."""
         for name in given:
             if name not in self.parameters:
                 known = ', '.join(self.parameters) or 'none'
                 raise Fault('%s has no parameter %s; it has: %s' % (self.shown_as, name, known))
-        return {**self.parameters, **given}
+        return {**self.parameters, **{name: as_truth(value) if type(self.parameters[name]) is bool else value
+                                      for name, value in given.items()}}
 
     def builder(self, given: Mapping[str, Value]) -> Builder:
         """The builder of the scenario, which counts the nets that it rejects."""

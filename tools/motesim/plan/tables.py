@@ -79,6 +79,12 @@ def value_of_text(text: str) -> Value:
     return text == 'true' if text in ('true', 'false') else text
 
 
+def as_truth(value: Value) -> Value:
+    """A value that a row of results has for true or false: its text, as TOML or as Python writes it."""
+    found = value.lower() if type(value) is str else value
+    return found == 'true' if found in ('true', 'false') else value
+
+
 def text_of_value(value: Value) -> str:
     """A parameter's value in the form of a text."""
     return str(value).lower() if type(value) is bool else str(value)
