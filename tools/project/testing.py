@@ -13,10 +13,6 @@ from motesim.words import words_of
 from motesim.runner.programs import TOP, program_path
 
 TESTS = TOP / 'tools/tests'
-# The commands that test the program, which are links to one script, and their modules in tests/.
-CHECKS = {'run_cases': 'test_cases.py', 'check_examples': 'test_examples.py', 'check_tutorial': 'test_pages.py',
-          'spoil_bytes': 'test_spoiled_bytes.py', 'compare_workers': 'test_workers.py',
-          'refuse_memory': 'test_memory.py'}
 MINUTES = 30
 NO_PYTEST = ('the tests need pytest: on Debian `apt-get install python3-pytest python3-pytest-xdist` installs it '
              'for %s (.ci/run installs all that the tests need)' % SYSTEM)
@@ -55,10 +51,9 @@ def check(module: Path) -> NoReturn:
            MOTESIM=str(program_path().resolve()))
 
 
-def check_program() -> NoReturn:
-    """Runs the command that has the name of the link by which it is called."""
-    name = Path(sys.argv[0]).name
-    command(name)(lambda: check(TOP / 'tests' / CHECKS[name]))()
+def check_with(module: str) -> NoReturn:
+    """Runs the command of a module of tests/."""
+    command(Path(sys.argv[0]).name)(lambda: check(TOP / 'tests' / module))()
 
 
 @command('test_tools')

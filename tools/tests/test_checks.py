@@ -55,8 +55,8 @@ class Check(unittest.TestCase):
 
 class Commands(Check):
     def test_each_describes_itself(self) -> None:
-        self.assertEqual({it.name for it in (TOOLS / 'dev').iterdir() if it.is_symlink()}, testing.CHECKS.keys())
-        for command in testing.CHECKS:
+        for command in ('run_cases', 'check_examples', 'check_tutorial', 'spoil_bytes', 'compare_workers',
+                        'refuse_memory'):
             done = subprocess.run([str(TOOLS / 'dev' / command), '--help'], capture_output=True, text=True)
             self.assertIn('tools/dev/' + command, done.stdout)
 
