@@ -8,7 +8,7 @@ or newer, from any folder: nothing is installed, and nothing is fetched from a n
 
 It has the files that git knows, and the folders and files of your own that you name, such as an exercise and its
 worksheet: tools/pack examples/mylab worksheet.pdf. A folder or file outside of this tree is at the top of the archive.
-Whatever you name, nothing is packed whose name, or that of its folder, begins with `solution` or `hidden`, nor
+A file isn't packed if its name, or that of its folder, begins with `solution` or `hidden`, even if you name it; nor is
 docs/use/TEACH.md. tools/pack lists what it adds to the repository's own files, and what it leaves out.
 
 The archive has the binary that the environment variable MOTESIM names, or without it the proved `motesim` of these

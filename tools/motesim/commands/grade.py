@@ -61,7 +61,7 @@ def arguments() -> argparse.Namespace:
     words.add_argument('--write', metavar='FOLDER', type=Path,
                        help='also write each program in each net as a scenario, to look at it in the studio')
     words.add_argument('--excel', action='store_true',
-                       help='NAME.csv has a byte order mark, and `;` between its cells')
+                       help='give NAME.csv a byte order mark, and `;` between its cells')
     words.add_argument('--csv', action='store_true', help='print the marks for a spreadsheet')
     words.add_argument('--why', metavar='NAME', help='show what breaks the sentences in one solution')
     asked = words.parse_args()

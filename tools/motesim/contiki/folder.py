@@ -31,8 +31,8 @@ HOST_PAGE = '''
 make host && ./host
 ```
 
-runs exactly the same files in a small simulator, `contiki_host`, and writes the same report as motesim. Each statement
-has a line `WORK();` for it, which is empty on Contiki.
+runs exactly the same files in a small simulator, `contiki_host`, and writes the same report as motesim. Above each
+statement is a line `WORK();`, by which the simulator counts units of work; on Contiki it is empty.
 '''
 
 

@@ -38,7 +38,7 @@ class Declarations(Lines):
         """A line for the preprocessor."""
         defined = re.fullmatch(r'#\s*define\s+([A-Za-z_]\w*)\s+\(?\s*(-?\w+)\s*\)?\s*', line)
         if not defined:
-            self.why('There is nothing to include, and no preprocessor: the notation is all there.')
+            self.why('Leave this line out: there is no preprocessor, and no file has to be included.')
             return ''
         value = number_of(defined[2])
         if value is None:
@@ -86,7 +86,7 @@ class Declarations(Lines):
         return self.variables()
 
     def variables(self) -> str:
-        """Variables with what they begin with."""
+        """Variables with their first values."""
         found = []
         while True:
             name = self.token.text
@@ -106,7 +106,7 @@ class Declarations(Lines):
         return ' '.join(found)
 
     def of_array(self, name: str) -> str:
-        """An array, by a variable for each of its members if they are few."""
+        """An array: a variable for each of its members, if they are few."""
         self.need('[')
         count = number_of(self.token.text) or 0
         self.at += 1

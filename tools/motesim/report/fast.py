@@ -1,4 +1,4 @@
-"""Reads reports in large pieces, of a long report several at once.
+"""Reads reports in large pieces; those of a long report are read by several processes at once.
 
 `read(data)` returns None if it can't read a text in this way, because it is not a report. `motesim.report.strict` then
 reads the text line by line, and finds its first error.
@@ -17,7 +17,7 @@ from motesim.report.pieces import Lines, Packets, PieceReader, Span
 from motesim.report.strict import Bad, Numbers
 from motesim.runner.batch import each_part
 
-# The bytes of a piece, and from how many bytes on several processes read.
+# How many bytes a piece has, and how many bytes a report has at least that several processes read.
 PIECE = 1 << 19
 MANY = 8 << 20
 
@@ -107,7 +107,7 @@ class _Joined:
             self.add_packets(piece)
 
     def add_lines(self, lines: Lines) -> None:
-        """Adds the lines of some spans. Raises Bad if moments fall between two spans of a mote."""
+        """Adds the lines of some spans. Raises Bad if a span of a mote begins before the previous one ends."""
         trace, begin = self.trace, 0
         _rename(lines, trace.names)
         for count, span in zip(lines.counts, self.left):

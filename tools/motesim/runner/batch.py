@@ -27,7 +27,7 @@ if TYPE_CHECKING:
 
 Item = TypeVar('Item')
 Result = TypeVar('Result')
-# A worker gets as many items at a time as it does in about so many seconds, and no more than so many.
+# How many seconds of work a worker gets at a time, about, and the most items at a time.
 SECONDS_AHEAD = 0.02
 MOST_AHEAD = 32
 # Seconds between two looks at the clock while workers work.
@@ -214,7 +214,7 @@ class _Batch(Generic[Item, Result]):
         return self.done(first, None, fault)
 
     def results(self) -> Iterator[tuple[int, Done[Item, Result]]]:
-        """The results as they come, with the number of their items."""
+        """The results in the order in which they arrive, with the numbers of their items."""
         from multiprocessing.connection import wait
         while self.feed():
             by_channel: dict[Any, _Worker] = {it.channel: it for it in self.workers if it.given}
@@ -250,7 +250,7 @@ def _in_order(found: Iterable[tuple[int, Done[Item, Result]]]) -> Iterator[Done[
 def run_each(work: Callable[[Item], Result], items: Iterable[Item], *, workers: int | None = None,
              seconds: float = 600.0, ordered: bool = False,
              stop: threading.Event | None = None) -> Generator[Done[Item, Result], None, None]:
-    """Does a piece of work on each item, in worker processes, and yields the results as they come.
+    """Does a piece of work on each item, in worker processes, and yields the results.
 
     workers  how many processes; None for as many as there are processors, 0 for this process
     seconds  how long an item may last; then its worker is ended, and another one replaces it
@@ -277,8 +277,8 @@ def run_each(work: Callable[[Item], Result], items: Iterable[Item], *, workers: 
 def each_part(work: Callable[[Item], Result], parts: Iterable[Item], is_much: bool) -> Iterator[Result]:
     """The result of each part of a piece of work, in order; if it is much, several processes work.
 
-    The processes are copies of this one, so they share its memory; with threads there can't be any. Raises a
-    `Fault` if one of them fails.
+    The processes are copies of this one, so they share its memory. If this process has threads, it does all the
+    work itself. Raises a `Fault` if one of the processes fails.
     """
     workers = min(MOST_SHARING, os.cpu_count() or 1)
     if not is_much or workers < 2 or threading.active_count() > 1 or _is_worker():
