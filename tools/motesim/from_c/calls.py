@@ -7,7 +7,8 @@ from motesim.from_c.expressions import MOMENTS_OF_SECOND, TICKS, NoCounterpart, 
 from motesim.from_c.lines import Lines
 from motesim.from_c.scope import allowed
 
-# Calls without a value, each with its statement, and which arguments of which kind that has.
+# Calls that have no value. Each has its statement: a keyword, and for each operand its kind and the number of the
+# argument that it comes from.
 ARGUMENT = re.compile(r'(expression|interval|seconds|process|timer|thread|semaphore|event)([0-9])')
 CALLS = {
     'process_yield': 'yield', 'process_wait_event': 'yield', 'process_pause': 'pause', 'process_exit()': 'exit',
@@ -127,7 +128,7 @@ class Calls(Lines):
         return short if short in self.scope.codes else self.scope.meant(allowed(name), 'process')
 
     def of_processes(self, name: str) -> str:
-        """The line that names the processes: all that have a code, if this one has."""
+        """The line that names the processes. If this one has a code, it names all processes that have one."""
         if self.scope.kinds.get(self.of_process(name)) == 'process':
             return ''
         if self.of_process(name) in self.scope.codes:
@@ -135,7 +136,7 @@ class Calls(Lines):
         return 'process %s;' % allowed(name)
 
     def of_call(self, call: Node) -> str:
-        """The statement that means a call."""
+        """The statement with the meaning of a call."""
         name = call.text.lower()
         form = CALLS.get(name + '()' if not call.parts else name) or CALLS[name]
         if name == 'process_post' and call.parts and call.parts[0].text.lower() == 'process_broadcast':
@@ -171,7 +172,7 @@ class Calls(Lines):
         return written
 
     def declare(self, word: str, kind: str, name: str, value: str) -> None:
-        """Declares a name in a call that nothing has, and says so behind the first reason."""
+        """Declares a name that a call uses and nothing declares, and says so after the first reason."""
         if self.scope.kinds.get(name) == kind:
             return
         line = {'variable': 'var %s = %s;' % (name, value), 'timer': 'etimer %s;' % name, 'event': 'event %s;' % name}

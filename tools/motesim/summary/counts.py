@@ -24,7 +24,7 @@ from motesim.why.source import read_traces, traces_of
 # A row of a table by its columns: numbers, names, or None if there is no value.
 Row = dict[str, Any]
 
-# The outcomes of copies, by the reader's names, with those of the tables.
+# The outcomes of copies: their names in `motesim.report`, and those of the tables.
 BECAME = {'received': 'received', 'lost': 'lost', 'full': 'ring', 'collided': 'collided', 'halted': 'halted',
           'left': 'late'}
 LINK_NAMES = ['from', 'to', 'copies', *BECAME.values(), 'ratio', 'delay']
@@ -74,7 +74,7 @@ Link = tuple[int, int]
 
 
 def links_of(report: Report) -> Iterator[int]:
-    """The link of each copy as a number: that of the sender, times the count of motes, and that of the receiver."""
+    """The link of each copy as a number: the sender's, times the count of motes, plus the receiver's."""
     log = report.log
     return map(add, log.of_copies(map(mul, log.sender, repeat(len(report.motes)))), log.to)
 
@@ -101,7 +101,7 @@ def delays_of(report: Report, links: set[Link]) -> dict[Link, int | None]:
 
 
 def by_link(report: Report, scenario: Scenario | None, became: Counter[tuple[Link, str]]) -> list[Row]:
-    """A row for each pair of sender and receiver between which copies went, and for all pairs of a scenario."""
+    """A row for each link on which a copy was sent, and for all links of a scenario."""
     delays = delays_of(report, {link for link, _ in became})
     if scenario:
         for s in range(scenario.motes):
