@@ -51,7 +51,7 @@ class Sweeper:
                        for name, values in sweep.vary.items()}
         # The spot of each run's row in the file, or 0 for a missing one, and those of rows with other values.
         self.spots, self.others = array('Q', bytes(8 * sweep.runs())), array('Q')
-        # The seeds of the pattern for chance, by the files in which they are; and their values in the file.
+        # For each set of files, the parameters that are seeds of the pattern for chance; and the seeds in the results.
         self.chances: dict[tuple[str, ...], list[str]] = {}
         self.drawn = Seeds()
         self.file: CsvFile | SqliteFile = open_results(path, self.columns)
