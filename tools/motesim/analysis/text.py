@@ -259,8 +259,8 @@ def of_intervals(estimates: Sequence[Estimate], is_drawn: bool = False) -> list[
     bounded = sum(it.method == BOUNDED for it in estimates)
     if bounded:
         lines.append('an end of %s by bootstrap-t is that of Wilson\'s score, because too many draws have nearly '
-                     'equal runs. It is computed for a range of %d times the greatest distance of a run from 0 or 1: a '
-                     'run beyond this range isn\'t accounted for' % (some(bounded, 'interval'), RANGE))
+                     'equal runs. It is computed for a range of %d times the greatest distance of a run from 0 or 1: '
+                     'a run beyond this range isn\'t accounted for' % (some(bounded, 'interval'), RANGE))
     too_alike = sum(it.method == 'too alike' for it in estimates)
     if too_alike:
         lines.append('no interval for %s by bootstrap-t: too many of its draws have equal runs, and so no standard '
