@@ -13,7 +13,7 @@ use Rattle.net_agenda.specs.NetSystem.{system_of}
 use Rattle.worker_window.specs.declared.share.Share.{Share}
 use Rattle.worker_cut.specs.Crossed.{is_own, copies_seen}
 use Rattle.worker_window.specs.MoteWindow.{number_of}
-use Rattle.worker_window.specs.Share.{Motes, Keeps, is_to_come, wake_from}
+use Rattle.worker_window.specs.Share.{Motes, IsWholeShare, is_to_come, wake_from}
 
 module _ (n : NetModel) (of : List ℕ) (worker : ℕ) (a b : Motes) (same : (k : ℕ) → is_own of worker k ≡ true → a k ≡ b k) where
   own_sends : (s : ℕ) → cond (is_own of worker s) (a s).sends [] ≡ cond {A = List Sent} (is_own of worker s) (b s).sends []
@@ -28,7 +28,7 @@ module _ (n : NetModel) (of : List ℕ) (worker : ℕ) (a b : Motes) (same : (k 
   pub known_same : (taken : List RadioCopy) (s : ℕ) → copies_seen (system_of n) (is_own of worker) a taken s ≡ copies_seen (system_of n) (is_own of worker) b taken s
   known_same taken s = elim (cases_Bool (is_own of worker s)) [ inl e ↦ rw e (own_copies_same s e) | inr e ↦ rw e refl ]
 
-  pub keeps_same : (from : ℕ) (taken : List RadioCopy) (share : Share) → Keeps n of worker from a taken share → Keeps n of worker from b taken share
+  pub keeps_same : (from : ℕ) (taken : List RadioCopy) (share : Share) → IsWholeShare n of worker from a taken share → IsWholeShare n of worker from b taken share
   keeps_same from taken share h = record {
     is_worker = h.is_worker;
     places = h.places;

@@ -16,7 +16,7 @@ use Rattle.copy_exchange.specs.Takers.{IsOrderly}
 use Rattle.copy_exchange.specs.Inboxes.{IsFresh, IsSettled, Settled}
 use Rattle.worker_cut.specs.Crossed.{is_own, is_to, crossed}
 use Rattle.worker_window.specs.declared.share.Share.{Share}
-use Rattle.worker_window.specs.Share.{Keeps}
+use Rattle.worker_window.specs.Share.{IsWholeShare}
 use Rattle.all_workers.specs.declared.workers.WorkerGroup.{WorkerGroup}
 use Rattle.all_workers.specs.WorkerGroup.{IsAt, IsWorkerAt}
 use Rattle.all_workers.specs.Start.{AreFirst}
@@ -65,11 +65,11 @@ pub none_crossed : {S L : Type 0} (system : System S L) (of : List ℕ) (v s : �
 none_crossed system of v s =
     elim (cases_Bool (is_own of v s)) [ inl e ↦ rw e refl | inr e ↦ rw e (ap (filter (is_to of v)) (none_sent system s)) ]
 
-first_worker : (n : NetModel) (of : List ℕ) (v : ℕ) (share : Share) (taker : TakerView) (marked : Bool) → Keeps n of v 0 (first_mote (system_of n)) [] share
+first_worker : (n : NetModel) (of : List ℕ) (v : ℕ) (share : Share) (taker : TakerView) (marked : Bool) → IsWholeShare n of v 0 (first_mote (system_of n)) [] share
     → taker.state ≡ make_taker_state marked 0 [] []
     → IsWorkerAt n of 0 (first_mote (system_of n)) None v share taker
 first_worker n of v share taker marked keeps fresh = record {
-  keeps = subst (λ d. Keeps n of v 0 (first_mote (system_of n)) (copies_of d.taken) share) (sym fresh) keeps;
+  keeps = subst (λ d. IsWholeShare n of v 0 (first_mote (system_of n)) (copies_of d.taken) share) (sym fresh) keeps;
   gathered = λ s. let e = none_crossed (system_of n) of v s in rw fresh (sym e);
   waits = λ s. record { rest = []; all = rw fresh refl; later = tt };
 }

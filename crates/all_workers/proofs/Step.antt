@@ -55,7 +55,7 @@ none_early until (x ∷ xs) e =
 
 module _ (n : NetModel) (fine : RunsForward (system_of n)) (of : List ℕ) (workers : ℕ) (cut : IsCut (length n.motes) workers of) (from until : ℕ) (motes : Motes) (up : from < until) (short : until ≤ from + (system_of n).lookahead)
     (taken gathered : ℕ → List RadioCopy) (outgoing : ℕ → List RadioCopy) (nexts : ℕ → Motes)
-    (recounted : (v : ℕ) → v < workers → GatheredCopies (system_of n) of motes v (gathered v))
+    (matches : (v : ℕ) → v < workers → GatheredCopies (system_of n) of motes v (gathered v))
     (took : (v : ℕ) → v < workers → (s : ℕ) → filter (is_from_sender s) (taken v) ≡ filter (is_from_sender s) (gathered v))
     (runs : (v : ℕ) → v < workers → (k : ℕ) → is_own of v k ≡ true → RunsOwnMote n (is_own of v) from until motes (nexts v) (taken v) k)
     (out : (v : ℕ) → v < workers → (s : ℕ) → outgoing_by n (is_own of v) (nexts v) s ≡ outgoing_by n (is_own of v) motes s ++ filter (is_from_sender s) (outgoing v))
@@ -77,7 +77,7 @@ module _ (n : NetModel) (fine : RunsForward (system_of n)) (of : List ℕ) (work
           let ran = runs v h k mine in
           record {
             given = ran.given;
-            is_given = given_is (system_of n) of motes (gathered v) (taken v) v k from until mine (recounted v h) (took v h) ran.given ran.is_given;
+            is_given = given_is (system_of n) of motes (gathered v) (taken v) v k from until mine (matches v h) (took v h) ran.given ran.is_given;
             alone = subst (λ m. Alone (system_of n) k until ran.given (motes k) m) (next_is v k mine) ran.alone;
           }
 
@@ -102,7 +102,7 @@ module _ (n : NetModel) (fine : RunsForward (system_of n)) (of : List ℕ) (work
   pub traced_next : (v : ℕ) → v < workers → (after : List RadioCopy) → ((s : ℕ) → filter (is_from_sender s) after ≡ filter (is_from_sender s) (gathered v) ++ out_of v s)
       → GatheredCopies (system_of n) of next v after
   unfolding system_of
-  traced_next v h after more s = more s ∙ (ap (λ l. l ++ out_of v s) (recounted v h s) ∙ by_worker (slice_get of s) refl)
+  traced_next v h after more s = more s ∙ (ap (λ l. l ++ out_of v s) (matches v h s) ∙ by_worker (slice_get of s) refl)
     where
       -- a mote that doesn't exist sends nothing
       none_sent : slice_get of s ≡ None → (x : Motes) → copies_by (system_of n) x s ≡ []

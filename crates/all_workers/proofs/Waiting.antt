@@ -120,9 +120,9 @@ module _ (n : NetModel) (fine : RunsForward (system_of n)) (of : List ℕ) (from
   AreToCome rest = (s : ℕ) → filter (is_from_sender s) rest ≡ filter (is_to_come (is_own of v) from) (copies_seen (system_of n) (is_own of v) motes (taken_by taker) s)
 
   to_come_each : (rest : List RadioCopy) → AreToCome rest → (s : ℕ) → filter (is_from_sender s) (rest ++ waiting) ≡ filter (is_from_sender s) (filter (is_to of v) (coming (system_of n) fine from motes))
-  to_come_each rest recounted s =
+  to_come_each rest matches s =
       filter-append (is_from_sender s) rest waiting
-      ∙ (ap₂ (λ a b. a ++ b) (recounted s) (waiting_of s)
+      ∙ (ap₂ (λ a b. a ++ b) (matches s) (waiting_of s)
       ∙ (of_sender s
       ∙ (filter_filter (comes_from from) (is_to of v) (copies_by (system_of n) motes s)
       ∙ (ap (filter (is_to of v)) (sym (coming_pending (system_of n) fine from motes led s))
@@ -130,4 +130,4 @@ module _ (n : NetModel) (fine : RunsForward (system_of n)) (of : List ℕ) (from
 
   -- the copies on their way to this worker are those pending for its motes, and those in its inbox
   pub to_come_is : (rest : List RadioCopy) → AreToCome rest → IsPermutation (filter (is_to of v) (coming (system_of n) fine from motes)) (rest ++ waiting)
-  to_come_is rest recounted = same_copies (filter (is_to of v) (coming (system_of n) fine from motes)) (rest ++ waiting) (λ s. sym (to_come_each rest recounted s))
+  to_come_is rest matches = same_copies (filter (is_to of v) (coming (system_of n) fine from motes)) (rest ++ waiting) (λ s. sym (to_come_each rest matches s))

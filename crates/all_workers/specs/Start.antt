@@ -5,7 +5,7 @@ use Rattle.mote_net.specs.Net.{NetModel}
 use Rattle.window_laws.specs.Windows.{first_mote}
 use Rattle.net_agenda.specs.NetSystem.{system_of}
 use Rattle.worker_window.specs.declared.share.Share.{Share}
-use Rattle.worker_window.specs.Share.{Keeps}
+use Rattle.worker_window.specs.Share.{IsWholeShare}
 use Rattle.copy_exchange.specs.Inboxes.{IsFresh}
 use Rattle.all_workers.specs.declared.workers.WorkerGroup.{WorkerGroup}
 use Rattle.all_workers.specs.WorkerGroup.{IsCut}
@@ -14,7 +14,7 @@ use Rattle.all_workers.specs.WorkerGroup.{IsCut}
 pub record AreFirst (n : NetModel) (of : List ℕ) (workers : ℕ) (shares : List Share) : Type 0 where
   pub count : length shares ≡ workers
   pub each : (worker : ℕ) (share : Share) → worker < workers
-      → Keeps n of worker 0 (first_mote (system_of n)) [] (slice_index_or shares worker share)
+      → IsWholeShare n of worker 0 (first_mote (system_of n)) [] (slice_index_or shares worker share)
 
 -- workers that can run: there are at most 16, each with an inbox that was never used, each mote belongs to one of them,
 -- and wakes at 0

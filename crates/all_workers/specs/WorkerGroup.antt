@@ -10,7 +10,7 @@ use Rattle.copy_inbox.specs.Handles.{TakerView}
 use Rattle.copy_exchange.specs.Takers.{taken_by, gathered_by}
 use Rattle.copy_exchange.specs.Inboxes.{Settled}
 use Rattle.worker_window.specs.declared.share.Share.{Share}
-use Rattle.worker_window.specs.Share.{Motes, Keeps}
+use Rattle.worker_window.specs.Share.{Motes, IsWholeShare}
 use Rattle.all_workers.specs.declared.workers.WorkerGroup.{WorkerGroup}
 
 -- each mote has one of this many workers
@@ -34,7 +34,7 @@ pub record Waits (first : Option ℕ) (sender : ℕ) (taker : TakerView) : Type 
 -- another worker, all copies for its own.
 pub record IsWorkerAt (n : NetModel) (of : List ℕ) (from : ℕ) (motes : Motes) (first : Option ℕ) (worker : ℕ)
     (share : Share) (taker : TakerView) : Type 0 where
-  pub keeps : Keeps n of worker from motes (taken_by taker) share
+  pub keeps : IsWholeShare n of worker from motes (taken_by taker) share
   pub gathered : GatheredCopies (system_of n) of motes worker (gathered_by taker)
   pub waits : (sender : ℕ) → Waits first sender taker
 

@@ -24,7 +24,7 @@ pub fn window_length(lookahead: u64, longest: u32) -> u64
     ensures value { result ≡ length_of_window lookahead longest }
     ensures above_zero { 0 < result }
     ensures within { result ≤ lookahead }
-    ensures recounted { 0 < longest → longest < lookahead → result ≡ longest }
+    ensures shorter { 0 < longest → longest < lookahead → result ≡ longest }
 {
     let longest = u64::from(longest);
     if longest == 0 || lookahead <= longest {

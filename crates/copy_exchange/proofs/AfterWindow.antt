@@ -159,10 +159,10 @@ module _ (inboxes : List InboxId) (cs : List Endpoint) (back : AllReturn inboxes
       (each_back inboxes back.worker_of IsDone (λ a b r. (r.collected, r.plain)) before cs back.each)
 
   pub settled_at : (c : Endpoint) → HasEnded c → Each (λ (s : SenderView). TellsOf c.taker.state s.state) (senders_to cs c.worker) → IsSettled c.taker.inbox (with_all c)
-  settled_at c h recounted =
+  settled_at c h matches =
       let ss : List SenderView = senders_to cs c.worker in
       let is = gather_is c.taker ss in
-      let packets : Each (λ (s : SenderView). Packets s.state.pushed) ss = each_map (λ (s : SenderView). TellsOf c.taker.state s.state) (λ (s : SenderView). Packets s.state.pushed) ss (λ s k. k.plain h.3.1) recounted in
+      let packets : Each (λ (s : SenderView). Packets s.state.pushed) ss = each_map (λ (s : SenderView). TellsOf c.taker.state s.state) (λ (s : SenderView). Packets s.state.pushed) ss (λ s k. k.plain h.3.1) matches in
       let P : TakerView → Type 0 = λ t. PacketsLeft t.state in
       record {
         its = ap (λ (t : TakerView). t.inbox) is;
@@ -182,7 +182,7 @@ row_senders rows v = filter_map (λ (r : Row). at_place r.items v) rows
 pub record GathersRows (old new : List TakerView) (rows : List Row) : Type 0 where
   pub count : length new ≡ length old
   pub taker : (v : ℕ) (t : TakerView) → v < length old → get_or new v t ≡ gather_senders (get_or old v t) (row_senders rows v)
-  pub recounted : (v : ℕ) (t : TakerView) → v < length old → Each (λ (s : SenderView). TellsOf (get_or old v t).state s.state) (row_senders rows v)
+  pub matches : (v : ℕ) (t : TakerView) → v < length old → Each (λ (s : SenderView). TellsOf (get_or old v t).state s.state) (row_senders rows v)
 
 -- the items that a taker took don't change when it gathers
 known_before : (t : TakerView) (ss : List SenderView) (p : SenderState) → TellsOf (gather_senders t ss).state p → TellsOf t.state p
@@ -201,7 +201,7 @@ gather_more t [] (Some s) = refl
 gather_more t (s ∷ ss) o = gather_more (after_gather t s.state) ss o
 
 pub no_rows : (old : List TakerView) → GathersRows old old []
-no_rows old = record { count = refl; taker = λ v t lt. refl; recounted = λ v t lt. tt }
+no_rows old = record { count = refl; taker = λ v t lt. refl; matches = λ v t lt. tt }
 
 pub more_rows : (old mid new : List TakerView) (rows : List Row) (row : Row) → GathersRows old mid rows → GathersRow mid new row.items → GathersRows old new (rows ++ row ∷ [])
 more_rows old mid new rows row h r =
@@ -211,13 +211,13 @@ more_rows old mid new rows row h r =
       taker = λ v t lt.
           r.taker v t (omega arith) ∙ (ap (λ u. gather_into u (at_place row.items v)) (h.taker v t lt)
           ∙ (sym (gather_more (get_or old v t) (row_senders rows v) (at_place row.items v)) ∙ ap (gather_senders (get_or old v t)) (sym (filter_map-append (λ (k : Row). at_place k.items v) rows (row ∷ [])))));
-      recounted = λ v t lt.
+      matches = λ v t lt.
           let F : SenderView → Type 0 = λ s. TellsOf (get_or old v t).state s.state in
           let new_ : Each F (cons_option (at_place row.items v) []) = known_option (get_or old v t).state (at_place row.items v) (λ s found.
           let P : TakerView → Type 0 = λ u. TellsOf u.state s.state in
-          known_before (get_or old v t) (row_senders rows v) s.state (subst P (h.taker v t lt) (r.recounted v t s (omega arith) found))) in
+          known_before (get_or old v t) (row_senders rows v) s.state (subst P (h.taker v t lt) (r.matches v t s (omega arith) found))) in
           let L : List SenderView → Type 0 = λ l. Each F l in
-          subst L (sym (filter_map-append (λ (k : Row). at_place k.items v) rows (row ∷ []))) (each_join F (row_senders rows v) (cons_option (at_place row.items v) []) (h.recounted v t lt) new_);
+          subst L (sym (filter_map-append (λ (k : Row). at_place k.items v) rows (row ∷ []))) (each_join F (row_senders rows v) (cons_option (at_place row.items v) []) (h.matches v t lt) new_);
     }
 
 pub takers_after : (inboxes : List InboxId) (old new : List TakerView) (senders : List (Option SenderView)) → AreTakersOf inboxes old → GathersRow old new senders → AreTakersOf inboxes new
@@ -277,7 +277,7 @@ module _ (inboxes : List InboxId) (cs : List Endpoint) (back : AllReturn inboxes
         let same : v ≡ p.0.worker = omega arith in
         let found : slice_get cs v ≡ Some p.0 = slice_get-get_or cs v p.0 lt ∙ ap Some (p.3 p.0) in
         let Q : ℕ → Type 0 = λ k. Each (λ (s : SenderView). TellsOf p.0.taker.state s.state) (senders_to cs k) in
-        subst Q same (h.recounted v p.0 found)
+        subst Q same (h.matches v p.0 found)
 
     pub settled : Settled inboxes ts
     settled = zip_each IsSettled inboxes ts (h.count ∙ long) (λ v id t lt.

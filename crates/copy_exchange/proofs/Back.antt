@@ -68,8 +68,8 @@ gathers_back cs ts h =
       taker = λ v c t at_c at_t.
           let inside = slice_get_within cs v c at_c in
           sym (get_or_from_slice_get ts v t t at_t) ∙ (h.taker v t (omega arith) ∙ (λ i. gather_senders (found_taker cs v c t at_c i) (rows_of cs v i)));
-      recounted = λ v c at_c.
+      matches = λ v c at_c.
           let inside = slice_get_within cs v c at_c in
           let Q : TakerView × List SenderView → Type 0 = λ x. Each (λ (s : SenderView). TellsOf x.0.state s.state) x.1 in
-          subst Q (λ i. (found_taker cs v c c.taker at_c i, rows_of cs v i)) (h.recounted v c.taker (omega arith));
+          subst Q (λ i. (found_taker cs v c c.taker at_c i, rows_of cs v i)) (h.matches v c.taker (omega arith));
     }

@@ -16,11 +16,11 @@ pub record GathersTo (k : ℕ) (old new : List TakerView) (senders : List (Optio
   pub count : length new ≡ length old
   pub done : (v : ℕ) (t : TakerView) → v < k → v < length old → slice_index_or new v t ≡ gather_into (slice_index_or old v t) (at_place senders v)
   pub left : (v : ℕ) (t : TakerView) → k ≤ v → v < length old → slice_index_or new v t ≡ slice_index_or old v t
-  pub recounted : (v : ℕ) (t : TakerView) (s : SenderView) → v < k → v < length old → at_place senders v ≡ Some s
+  pub matches : (v : ℕ) (t : TakerView) (s : SenderView) → v < k → v < length old → at_place senders v ≡ Some s
       → TellsOf (slice_index_or old v t).state s.state
 
 pub gathers_none : (old : List TakerView) (senders : List (Option SenderView)) → GathersTo 0 old old senders
-gathers_none old senders = record { count = refl; done = λ v t lt. absurd (omega arith); left = λ v t le lt. refl; recounted = λ v t s lt. absurd (omega arith) }
+gathers_none old senders = record { count = refl; done = λ v t lt. absurd (omega arith); left = λ v t le lt. refl; matches = λ v t s lt. absurd (omega arith) }
 
 known_some : (d : TakerView) (o : Option SenderView) (s : SenderView) → o ≡ Some s → IfSome o (λ a. TellsOf d.state a.state) → TellsOf d.state s.state
 known_some d o s e h = let P : Option SenderView → Type 0 = λ p. IfSome p (λ a. TellsOf d.state a.state) in subst P e h
@@ -28,7 +28,7 @@ known_some d o s e h = let P : Option SenderView → Type 0 = λ p. IfSome p (λ
 pub gathers_next : (k : ℕ) (old new : List TakerView) (senders : List (Option SenderView)) (was now : TakerView) (sender : Option SenderView) → GathersTo k old new senders → k < length old
     → was ≡ get_or new k was → sender ≡ at_place senders k → now ≡ gather_into was sender → IfSome sender (λ a. TellsOf was.state a.state)
     → GathersTo (k + 1) old (set new k now) senders
-gathers_next k old new senders was now sender h lt at_was at_sender is recounted =
+gathers_next k old new senders was now sender h lt at_was at_sender is matches =
     let count = h.count in
     record {
       count = length-set new k now ∙ count;
@@ -40,18 +40,18 @@ gathers_next k old new senders was now sender h lt at_was at_sender is recounted
           (λ (q : (eqb v k ≡ false) × (v ≢ k)). let n = q.1 in get_or-set_other new k v now t n ∙ h.done v t (omega arith) inside)
           (eqb_tells v k);
       left = λ v t more inside. get_or-set_other new k v now t (λ e. absurd (omega arith)) ∙ h.left v t (omega arith) inside;
-      recounted = λ v t s less inside found. ⊎_elim
+      matches = λ v t s less inside found. ⊎_elim
           (λ (q : (eqb v k ≡ true) × (v ≡ k)).
           let before : was ≡ get_or old v t = at_was ∙ (same_read new k was t (omega arith) ∙ (h.left k t (omega arith) lt ∙ ap (λ i. get_or old i t) (sym q.1))) in
           let its : sender ≡ Some s = at_sender ∙ (ap (at_place senders) (sym q.1) ∙ found) in
           let P : TakerView → Type 0 = λ w. TellsOf w.state s.state in
-          subst P before (known_some was sender s its recounted))
-          (λ (q : (eqb v k ≡ false) × (v ≢ k)). let n = q.1 in h.recounted v t s (omega arith) inside found)
+          subst P before (known_some was sender s its matches))
+          (λ (q : (eqb v k ≡ false) × (v ≢ k)). let n = q.1 in h.matches v t s (omega arith) inside found)
           (eqb_tells v k);
     }
 
 pub gathers_row : (k : ℕ) (old new : List TakerView) (senders : List (Option SenderView)) → GathersTo k old new senders → k ≡ length senders → length senders ≡ length old → GathersRow old new senders
-gathers_row k old new senders h end same = record { takers = h.count; taker = λ v t lt. h.done v t (omega arith) lt; recounted = λ v t s lt found. h.recounted v t s (omega arith) lt found }
+gathers_row k old new senders h end same = record { takers = h.count; taker = λ v t lt. h.done v t (omega arith) lt; matches = λ v t s lt found. h.matches v t s (omega arith) lt found }
 
 -- each is still the taker of its inbox
 pub into_inbox : (t : TakerView) (s : Option SenderView) → (gather_into t s).inbox ≡ t.inbox

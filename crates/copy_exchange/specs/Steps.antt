@@ -59,7 +59,7 @@ pub record GathersRow (old new : List TakerView) (senders : List (Option SenderV
   pub takers : length new ≡ length old
   pub taker : (v : ℕ) (t : TakerView) → v < length old
       → slice_index_or new v t ≡ gather_into (slice_index_or old v t) (at_place senders v)
-  pub recounted : (v : ℕ) (t : TakerView) (s : SenderView) → v < length old → at_place senders v ≡ Some s
+  pub matches : (v : ℕ) (t : TakerView) (s : SenderView) → v < length old → at_place senders v ≡ Some s
       → TellsOf (slice_index_or old v t).state s.state
 
 -- the taker has gathered these senders, one after another
@@ -72,7 +72,7 @@ pub record GathersBack (endpoints : List Endpoint) (takers : List TakerView) : T
   pub count : length takers ≡ length endpoints
   pub taker : (v : ℕ) (e : Endpoint) (t : TakerView) → slice_get endpoints v ≡ Some e → slice_get takers v ≡ Some t
       → t ≡ gather_senders e.taker (senders_to endpoints v)
-  pub recounted : (v : ℕ) (e : Endpoint) → slice_get endpoints v ≡ Some e
+  pub matches : (v : ℕ) (e : Endpoint) → slice_get endpoints v ≡ Some e
       → Each (λ (s : SenderView). TellsOf e.taker.state s.state) (senders_to endpoints v)
 
 -- ---- a mark goes through one sender

@@ -160,7 +160,7 @@ fn gather_one<R: Wait>(rt: &R, inbox: &Inbox, taker: &mut Taker, sender: Option<
     requires taker { taker.old.inbox ≡ inbox.now }
     requires sender { IfSome sender (λ s. s.inbox ≡ inbox.now) }
     ensures gathered { taker.new ≡ gather_into taker.old sender }
-    ensures recounted { IfSome sender (λ s. TellsOf taker.old.state s.state) }
+    ensures matches { IfSome sender (λ s. TellsOf taker.old.state s.state) }
 {
     if let Some(sender) = sender {
         inbox.gather(rt, taker, sender);

@@ -86,8 +86,8 @@ module _ (v : View) (first : ℕ) (kept : List Count) (k : ℕ) (x : Item) (rest
       subst (λ (z : Count). z.taken + 1 < 2 ^ 64) (sym (kept_at first x.sender t.counts kept c t.rest le)) (next_fits v t.counts k x rest d t.taker seen same)
 
   module _ (now : List Count) (b : Bool) (n : ℕ) (c : CountsTaken first x.sender kept now b) (is : n ≡ bool_byte b) where
-    recounted : b ≡ is_gathered (taker_state_in v).gathered x.sender
-    recounted = ⊎_elim
+    matches : b ≡ is_gathered (taker_state_in v).gathered x.sender
+    matches = ⊎_elim
         (λ (lt : x.sender < first). (c.forgotten lt).1 ∙ sym (t.gathered x.sender lt))
         (λ (le : first ≤ x.sender).
         let h = c.counted le in
@@ -95,7 +95,7 @@ module _ (v : View) (first : ℕ) (kept : List Count) (k : ℕ) (x : Item) (rest
         (cases_lt x.sender first)
 
     one : n ≡ cond (is_gathered (taker_state_in v).gathered x.sender) 1 0
-    one = is ∙ (byte_is b ∙ ap (λ z. cond z 1 0) recounted)
+    one = is ∙ (byte_is b ∙ ap (λ z. cond z 1 0) matches)
 
     down : k ≡ n + known_of (taker_state_in v).gathered ((taker_state_in v).taken ++ x ∷ [])
     down =

@@ -34,14 +34,14 @@ module _ (P : RadioCopy → Type 0) where
       (subst (Each P) collects.adds (every_same (taken_by new.taker) (gathered_by old.taker) collects.in_order h))
 
 -- copies that a worker gathered are for its motes, and no mote of its own sent them
-module _ (n : NetModel) (of : List ℕ) (motes : Motes) (v : ℕ) (gathered : List RadioCopy) (recounted : GatheredCopies (system_of n) of motes v gathered) where
+module _ (n : NetModel) (of : List ℕ) (motes : Motes) (v : ℕ) (gathered : List RadioCopy) (matches : GatheredCopies (system_of n) of motes v gathered) where
   foreign_of : (s : ℕ) → Each (λ (c : RadioCopy). (is_own of v c.to ≡ true) × (is_own of v c.sender ≡ false)) (filter (is_from_sender s) gathered)
   foreign_of s = of_case (cases_Bool (is_own of v s))
     where
       of_case : (is_own of v s ≡ true) ⊎ (is_own of v s ≡ false) → Each (λ (c : RadioCopy). (is_own of v c.to ≡ true) × (is_own of v c.sender ≡ false)) (filter (is_from_sender s) gathered)
-      of_case (inl e) = let t = recounted s in let u = rw e at t in subst (Each (λ (c : RadioCopy). (is_own of v c.to ≡ true) × (is_own of v c.sender ≡ false))) (sym u) tt
+      of_case (inl e) = let t = matches s in let u = rw e at t in subst (Each (λ (c : RadioCopy). (is_own of v c.to ≡ true) × (is_own of v c.sender ≡ false))) (sym u) tt
       of_case (inr e) =
-          let t = recounted s in
+          let t = matches s in
           let u = rw e at t in
           every_weaker _ _ (λ c g. (g.0, ap (is_own of v) (eqb-true c.sender s g.1) ∙ e)) _
           (every_both (λ (c : RadioCopy). is_to of v c ≡ true) (λ (c : RadioCopy). is_from_sender s c ≡ true) (filter (is_from_sender s) gathered) (subst (Each (λ (c : RadioCopy). is_to of v c ≡ true)) (sym u) (every_passes (is_to of v) _)) (every_passes (is_from_sender s) gathered))

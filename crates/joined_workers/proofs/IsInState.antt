@@ -14,7 +14,7 @@ use Rattle.copy_exchange.specs.Takers.{taken_by}
 use Rattle.worker_cut.specs.Crossed.{is_own, is_to, copies_seen}
 use Rattle.worker_cut.proofs.Windows.{idle, receivers}
 use Rattle.worker_window.specs.declared.share.Share.{Share}
-use Rattle.worker_window.specs.Share.{Keeps, is_to_come}
+use Rattle.worker_window.specs.Share.{IsWholeShare, is_to_come}
 use Rattle.all_workers.specs.declared.workers.WorkerGroup.{WorkerGroup}
 use Rattle.all_workers.specs.WorkerGroup.{IsAt, IsWorkerAt}
 use Rattle.joined_workers.specs.Next.{IsNextOfAll}
@@ -91,7 +91,7 @@ module _ (n : NetModel) (fine : RunsForward (system_of n)) (of : List ℕ) (from
         later = f.2 moment wakes;
       }
 
-  keeps_on : (v : ℕ) → (p : Piece v) → Keeps n of v moment at.motes (taken_by p.taker) p.share
+  keeps_on : (v : ℕ) → (p : Piece v) → IsWholeShare n of v moment at.motes (taken_by p.taker) p.share
   keeps_on v p = (p.tells n of v from at.motes (taken_by p.taker) p.here.keeps).idle moment le p.later
 
   no_wake : (k : ℕ) → k < length n.motes → NoneBefore moment (at.motes k).wake
@@ -112,8 +112,8 @@ module _ (n : NetModel) (fine : RunsForward (system_of n)) (of : List ℕ) (from
           every_weaker (λ (c : RadioCopy). is_own of v c.to ≡ true → not (ltb c.at from) ≡ true → moment ≤ c.at) (λ (c : RadioCopy). is_own of v c.to ≡ true → (from ≤ c.at → moment ≤ c.at)) (λ c g a l. g a (not_late c.at from l)) _ (unfiltered (λ (c : RadioCopy). moment ≤ c.at) (λ c. is_own of v c.to) (λ c. not (ltb c.at from)) _ k)
       of_case (inr e) =
           let k = rw e at known in
-          let recounted = p.here.gathered s in
-          let crossed_is = rw e at recounted in
+          let matches = p.here.gathered s in
+          let crossed_is = rw e at matches in
           let taken = every_weaker (λ (c : RadioCopy). is_own of v c.to ≡ true → not (ltb c.at from) ≡ true → moment ≤ c.at) (λ (c : RadioCopy). is_own of v c.to ≡ true → (from ≤ c.at → moment ≤ c.at)) (λ c g a l. g a (not_late c.at from l)) _ (unfiltered (λ (c : RadioCopy). moment ≤ c.at) (λ c. is_own of v c.to) (λ c. not (ltb c.at from)) _ k) in
           let rest = every_weaker (IsNotBefore group.first_out) (λ (c : RadioCopy). is_own of v c.to ≡ true → (from ≤ c.at → moment ≤ c.at)) (λ c g a l. not_sooner moment group.first_out c (is.out moment wakes) g) _ (p.here.waits s).later in
           let both = every_append (λ (c : RadioCopy). is_own of v c.to ≡ true → (from ≤ c.at → moment ≤ c.at)) _ _ taken rest in

@@ -18,7 +18,7 @@ use Rattle.copy_inbox.specs.Items.{copies_of}
 use Rattle.worker_cut.specs.Crossed.{is_own, is_to}
 use Rattle.worker_cut.specs.Laws.{GatheredCopies}
 use Rattle.worker_window.specs.declared.share.Share.{Share}
-use Rattle.worker_window.specs.Share.{Motes, Keeps}
+use Rattle.worker_window.specs.Share.{Motes, IsWholeShare}
 use Rattle.worker_window.specs.Window.{RunsOwnMote, IsOutgoing, outgoing_by}
 use Rattle.all_workers.specs.declared.workers.WorkerGroup.{WorkerGroup}
 use Rattle.all_workers.specs.declared.worker.Worker.{Worker}
@@ -47,14 +47,14 @@ module _ (n : NetModel) (fine : RunsForward (system_of n)) (of : List ℕ) (from
   workers = length old.inboxes.items
 
   record IsPart (v : ℕ) (z : OnRecord) : Type 0 where
-    recounted : GatheredCopies (system_of n) of at.motes v z.gathered
+    matches : GatheredCopies (system_of n) of at.motes v z.gathered
     took : (s : ℕ) → filter (is_from_sender s) z.taken ≡ filter (is_from_sender s) z.gathered
     runs : (k : ℕ) → is_own of v k ≡ true → RunsOwnMote n (is_own of v) from until at.motes z.next z.taken k
     out : (s : ℕ) → outgoing_by n (is_own of v) z.next s ≡ outgoing_by n (is_own of v) at.motes s ++ filter (is_from_sender s) z.outgoing
     goes : Each (IsOutgoing n of v) z.outgoing
     first : (d : Worker) → slice_get all.done v ≡ Some d → IsFirstOf z.outgoing d.first_out
     to : (d : Worker) → slice_get all.done v ≡ Some d → (u : ℕ) → delivered d.endpoint u ≡ filter (is_to of u) z.outgoing
-    keeps : (d : Worker) → slice_get all.done v ≡ Some d → Keeps n of v until z.next z.taken d.share
+    keeps : (d : Worker) → slice_get all.done v ≡ Some d → IsWholeShare n of v until z.next z.taken d.share
     taken_after : (t : TakerView) → slice_get new.takers.items v ≡ Some t → taken_by t ≡ z.taken
     gathering : (t : TakerView) → slice_get new.takers.items v ≡ Some t → gathered_by t ≡ z.gathered ++ delivered_to (map (λ (w : Worker). w.endpoint) all.done) v
 
@@ -70,7 +70,7 @@ module _ (n : NetModel) (fine : RunsForward (system_of n)) (of : List ℕ) (from
           let gathered_is : gathered_by p.endpoint.taker ≡ gathered_by p.taker = ap copies_gathered p.starts.same_gathered in (
             record { next = w.next; taken = taken_by p.done.endpoint.taker; gathered = gathered_by p.taker; outgoing = p.ran.outgoing },
             record {
-              recounted = p.here.gathered;
+              matches = p.here.gathered;
               took = λ s.
                   ap (λ t. filter (is_from_sender s) (taken_by t)) p.ran.delivers.taker ∙ (p.ran.collects.in_order s ∙ ap (filter (is_from_sender s)) gathered_is);
               runs = w.runs;
@@ -80,7 +80,7 @@ module _ (n : NetModel) (fine : RunsForward (system_of n)) (of : List ℕ) (from
               to = λ d e u.
                   ap (λ x. delivered x.endpoint u) (sym (same_found _ p.done d p.done_at e))
                   ∙ (p.ran.delivers.adds u ∙ ap (λ l. l ++ filter (is_to of u) p.ran.outgoing) (p.ran.collects.delivers_none u ∙ p.starts.nothing u));
-              keeps = λ d e. subst (λ x. Keeps n of v until w.next (taken_by p.done.endpoint.taker) x.share) (same_found _ p.done d p.done_at e) w.keeps;
+              keeps = λ d e. subst (λ x. IsWholeShare n of v until w.next (taken_by p.done.endpoint.taker) x.share) (same_found _ p.done d p.done_at e) w.keeps;
               taken_after = λ t e. ap taken_by (sym (same_found _ p.gathering t p.gathering_at e)) ∙ ap copies_of p.came.same_taken;
               gathering = λ t e.
                   ap gathered_by (sym (same_found _ p.gathering t p.gathering_at e))
@@ -112,9 +112,9 @@ module _ (n : NetModel) (fine : RunsForward (system_of n)) (of : List ℕ) (from
   is_part : (v : ℕ) → v < workers → IsPart v (parts.0 v)
   is_part v h = parts.1 v h
 
-  recounted : (v : ℕ) → v < workers → GatheredCopies (system_of n) of at.motes v (gathered v)
+  matches : (v : ℕ) → v < workers → GatheredCopies (system_of n) of at.motes v (gathered v)
   unfolding gathered
-  recounted v h = (is_part v h).recounted
+  matches v h = (is_part v h).matches
 
   took : (v : ℕ) → v < workers → (s : ℕ) → filter (is_from_sender s) (taken v) ≡ filter (is_from_sender s) (gathered v)
   unfolding taken gathered
@@ -133,13 +133,13 @@ module _ (n : NetModel) (fine : RunsForward (system_of n)) (of : List ℕ) (from
   goes v h = (is_part v h).goes
 
   abbrev after : Motes
-  after = next n fine of workers at.cut from until at.motes up short taken gathered outgoing nexts recounted took runs out goes
+  after = next n fine of workers at.cut from until at.motes up short taken gathered outgoing nexts matches took runs out goes
 
   abbrev out_to : (v s : ℕ) → List RadioCopy
-  out_to = out_of n fine of workers at.cut from until at.motes up short taken gathered outgoing nexts recounted took runs out goes
+  out_to = out_of n fine of workers at.cut from until at.motes up short taken gathered outgoing nexts matches took runs out goes
 
   late : (v : ℕ) → v < workers → Each (λ (copy : RadioCopy). until ≤ copy.at) (outgoing v)
-  late = sent_late n fine of workers at.cut from until at.motes up short taken gathered outgoing nexts recounted took runs out goes at.led
+  late = sent_late n fine of workers at.cut from until at.motes up short taken gathered outgoing nexts matches took runs out goes at.led
 
   endpoints_long : length all.endpoints ≡ length old.shares.items
   endpoints_long =
@@ -201,9 +201,9 @@ module _ (n : NetModel) (fine : RunsForward (system_of n)) (of : List ℕ) (from
       let gathers : (s : ℕ) → filter (is_from_sender s) (gathered_by t.0) ≡ filter (is_from_sender s) (gathered v) ++ out_to v s = λ s. ap (filter (is_from_sender s)) (p.gathering t.0 t.1) ∙ (filter-append (is_from_sender s) (gathered v) _ ∙ ap (λ l. filter (is_from_sender s) (gathered v) ++ l) (to_one v s)) in
       subst (λ x. IsWorkerAt n of until after new.first_out v x (get_or new.takers.items v taker)) (sym is_share)
       (subst (λ x. IsWorkerAt n of until after new.first_out v d.0.share x) (sym is_taker) (record {
-        keeps = subst (λ x. Keeps n of v until after x d.0.share) (sym (p.taken_after t.0 t.1))
-            (keeps_same n of v (nexts v) after (λ k m. next_is n fine of workers at.cut from until at.motes up short taken gathered outgoing nexts recounted took runs out goes v k m) until (taken v) d.0.share (p.keeps d.0 d.1));
-        gathered = traced_next n fine of workers at.cut from until at.motes up short taken gathered outgoing nexts recounted took runs out goes v h (gathered_by t.0) gathers;
+        keeps = subst (λ x. IsWholeShare n of v until after x d.0.share) (sym (p.taken_after t.0 t.1))
+            (keeps_same n of v (nexts v) after (λ k m. next_is n fine of workers at.cut from until at.motes up short taken gathered outgoing nexts matches took runs out goes v k m) until (taken v) d.0.share (p.keeps d.0 d.1));
+        gathered = traced_next n fine of workers at.cut from until at.motes up short taken gathered outgoing nexts matches took runs out goes v h (gathered_by t.0) gathers;
         waits = λ s. record {
           rest = out_to v s;
           all = gathers s ∙ ap (λ l. l ++ out_to v s) (sym (took v h s) ∙ ap (filter (is_from_sender s)) (sym (p.taken_after t.0 t.1)));
@@ -223,7 +223,7 @@ module _ (n : NetModel) (fine : RunsForward (system_of n)) (of : List ℕ) (from
   unfolding outgoing
   moved = record {
     motes = after;
-    led = led_next n fine of workers at.cut from until at.motes up short taken gathered outgoing nexts recounted took runs out goes at.led;
+    led = led_next n fine of workers at.cut from until at.motes up short taken gathered outgoing nexts matches took runs out goes at.led;
     cut = subst (λ l. IsCut (length n.motes) (length l) of) (sym all.inboxes) at.cut;
     shares = ap length all.shares ∙ (map_long (λ (w : Worker). w.share) all.done ∙ (done_long ∙ sym (ap length all.inboxes)));
     settled = all.settled;

@@ -9,7 +9,7 @@ use Rattle.copy_exchange.specs.Endpoints.{StartsAs, GathersDelivered}
 use Rattle.copy_exchange.specs.Takers.{taken_by}
 use Rattle.copy_inbox.specs.Items.{copies_of}
 use Rattle.worker_window.specs.declared.share.Share.{Share}
-use Rattle.worker_window.specs.Share.{Keeps}
+use Rattle.worker_window.specs.Share.{IsWholeShare}
 use Rattle.worker_window.specs.Window.{RunsWindow}
 use Rattle.worker_cut.specs.Crossed.{IsExpected}
 use Rattle.all_workers.specs.declared.workers.WorkerGroup.{WorkerGroup}
@@ -76,6 +76,6 @@ module _ (n : NetModel) (of : List ℕ) (from until : ℕ) (old new : WorkerGrou
     window =
         subst (λ w. RunsWindow n of w from until at.motes (taken_by p.done.endpoint.taker) p.done.share p.ran.outgoing) p.number
         (p.ran.runs from at.motes
-        (subst (λ w. Keeps n of w from at.motes (taken_by p.endpoint.taker) p.share) (sym p.number) (subst (λ t. Keeps n of v from at.motes t p.share) (sym taken_same) p.here.keeps))
+        (subst (λ w. IsWholeShare n of w from at.motes (taken_by p.endpoint.taker) p.share) (sym p.number) (subst (λ t. IsWholeShare n of v from at.motes t p.share) (sym taken_same) p.here.keeps))
         up short
         (subst (λ w. Each (IsExpected of w from) p.ran.arrived) (sym p.number) comes))

@@ -25,5 +25,5 @@ module _ (n : NetModel) (of : List ℕ) (reached end : ℕ) (group : WorkerGroup
   pub in_state_there : RunsForward (system_of n) → IsAt n of from group
   in_state_there fine = in_state n fine of reached from group begins.next at begins.is begins_later (subst (λ m. NoneBefore m begins.next) (sym begins.start) (quiet end begins.next))
 
-pub short_enough : (from width lookahead recounted until : ℕ) → until ≤ from + width → width ≤ lookahead → lookahead ≡ recounted → until ≤ from + recounted
-short_enough from width lookahead recounted until short within value = omega arith
+pub short_enough : (from width lookahead matches until : ℕ) → until ≤ from + width → width ≤ lookahead → lookahead ≡ matches → until ≤ from + matches
+short_enough from width lookahead matches until short within value = omega arith

@@ -11,7 +11,7 @@ use Rattle.copy_exchange.specs.Endpoints.{IsEndpoint, Collects, Delivers}
 use Rattle.copy_exchange.specs.Takers.{taken_by, gathered_by}
 use Rattle.copy_exchange.specs.Inboxes.{IsPlain}
 use Rattle.worker_cut.specs.Crossed.{is_own, IsExpected}
-use Rattle.worker_window.specs.Share.{Motes, Keeps}
+use Rattle.worker_window.specs.Share.{Motes, IsWholeShare}
 use Rattle.worker_window.specs.Window.{CanRun, RunsWindow, IsOutgoing}
 use Rattle.all_workers.specs.WorkerGroup.{IsCut, IsNotBefore}
 use Rattle.all_workers.specs.declared.worker.Worker.{Worker}
@@ -41,7 +41,7 @@ pub record IsFirstOf (copies : List RadioCopy) (first : Option ℕ) : Type 0 whe
 abbrev pub RunsItsMotes : NetModel → (of : List ℕ) → (until : ℕ) → (arrived outgoing : List RadioCopy)
     → (old new : Worker) → Type 0
 RunsItsMotes n of until arrived outgoing old new = (from : ℕ) (motes : Motes)
-    → Keeps n of old.endpoint.worker from motes (taken_by old.endpoint.taker) old.share
+    → IsWholeShare n of old.endpoint.worker from motes (taken_by old.endpoint.taker) old.share
     → from ≤ until → until ≤ from + (system_of n).lookahead
     → Each (IsExpected of old.endpoint.worker from) arrived
     → RunsWindow n of old.endpoint.worker from until motes (taken_by new.endpoint.taker) new.share outgoing

@@ -63,11 +63,11 @@ use Rattle.kernel_laws.proofs.BodyRuns.{BodyRuns, IsNoPrint, runs_on}
 module _ (program : Tree) (mote p : ℕ) (code : Code) (earlier : List Line) where
   -- on the process list, in a life that has come this far
   abbrev pub IsIn : Next → ProcessInMote → Remainder → List ℕ → Type 0
-  IsIn next v r vars = telling.IsIn p code mote (earlier ++ v.recounted) next v r vars
+  IsIn next v r vars = telling.IsIn p code mote (earlier ++ v.lines_so_far) next v r vars
 
   -- The process is at rest, and the lines about it are those of its lives.
   abbrev pub IsInState : ProcessInMote → Type 0
-  IsInState v = telling.RestsAsTraced program mote p code (earlier ++ v.recounted) v
+  IsInState v = telling.RestsAsTraced program mote p code (earlier ++ v.lines_so_far) v
 
   -- It can be called with this event: it is at rest, or has just started.
   pub record IsReady (v : ProcessInMote) (e : Event) : Type 0 where
@@ -82,7 +82,7 @@ module _ (program : Tree) (mote p : ℕ) (code : Code) (earlier : List Line) whe
     pub coming : Next
     pub can : CanCome coming e v.moment
     pub is_in : IsIn coming v still left
-    pub so_far : SoFar program mote p code earlier v.recounted
+    pub so_far : SoFar program mote p code earlier v.lines_so_far
 
   -- a process that is away is unchanged, and for one that is at rest the lines stay those of its lives
   pub record Keeps (s t : State) : Type 0 where
@@ -100,7 +100,7 @@ module _ (program : Tree) (mote p : ℕ) (code : Code) (earlier : List Line) whe
 
   -- and if the mote halts, the lines are those of lives so far
   abbrev pub Stopped : State → Type 0
-  Stopped t = SoFar program mote p code earlier (process_in_mote p t).recounted
+  Stopped t = SoFar program mote p code earlier (process_in_mote p t).lines_so_far
 
   pub record Stops (s t : State) : Type 0 where
     pub away : IsAway program mote (process_in_mote p s) → Stopped s → Stopped t
@@ -110,7 +110,7 @@ module _ (program : Tree) (mote p : ℕ) (code : Code) (earlier : List Line) whe
   in_state_so_far s h = OnRecord h.lived
 
   quiet_stopped : (s t : State) → IsQuiet p s t → Stopped s → Stopped t
-  quiet_stopped s t e h = subst (λ v. SoFar program mote p code earlier v.recounted) (sym e) h
+  quiet_stopped s t e h = subst (λ v. SoFar program mote p code earlier v.lines_so_far) (sym e) h
 
   quiet_stops : (s t : State) → IsQuiet p s t → Stops s t
   quiet_stops s t e = record { away = λ a h. quiet_stopped s t e h; in_state = λ h. quiet_stopped s t e (in_state_so_far s h) }
@@ -179,9 +179,9 @@ module _ (program : Tree) (mote p : ℕ) (code : Code) (earlier : List Line) whe
   spend_quiet s = always_if (λ t. IsQuiet p s t) (s.units == 0) _ _ (halted_quiet p s) refl
 
   -- spending a unit leaves the process in the same state
-  spent : (v : ProcessInMote) (s : State) → process_in_mote p s ≡ v → SoFar program mote p code earlier v.recounted → IfGives Stopped (λ a t. process_in_mote p t ≡ v) (spend_of s)
+  spent : (v : ProcessInMote) (s : State) → process_in_mote p s ≡ v → SoFar program mote p code earlier v.lines_so_far → IfGives Stopped (λ a t. process_in_mote p t ≡ v) (spend_of s)
   spent v s e so =
-      from_always (Unit {0}) Stopped (λ t. IsQuiet p s t) (λ t. process_in_mote p t ≡ v) (spend_of s) (spend_quiet s) (λ t same. subst (λ w. SoFar program mote p code earlier w.recounted) (sym (same ∙ e)) so) (λ t same. same ∙ e)
+      from_always (Unit {0}) Stopped (λ t. IsQuiet p s t) (λ t. process_in_mote p t ≡ v) (spend_of s) (spend_quiet s) (λ t same. subst (λ w. SoFar program mote p code earlier w.lines_so_far) (sym (same ∙ e)) so) (λ t same. same ∙ e)
 
   writes : (s : State) (w : What) → IsQuiet p s (with_line s w) → Leads (Unit {0}) s (write_of s w)
   unfolding write_of
@@ -251,9 +251,9 @@ module _ (program : Tree) (mote p : ℕ) (code : Code) (earlier : List Line) whe
   record Reacted (v : ProcessInMote) (a : PtState) (w : ProcessInMote) : Type 0 where
     left : List ℕ
     next : Remainder
-    same : w ≡ record v { rest = Some next; vars = Some left; recounted = w.recounted }
-    lived : HasLived program mote p code earlier w.recounted left
-    comes : has_ended a ≡ false → ComesHere program mote p code earlier w.recounted AtCall next left
+    same : w ≡ record v { rest = Some next; vars = Some left; lines_so_far = w.lines_so_far }
+    lived : HasLived program mote p code earlier w.lines_so_far left
+    comes : has_ended a ≡ false → ComesHere program mote p code earlier w.lines_so_far AtCall next left
 
   -- it is about to leave the list, which it may do by itself, without a last run
   record IsLeaving (v : ProcessInMote) (by_itself : Bool) : Type 0 where
@@ -266,8 +266,8 @@ module _ (program : Tree) (mote p : ℕ) (code : Code) (earlier : List Line) whe
     rest : v.rest ≡ Some now
     left : List ℕ
     vars : v.vars ≡ Some left
-    lived : HasLived program mote p code earlier v.recounted left
-    comes : by_itself ≡ false → ComesHere program mote p code earlier v.recounted AtCall now left
+    lived : HasLived program mote p code earlier v.lines_so_far left
+    comes : by_itself ≡ false → ComesHere program mote p code earlier v.lines_so_far AtCall now left
 
   record IsGone (v : ProcessInMote) : Type 0 where
     of_program : v.program ≡ program
@@ -279,7 +279,7 @@ module _ (program : Tree) (mote p : ℕ) (code : Code) (earlier : List Line) whe
     rest : v.rest ≡ Some now
     left : List ℕ
     vars : v.vars ≡ Some left
-    lived : HasLived program mote p code earlier v.recounted left
+    lived : HasLived program mote p code earlier v.lines_so_far left
 
   some_is : {X : Type 0} (x y : X) → Some x ≡ Some y → x ≡ y
   some_is x y e = ap (λ o. unwrap_or o x) e
@@ -323,7 +323,7 @@ module _ (program : Tree) (mote p : ℕ) (code : Code) (earlier : List Line) whe
           either s (is_system_event Poll e) _ _ (bind s _ _ (are.beside s _ e (fresh_quiet code OnPoll (on_poll_quiet code apart))) (λ a t. still t tt))
           (either s (is_system_event Exit e) _ _ (bind s _ _ (are.beside s _ e (fresh_quiet code OnExit (on_exit_quiet code apart))) (λ a t. still t tt)) (still s tt))
 
-      resumed : (s : State) (r : Remainder) (vars : List ℕ) (e : Event) (coming : Next) → IsAway program mote (process_in_mote p s) → (process_in_mote p s).vars ≡ Some vars → (process_in_mote p s).rest ≡ Some r → CanCome coming e s.moment → ComesHere program mote p code earlier (process_in_mote p s).recounted coming r vars → Stopped s
+      resumed : (s : State) (r : Remainder) (vars : List ℕ) (e : Event) (coming : Next) → IsAway program mote (process_in_mote p s) → (process_in_mote p s).vars ≡ Some vars → (process_in_mote p s).rest ≡ Some r → CanCome coming e s.moment → ComesHere program mote p code earlier (process_in_mote p s).lines_so_far coming r vars → Stopped s
           → IfGives Stopped (λ a t. Reacted (process_in_mote p s) a (process_in_mote p t)) (resume_of calls s code p e)
       unfolding resume_of put_remainder
       resumed s r vars e coming away has rest can here so =
@@ -335,19 +335,19 @@ module _ (program : Tree) (mote p : ℕ) (code : Code) (earlier : List Line) whe
           (λ a t ran. record {
             left = ran.left;
             next = a.1;
-            same = put_in_mote p t a.1 (fresh_of code Body) (ap (λ v. v.rest) ran.same ∙ ap (λ v. v.rest) same1) ∙ ap {A = ProcessInMote} (λ v. record v { rest = Some a.1 }) ran.same ∙ ap {A = ProcessInMote} (λ v. record v { rest = Some a.1; vars = Some ran.left; recounted = (process_in_mote p t).recounted }) same1;
+            same = put_in_mote p t a.1 (fresh_of code Body) (ap (λ v. v.rest) ran.same ∙ ap (λ v. v.rest) same1) ∙ ap {A = ProcessInMote} (λ v. record v { rest = Some a.1 }) ran.same ∙ ap {A = ProcessInMote} (λ v. record v { rest = Some a.1; vars = Some ran.left; lines_so_far = (process_in_mote p t).lines_so_far }) same1;
             lived = ran.lived;
             comes = ran.comes;
           })
 
-      reacts : (s : State) (r : Remainder) (vars : List ℕ) (e : Event) (coming : Next) → IsAway program mote (process_in_mote p s) → (process_in_mote p s).vars ≡ Some vars → (process_in_mote p s).rest ≡ Some r → CanCome coming e s.moment → ComesHere program mote p code earlier (process_in_mote p s).recounted coming r vars → Stopped s
+      reacts : (s : State) (r : Remainder) (vars : List ℕ) (e : Event) (coming : Next) → IsAway program mote (process_in_mote p s) → (process_in_mote p s).vars ≡ Some vars → (process_in_mote p s).rest ≡ Some r → CanCome coming e s.moment → ComesHere program mote p code earlier (process_in_mote p s).lines_so_far coming r vars → Stopped s
           → IfGives Stopped (λ a t. Reacted (process_in_mote p s) a (process_in_mote p t)) (react_of calls s (Own p) e)
       unfolding react_of own_of
       reacts s r vars e coming away has rest can here so =
           subst (λ o. IfGives Stopped (λ a t. Reacted (process_in_mote p s) a (process_in_mote p t)) (elim o [ None ↦ Goes Ended s | Some c ↦ handler_of calls s c p e >>= λ _ s1. resume_of calls s1 c p e ])) (sym (code_there s away.of_program))
           (gives_bind (Unit {0}) PtState Stopped (λ u t. IsQuiet p s t) (λ a t. Reacted (process_in_mote p s) a (process_in_mote p t)) (handler_of calls s code p e) _ (lead_away s _ (handled s e) away so) (λ u t same.
           subst (λ v. IfGives Stopped (λ a w. Reacted v a (process_in_mote p w)) (resume_of calls t code p e)) same
-          (resumed t r vars e coming (subst (λ v. IsAway program mote v) (sym same) away) (ap (λ v. v.vars) same ∙ has) (ap (λ v. v.rest) same ∙ rest) (subst (λ v. CanCome coming e v.moment) (sym same) can) (subst (λ v. ComesHere program mote p code earlier v.recounted coming r vars) (sym same) here) (quiet_stopped s t same so))))
+          (resumed t r vars e coming (subst (λ v. IsAway program mote v) (sym same) away) (ap (λ v. v.vars) same ∙ has) (ap (λ v. v.rest) same ∙ rest) (subst (λ v. CanCome coming e v.moment) (sym same) can) (subst (λ v. ComesHere program mote p code earlier v.lines_so_far coming r vars) (sym same) here) (quiet_stopped s t same so))))
 
       -- it leaves
 
@@ -380,7 +380,7 @@ module _ (program : Tree) (mote p : ℕ) (code : Code) (earlier : List Line) whe
       walked s b e ms h =
           let same = exiting_in_mote p s h.has h.room in
           subst (λ v. IfGives Stopped (λ a t. At v t) (walk_of calls e (Own p) ms (exiting_of s (Own p)))) same
-          (lead_away (exiting_of s (Own p)) _ (walk_led e (Own p) ms (exiting_of s (Own p))) (subst (λ v. IsAway program mote v) (sym same) (way_is_away (process_in_mote p s) h.of_program h.of_mote)) (subst (λ v. SoFar program mote p code earlier v.recounted) (sym same) (OnRecord h.lived)))
+          (lead_away (exiting_of s (Own p)) _ (walk_led e (Own p) ms (exiting_of s (Own p))) (subst (λ v. IsAway program mote v) (sym same) (way_is_away (process_in_mote p s) h.of_program h.of_mote)) (subst (λ v. SoFar program mote p code earlier v.lines_so_far) (sym same) (OnRecord h.lived)))
 
       last_gone : (v : ProcessInMote) (a : PtState) (w : ProcessInMote) → v.program ≡ program → v.mote ≡ mote → v.has ≡ true → v.room ≡ true → v.state ≡ Off → Reacted v a w → IsGone w
       last_gone v a w of_program of_mote has room state r = record {
@@ -401,7 +401,7 @@ module _ (program : Tree) (mote p : ℕ) (code : Code) (earlier : List Line) whe
       last_runs s t h same =
           gives_bind (Unit {0}) (Unit {0}) Stopped (λ a u. At (on_its_way (process_in_mote p s)) u) (λ a u. IsGone (process_in_mote p u)) (spend_of t) _ (spent (on_its_way (process_in_mote p s)) t same (OnRecord h.lived)) (λ a u there.
           gives_bind PtState (Unit {0}) Stopped (λ a w. Reacted (process_in_mote p u) a (process_in_mote p w)) (λ a w. IsGone (process_in_mote p w)) (react_of calls u (Own p) (own_event Exit 0)) _
-          (reacts u h.now h.left (own_event Exit 0) AtCall (subst (λ v. IsAway program mote v) (sym there) (way_is_away (process_in_mote p s) h.of_program h.of_mote)) (ap (λ v. v.vars) there ∙ h.vars) (ap (λ v. v.rest) there ∙ h.rest) tt (subst (λ v. ComesHere program mote p code earlier v.recounted AtCall h.now h.left) (sym there) (h.comes refl)) (subst (λ v. SoFar program mote p code earlier v.recounted) (sym there) (OnRecord h.lived)))
+          (reacts u h.now h.left (own_event Exit 0) AtCall (subst (λ v. IsAway program mote v) (sym there) (way_is_away (process_in_mote p s) h.of_program h.of_mote)) (ap (λ v. v.vars) there ∙ h.vars) (ap (λ v. v.rest) there ∙ h.rest) tt (subst (λ v. ComesHere program mote p code earlier v.lines_so_far AtCall h.now h.left) (sym there) (h.comes refl)) (subst (λ v. SoFar program mote p code earlier v.lines_so_far) (sym there) (OnRecord h.lived)))
           (λ a w r. last_gone (process_in_mote p u) a (process_in_mote p w) (ap (λ v. v.program) there ∙ h.of_program) (ap (λ v. v.mote) there ∙ h.of_mote) (ap (λ v. v.has) there ∙ h.has) (ap (λ v. v.room) there ∙ h.room) (ap (λ v. v.state) there) r))
 
       last : (s t : State) (b : Bool) → IsLeaving (process_in_mote p s) b → At (on_its_way (process_in_mote p s)) t → IfGives Stopped (λ a u. IsGone (process_in_mote p u)) (if b then Goes tt t else last_run_of calls t (Own p))
@@ -465,12 +465,12 @@ module _ (program : Tree) (mote p : ℕ) (code : Code) (earlier : List Line) whe
           let away : IsAway program mote (process_in_mote p s2) = subst (λ v. IsAway program mote v) (sym same2) (record { of_program = h.of_program; of_mote = h.of_mote; not_running = refl; busy = refl }) in
           gives_bind PtState (Unit {0}) Stopped (λ a w. Reacted (record (process_in_mote p s) { state = Called }) a (process_in_mote p w)) (λ a w. IsInState (process_in_mote p w)) (react_of calls s2 (Own p) e) _
           (subst (λ v. IfGives Stopped (λ a w. Reacted v a (process_in_mote p w)) (react_of calls s2 (Own p) e)) same2
-          (reacts s2 h.still h.left e h.coming away (ap (λ v. v.vars) same2 ∙ h.vars) (ap (λ v. v.rest) same2 ∙ h.rest) (subst (λ v. CanCome h.coming e v.moment) (sym same2) h.can) (subst (λ v. ComesHere program mote p code earlier v.recounted h.coming h.still h.left) (sym same2) h.is_in.comes) (subst (λ v. SoFar program mote p code earlier v.recounted) (sym same2) h.so_far)))
+          (reacts s2 h.still h.left e h.coming away (ap (λ v. v.vars) same2 ∙ h.vars) (ap (λ v. v.rest) same2 ∙ h.rest) (subst (λ v. CanCome h.coming e v.moment) (sym same2) h.can) (subst (λ v. ComesHere program mote p code earlier v.lines_so_far h.coming h.still h.left) (sym same2) h.is_in.comes) (subst (λ v. SoFar program mote p code earlier v.lines_so_far) (sym same2) h.so_far)))
           (λ a w r. answers_so w (process_in_mote p s) e a (is_system_event Exit e) h r)))
 
       -- starts and kills
 
-      ready_first : (v w : ProcessInMote) (h : IsInState v) → v.has ≡ true → w ≡ record v { state = Running; listed = true; rest = Some (fresh_of code Body); recounted = v.recounted ++ record { at = v.moment; what = what.Start (Own p) } ∷ [] } → IsReady w (own_event Init 0)
+      ready_first : (v w : ProcessInMote) (h : IsInState v) → v.has ≡ true → w ≡ record v { state = Running; listed = true; rest = Some (fresh_of code Body); lines_so_far = v.lines_so_far ++ record { at = v.moment; what = what.Start (Own p) } ∷ [] } → IsReady w (own_event Init 0)
       ready_first v w h has same = subst (λ x. IsReady x (own_event Init 0)) (sym same) (record {
         of_program = h.of_program;
         of_mote = h.of_mote;
@@ -487,15 +487,15 @@ module _ (program : Tree) (mote p : ℕ) (code : Code) (earlier : List Line) whe
           state = refl;
           listed = refl;
           comes = record {
-            before = earlier ++ v.recounted;
+            before = earlier ++ v.lines_so_far;
             start = h.left;
             lived = h.lived;
             lines = record { at = v.moment; what = what.Start (Own p) } ∷ [];
             comes = at_first p code mote h.left v.moment;
-            is_traced = sym (append_assoc earlier v.recounted (record { at = v.moment; what = what.Start (Own p) } ∷ []));
+            is_traced = sym (append_assoc earlier v.lines_so_far (record { at = v.moment; what = what.Start (Own p) } ∷ []));
           };
         };
-        so_far = subst (λ l. LivesSoFar code (Own p) mote code.starts l) (append_assoc earlier v.recounted (record { at = v.moment; what = what.Start (Own p) } ∷ [])) (HasStarted h.lived v.moment);
+        so_far = subst (λ l. LivesSoFar code (Own p) mote code.starts l) (append_assoc earlier v.lines_so_far (record { at = v.moment; what = what.Start (Own p) } ∷ [])) (HasStarted h.lived v.moment);
       })
 
       starts_up : (s : State) → IsInState (process_in_mote p s) → has_process s (Own p) ≡ true → Settles (enlist_of s (Own p) >>= λ _ s1. calls.call s1 (Own p) (own_event Init 0))
@@ -582,7 +582,7 @@ module _ (program : Tree) (mote p : ℕ) (code : Code) (earlier : List Line) whe
       run_led : (s : State) (c : Code) (r : Remainder) (q : ℕ) (e : Event) → (q ≡ p → ⊥) → Leads Answer s (run_of calls s c r q e)
       run_led s c r q e n = each.one_run_led Keeps Stops chain Whoever Others steps calls led start_led (λ t k current l. kill_led t k current) s c r q e n
 
-      body_runs : (s : State) (r : Remainder) (vars : List ℕ) (e : Event) (coming : Next) → IsAway program mote (process_in_mote p s) → (process_in_mote p s).vars ≡ Some vars → CanCome coming e s.moment → ComesHere program mote p code earlier (process_in_mote p s).recounted coming r vars → Stopped s
+      body_runs : (s : State) (r : Remainder) (vars : List ℕ) (e : Event) (coming : Next) → IsAway program mote (process_in_mote p s) → (process_in_mote p s).vars ≡ Some vars → CanCome coming e s.moment → ComesHere program mote p code earlier (process_in_mote p s).lines_so_far coming r vars → Stopped s
           → IfGives Stopped (RanFrom program mote p code earlier (process_in_mote p s)) (run_of calls s code r p e)
       body_runs s r vars e coming away has can here so =
           runs_on program mote p code earlier calls s r vars e coming away has can here so are.body (λ t o f a so. lead_away t _ (act_led t p o f) a so)

@@ -71,8 +71,8 @@ module _ (program : Tree) (mote p : ℕ) (code : Code) where
   traced_twice xs ys = filter-append (λ l. starts_or_prints (Own p) l.what) xs ys
 
   -- whatever the lines of the run under way tell
-  traced_again : (recounted : List Line) (v : ProcessInMote) (moment : ℕ) (now : List Line) → RestsAsTraced program mote p code recounted v → RestsAsTraced program mote p code recounted (record v { moment = moment; recounted = now })
-  traced_again recounted v moment now h = record {
+  traced_again : (lines_so_far : List Line) (v : ProcessInMote) (moment : ℕ) (now : List Line) → RestsAsTraced program mote p code lines_so_far v → RestsAsTraced program mote p code lines_so_far (record v { moment = moment; lines_so_far = now })
+  traced_again lines_so_far v moment now h = record {
     of_program = h.of_program;
     of_mote = h.of_mote;
     tables = h.tables;
@@ -85,15 +85,15 @@ module _ (program : Tree) (mote p : ℕ) (code : Code) where
     where_it_is = elim h.where_it_is [ inl out ↦ inl (record { state = out.state; listed = out.listed }) | inr here ↦ inr (record { has = here.has; state = here.state; listed = here.listed; comes = here.comes }) ];
   }
 
-  begun_in_state : (m : Mote) (moment : ℕ) (before : List Line) (sends : List Sent) → process_in_mote p (begun m moment before sends) ≡ record (process_in_mote p m.state) { moment = moment; recounted = starts_and_prints (Own p) before }
+  begun_in_state : (m : Mote) (moment : ℕ) (before : List Line) (sends : List Sent) → process_in_mote p (begun m moment before sends) ≡ record (process_in_mote p m.state) { moment = moment; lines_so_far = starts_and_prints (Own p) before }
   unfolding begun_of
-  begun_in_state m moment before sends = ap (λ b. record (process_in_mote p m.state) { moment = moment; listed = b; recounted = starts_and_prints (Own p) before }) (numbered_listed 0 m.state.members (place_of (Own p)))
+  begun_in_state m moment before sends = ap (λ b. record (process_in_mote p m.state) { moment = moment; listed = b; lines_so_far = starts_and_prints (Own p) before }) (numbered_listed 0 m.state.members (place_of (Own p)))
 
   begins : (earlier : List Line) (m : Mote) (moment : ℕ) (before : List Line) (sends : List Sent) → RestsAsTraced program mote p code (starts_and_prints (Own p) (earlier ++ before)) (process_in_mote p m.state)
-      → let s = begun m moment before sends in RestsAsTraced program mote p code (starts_and_prints (Own p) earlier ++ (process_in_mote p s).recounted) (process_in_mote p s)
+      → let s = begun m moment before sends in RestsAsTraced program mote p code (starts_and_prints (Own p) earlier ++ (process_in_mote p s).lines_so_far) (process_in_mote p s)
   begins earlier m moment before sends h =
-      subst (λ v. RestsAsTraced program mote p code (starts_and_prints (Own p) earlier ++ v.recounted) v) (sym (begun_in_state m moment before sends))
-      (subst (λ l. RestsAsTraced program mote p code l (record (process_in_mote p m.state) { moment = moment; recounted = starts_and_prints (Own p) before })) (traced_twice earlier before) (traced_again _ (process_in_mote p m.state) moment _ h))
+      subst (λ v. RestsAsTraced program mote p code (starts_and_prints (Own p) earlier ++ v.lines_so_far) v) (sym (begun_in_state m moment before sends))
+      (subst (λ l. RestsAsTraced program mote p code l (record (process_in_mote p m.state) { moment = moment; lines_so_far = starts_and_prints (Own p) before })) (traced_twice earlier before) (traced_again _ (process_in_mote p m.state) moment _ h))
 
   -- the lines that a boot or a run that continues adds
   given_traced : (earlier : List Line) (m : Mote) (moment : ℕ) (before : List Line) (sends : List Sent) (o : Outcome ℕ) → RestsAsTraced program mote p code (starts_and_prints (Own p) (earlier ++ before)) (process_in_mote p m.state)
@@ -103,21 +103,21 @@ module _ (program : Tree) (mote p : ℕ) (code : Code) where
     halted = λ off. subst (λ l. LivesSoFar code (Own p) mote code.starts l) (sym (traced_twice earlier t.lines)) (leads.leads.in_state (begins earlier m moment before sends h));
   }
   given_traced earlier m moment before sends (Goes a t) h leads = record {
-    going = λ on. subst (λ l. RestsAsTraced program mote p code l (record (process_in_mote p t) { recounted = [] })) (sym (traced_twice earlier t.lines)) (traced_again _ (process_in_mote p t) t.moment [] (leads.leads.in_state (begins earlier m moment before sends h)));
+    going = λ on. subst (λ l. RestsAsTraced program mote p code l (record (process_in_mote p t) { lines_so_far = [] })) (sym (traced_twice earlier t.lines)) (traced_again _ (process_in_mote p t) t.moment [] (leads.leads.in_state (begins earlier m moment before sends h)));
     halted = λ off. absurd (cc);
   }
 
 pub run_tells : RunTells
 unfolding run_given
 run_tells program mote p code earlier m moment before sends is h =
-    let recounted = starts_and_prints (Own p) earlier in
-    unless_halts (λ g. TellsSoFar program mote p code (earlier ++ g.lines) g.mote) m before sends _ (λ off. h) (λ on. given_traced program mote p code earlier m moment before sends _ (h.going on) (run_leads program mote p code is.is_code is.quiet recounted (calls_of (most_units + 1)) (all_calls_traced program mote p code recounted is.is_code is.quiet (most_units + 1)) (begun m moment before sends)))
+    let lines_so_far = starts_and_prints (Own p) earlier in
+    unless_halts (λ g. TellsSoFar program mote p code (earlier ++ g.lines) g.mote) m before sends _ (λ off. h) (λ on. given_traced program mote p code earlier m moment before sends _ (h.going on) (run_leads program mote p code is.is_code is.quiet lines_so_far (calls_of (most_units + 1)) (all_calls_traced program mote p code lines_so_far is.is_code is.quiet (most_units + 1)) (begun m moment before sends)))
 
 pub boot_tells : BootTells
 unfolding boot_given
 boot_tells program mote p code earlier m moment before sends is h =
-    let recounted = starts_and_prints (Own p) earlier in
-    unless_halts (λ g. TellsSoFar program mote p code (earlier ++ g.lines) g.mote) m before sends _ (λ off. h) (λ on. given_traced program mote p code earlier m moment before sends _ (h.going on) (boot_leads program mote p code is.is_code is.quiet recounted (calls_of (most_units + 1)) (all_calls_traced program mote p code recounted is.is_code is.quiet (most_units + 1)) (begun m moment before sends)))
+    let lines_so_far = starts_and_prints (Own p) earlier in
+    unless_halts (λ g. TellsSoFar program mote p code (earlier ++ g.lines) g.mote) m before sends _ (λ off. h) (λ on. given_traced program mote p code earlier m moment before sends _ (h.going on) (boot_leads program mote p code is.is_code is.quiet lines_so_far (calls_of (most_units + 1)) (all_calls_traced program mote p code lines_so_far is.is_code is.quiet (most_units + 1)) (begun m moment before sends)))
 
 pub poll_tells : PollTells
 unfolding with_poll
@@ -151,8 +151,8 @@ note_silent p lines l n = traced_more (Own p) lines l ∙ ap (λ b. starts_and_p
 
 pub note_tells : NoteTells
 note_tells program mote p code lines m l n h = record {
-  going = λ on. subst (λ recounted. RestsAsTraced program mote p code recounted (process_in_mote p m.state)) (sym (note_silent p lines l n)) (h.going on);
-  halted = λ off. subst (λ recounted. LivesSoFar code (Own p) mote code.starts recounted) (sym (note_silent p lines l n)) (h.halted off);
+  going = λ on. subst (λ lines_so_far. RestsAsTraced program mote p code lines_so_far (process_in_mote p m.state)) (sym (note_silent p lines l n)) (h.going on);
+  halted = λ off. subst (λ lines_so_far. LivesSoFar code (Own p) mote code.starts lines_so_far) (sym (note_silent p lines l n)) (h.halted off);
 }
 
 -- before the boot

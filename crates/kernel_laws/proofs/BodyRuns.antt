@@ -82,25 +82,25 @@ IsNoPrint o = Unit {0}
 module _ (program : Tree) (mote p : ℕ) (code : Code) (earlier : List Line) where
   -- In the life that began with its last start it has come this far.
   abbrev pub ComesHere : List Line → Next → Remainder → List ℕ → Type 0
-  ComesHere recounted next r vars = telling.ComesHere p code mote (earlier ++ recounted) next r vars
+  ComesHere lines_so_far next r vars = telling.ComesHere p code mote (earlier ++ lines_so_far) next r vars
 
   -- The lines are those of lives that end with these variables.
   abbrev pub HasLived : List Line → List ℕ → Type 0
-  HasLived recounted vars = Lives code (Own p) mote code.starts (earlier ++ recounted) vars
+  HasLived lines_so_far vars = Lives code (Own p) mote code.starts (earlier ++ lines_so_far) vars
 
   -- The lines are those of lives so far.
   abbrev pub SoFar : List Line → Type 0
-  SoFar recounted = LivesSoFar code (Own p) mote code.starts (earlier ++ recounted)
+  SoFar lines_so_far = LivesSoFar code (Own p) mote code.starts (earlier ++ lines_so_far)
 
   abbrev pub Stopped : State → Type 0
-  Stopped t = SoFar (process_in_mote p t).recounted
+  Stopped t = SoFar (process_in_mote p t).lines_so_far
 
   -- A run of the body has answered: of the process, only its variables and the lines about it have changed.
   pub record Ran (v : ProcessInMote) (a : PtState) (r : Remainder) (w : ProcessInMote) : Type 0 where
     pub left : List ℕ
-    pub same : w ≡ record v { vars = Some left; recounted = w.recounted }
-    pub lived : HasLived w.recounted left
-    pub comes : has_ended a ≡ false → ComesHere w.recounted AtCall r left
+    pub same : w ≡ record v { vars = Some left; lines_so_far = w.lines_so_far }
+    pub lived : HasLived w.lines_so_far left
+    pub comes : has_ended a ≡ false → ComesHere w.lines_so_far AtCall r left
 
   abbrev pub RanFrom : ProcessInMote → Answer → State → Type 0
   RanFrom v a t = Ran v a.0 a.1 (process_in_mote p t)
@@ -108,7 +108,7 @@ module _ (program : Tree) (mote p : ℕ) (code : Code) (earlier : List Line) whe
   -- the body runs
   abbrev pub BodyRuns : Calls → Type 0
   BodyRuns calls =
-      (s : State) (r : Remainder) (vars : List ℕ) (e : Event) (next : Next) → IsAway program mote (process_in_mote p s) → (process_in_mote p s).vars ≡ Some vars → CanCome next e s.moment → ComesHere (process_in_mote p s).recounted next r vars → Stopped s
+      (s : State) (r : Remainder) (vars : List ℕ) (e : Event) (next : Next) → IsAway program mote (process_in_mote p s) → (process_in_mote p s).vars ≡ Some vars → CanCome next e s.moment → ComesHere (process_in_mote p s).lines_so_far next r vars → Stopped s
       → IfGives Stopped (RanFrom (process_in_mote p s)) (calls.run s code r p e)
 
   -- while the process is away, its operations other than prints leave it unchanged
@@ -116,16 +116,16 @@ module _ (program : Tree) (mote p : ℕ) (code : Code) (earlier : List Line) whe
   ActsAside calls =
       (s : State) (o : Op) → IsNoPrint o → IsAway program mote (process_in_mote p s) → Stopped s → IfGives Stopped (λ a t. process_in_mote p t ≡ process_in_mote p s) (act_of calls s p o)
 
-  traced_next : (recounted before lines more : List Line) → earlier ++ recounted ≡ before ++ lines → earlier ++ (recounted ++ more) ≡ before ++ (lines ++ more)
-  traced_next recounted before lines more e = sym (append_assoc earlier recounted more) ∙ ap (λ l. l ++ more) e ∙ append_assoc before lines more
+  traced_next : (lines_so_far before lines more : List Line) → earlier ++ lines_so_far ≡ before ++ lines → earlier ++ (lines_so_far ++ more) ≡ before ++ (lines ++ more)
+  traced_next lines_so_far before lines more e = sym (append_assoc earlier lines_so_far more) ∙ ap (λ l. l ++ more) e ∙ append_assoc before lines more
 
-  lived_more : (recounted before : List Line) (start : List ℕ) (lines : List Line) (out : Completion) → Lives code (Own p) mote code.starts before start → HasLife p code mote start lines out → earlier ++ recounted ≡ before ++ lines
-      → HasLived recounted (left_by out)
-  lived_more recounted before start lines out lived h e =
+  lived_more : (lines_so_far before : List Line) (start : List ℕ) (lines : List Line) (out : Completion) → Lives code (Own p) mote code.starts before start → HasLife p code mote start lines out → earlier ++ lines_so_far ≡ before ++ lines
+      → HasLived lines_so_far (left_by out)
+  lived_more lines_so_far before start lines out lived h e =
       subst (λ l. Lives code (Own p) mote code.starts l (left_by out)) (ap (λ l. before ++ l) h.has_lines ∙ sym e)
       (subst (λ o. Lives code (Own p) mote code.starts (before ++ lines_of (Own p) h.life) (left_by o)) h.became_so (LivesAgain lived h.life))
 
-  module _ (calls : Calls) (s : State) (r : Remainder) (vars : List ℕ) (e : Event) (next : Next) (away : IsAway program mote (process_in_mote p s)) (has : (process_in_mote p s).vars ≡ Some vars) (can : CanCome next e s.moment) (here : ComesHere (process_in_mote p s).recounted next r vars) (so_far : Stopped s) where
+  module _ (calls : Calls) (s : State) (r : Remainder) (vars : List ℕ) (e : Event) (next : Next) (away : IsAway program mote (process_in_mote p s)) (has : (process_in_mote p s).vars ≡ Some vars) (can : CanCome next e s.moment) (here : ComesHere (process_in_mote p s).lines_so_far next r vars) (so_far : Stopped s) where
     -- its sight
     abbrev now : Sight
     now = record { answer = answer_in next; event = e; looks = looks_of s }
@@ -138,8 +138,8 @@ module _ (program : Tree) (mote p : ℕ) (code : Code) (earlier : List Line) whe
     rests : (a : PtState) (after : Remainder) (changed : List ℕ) → Takes (step.Done a) after changed → state_number a < 2 → (w : ProcessInMote) → w ≡ record (process_in_mote p s) { vars = Some changed } → Ran (process_in_mote p s) a after w
     rests a after changed takes small w same = record {
       left = changed;
-      same = same ∙ ap (λ l. record (process_in_mote p s) { vars = Some changed; recounted = l }) (sym (ap (λ v. v.recounted) same));
-      lived = lived_more w.recounted here.before here.start here.lines (in_state changed) here.lived (in_state_there p code mote here.start here.lines next r after vars changed now can (is_answered next) away.of_mote here.comes a takes small) now_traced;
+      same = same ∙ ap (λ l. record (process_in_mote p s) { vars = Some changed; lines_so_far = l }) (sym (ap (λ v. v.lines_so_far) same));
+      lived = lived_more w.lines_so_far here.before here.start here.lines (in_state changed) here.lived (in_state_there p code mote here.start here.lines next r after vars changed now can (is_answered next) away.of_mote here.comes a takes small) now_traced;
       comes = λ q. record {
         before = here.before;
         start = here.start;
@@ -150,14 +150,14 @@ module _ (program : Tree) (mote p : ℕ) (code : Code) (earlier : List Line) whe
       };
     }
       where
-        now_traced : earlier ++ w.recounted ≡ here.before ++ here.lines
-        now_traced = ap (λ v. earlier ++ v.recounted) same ∙ here.is_traced
+        now_traced : earlier ++ w.lines_so_far ≡ here.before ++ here.lines
+        now_traced = ap (λ v. earlier ++ v.lines_so_far) same ∙ here.is_traced
 
     ends : (a : PtState) (after : Remainder) (changed : List ℕ) (out : Completion) → HasLife p code mote here.start here.lines out → left_by out ≡ changed → has_ended a ≡ true → (w : ProcessInMote) → w ≡ record (process_in_mote p s) { vars = Some changed } → Ran (process_in_mote p s) a after w
     ends a after changed out life is ended w same = record {
       left = changed;
-      same = same ∙ ap (λ l. record (process_in_mote p s) { vars = Some changed; recounted = l }) (sym (ap (λ v. v.recounted) same));
-      lived = subst (λ l. HasLived w.recounted l) is (lived_more w.recounted here.before here.start here.lines out here.lived life (ap (λ v. earlier ++ v.recounted) same ∙ here.is_traced));
+      same = same ∙ ap (λ l. record (process_in_mote p s) { vars = Some changed; lines_so_far = l }) (sym (ap (λ v. v.lines_so_far) same));
+      lived = subst (λ l. HasLived w.lines_so_far l) is (lived_more w.lines_so_far here.before here.start here.lines out here.lived life (ap (λ v. earlier ++ v.lines_so_far) same ∙ here.is_traced));
       comes = λ q. absurd (let f : true ≡ false = sym ended ∙ q in cc);
     }
 
@@ -171,7 +171,7 @@ module _ (program : Tree) (mote p : ℕ) (code : Code) (earlier : List Line) whe
 
     -- an operation was performed, and the run continues
     abbrev IsBehind : Op → List ℕ → State → Type 0
-    IsBehind o changed t = process_in_mote p t ≡ record (process_in_mote p s) { vars = Some changed; recounted = (process_in_mote p s).recounted ++ printed (Own p) now (operates o) }
+    IsBehind o changed t = process_in_mote p t ≡ record (process_in_mote p s) { vars = Some changed; lines_so_far = (process_in_mote p s).lines_so_far ++ printed (Own p) now (operates o) }
 
     still_away : (o : Op) (changed : List ℕ) (t : State) → IsBehind o changed t → IsAway program mote (process_in_mote p t)
     still_away o changed t same = subst (λ v. IsAway program mote v) (sym same) (record { of_program = away.of_program; of_mote = away.of_mote; not_running = away.not_running; busy = away.busy })
@@ -179,27 +179,27 @@ module _ (program : Tree) (mote p : ℕ) (code : Code) (earlier : List Line) whe
     ran_on : (o : Op) (changed : List ℕ) (t : State) → IsBehind o changed t → (a : Answer) (u : State) → RanFrom (process_in_mote p t) a u → RanFrom (process_in_mote p s) a u
     ran_on o changed t same a u ran = record {
       left = ran.left;
-      same = ran.same ∙ ap {A = ProcessInMote} (λ v. record v { vars = Some ran.left; recounted = (process_in_mote p u).recounted }) same;
+      same = ran.same ∙ ap {A = ProcessInMote} (λ v. record v { vars = Some ran.left; lines_so_far = (process_in_mote p u).lines_so_far }) same;
       lived = ran.lived;
       comes = ran.comes;
     }
 
     module _ (runs : BodyRuns calls) where
-      goes_on : (o : Op) (after : Remainder) (changed : List ℕ) (recounted : ℕ) → recounted < 2 → Takes (step.Op o) after changed
-          → (t : State) → IsBehind o (answered_of after changed recounted).variables t
-          → IfGives Stopped (RanFrom (process_in_mote p s)) (calls.run t code (answered_of after changed recounted).remainder p e)
-      goes_on o after changed recounted small takes t same =
-          gives_weaker _ Stopped _ _ _ (runs t (answered_of after changed recounted).remainder (answered_of after changed recounted).variables e (InCall recounted e s.moment) (still_away o _ t same) (ap (λ v. v.vars) same) (refl, ap (λ v. v.moment) same) (record {
+      goes_on : (o : Op) (after : Remainder) (changed : List ℕ) (lines_so_far : ℕ) → lines_so_far < 2 → Takes (step.Op o) after changed
+          → (t : State) → IsBehind o (answered_of after changed lines_so_far).variables t
+          → IfGives Stopped (RanFrom (process_in_mote p s)) (calls.run t code (answered_of after changed lines_so_far).remainder p e)
+      goes_on o after changed lines_so_far small takes t same =
+          gives_weaker _ Stopped _ _ _ (runs t (answered_of after changed lines_so_far).remainder (answered_of after changed lines_so_far).variables e (InCall lines_so_far e s.moment) (still_away o _ t same) (ap (λ v. v.vars) same) (refl, ap (λ v. v.moment) same) (record {
             before = here.before;
             start = here.start;
             lived = here.lived;
             lines = here.lines ++ printed (Own p) now (operates o);
-            comes = operates_on p code mote here.start here.lines next r after vars changed now can (is_answered next) away.of_mote here.comes recounted o small takes;
+            comes = operates_on p code mote here.start here.lines next r after vars changed now can (is_answered next) away.of_mote here.comes lines_so_far o small takes;
             is_traced = now_traced;
-          }) (OnRecord (lived_more (process_in_mote p t).recounted here.before here.start (here.lines ++ printed (Own p) now (operates o)) (in_state changed) here.lived (performs_there p code mote here.start here.lines next r after vars changed now can (is_answered next) away.of_mote here.comes o takes) now_traced))) (ran_on o _ t same)
+          }) (OnRecord (lived_more (process_in_mote p t).lines_so_far here.before here.start (here.lines ++ printed (Own p) now (operates o)) (in_state changed) here.lived (performs_there p code mote here.start here.lines next r after vars changed now can (is_answered next) away.of_mote here.comes o takes) now_traced))) (ran_on o _ t same)
         where
-          now_traced : earlier ++ (process_in_mote p t).recounted ≡ here.before ++ (here.lines ++ printed (Own p) now (operates o))
-          now_traced = ap (λ v. earlier ++ v.recounted) same ∙ traced_next (process_in_mote p s).recounted here.before here.lines (printed (Own p) now (operates o)) here.is_traced
+          now_traced : earlier ++ (process_in_mote p t).lines_so_far ≡ here.before ++ (here.lines ++ printed (Own p) now (operates o))
+          now_traced = ap (λ v. earlier ++ v.lines_so_far) same ∙ traced_next (process_in_mote p s).lines_so_far here.before here.lines (printed (Own p) now (operates o)) here.is_traced
 
       -- if the thread gets no answer to the operation
       goes_unanswered : (o : Op) (after : Remainder) (changed : List ℕ) → Takes (step.Op o) after changed → after.mark ≡ UnderWay None
@@ -219,12 +219,12 @@ module _ (program : Tree) (mote p : ℕ) (code : Code) (earlier : List Line) whe
       stepped_away changed left = subst (λ v. IsAway program mote v) (sym (stepped_in_mote changed left)) (record { of_program = away.of_program; of_mote = away.of_mote; not_running = away.not_running; busy = away.busy })
 
       stepped_so_far : (changed : List ℕ) (left : ℕ) (t : State) → process_in_mote p t ≡ process_in_mote p (stepped changed left) → Stopped t
-      stepped_so_far changed left t same = subst (λ v. SoFar v.recounted) (sym (same ∙ stepped_in_mote changed left)) so_far
+      stepped_so_far changed left t same = subst (λ v. SoFar v.lines_so_far) (sym (same ∙ stepped_in_mote changed left)) so_far
 
       -- it learned whether the queue was full
       abbrev IsFirstFault : Remainder → List ℕ → Remainder → State → Type 0
       IsFirstFault after changed r1 t =
-          (recounted : ℕ) × (recounted < 2) × (r1 ≡ (answered_of after changed recounted).remainder) × (process_in_mote p t ≡ record (process_in_mote p s) { vars = Some (answered_of after changed recounted).variables })
+          (lines_so_far : ℕ) × (lines_so_far < 2) × (r1 ≡ (answered_of after changed lines_so_far).remainder) × (process_in_mote p t ≡ record (process_in_mote p s) { vars = Some (answered_of after changed lines_so_far).variables })
 
       is_small : (full : Bool) → (if full then 1 else 0) < 2
       is_small true = omega arith
@@ -245,7 +245,7 @@ module _ (program : Tree) (mote p : ℕ) (code : Code) (earlier : List Line) whe
           gives_bind _ _ Stopped (IsFirstFault after changed) _ (perform_of calls (stepped changed left) after p (op.Post t number word)) _
           (gives_bind _ _ Stopped (λ full u. process_in_mote p u ≡ process_in_mote p (stepped changed left)) _ (post_of (stepped changed left) t (posted number word)) _ (from_always Bool Stopped (λ u. process_in_mote p u ≡ process_in_mote p (stepped changed left)) (λ u. process_in_mote p u ≡ process_in_mote p (stepped changed left)) (post_of (stepped changed left) t (posted number word)) (post_quiet p (stepped changed left) t (posted number word)) (λ u same. stepped_so_far changed left u same) (λ u same. same))
           (λ full u same. answer_passed after changed u full (same ∙ stepped_in_mote changed left)))
-          (λ r1 u h. subst (λ x. IfGives Stopped (RanFrom (process_in_mote p s)) (calls.run u code x p e)) (sym h.2) (goes_on (op.Post t number word) after changed h.0 h.1 takes u (h.3 ∙ ap (λ l. record (process_in_mote p s) { vars = Some (answered_of after changed h.0).variables; recounted = l }) (sym (append-nil (process_in_mote p s).recounted)))))
+          (λ r1 u h. subst (λ x. IfGives Stopped (RanFrom (process_in_mote p s)) (calls.run u code x p e)) (sym h.2) (goes_on (op.Post t number word) after changed h.0 h.1 takes u (h.3 ∙ ap (λ l. record (process_in_mote p s) { vars = Some (answered_of after changed h.0).variables; lines_so_far = l }) (sym (append-nil (process_in_mote p s).lines_so_far)))))
 
       same_own : starts_or_prints (Own p) (what.Print (Own p) zero) ≡ true
       same_own = grind (arith, nat_tests)
@@ -255,8 +255,8 @@ module _ (program : Tree) (mote p : ℕ) (code : Code) (earlier : List Line) whe
       unfolding perform_of act_of write_of
       printed_on after changed left v takes mark =
           goes_unanswered (op.Print v) after changed takes mark (with_line (stepped changed left) (what.Print (Own p) v))
-          (ap (λ l. record (process_in_mote p (stepped changed left)) { recounted = l }) (traced_more (Own p) s.lines (record { at = s.moment; what = what.Print (Own p) v }) ∙ ap (λ b. starts_and_prints (Own p) s.lines ++ (if b then record { at = s.moment; what = what.Print (Own p) v } ∷ [] else [])) same_own)
-          ∙ ap {A = ProcessInMote} (λ w. record w { recounted = (process_in_mote p s).recounted ++ record { at = s.moment; what = what.Print (Own p) v } ∷ [] }) (stepped_in_mote changed left))
+          (ap (λ l. record (process_in_mote p (stepped changed left)) { lines_so_far = l }) (traced_more (Own p) s.lines (record { at = s.moment; what = what.Print (Own p) v }) ∙ ap (λ b. starts_and_prints (Own p) s.lines ++ (if b then record { at = s.moment; what = what.Print (Own p) v } ∷ [] else [])) same_own)
+          ∙ ap {A = ProcessInMote} (λ w. record w { lines_so_far = (process_in_mote p s).lines_so_far ++ record { at = s.moment; what = what.Print (Own p) v } ∷ [] }) (stepped_in_mote changed left))
 
       module _ (acts : ActsAside calls) where
         acted_on : (after : Remainder) (changed : List ℕ) (left : ℕ) (o : Op) → IsNoPrint o → printed (Own p) now (operates o) ≡ [] → Takes (step.Op o) after changed → after.mark ≡ UnderWay None
@@ -265,7 +265,7 @@ module _ (program : Tree) (mote p : ℕ) (code : Code) (earlier : List Line) whe
             gives_bind _ _ Stopped (λ r1 u. (r1 ≡ after) × (process_in_mote p u ≡ process_in_mote p (stepped changed left))) _ (act_of calls (stepped changed left) p o >>= λ _ s1. Goes after s1) _
             (gives_bind _ _ Stopped (λ a u. process_in_mote p u ≡ process_in_mote p (stepped changed left)) _ (act_of calls (stepped changed left) p o) _ (acts (stepped changed left) o aside (stepped_away changed left) (stepped_so_far changed left (stepped changed left) refl)) (λ a u same. (refl, same)))
             (λ r1 u h. subst (λ x. IfGives Stopped (RanFrom (process_in_mote p s)) (calls.run u code x p e)) (sym h.0) (goes_unanswered o after changed takes mark u
-            (h.1 ∙ stepped_in_mote changed left ∙ ap (λ l. record (process_in_mote p s) { vars = Some changed; recounted = l }) (sym (append-nil (process_in_mote p s).recounted) ∙ ap (λ l. (process_in_mote p s).recounted ++ l) (sym nothing)))))
+            (h.1 ∙ stepped_in_mote changed left ∙ ap (λ l. record (process_in_mote p s) { vars = Some changed; lines_so_far = l }) (sym (append-nil (process_in_mote p s).lines_so_far) ∙ ap (λ l. (process_in_mote p s).lines_so_far ++ l) (sym nothing)))))
 
         performed_on : (after : Remainder) (changed : List ℕ) (left : ℕ) (o : Op) → Takes (step.Op o) after changed → IsUnanswered o after.mark
             → IfGives Stopped (RanFrom (process_in_mote p s)) (perform_of calls (stepped changed left) after p o >>= λ r1 s1. calls.run s1 code r1 p e)

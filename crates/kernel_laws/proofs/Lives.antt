@@ -41,9 +41,9 @@ module _ (p : ℕ) (code : Code) (mote : ℕ) (start : List ℕ) where
   -- in a sight that can come
   module _ (lines : List Line) (next : Next) (r after : Remainder) (vars changed : List ℕ) (now : Sight) (can : CanCome next now.event now.looks.moment) (answered : IsAnswered next now.answer) (of_mote : now.looks.mote ≡ mote) (c : ComesTo lines next r vars) where
     -- an operation, whose answer the process gets next
-    pub operates_on : (recounted : ℕ) (o : Op) → recounted < 2 → Steps code now r vars (step.Op o) after changed
-        → ComesTo (lines ++ printed (Own p) now (operates o)) (InCall recounted now.event now.looks.moment) (answered_of after changed recounted).remainder (answered_of after changed recounted).variables
-    operates_on recounted o small steps = record {
+    pub operates_on : (lines_so_far : ℕ) (o : Op) → lines_so_far < 2 → Steps code now r vars (step.Op o) after changed
+        → ComesTo (lines ++ printed (Own p) now (operates o)) (InCall lines_so_far now.event now.looks.moment) (answered_of after changed lines_so_far).remainder (answered_of after changed lines_so_far).variables
+    operates_on lines_so_far o small steps = record {
       on = λ resumed later more out same answer shown runs.
           then_more lines (prints (Own p) (resumed ∷ later) more) now (operates o) out
           (c.on now (resumed ∷ later) (operates o ∷ more) out can answered (of_mote, record { event = same.0; moment = same.1; answer = subst (λ n. n < 2) (sym answer) small }, shown)

@@ -35,7 +35,7 @@ traced_more lines s before sends g (Goes a t) r = record {
   added = r.added;
   wrote = r.wrote;
   goes = record {
-    recounted = rw map-append (goes_further (seen_lines lines) (seen_lines r.added) (view_of s) (view_of t) r.walked g r.runs);
+    matches = rw map-append (goes_further (seen_lines lines) (seen_lines r.added) (view_of s) (view_of t) r.walked g r.runs);
     sound = record { stays = r.sound.stays; fits = r.sound.fits };
   };
 }
@@ -53,7 +53,7 @@ adds_none lines before g e h = record { added = []; wrote = e ∙ sym (append-ni
 run_halted : (m : Mote) (moment : ℕ) (lines before : List Line) (sends : List Sent) (h : Bool) → m.booted ≡ true → m.halted ≡ h → GoesWithAs true h lines m.state → Adds lines before (run_given moment m before sends)
 unfolding run_given
 run_halted m moment lines before sends true b h g = rw h (adds_none lines before _ refl (rw b g))
-run_halted m moment lines before sends false b h g = rw h (traced_more lines m.state before sends g.recounted _ (run_rests m moment before sends g.recounted.walked g.sound))
+run_halted m moment lines before sends false b h g = rw h (traced_more lines m.state before sends g.matches _ (run_rests m moment before sends g.matches.walked g.sound))
 
 goes_booted : (lines : List Line) (m : Mote) → m.booted ≡ true → GoesWith lines m → GoesWithAs true m.halted lines m.state
 goes_booted lines m b g = subst (λ x. GoesWithAs x m.halted lines m.state) b g
@@ -76,7 +76,7 @@ boot_rests m moment before sends walked k =
 boot_first : (lines : List Line) (m : Mote) (moment : ℕ) (before : List Line) (sends : List Sent) (h : Bool) → m.halted ≡ h → GoesWithAs false h lines m.state → Adds lines before (boot_given moment m before sends)
 unfolding boot_given
 boot_first lines m moment before sends true h g = absurd g
-boot_first lines m moment before sends false h g = rw h (traced_more lines m.state before sends g.recounted _ (boot_rests m moment before sends g.recounted.walked g.blank))
+boot_first lines m moment before sends false h g = rw h (traced_more lines m.state before sends g.matches _ (boot_rests m moment before sends g.matches.walked g.blank))
 
 pub boot_adds : (lines : List Line) (m : Mote) (moment : ℕ) (before : List Line) (sends : List Sent) → m.booted ≡ false → GoesWith lines m → Adds lines before (boot_given moment m before sends)
 boot_adds lines m moment before sends b g = boot_first lines m moment before sends m.halted refl (goes_unbooted lines m b g)
@@ -91,9 +91,9 @@ traced_quiet : (lines : List Line) (s t : State) → IsQuiet s t → view.GoesWi
 traced_quiet lines s t q g = subst (λ v. view.GoesWithView (seen_lines lines) v) (view_quiet s t q) g
 
 goes_quiet : (booted halted : Bool) (lines : List Line) (s t : State) → IsQuiet s t → (IsBlank s → IsBlank t) → GoesWithAs booted halted lines s → GoesWithAs booted halted lines t
-goes_quiet false false lines s t q f g = record { recounted = traced_quiet lines s t q g.recounted; blank = f g.blank }
+goes_quiet false false lines s t q f g = record { matches = traced_quiet lines s t q g.matches; blank = f g.blank }
 goes_quiet false true lines s t q f g = absurd g
-goes_quiet true false lines s t q f g = record { recounted = traced_quiet lines s t q g.recounted; sound = (quiet s t q).sound g.sound }
+goes_quiet true false lines s t q f g = record { matches = traced_quiet lines s t q g.matches; sound = (quiet s t q).sound g.sound }
 goes_quiet true true lines s t q f g = g
 
 pub poll_keeps : (lines : List Line) (m : Mote) (p : Proc) → GoesWith lines m → GoesWith lines (with_poll m p)
@@ -127,8 +127,8 @@ traced_noted : (lines : List Line) (s : State) (l : Line) → IsNote l.what → 
 traced_noted lines s l n g = rw (map-append, note_is_other l.what n) (goes_further (seen_lines lines) (handed.Other ∷ []) (view_of s) (view_of s) g.walked g (other_moves (view_of s) g.walked []))
 
 noted : (booted : Bool) (lines : List Line) (s : State) (l : Line) → IsNote l.what → GoesWithAs booted false lines s → GoesWithAs booted false (lines ++ l ∷ []) s
-noted false lines s l n g = record { recounted = traced_noted lines s l n g.recounted; blank = g.blank }
-noted true lines s l n g = record { recounted = traced_noted lines s l n g.recounted; sound = g.sound }
+noted false lines s l n g = record { matches = traced_noted lines s l n g.matches; blank = g.blank }
+noted true lines s l n g = record { matches = traced_noted lines s l n g.matches; sound = g.sound }
 
 pub note_keeps : (lines : List Line) (m : Mote) (l : Line) → m.halted ≡ false → IsNote l.what → GoesWith lines m → GoesWith (lines ++ l ∷ []) m
 note_keeps lines m l h n g =
@@ -140,9 +140,9 @@ traced_in_order : (lines : List Line) (s : State) → view.GoesWithView (seen_li
 traced_in_order lines s g = record { handed_on = goes_with_hands_on _ _ g; halt_is_last = goes_with_halts_last _ _ g; starts = goes_with_starts _ _ g }
 
 in_order_as : (booted halted : Bool) (lines : List Line) (s : State) → GoesWithAs booted halted lines s → IsInOrder lines
-in_order_as false false lines s g = traced_in_order lines s g.recounted
+in_order_as false false lines s g = traced_in_order lines s g.matches
 in_order_as false true lines s g = absurd g
-in_order_as true false lines s g = traced_in_order lines s g.recounted
+in_order_as true false lines s g = traced_in_order lines s g.matches
 in_order_as true true lines s g = record { handed_on = halted_hands_on _ g; halt_is_last = halted_halts_last _ g; starts = halted_starts _ g }
 
 pub in_order : (lines : List Line) (m : Mote) → GoesWith lines m → IsInOrder lines

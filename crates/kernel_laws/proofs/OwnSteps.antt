@@ -66,12 +66,12 @@ module _ (p : ℕ) where
   member_in_mote : (s : State) (k : ℕ) → process_in_mote p (record s { members = record { process = Own p; incarnation = s.started } ∷ s.members; started = k }) ≡ record (process_in_mote p s) { listed = true }
   member_in_mote s k = ap (λ b. record (process_in_mote p s) { listed = b || is_found_in s.members (Own p) }) (alike (place_of (Own p)))
 
-  start_in_mote : (s : State) → process_in_mote p (with_line s (what.Start (Own p))) ≡ record (process_in_mote p s) { recounted = (process_in_mote p s).recounted ++ record { at = s.moment; what = what.Start (Own p) } ∷ [] }
+  start_in_mote : (s : State) → process_in_mote p (with_line s (what.Start (Own p))) ≡ record (process_in_mote p s) { lines_so_far = (process_in_mote p s).lines_so_far ++ record { at = s.moment; what = what.Start (Own p) } ∷ [] }
   start_in_mote s =
-      ap (λ l. record (process_in_mote p s) { recounted = l }) (traced_more (Own p) s.lines (record { at = s.moment; what = what.Start (Own p) }) ∙ ap (λ b. starts_and_prints (Own p) s.lines ++ (if b then record { at = s.moment; what = what.Start (Own p) } ∷ [] else [])) (alike (place_of (Own p))))
+      ap (λ l. record (process_in_mote p s) { lines_so_far = l }) (traced_more (Own p) s.lines (record { at = s.moment; what = what.Start (Own p) }) ∙ ap (λ b. starts_and_prints (Own p) s.lines ++ (if b then record { at = s.moment; what = what.Start (Own p) } ∷ [] else [])) (alike (place_of (Own p))))
 
   pub enlist_in_mote : (s : State) (code : Code) (r : Remainder) → slice_get s.program.codes p ≡ Some code → (process_in_mote p s).has ≡ true → (process_in_mote p s).rest ≡ Some r
-      → Always (λ t. process_in_mote p t ≡ record (process_in_mote p s) { state = Running; listed = true; rest = Some (fresh_of code Body); recounted = (process_in_mote p s).recounted ++ record { at = s.moment; what = what.Start (Own p) } ∷ [] }) (enlist_of s (Own p))
+      → Always (λ t. process_in_mote p t ≡ record (process_in_mote p s) { state = Running; listed = true; rest = Some (fresh_of code Body); lines_so_far = (process_in_mote p s).lines_so_far ++ record { at = s.moment; what = what.Start (Own p) } ∷ [] }) (enlist_of s (Own p))
   unfolding enlist_of write_of with_state
   enlist_in_mote s code r is has rest =
       let s1 = record s { members = record { process = Own p; incarnation = s.started } ∷ s.members; started = s.started + 1 } in
@@ -80,4 +80,4 @@ module _ (p : ℕ) where
       let e2 : process_in_mote p s2 ≡ record (process_in_mote p s) { listed = true; state = Running } = state_in_mote s1 Running has ∙ ap {A = ProcessInMote} (λ v. record v { state = Running }) e1 in
       let s3 = with_fresh_body s2 p in
       let e3 : process_in_mote p s3 ≡ record (process_in_mote p s) { listed = true; state = Running; rest = Some (fresh_of code Body) } = body_is_right s2 code r is rest ∙ ap {A = ProcessInMote} (λ v. record v { rest = Some (fresh_of code Body) }) e2 in
-      start_in_mote s3 ∙ ap {A = ProcessInMote} (λ v. record v { recounted = v.recounted ++ record { at = s.moment; what = what.Start (Own p) } ∷ [] }) e3
+      start_in_mote s3 ∙ ap {A = ProcessInMote} (λ v. record v { lines_so_far = v.lines_so_far ++ record { at = s.moment; what = what.Start (Own p) } ∷ [] }) e3

@@ -111,7 +111,7 @@ module _ (p : ℕ) where
 
   pub line_quiet : (s : State) (w : What) → starts_or_prints (Own p) w ≡ false → IsQuiet s (with_line s w)
   line_quiet s w e =
-      ap (λ l. record (process_in_mote p s) { recounted = l }) (traced_more (Own p) s.lines (record { at = s.moment; what = w }) ∙ ap (λ l. starts_and_prints (Own p) s.lines ++ l) (traced_nothing (Own p) (record { at = s.moment; what = w }) e) ∙ append-nil _)
+      ap (λ l. record (process_in_mote p s) { lines_so_far = l }) (traced_more (Own p) s.lines (record { at = s.moment; what = w }) ∙ ap (λ l. starts_and_prints (Own p) s.lines ++ l) (traced_nothing (Own p) (record { at = s.moment; what = w }) e) ∙ append-nil _)
 
   pub print_quiet : (s : State) (q v : ℕ) → (q ≡ p → ⊥) → IsQuiet s (with_line s (what.Print (Own q) v))
   print_quiet s q v n = line_quiet s _ (other_differs p (Own q) (own_other p q n))

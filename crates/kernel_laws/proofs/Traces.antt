@@ -29,7 +29,7 @@ is_there n = let e = length-replicate (n + 3) Off in rw e (grind (arith, nat_tes
 pub no_lines_first : NoLinesGoFirst
 unfolding unbooted
 no_lines_first program mote queue =
-    let n = length program.processes in record { recounted = record { walked = 0; runs = stays }; blank = record { members = refl; events = refl; idle = rw (is_off n, is_unset n) refl; there = is_there n } }
+    let n = length program.processes in record { matches = record { walked = 0; runs = stays }; blank = record { members = refl; events = refl; idle = rw (is_off n, is_unset n) refl; there = is_there n } }
 
 -- a call that was given no lines before adds all the lines that it gives
 given_adds : (t : Traced) (g : Given) → Adds t.lines [] g → GoesWith (with_given t g).lines (with_given t g).mote

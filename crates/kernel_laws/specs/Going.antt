@@ -30,12 +30,12 @@ pub record IsBlank (s : State) : Type 0 where
 
 -- the lines are a run of the delivery machine to the mote's state, with no walk under way
 pub record GoesAsBooted (lines : List Line) (s : State) : Type 0 where
-  pub recounted : view.GoesWithView (seen_lines lines) (view_of s)
+  pub matches : view.GoesWithView (seen_lines lines) (view_of s)
   pub sound : SystemStays s
 
 -- and the mote was not booted
 pub record GoesAsNew (lines : List Line) (s : State) : Type 0 where
-  pub recounted : view.GoesWithView (seen_lines lines) (view_of s)
+  pub matches : view.GoesWithView (seen_lines lines) (view_of s)
   pub blank : IsBlank s
 
 abbrev pub GoesWithAs : (booted halted : Bool) → List Line → State → Type 0

@@ -55,14 +55,14 @@ pub record ComesTo (p : ℕ) (code : Code) (mote : ℕ) (start : List ℕ) (line
       → Runs code r vars now later more out → HasLife p code mote start (lines ++ prints (Own p) (now ∷ later) more) out
 
 -- In the life that began with its last start the process has come this far.
-pub record ComesHere (p : ℕ) (code : Code) (mote : ℕ) (recounted : List Line) (next : Next) (r : Remainder)
+pub record ComesHere (p : ℕ) (code : Code) (mote : ℕ) (lines_so_far : List Line) (next : Next) (r : Remainder)
     (vars : List ℕ) : Type 0 where
   pub before : List Line
   pub start : List ℕ
   pub lived : Lives code (Own p) mote code.starts before start
   pub lines : List Line
   pub comes : ComesTo p code mote start lines next r vars
-  pub is_traced : recounted ≡ before ++ lines
+  pub is_traced : lines_so_far ≡ before ++ lines
 
 -- A process in the state of a mote: the program, the mote and the moment; whether the tables have room for it; its
 -- state, whether it is being exited, and whether it is on the process list; the remainder of its body, its variables,
@@ -78,7 +78,7 @@ pub record ProcessInMote : Type 0 where
   pub listed : Bool
   pub rest : Option Remainder
   pub vars : Option (List ℕ)
-  pub recounted : List Line
+  pub lines_so_far : List Line
 
 abbrev pub process_in_mote : (p : ℕ) → State → ProcessInMote
 process_in_mote p s = record {
@@ -92,7 +92,7 @@ process_in_mote p s = record {
   listed = is_listed s (Own p);
   rest = slice_get s.remainders p;
   vars = slice_get s.variables p;
-  recounted = starts_and_prints (Own p) s.lines;
+  lines_so_far = starts_and_prints (Own p) s.lines;
 }
 
 -- off the process list; or on it, in a life that has come this far
@@ -100,16 +100,16 @@ pub record IsOut (v : ProcessInMote) : Type 0 where
   pub state : v.state ≡ Off
   pub listed : v.listed ≡ false
 
-pub record IsIn (p : ℕ) (code : Code) (mote : ℕ) (recounted : List Line) (next : Next) (v : ProcessInMote)
+pub record IsIn (p : ℕ) (code : Code) (mote : ℕ) (lines_so_far : List Line) (next : Next) (v : ProcessInMote)
     (r : Remainder)
     (vars : List ℕ) : Type 0 where
   pub has : v.has ≡ true
   pub state : v.state ≡ Running
   pub listed : v.listed ≡ true
-  pub comes : ComesHere p code mote recounted next r vars
+  pub comes : ComesHere p code mote lines_so_far next r vars
 
 -- The process is at rest, and the lines about it are those of its lives, up to the variables that it has.
-pub record RestsAsTraced (program : Tree) (mote p : ℕ) (code : Code) (recounted : List Line) (v : ProcessInMote)
+pub record RestsAsTraced (program : Tree) (mote p : ℕ) (code : Code) (lines_so_far : List Line) (v : ProcessInMote)
     : Type 0 where
   pub of_program : v.program ≡ program
   pub of_mote : v.mote ≡ mote
@@ -119,8 +119,8 @@ pub record RestsAsTraced (program : Tree) (mote p : ℕ) (code : Code) (recounte
   pub rest : v.rest ≡ Some still
   pub left : List ℕ
   pub vars : v.vars ≡ Some left
-  pub lived : Lives code (Own p) mote code.starts recounted left
-  pub where_it_is : IsOut v ⊎ IsIn p code mote recounted AtCall v still left
+  pub lived : Lives code (Own p) mote code.starts lines_so_far left
+  pub where_it_is : IsOut v ⊎ IsIn p code mote lines_so_far AtCall v still left
 
 -- The lines so far of a mote are about the lives of the process up to its state; or up to the halt of the mote.
 pub record TellsSoFar (program : Tree) (mote p : ℕ) (code : Code) (lines : List Line) (m : Mote) : Type 0 where

@@ -75,7 +75,7 @@ pub fn no_timer_is_forgotten()
     ensures within { CallsForgetNone }
     ensures boot { BootForgetsNone }
     ensures run { RunForgetsNone }
-    ensures recounted { RunTellsDue }
+    ensures due { RunTellsDue }
     ensures boot_owners { BootKeepsOwners }
     ensures run_owners { RunKeepsOwners }
 {}

@@ -20,7 +20,7 @@ use Rattle.copy_exchange.proofs.AfterWindow.{zip_each}
 use Rattle.copy_exchange.proofs.Parts.{from}
 use Rattle.copy_exchange.proofs.Early.{copies_pushes}
 use Rattle.worker_window.specs.declared.share.Share.{Share}
-use Rattle.worker_window.specs.Share.{Motes, Keeps}
+use Rattle.worker_window.specs.Share.{Motes, IsWholeShare}
 use Rattle.all_workers.specs.declared.workers.WorkerGroup.{WorkerGroup}
 use Rattle.all_workers.specs.WorkerGroup.{IsAt, IsWorkerAt}
 use Rattle.all_workers.proofs.Choose.{choose}
@@ -56,7 +56,7 @@ module _ (n : NetModel) (of : List ℕ) (width windows : ℕ) (group : WorkerGro
     share_at : slice_get group.shares.items v ≡ Some share
     taker_at : slice_get group.takers.items v ≡ Some taker
     ran : WorkerRunsWindows n of width windows workers v z.state.made z.state.taken (λ u. pushed_list (h.sender u v)) z.history
-    keeps : Keeps n of v (bound width n.end windows) (z.history.motes windows) (copies_of z.state.taken) share
+    keeps : IsWholeShare n of v (bound width n.end windows) (z.history.motes windows) (copies_of z.state.taken) share
     are_senders : AreSenders workers v (h.sender v) z.state.made z.senders
     begun : Each (λ (s : SenderView). BeginsWith s.state.pushed (part s.state.number z.state.taken)) z.senders
     gathers : GatheredSenders z.state.made z.state.taken z.senders taker
@@ -164,7 +164,7 @@ module _ (n : NetModel) (of : List ℕ) (width windows : ℕ) (group : WorkerGro
       crossed_is : (s : ℕ) → from s (copies_of z.state.taken) ≡ crossed (system_of n) of motes v s
       crossed_is s = elim (cases_Bool (is_own of v s)) [
         | inl e ↦ rw e (sym (all_had s) ∙ copies_none n of width windows workers all v low windows (omega arith) s (λ w lw nw. not_other of v w s (own_of of v s e) (λ q. nw (sym q))))
-        | inr e ↦ had_all s e (slice_get of s) refl ∙ there_at_last.recounted v low s
+        | inr e ↦ had_all s e (slice_get of s) refl ∙ there_at_last.matches v low s
       ]
 
       its_one : (s : ℕ) → OneOf s z.senders
@@ -177,9 +177,9 @@ module _ (n : NetModel) (of : List ℕ) (width windows : ℕ) (group : WorkerGro
 
       at_worker : IsWorkerAt n of (suc n.end) motes group.first_out v p.share p.taker
       at_worker = record {
-        keeps = subst (λ l. Keeps n of v (suc n.end) motes l p.share) (sym (ap taken_by p.taker_is))
+        keeps = subst (λ l. IsWholeShare n of v (suc n.end) motes l p.share) (sym (ap taken_by p.taker_is))
             (keeps_same n of v (z.history.motes windows) motes (own_stage n fine of width windows workers all h.cut are short v low windows) (suc n.end) (copies_of z.state.taken) p.share
-            (subst (λ t. Keeps n of v t (z.history.motes windows) (copies_of z.state.taken) p.share) at_last p.keeps));
+            (subst (λ t. IsWholeShare n of v t (z.history.motes windows) (copies_of z.state.taken) p.share) at_last p.keeps));
         gathered = λ s. sym (taken_gathered s) ∙ (ap (λ t. from s (taken_by t)) p.taker_is ∙ crossed_is s);
         waits = λ s. record { rest = []; all = sym (append-nil (from s (taken_by p.taker)) ∙ taken_gathered s); later = tt };
       }

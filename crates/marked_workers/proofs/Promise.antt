@@ -15,7 +15,7 @@ use Rattle.copy_inbox.specs.Views.{make_taker_state}
 use Rattle.copy_exchange.proofs.Parts.{copies-append}
 use Rattle.copy_exchange.specs.Pushes.{marks_in}
 use Rattle.worker_window.specs.declared.share.Share.{Share}
-use Rattle.worker_window.specs.Share.{Keeps}
+use Rattle.worker_window.specs.Share.{IsWholeShare}
 use Rattle.worker_window.specs.Window.{RunsWindow, IsOutgoing}
 use Rattle.marked_workers.specs.Bounds.{bound}
 use Rattle.marked_workers.specs.WorkerHistory.{RunsMotes, WorkerRunsWindows, WorkerRunsMarked}
@@ -24,13 +24,13 @@ use Rattle.marked_workers.proofs.Longer.{edit_same, runs_none, longer, runs_long
 
 -- with a new share, and a taker that has taken nothing
 pub promise_first : (n : NetModel) (of : List ℕ) (width workers worker : ℕ) (share : Share) (state : TakerState) → state.taken ≡ [] → state.gathered ≡ []
-    → Keeps n of worker 0 (first_mote (system_of n)) [] share → WorkerRunsMarked n of width 0 workers worker share state (λ v. [])
+    → IsWholeShare n of worker 0 (first_mote (system_of n)) [] share → WorkerRunsMarked n of width 0 workers worker share state (λ v. [])
 promise_first n of width workers worker share state taken nobody keeps = record {
   history = record { motes = λ k. first_mote (system_of n); taken = λ k. []; outgoing = λ k. [] };
   ran = subst (λ l. WorkerRunsWindows n of width 0 workers worker state.made l (λ v. []) (record { motes = λ k. first_mote (system_of n); taken = λ k. []; outgoing = λ k. [] })) (sym taken)
       (runs_none n of width workers worker state.made);
-  keeps = subst (λ l. Keeps n of worker (bound width n.end 0) (first_mote (system_of n)) (copies_of l) share) (sym taken)
-      (subst (λ t. Keeps n of worker t (first_mote (system_of n)) [] share) (sym (at_first width n.end)) keeps);
+  keeps = subst (λ l. IsWholeShare n of worker (bound width n.end 0) (first_mote (system_of n)) (copies_of l) share) (sym taken)
+      (subst (λ t. IsWholeShare n of worker t (first_mote (system_of n)) [] share) (sym (at_first width n.end)) keeps);
   nobody = nobody;
 }
 
@@ -41,7 +41,7 @@ module _ (n : NetModel) (of : List ℕ) (width workers worker k : ℕ) (share ra
     (lead : (s : ℕ) → s < state.made → suc k ≤ marks_in (part s (state.taken ++ more)))
     (of_made : OfMade state.made (state.taken ++ more))
     (pushes_more : (v : ℕ) → v < workers → v ≢ worker → pushes_now v ≡ pushed v ++ (map Packet (filter (is_to of v) outgoing) ++ Mark k ∷ []))
-    (keeps : Keeps n of worker (bound width n.end (suc k)) window.next (copies_of state.taken ++ copies_of more) last_share) where
+    (keeps : IsWholeShare n of worker (bound width n.end (suc k)) window.next (copies_of state.taken ++ copies_of more) last_share) where
   motes_ran : RunsMotes n of worker (bound width n.end k) (bound width n.end (suc k)) (promise.history.motes k) window.next (copies_of state.taken) outgoing
   motes_ran = record { runs = window.runs; out = window.out; goes = goes; late = window.late }
 
@@ -50,7 +50,7 @@ module _ (n : NetModel) (of : List ℕ) (width workers worker k : ℕ) (share ra
   promise_next = record {
     history = longer n of width workers worker state.made k state.taken more pushed pushes_now promise.history window.next outgoing;
     ran = runs_longer n of width workers worker state.made k state.taken more pushed pushes_now promise.history window.next outgoing promise.ran motes_ran lead of_made pushes_more;
-    keeps = subst (λ m. Keeps n of worker (bound width n.end (suc k)) m (copies_of (state.taken ++ more)) last_share) (sym (edit_same promise.history.motes (suc k) window.next))
-        (subst (λ l. Keeps n of worker (bound width n.end (suc k)) window.next l last_share) (sym (copies-append state.taken more)) keeps);
+    keeps = subst (λ m. IsWholeShare n of worker (bound width n.end (suc k)) m (copies_of (state.taken ++ more)) last_share) (sym (edit_same promise.history.motes (suc k) window.next))
+        (subst (λ l. IsWholeShare n of worker (bound width n.end (suc k)) window.next l last_share) (sym (copies-append state.taken more)) keeps);
     nobody = promise.nobody;
   }

@@ -12,7 +12,7 @@ use Rattle.copy_exchange.specs.Endpoints.{HasMarks, HasPushedNothing, IsEndpoint
 use Rattle.copy_exchange.specs.Inboxes.{IsFresh}
 use Rattle.copy_exchange.proofs.Open.{made_for_others}
 use Rattle.worker_window.specs.declared.share.Share.{Share}
-use Rattle.worker_window.specs.Share.{Keeps}
+use Rattle.worker_window.specs.Share.{IsWholeShare}
 use Rattle.all_workers.specs.Start.{AreFirst}
 use Rattle.all_workers.specs.WorkerGroup.{IsCut}
 use Rattle.all_workers.specs.Threads.{AreMade}
@@ -71,8 +71,8 @@ module _ (inboxes : List InboxId) (takers : List TakerView) (shares : List Share
         let number : c.worker ≡ v = numbered (length inboxes) made.endpoints made.together.workers v low c at_endpoint in
         record {
           cut = cut;
-          keeps = subst (λ w. Keeps n of w 0 (first_mote (system_of n)) [] s) (sym number)
-              (subst (λ x. Keeps n of v 0 (first_mote (system_of n)) [] x) (read shares v s s at_share) (first.each v s low));
+          keeps = subst (λ w. IsWholeShare n of w 0 (first_mote (system_of n)) [] s) (sym number)
+              (subst (λ x. IsWholeShare n of v 0 (first_mote (system_of n)) [] x) (read shares v s s at_share) (first.each v s low));
           on_inboxes = (each_at (IsEndpoint inboxes) made.endpoints v c made.together.each at_endpoint).on_inboxes;
           marked = each_at HasMarks made.endpoints v c (made.marked marked) at_endpoint;
           made = made_for_others inboxes made.endpoints made.together v c at_endpoint (none_gathered v c at_endpoint);

@@ -44,12 +44,12 @@ module _ (n : NetModel) (fine : RunsForward (system_of n)) (of : List ℕ) (widt
 
   pub record Reached (k : ℕ) : Type 0 where
     pub led : Windows (system_of n) 0 (bound width n.end k) (first_mote (system_of n)) (stage k)
-    pub recounted : (v : ℕ) → v < workers → GatheredCopies (system_of n) of (stage k) v (so_far v k)
+    pub matches : (v : ℕ) → v < workers → GatheredCopies (system_of n) of (stage k) v (so_far v k)
 
   first_reached : Reached 0
   first_reached = record {
     led = subst (λ t. Windows (system_of n) 0 t (first_mote (system_of n)) (first_mote (system_of n))) (sym (at_first width n.end)) Last;
-    recounted = λ v lv s.
+    matches = λ v lv s.
         none_before s (λ w. sent_before 0 (sent_to n of width windows workers all w v)) workers (λ w lw. refl) ∙ sym (none_crossed (system_of n) of v s);
   }
 
@@ -104,10 +104,10 @@ module _ (n : NetModel) (fine : RunsForward (system_of n)) (of : List ℕ) (widt
 
     next_reached : Reached k → Reached (suc k)
     next_reached at = record {
-      led = led_next n fine of workers cut start until (stage k) (begins_before width n.end windows are k low) narrow (λ v. so_far v k) (λ v. so_far v k) (λ v. (all.histories v).outgoing k) (λ v. (all.histories v).motes (suc k)) at.recounted
+      led = led_next n fine of workers cut start until (stage k) (begins_before width n.end windows are k low) narrow (λ v. so_far v k) (λ v. so_far v k) (λ v. (all.histories v).outgoing k) (λ v. (all.histories v).motes (suc k)) at.matches
           (λ v lv s. refl) own_runs own_out (λ v lv. ((all.ran v lv).runs k low).goes) at.led;
-      recounted = λ v lv.
-          traced_next n fine of workers cut start until (stage k) (begins_before width n.end windows are k low) narrow (λ v. so_far v k) (λ v. so_far v k) (λ v. (all.histories v).outgoing k) (λ v. (all.histories v).motes (suc k)) at.recounted
+      matches = λ v lv.
+          traced_next n fine of workers cut start until (stage k) (begins_before width n.end windows are k low) narrow (λ v. so_far v k) (λ v. so_far v k) (λ v. (all.histories v).outgoing k) (λ v. (all.histories v).motes (suc k)) at.matches
           (λ v lv s. refl) own_runs own_out (λ v lv. ((all.ran v lv).runs k low).goes) v lv (so_far v (suc k)) (λ s. sent_more v s (slice_get of s) refl);
     }
 

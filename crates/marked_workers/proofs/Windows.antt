@@ -23,7 +23,7 @@ use Rattle.copy_exchange.specs.declared.mark_endpoint.MarkEndpoint.{MarkEndpoint
 use Rattle.copy_exchange.specs.Marks.{Counts}
 use Rattle.copy_exchange.specs.Pushes.{marks_in}
 use Rattle.copy_exchange.proofs.MarksDelivered.{takes_stays, takes_on_inboxes}
-use Rattle.worker_window.specs.Share.{Keeps}
+use Rattle.worker_window.specs.Share.{IsWholeShare}
 use Rattle.worker_window.specs.Window.{CanRun, IsOutgoing, RunsWindow}
 use Rattle.all_workers.specs.WorkerGroup.{IsCut}
 use Rattle.all_workers.specs.declared.worker.Worker.{Worker}
@@ -154,8 +154,8 @@ module _ (n : NetModel) (of : List ℕ) (width k until : ℕ) (inboxes : List In
     arrived_come : Each (IsExpected of worker until) takes.arrived
     arrived_come = subst (λ w. Each (IsExpected of w until) takes.arrived) (sends.pushes.stays.worker ∙ in_state.stays.worker) takes.took.expected
 
-    keeps : Keeps n of worker until ran.next (copies_of state.taken ++ copies_of more) new.share
-    keeps = subst (λ l. Keeps n of worker until ran.next (copies_of state.taken ++ l) new.share) takes.took.arrived
+    keeps : IsWholeShare n of worker until ran.next (copies_of state.taken ++ copies_of more) new.share
+    keeps = subst (λ l. IsWholeShare n of worker until ran.next (copies_of state.taken ++ l) new.share) takes.took.arrived
         (takes.keeps n of worker until ran.next (copies_of state.taken) ran.keeps arrived_come)
 
     stays : Stays old.endpoint.base new.endpoint.base
@@ -173,7 +173,7 @@ module _ (n : NetModel) (of : List ℕ) (width k until : ℕ) (inboxes : List In
       where
         Ran : ℕ → Type 0
         Ran t = (r : RunsWindow n of worker (bound width n.end k) t (in_state.promise.history.motes k) (copies_of state.taken) between.share sends.outgoing)
-            × Keeps n of worker t r.next (copies_of state.taken ++ copies_of more) new.share
+            × IsWholeShare n of worker t r.next (copies_of state.taken ++ copies_of more) new.share
 
         ran_to : Ran (bound width n.end (suc k))
         ran_to = subst Ran at (ran, keeps)

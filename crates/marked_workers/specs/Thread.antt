@@ -10,7 +10,7 @@ use Rattle.copy_exchange.specs.Endpoints.{HasMarks, HasPushedNothing, IsOnInboxe
 use Rattle.copy_exchange.specs.Delivers.{PushesWindow}
 use Rattle.copy_exchange.specs.Expected.{TakesExpected, position}
 use Rattle.copy_exchange.specs.Marks.{AllPast, Counts}
-use Rattle.worker_window.specs.Share.{Keeps, Motes}
+use Rattle.worker_window.specs.Share.{IsWholeShare, Motes}
 use Rattle.worker_window.specs.Window.{IsOutgoing, RunsWindow, TakesIn}
 use Rattle.all_workers.specs.WorkerGroup.{IsCut}
 use Rattle.all_workers.specs.declared.worker.Worker.{Worker}
@@ -21,7 +21,7 @@ use Rattle.marked_workers.specs.WorkerHistory.{WorkerRunsMarked}
 -- nothing was pushed or taken.
 pub record IsFirst (n : NetModel) (of : List ℕ) (inboxes : List InboxId) (w : Worker) : Type 0 where
   pub cut : IsCut (length n.motes) (length inboxes) of
-  pub keeps : Keeps n of w.endpoint.worker 0 (first_mote (system_of n)) [] w.share
+  pub keeps : IsWholeShare n of w.endpoint.worker 0 (first_mote (system_of n)) [] w.share
   pub on_inboxes : IsOnInboxes inboxes w.endpoint
   pub marked : HasMarks w.endpoint
   pub made : suc w.endpoint.taker.state.made ≡ length inboxes
@@ -37,7 +37,7 @@ pub record IsSame (w : Worker) (m : MarkWorker) : Type 0 where
 -- a worker in its thread before its first window
 pub record IsStarted (n : NetModel) (of : List ℕ) (inboxes : List InboxId) (w : MarkWorker) : Type 0 where
   pub cut : IsCut (length n.motes) (length inboxes) of
-  pub keeps : Keeps n of w.endpoint.base.worker 0 (first_mote (system_of n)) [] w.share
+  pub keeps : IsWholeShare n of w.endpoint.base.worker 0 (first_mote (system_of n)) [] w.share
   pub on_inboxes : IsOnInboxes inboxes w.endpoint.base
   pub marked : HasMarks w.endpoint.base
   pub counts : Counts w.endpoint.marks.items w.endpoint.base.taker.state
@@ -48,7 +48,8 @@ pub record IsStarted (n : NetModel) (of : List ℕ) (inboxes : List InboxId) (w 
 -- its motes ran through a window, and the outgoing copies were pushed, with the window's mark after them
 pub record SendsWindow (n : NetModel) (of : List ℕ) (workers window until : ℕ) (old new : MarkWorker) : Type 0 where
   pub outgoing : List RadioCopy
-  pub runs : (worker from : ℕ) (motes : Motes) (taken : List RadioCopy) → Keeps n of worker from motes taken old.share
+  pub runs : (worker from : ℕ) (motes : Motes) (taken : List RadioCopy)
+      → IsWholeShare n of worker from motes taken old.share
       → from ≤ until → until ≤ from + (system_of n).lookahead
       → RunsWindow n of worker from until motes taken new.share outgoing
   pub out : Each (IsOutgoing n of old.share.worker) outgoing

@@ -12,7 +12,7 @@ use Rattle.copy_inbox.specs.declared.rule.TakerState.{TakerState}
 use Rattle.copy_inbox.specs.Items.{copies_of, part, OfMade}
 use Rattle.copy_exchange.specs.Pushes.{marks_in, pushes}
 use Rattle.worker_window.specs.declared.share.Share.{Share}
-use Rattle.worker_window.specs.Share.{Motes, Keeps}
+use Rattle.worker_window.specs.Share.{Motes, IsWholeShare}
 use Rattle.worker_window.specs.Window.{RunsOwnMote, IsOutgoing, outgoing_by}
 use Rattle.marked_workers.specs.Bounds.{bound}
 
@@ -54,5 +54,5 @@ pub record WorkerRunsMarked (n : NetModel) (of : List ℕ) (width windows worker
     (state : TakerState) (pushed : ℕ → List Carried) : Type 0 where
   pub history : WorkerHistory
   pub ran : WorkerRunsWindows n of width windows workers worker state.made state.taken pushed history
-  pub keeps : Keeps n of worker (bound width n.end windows) (history.motes windows) (copies_of state.taken) share
+  pub keeps : IsWholeShare n of worker (bound width n.end windows) (history.motes windows) (copies_of state.taken) share
   pub nobody : state.gathered ≡ []

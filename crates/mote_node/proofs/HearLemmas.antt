@@ -31,14 +31,14 @@ pub record HeardSoFar (moment : ℕ) (packets later : List Arrival) (first : Und
   pub is : by_now ≡ Some u
   pub rest : hear_each moment later u ≡ hear_each moment packets first
   pub grows : ring_of first ≤ ring_of u
-  pub recounted : any ≡ nat_lt (ring_of first) (ring_of u)
+  pub matches : any ≡ nat_lt (ring_of first) (ring_of u)
 
 pub none_heard : (n : ℕ) → false ≡ nat_lt n n
 none_heard n = sym (grind (arith, nat_tests))
 
 pub heard_none : (moment : ℕ) (packets : List Arrival) (first : Underway) (by_now : Option Underway) → by_now ≡ Some first
     → HeardSoFar moment packets packets first by_now false
-heard_none moment packets first by_now is = record { u = first; is = is; rest = refl; grows = omega arith; recounted = none_heard (ring_of first) }
+heard_none moment packets first by_now is = record { u = first; is = is; rest = refl; grows = omega arith; matches = none_heard (ring_of first) }
 
 pub room_at : (old : Option Mote) (out : Out) (u : Underway) (heard : Bool) → IfSome old (λ m. heard ≡ has_room m) → underway_in old out ≡ Some u → heard ≡ has_room u.mote
 room_at None out u heard h is = cc
@@ -68,7 +68,7 @@ heard_next moment packets front later a first old new out out' any heard e h goe
       is = goes.leads h.u h.is;
       rest = ap (λ xs. hear_each moment xs h.u) (sym e) ∙ h.rest;
       grows = rw ring (grows_by heard (ring_of first) (ring_of h.u) h.grows);
-      recounted = rw ring (any_grown any heard (ring_of first) (ring_of h.u) h.grows h.recounted);
+      matches = rw ring (any_grown any heard (ring_of first) (ring_of h.u) h.grows h.matches);
     }
 
 -- all are heard, and some went into the ring
@@ -80,7 +80,7 @@ heard_some moment packets later any first None new out e b h is = let e = h.is i
 heard_some moment packets later any first (Some m) new out e b h is =
     let same : underway m out ≡ h.u = let e = h.is in cc in
     let all : hear_each moment packets first ≡ underway m out = sym (h.rest) ∙ ap (λ xs. hear_each moment xs h.u) e ∙ sym same in
-    let some : true ≡ nat_lt (ring_of first) (length m.state.ring) = let P : Underway → Type 0 = λ v. true ≡ nat_lt (ring_of first) (ring_of v) in subst P (sym same) (sym b ∙ h.recounted) in
+    let some : true ≡ nat_lt (ring_of first) (length m.state.ring) = let P : Underway → Type 0 = λ v. true ≡ nat_lt (ring_of first) (ring_of v) in subst P (sym same) (sym b ∙ h.matches) in
     rw (is, all, ← some) refl
 
 -- all are heard, and none went into the ring
@@ -92,7 +92,7 @@ heard_lost moment packets later any first None out e b h = let e = h.is in cc
 heard_lost moment packets later any first (Some m) out e b h =
     let same : underway m out ≡ h.u = let e = h.is in cc in
     let all : hear_each moment packets first ≡ underway m out = sym (h.rest) ∙ ap (λ xs. hear_each moment xs h.u) e ∙ sym same in
-    let some : false ≡ nat_lt (ring_of first) (length m.state.ring) = let P : Underway → Type 0 = λ v. false ≡ nat_lt (ring_of first) (ring_of v) in subst P (sym same) (sym b ∙ h.recounted) in
+    let some : false ≡ nat_lt (ring_of first) (length m.state.ring) = let P : Underway → Type 0 = λ v. false ≡ nat_lt (ring_of first) (ring_of v) in subst P (sym same) (sym b ∙ h.matches) in
     rw (all, ← some) refl
 
 -- after the last packet there is none

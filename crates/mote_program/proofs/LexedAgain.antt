@@ -320,6 +320,6 @@ lexed_again ts own = record {
   pieces = pieces_from 0 ts;
   spelled = sym (text_pieces 0 ts own);
   fit = all_fit 0 ts own;
-  recounted = sym (same_tokens 0 ts own);
+  matches = sym (same_tokens 0 ts own);
   placed = refl;
 }

@@ -93,7 +93,7 @@ pieces_lexed (Sign bytes t ∷ ps) fit = (sign_lexed _ bytes t fit.0.0, pieces_l
 pieces_lexed (Other b ∷ ps) fit = (tt, pieces_lexed ps fit.1)
 
 pub names_lexed : (text : List ℕ) (ts : List Token) (ls : List ℕ) → IsLexed text ts ls → AreLexedNames ts
-names_lexed text ts ls lexed = subst AreLexedNames (sym lexed.recounted) (pieces_lexed lexed.pieces lexed.fit)
+names_lexed text ts ls lexed = subst AreLexedNames (sym lexed.matches) (pieces_lexed lexed.pieces lexed.fit)
 
 -- ---- marks
 

@@ -24,7 +24,7 @@ any = (a_variable, 0)
 pub undeclared : TreesThatDoNot
 undeclared = record {
   variables = λ h. let e : 1 < 1 = (second _ _ _ h).body 0 any (omega arith) in omega (arith, e);
-  recounted = λ h. let e : 1 < 1 = (second _ _ _ h).body 1 any (omega arith) in omega (arith, e);
+  into = λ h. let e : 1 < 1 = (second _ _ _ h).body 1 any (omega arith) in omega (arith, e);
   processes = λ h. let e : 2 < 2 = (second _ _ _ h).body 0 any (omega arith) in omega (arith, e);
   semaphores = λ h. let e : 1 < 1 = (second _ _ _ h).body 0 any (omega arith) in omega (arith, e);
   events = λ h. let e : 1 < 1 = (second _ _ _ h).body 0 any (omega arith) in omega (arith, e);

@@ -134,7 +134,7 @@ pub record TreesThatDeclare : Type 0 where
 
 pub record TreesThatDoNot : Type 0 where
   pub variables : IsDeclared no_such_variable → ⊥
-  pub recounted : IsDeclared tells_no_such_variable → ⊥
+  pub into : IsDeclared tells_no_such_variable → ⊥
   pub processes : IsDeclared no_such_process → ⊥
   pub semaphores : IsDeclared no_such_semaphore → ⊥
   pub events : IsDeclared no_such_event → ⊥

@@ -26,7 +26,7 @@ use program_tree::token::Token;
 use program_tree::tree::{Action, Block, Expr, Stmt};
 use std::alloc::AllocError;
 
-/// The name with a number; empty if there is none, which no program has.
+/// The name with a number; empty if there is no such name, which doesn't happen in a program.
 pub(crate) fn name_at<'a>(names: &'a Names, place: usize) -> &'a str
     ensures name { result.now ≡ slice_index_or names.now place [] }
 {
@@ -214,11 +214,11 @@ impl<'a> Scoped<'a> {
     }
 
     /// Adds a semicolon, and before it `into` and the variable that gets the result, if there is one.
-    fn into_end(&self, recounted: Option<u8>, out: &mut Vec<Token<'a>>) -> Result<(), AllocError>
+    fn into_end(&self, into: Option<u8>, out: &mut Vec<Token<'a>>) -> Result<(), AllocError>
         ensures appended { OnOk result (map token_of out.new.items ≡ map token_of out.old.items
-            ++ into_tokens (option_map (name_in (names_in self.now) a_variable) recounted)) }
+            ++ into_tokens (option_map (name_in (names_in self.now) a_variable) into)) }
     {
-        match recounted {
+        match into {
             None => add(out, Token::Semicolon),
             Some(variable) => {
                 let name = self.name(Class::Variable, variable);
@@ -250,33 +250,33 @@ impl<'a> Scoped<'a> {
         process: u8,
         event: PostedEvent,
         word: &Expr,
-        recounted: Option<u8>,
+        into: Option<u8>,
         out: &mut Vec<Token<'a>>,
     ) -> Result<(), AllocError>
         ensures appended { OnOk result (map token_of out.new.items ≡ map token_of out.old.items
             ++ action_tokens (action_map (name_in (names_in self.now))
-            (post process (sent_of event) (expression_of word.now) recounted))) }
+            (post process (sent_of event) (expression_of word.now) into))) }
     {
         let process = self.name(Class::Process, process);
         let event = self.sent(event);
         self.with_value(&[Token::Keyword(Keyword::Post), process, event], word, out)?;
-        self.into_end(recounted, out)
+        self.into_end(into, out)
     }
 
     fn broadcast(
         &self,
         event: BroadcastEvent,
         word: &Expr,
-        recounted: Option<u8>,
+        into: Option<u8>,
         out: &mut Vec<Token<'a>>,
     ) -> Result<(), AllocError>
         ensures appended { OnOk result (map token_of out.new.items ≡ map token_of out.old.items
             ++ action_tokens (action_map (name_in (names_in self.now))
-            (broadcast (cast_of event) (expression_of word.now) recounted))) }
+            (broadcast (cast_of event) (expression_of word.now) into))) }
     {
         let event = self.cast(event);
         self.with_value(&[Token::Keyword(Keyword::Broadcast), event], word, out)?;
-        self.into_end(recounted, out)
+        self.into_end(into, out)
     }
 
     fn synch(
@@ -337,12 +337,10 @@ impl<'a> Scoped<'a> {
             Action::Signal(semaphore) => {
                 self.about(Keyword::Signal, Class::Semaphore, *semaphore, out)
             }
-            Action::Post(process, event, word, recounted) => {
-                self.post(*process, *event, word, *recounted, out)
+            Action::Post(process, event, word, into) => {
+                self.post(*process, *event, word, *into, out)
             }
-            Action::Broadcast(event, word, recounted) => self.broadcast(
-                *event, word, *recounted, out,
-            ),
+            Action::Broadcast(event, word, into) => self.broadcast(*event, word, *into, out),
             Action::Synch(process, event, word) => self.synch(*process, *event, word, out),
             Action::Poll(process) => self.about(Keyword::Poll, Class::Process, *process, out),
             Action::Start(process) => self.about(Keyword::Start, Class::Process, *process, out),

@@ -53,9 +53,9 @@ module _ (n : ℕ) where
   kept_within (false ∷ bs) (x ∷ xs) h = kept_within bs xs h.1
 
   pub AreNumbers-filtered : {P : Type 0} (R : P → ℕ → Bool → P → Type 0) (p : P) (ks js : List ℕ) → IsFiltered R p ks js → AreNumbers ks n → AreNumbers js n
-  AreNumbers-filtered R p ks js recounted are = rw recounted.4 (record {
-    once = kept_once recounted.0 ks are.once;
-    within = All-from_recursion (λ k. k < n) _ (kept_within recounted.0 ks (recursion_from_All (λ k. k < n) ks are.within));
+  AreNumbers-filtered R p ks js matches are = rw matches.4 (record {
+    once = kept_once matches.0 ks are.once;
+    within = All-from_recursion (λ k. k < n) _ (kept_within matches.0 ks (recursion_from_All (λ k. k < n) ks are.within));
   })
 
 pub same_numbers : (a b : Numbers) → a.members ≡ b.members → a.limit ≡ b.limit → a ≡ b
@@ -63,7 +63,7 @@ same_numbers a b same_members same_limit = ap (λ ks. numbers ks a.limit) same_m
 
 -- a fact that the code found about a list is one of an equal list
 pub lacks : (s t : Numbers) (k : ℕ) (answer : Bool) → s ≡ t → answer ≡ is_member k t.members → answer ≡ false → is_member k s.members ≡ false
-lacks s t k answer same recounted missing = ap (λ (l : Numbers). is_member k l.members) same ∙ sym recounted ∙ missing
+lacks s t k answer same matches missing = ap (λ (l : Numbers). is_member k l.members) same ∙ sym matches ∙ missing
 
 pub takes : (s t : Numbers) (k : ℕ) → s ≡ t → k < t.limit → k < s.limit
 takes s t k same below = let limit = ap (λ (l : Numbers). l.limit) same in omega arith

@@ -17,8 +17,8 @@ use program_tree::Proc;
 use std::alloc::{AllocError, Global};
 use std::marker::Model;
 
-/// The timers of a mote, by number, and its timer list (`timerlist` of `etimer.c`): those that are set and whose event
-/// isn't posted yet, but not stopped and purged ones. `new` allocates all its memory.
+/// The timers of a mote, by number, and its timer list (`timerlist` of `etimer.c`). The list has those that are set,
+/// until their event is posted, or they are stopped or purged. `new` allocates all its memory.
 #[derive(Drop)]
 pub struct Timers {
     timers: Vec<Timer>,
@@ -134,7 +134,7 @@ impl Timers {
         Some((id, owner))
     }
 
-    /// Takes a timer off the list, as its event was posted. It has no owner then.
+    /// Takes a timer off the list, because its event was posted. It has no owner then.
     pub fn fire(&mut self, id: u16)
         requires is_timer { id < length self.old.timers }
         ensures after { self.new ≡ stop_timer self.old id }

@@ -94,10 +94,10 @@ not_wakes (Wake u k ∷ xs) = not_wakes xs
 not_wakes (Packet c ∷ xs) = ap (λ l. Packet c ∷ l) (not_wakes xs)
 
 -- the due events, as items again
-abbrev recounted : (t m : ℕ) → Due → List Item
-recounted t m due = replicate due.wakes (Wake t m) ++ map Packet (map (copy_at t m) due.copies)
+abbrev items_of_due : (t m : ℕ) → Due → List Item
+items_of_due t m due = replicate due.wakes (Wake t m) ++ map Packet (map (copy_at t m) due.copies)
 
-given_permutes : (t m : ℕ) (xs : List Item) → AllByRecursion (λ item. comes_at t m item ≡ true) xs → IsPermutation xs (recounted t m (due_all xs))
+given_permutes : (t m : ℕ) (xs : List Item) → AllByRecursion (λ item. comes_at t m item ≡ true) xs → IsPermutation xs (items_of_due t m (due_all xs))
 given_permutes t m xs h =
     subst (λ l. IsPermutation xs (replicate (length (filter is_wake xs)) (Wake t m) ++ map Packet l)) (sym (put_back t m xs h))
     (subst (λ l. IsPermutation xs (replicate (length (filter is_wake xs)) (Wake t m) ++ l)) (not_wakes xs)
@@ -108,7 +108,7 @@ due_alls t m xs ys e = sym (unwrapped (filter (comes_at t m) xs)) ∙ (ap (λ o.
 
 permutes_here : (t m : ℕ) (xs ys : List Item) → due_of t m xs ≡ due_of t m ys → IsPermutation (filter (comes_at t m) xs) (filter (comes_at t m) ys)
 permutes_here t m xs ys e =
-    IsPermutation-trans _ _ _ (subst (λ d. IsPermutation (filter (comes_at t m) xs) (recounted t m d)) (due_alls t m xs ys e) (given_permutes t m (filter (comes_at t m) xs) (every_passes (comes_at t m) xs)))
+    IsPermutation-trans _ _ _ (subst (λ d. IsPermutation (filter (comes_at t m) xs) (items_of_due t m d)) (due_alls t m xs ys e) (given_permutes t m (filter (comes_at t m) xs) (every_passes (comes_at t m) xs)))
     (IsPermutation-sym _ _ (given_permutes t m (filter (comes_at t m) ys) (every_passes (comes_at t m) ys)))
 
 packets_here : (t m : ℕ) (xs ys : List Item) → due_of t m xs ≡ due_of t m ys → packets (filter (comes_at t m) xs) ≡ packets (filter (comes_at t m) ys)

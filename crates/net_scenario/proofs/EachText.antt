@@ -41,14 +41,14 @@ read_on p ps t is (inr (name, e, m)) = inr (
     trees = record { name = p.name; tree = t } ∷ m.trees;
     split = ap (λ l. p ∷ l) m.split;
     read = (refl, is, m.read);
-    recounted = m.recounted;
+    matches = m.matches;
   },
 )
 
 read_one : (p : ProgramText) (ps : List ProgramText) → Reads ps → ((t : Tree) × IsTreeOf p.text t)
     ⊎ ((kind : ReadErrorKind) × (line : ℕ) × IsErrorOf p.text kind line) → Reads (p ∷ ps)
 read_one p ps rest (inl (t, is)) = read_on p ps t is rest
-read_one p ps rest (inr (kind, line, recounted)) =
+read_one p ps rest (inr (kind, line, matches)) =
     inr (
       p.name,
       record { kind = kind; line = line },
@@ -59,7 +59,7 @@ read_one p ps rest (inr (kind, line, recounted)) =
         trees = [];
         split = refl;
         read = tt;
-        recounted = recounted;
+        matches = matches;
       },
     )
 
@@ -75,7 +75,7 @@ by_medium : (text : List ℕ) (d : Document text) (trees : HasTrees d.top) (faul
     → medium_fault (radio_in d.top) ≡ fault → Tells text
 by_medium text d trees None e = inl (
   net_in d.top trees.trees,
-  (d, record { programs = trees; medium = e; recounted = refl }),
+  (d, record { programs = trees; medium = e; matches = refl }),
 )
 by_medium text d trees (Some fault) e = inr (Medium fault, (d, record { programs = trees; medium = e }))
 

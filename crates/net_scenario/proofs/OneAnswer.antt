@@ -49,7 +49,7 @@ read_or_refused : ProgramLaws → (ps : List ProgramText) (ts : List NamedTree) 
 read_or_refused laws ps ts name e a m =
     let P : List ProgramText → Type 0 = λ qs. AllRead qs ts in
     let t = tree_of_read m.before (record { name = name; text = m.text }) m.after ts (subst P m.split a) in
-    laws.never_both m.text t.0 e.kind e.line t.1 m.recounted
+    laws.never_both m.text t.0 e.kind e.line t.1 m.matches
 
 -- the first program with a fault is one program, if those before it have trees
 one_split : ProgramLaws → (b c : List ProgramText) (p q : ProgramText) (r s : List ProgramText)
@@ -83,11 +83,11 @@ one_refused laws ps m n d e x y =
     let same : record { name = m; text = x.text } ≡ record { name = n; text = y.text } =
     one_split laws x.before y.before (record { name = m; text = x.text }) (record { name = n; text = y.text }) x.after
     y.after x.trees y.trees d.kind e.kind d.line e.line
-    (sym x.split ∙ y.split) x.read y.read x.recounted y.recounted in
+    (sym x.split ∙ y.split) x.read y.read x.matches y.matches in
     let name : m ≡ n = ap (λ (p : ProgramText). p.name) same in
     let text : x.text ≡ y.text = ap (λ (p : ProgramText). p.text) same in
     let P : List ℕ → Type 0 = λ t. IsErrorOf t d.kind d.line in
-    let fault = laws.one_fault y.text d.kind e.kind d.line e.line (subst P text x.recounted) y.recounted in
+    let fault = laws.one_fault y.text d.kind e.kind d.line e.line (subst P text x.matches) y.matches in
     (name, same_error d e fault.0 fault.1)
 
 pub one_net : ProgramLaws → OneNet
@@ -96,7 +96,7 @@ one_net laws text m n a b =
     let x = a.1 in
     let y : IsNetOf a.0.top n = subst P (one_document text b.0 a.0) b.1 in
     let trees : x.programs.trees ≡ y.programs.trees = one_reading laws _ _ _ x.programs.read y.programs.read in
-    x.recounted ∙ ap (net_in a.0.top) trees ∙ sym y.recounted
+    x.matches ∙ ap (net_in a.0.top) trees ∙ sym y.matches
 
 pub never_both : ProgramLaws → NeverBoth
 never_both laws text n (Program name e) a b =

@@ -55,7 +55,7 @@ read_failed texts ts p rest (Program name e) s r = record {
   trees = ts;
   split = rw r.0 s.split;
   read = s.read;
-  recounted = r.1;
+  matches = r.1;
 }
 read_failed texts ts p rest Memory s r = tt
 read_failed texts ts p rest Toml s r = absurd r

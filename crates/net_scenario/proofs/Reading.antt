@@ -104,7 +104,7 @@ made top e flag radio ps ms read end-is flag-is radio-is motes-are =
     record {
       programs = record { trees = map named_tree ps; read = read };
       medium = radio-is.1;
-      recounted = rw (same-end, flag-is, same-radio, motes-are) refl;
+      matches = rw (same-end, flag-is, same-radio, motes-are) refl;
     }
 
 -- as many motes as there are tables of them

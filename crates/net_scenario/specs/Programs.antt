@@ -29,4 +29,4 @@ pub record FirstRefused (programs : List ProgramText) (name : List ℕ) (error :
   pub trees : List NamedTree
   pub split : programs ≡ before ++ record { name = name; text = text } ∷ after
   pub read : AllRead before trees
-  pub recounted : IsErrorOf text error.kind error.line
+  pub matches : IsErrorOf text error.kind error.line

@@ -40,7 +40,7 @@ pub record HasTrees (top : Members) : Type 0 where
 pub record IsNetOf (top : Members) (net : NetModel) : Type 0 where
   pub programs : HasTrees top
   pub medium : medium_fault (radio_in top) ≡ None
-  pub recounted : net ≡ net_in top programs.trees
+  pub matches : net ≡ net_in top programs.trees
 
 -- the document's programs are all read, and its medium has this fault
 pub record IsMediumFaultOf (top : Members) (error : MediumError) : Type 0 where

@@ -1,7 +1,7 @@
 //! Parts of motes and of nets, from the bottom up. Most tests write all that a part answered into one text, and
-//! compare that once, in a function that they share: so a test owns nothing when it can end early: owning values there
-//! makes a proof expensive. For the same reason no test ends if a write to its text fails: the text then lacks
-//! something, and the comparison fails.
+//! compare that once, in a function that they share. So a test owns nothing when it can end early, because owning
+//! values there makes a proof expensive. For the same reason no test ends if a write to its text fails: the text then
+//! lacks something, and the comparison fails.
 
 mod blocks;
 mod canonical;

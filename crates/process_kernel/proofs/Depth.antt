@@ -18,15 +18,15 @@ pub deeper_call : (r : Result (Unit {0}) Stop) (new s : State) (p : Proc) (e : E
     ((k : ℕ) → s.units ≤ k → StepMatches r new (call_of (calls_of k) s p e)) → (k : ℕ) → s.units < k
     → StepMatches r new ((calls_of k).call s p e)
 unfolding calls_of
-deeper_call r new s p e recounted zero enough = absurd (omega arith)
-deeper_call r new s p e recounted (suc k) enough = recounted k (omega arith)
+deeper_call r new s p e matches zero enough = absurd (omega arith)
+deeper_call r new s p e matches (suc k) enough = matches k (omega arith)
 
 pub deeper_run : (r : Result Answer Stop) (new s : State) (code : Code) (t : Remainder) (p : ℕ) (e : Event) →
     ((k : ℕ) → s.units ≤ k → StepMatches r new (run_of (calls_of k) s code t p e)) → (k : ℕ) → s.units < k
     → StepMatches r new ((calls_of k).run s code t p e)
 unfolding calls_of
-deeper_run r new s code t p e recounted zero enough = absurd (omega arith)
-deeper_run r new s code t p e recounted (suc k) enough = recounted k (omega arith)
+deeper_run r new s code t p e matches zero enough = absurd (omega arith)
+deeper_run r new s code t p e matches (suc k) enough = matches k (omega arith)
 
 -- the calls that nest m deep run a thread by those that nest one less
 pub run_opens : (s : State) (code : Code) (t : Remainder) (p : ℕ) (e : Event) (m : ℕ) → 0 < m

@@ -63,23 +63,23 @@ pub finished : (t : Tree) (gives : Mote → List Line → List Sent → Given) (
     → out'.sends.items ≡ s1.sends
     → BeginsWith out out' → Closes k1 r result k2 → MatchesOutcome gives (mote_in t k) out result (mote_in t k2) out'
 unfolding mote_in
-finished t gives k k1 k2 out out' s1 o (Ok left) result going going1 running gives_it recounted rest ls ss begins closes =
+finished t gives k k1 k2 out out' s1 o (Ok left) result going going1 running gives_it matches rest ls ss begins closes =
     rw (going, closes.0, closes.1, going1, running) (
       mote_of t k1.machine true false,
       refl,
-      gives_it ∙ ap given recounted
+      gives_it ∙ ap given matches
           ∙ same_given (ran.Left left) false (at_rest s1)
           (at_rest (state_of t k1.machine)) s1.lines out'.lines.items s1.sends out'.sends.items rest ls ss,
     )
-finished t gives k k1 k2 out out' s1 o (Err Halted) result going going1 running gives_it recounted rest ls ss begins closes =
+finished t gives k k1 k2 out out' s1 o (Err Halted) result going going1 running gives_it matches rest ls ss begins closes =
     rw (going, closes.0, closes.1, going1) (
       mote_of t k1.machine true true,
       refl,
-      gives_it ∙ ap given recounted
+      gives_it ∙ ap given matches
           ∙ same_given ran.Halted true (at_rest s1)
           (at_rest (state_of t k1.machine)) s1.lines out'.lines.items s1.sends out'.sends.items rest ls ss,
     )
-finished t gives k k1 k2 out out' s1 o (Err Memory) result going going1 running gives_it recounted rest ls ss begins closes =
+finished t gives k k1 k2 out out' s1 o (Err Memory) result going going1 running gives_it matches rest ls ss begins closes =
     rw (going, closes.0, closes.1) (refl, refl, begins)
 
 -- a run that ends leaves its machine as it is
@@ -132,18 +132,18 @@ pub so_far_next : (gives : Mote → List Line → List Sent → Given) (old : Op
     (out1 : Out) (r : Ran) (new : Option Mote) (out2 : Out)
     → GoesOnSoFar old out now out1 → MatchesOutcome gives now out1 (Ok r) new out2 → BeginsWith out1 out2
     → GoesOnSoFar old out new out2
-so_far_next gives None out None out1 r new out2 so_far recounted more = let failed = recounted.0 in cc
-so_far_next gives None out (Some m) out1 r new out2 so_far recounted more = let none = so_far.0 in cc
-so_far_next gives (Some m) out None out1 r new out2 so_far recounted more = let some = so_far.0.1 in cc
-so_far_next gives (Some m) out (Some m1) out1 r new out2 so_far recounted more =
-    ((recounted.0, recounted.1), begins_further out out1 out2 so_far.1 more)
+so_far_next gives None out None out1 r new out2 so_far matches more = let failed = matches.0 in cc
+so_far_next gives None out (Some m) out1 r new out2 so_far matches more = let none = so_far.0 in cc
+so_far_next gives (Some m) out None out1 r new out2 so_far matches more = let some = so_far.0.1 in cc
+so_far_next gives (Some m) out (Some m1) out1 r new out2 so_far matches more =
+    ((matches.0, matches.1), begins_further out out1 out2 so_far.1 more)
 
 -- and one that returned an error
 pub so_far_fails : (gives : Mote → List Line → List Sent → Given) (old : Option Mote) (out : Out)
     (now : Option Mote) (out1 : Out) (e : KernelError) (new : Option Mote) (out2 : Out)
     → GoesOnSoFar old out now out1 → MatchesOutcome gives now out1 (Err e) new out2 → FailsAs old out e new out2
-so_far_fails gives None out None out1 e new out2 so_far recounted = ((let failed = recounted.0 in cc), recounted.1, recounted.2 ∙ so_far.1)
-so_far_fails gives None out (Some m) out1 e new out2 so_far recounted = let none = so_far.0 in cc
-so_far_fails gives (Some m) out None out1 e new out2 so_far recounted = let some = so_far.0.1 in cc
-so_far_fails gives (Some m) out (Some m1) out1 e new out2 so_far recounted =
-    (recounted.0, recounted.1, begins_further out out1 out2 so_far.1 recounted.2)
+so_far_fails gives None out None out1 e new out2 so_far matches = ((let failed = matches.0 in cc), matches.1, matches.2 ∙ so_far.1)
+so_far_fails gives None out (Some m) out1 e new out2 so_far matches = let none = so_far.0 in cc
+so_far_fails gives (Some m) out None out1 e new out2 so_far matches = let some = so_far.0.1 in cc
+so_far_fails gives (Some m) out (Some m1) out1 e new out2 so_far matches =
+    (matches.0, matches.1, begins_further out out1 out2 so_far.1 matches.2)

@@ -43,10 +43,10 @@ pub run_next : (most before left moment : ℕ) (first : Underway) (old new : Opt
     → before ≡ suc left → RunSoFar most before moment first (underway_in old out)
     → MatchesOutcome (run_given moment) old out (Ok (ran.Left n)) new out' → 0 < n
     → RunSoFar most left moment first (underway_in new out')
-run_next most before left moment first old new out out' n e h recounted some =
+run_next most before left moment first old new out out' n e h matches some =
     let ran_is : (run_once moment h.u).ran ≡ ran.Left n =
-    kernel_ran (run_given moment) old new out out' (ran.Left n) h.u recounted h.is in
-    let goes = kernel_step (run_given moment) old new out out' (ran.Left n) recounted in
+    kernel_ran (run_given moment) old new out out' (ran.Left n) h.u matches h.is in
+    let goes = kernel_step (run_given moment) old new out out' (ran.Left n) matches in
     let one : runs_of before moment h.u ≡ runs_of left moment (after (run_once moment h.u)) =
     ap (λ k. runs_of k moment h.u) e ∙ runs-suc left moment h.u
     ∙ (rw ran_is (follow-some n (runs_of left moment) (after (run_once moment h.u)) some)) in
@@ -58,9 +58,9 @@ pub run_last : (most before left moment : ℕ) (first : Underway) (old new : Opt
     → MatchesOutcome (run_given moment) old out (Ok r) new out'
     → ((others : Underway → Underway) (u : Underway) → follow r others u ≡ u)
     → underway_in new out' ≡ Some (runs_of most moment first)
-run_last most before left moment first old new out out' r e h recounted last =
-    let ran_is : (run_once moment h.u).ran ≡ r = kernel_ran (run_given moment) old new out out' r h.u recounted h.is in
-    let goes = kernel_step (run_given moment) old new out out' r recounted in
+run_last most before left moment first old new out out' r e h matches last =
+    let ran_is : (run_once moment h.u).ran ≡ r = kernel_ran (run_given moment) old new out out' r h.u matches h.is in
+    let goes = kernel_step (run_given moment) old new out out' r matches in
     let one : runs_of before moment h.u ≡ after (run_once moment h.u) =
     ap (λ k. runs_of k moment h.u) e ∙ runs-suc left moment h.u
     ∙ (rw ran_is (last (runs_of left moment) (after (run_once moment h.u)))) in

@@ -133,7 +133,7 @@ impl Kernel {
     /// One kernel run at this moment, whose lines and packets are appended to those of the machine.
     fn run_on(&mut self, program: &Program, now: u64) -> Result<Ran, KernelError>
         requires moment_bounded { now ≤ 2 ^ 40 }
-        ensures recounted { let t = tree_of program.now in
+        ensures matches { let t = tree_of program.now in
             MatchesOutcome (run_given now) (mote_in t self.old) self.old.machine.out result
             (mote_in t self.new) self.new.machine.out }
         ensures begins { BeginsWith self.old.machine.out self.new.machine.out }

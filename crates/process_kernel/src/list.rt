@@ -97,7 +97,7 @@ impl Machine {
     ///
     /// # Errors
     ///
-    /// Out of memory for a fresh body, which is allocated only while the one before is taken.
+    /// Out of memory for a fresh body. One is allocated only if the earlier body is still taken out.
     #[inline(always)]
     pub fn take_thread(&mut self, process: u8) -> Result<Box<Thread>, AllocError>
         ensures exact { (t : Tree) (code : Code) → slice_get t.codes process ≡ Some code

@@ -60,7 +60,7 @@ pub all_read : (text : List ℕ) (tokens : List Token) (lines : List ℕ) (line 
     → HasRead text tokens lines line rest → length rest ≡ 0 → IsLexed text tokens (lines ++ line ∷ [])
 all_read text tokens lines line [] so_far none =
     let all = so_far.goes_on [] refl tt in
-    record { pieces = all.0; spelled = all.1; fit = all.2; recounted = sym (all.3 ∙ append-nil tokens); placed = sym all.4 }
+    record { pieces = all.0; spelled = all.1; fit = all.2; matches = sym (all.3 ∙ append-nil tokens); placed = sym all.4 }
 all_read text tokens lines line (b ∷ rest) so_far none = absurd (omega arith)
 
 joined : {X : Type 0} (xs ys : List X) (o : Option X) → xs ++ cons_option o ys ≡ (xs ++ option_to_list o) ++ ys

@@ -31,7 +31,7 @@ length-lines_from line (p ∷ ps) = lines_more line (token_at p) _ (tokens_of ps
 pub length-lines : (text : List ℕ) (tokens : List Token) (lines : List ℕ) → IsLexed text tokens lines
     → length lines ≡ length tokens + 1
 length-lines text tokens lines lexed = ap length lexed.placed ∙ length-lines_from 1 lexed.pieces
-    ∙ ap (λ ts. length ts + 1) (sym lexed.recounted)
+    ∙ ap (λ ts. length ts + 1) (sym lexed.matches)
 
 -- ---- every text is pieces
 
@@ -101,7 +101,7 @@ every_text text =
         pieces = all.pieces;
         spelled = all.spelled;
         fit = all.fit;
-        recounted = refl;
+        matches = refl;
         placed = refl;
       },
     )
@@ -195,4 +195,4 @@ pub one_lexing : (text : List ℕ) (ts us : List Token) (ls ms : List ℕ) → I
     → (ts ≡ us) × (ls ≡ ms)
 one_lexing text ts us ls ms a b =
     let same = same_pieces a.pieces b.pieces (sym a.spelled ∙ b.spelled) a.fit b.fit in
-    (a.recounted ∙ ap tokens_of same ∙ sym b.recounted, a.placed ∙ ap (lines_from 1) same ∙ sym b.placed)
+    (a.matches ∙ ap tokens_of same ∙ sym b.matches, a.placed ∙ ap (lines_from 1) same ∙ sym b.placed)

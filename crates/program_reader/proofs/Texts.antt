@@ -81,7 +81,7 @@ reported_read text ts ls k left line lexed e at =
       before = t.0;
       rest = t.1;
       split = t.2;
-      recounted = t.4;
+      matches = t.4;
       in_state = ap (λ i. slice_get ls i) here ∙ at;
     }
 
@@ -90,13 +90,13 @@ never_memory : (before rest : List Token) → IsFirstFault Memory before rest �
 never_memory before rest h = absurd (cc (h.here.broken))
 
 pub reports_no_memory : (text : List ℕ) (line : ℕ) → IsErrorOf text Memory line → ⊥
-reports_no_memory text line h = never_memory h.before h.rest h.recounted
+reports_no_memory text line h = never_memory h.before h.rest h.matches
 
 -- a tree and a reported error
 pub never_both : (text : List ℕ) (t : Tree) (k : ReadErrorKind) (line : ℕ) → IsTreeOf text t → IsErrorOf text k line → ⊥
 never_both text t k line h f =
     let e = one_lexing text h.tokens f.tokens h.lines f.lines h.lexed f.lexed in
-    h.spelled.program.sound f.before f.rest k (e.0 ∙ f.split) f.recounted.here
+    h.spelled.program.sound f.before f.rest k (e.0 ∙ f.split) f.matches.here
 
 by_verdict : (text : List ℕ) (ts : List Token) (ls : List ℕ) (v : Verdict) → IsLexed text ts ls → Judged v ts
     → ((t : Tree) × IsTreeOf text t) ⊎ ((k : ReadErrorKind) × (line : ℕ) × IsErrorOf text k line)
@@ -119,7 +119,7 @@ by_verdict text ts ls (fault k left) lexed h = inr (
     before = h.0;
     rest = h.1;
     split = h.2;
-    recounted = h.4;
+    matches = h.4;
     in_state = line_is_there ls (length h.0) (omega (
       arith,
       length-lines text ts ls lexed,
@@ -179,7 +179,7 @@ pub one_reported : (text : List ℕ) (j k : ReadErrorKind) (l m : ℕ) → IsErr
     × (l ≡ m)
 one_reported text j k l m h i =
     let e = one_lexing text h.tokens i.tokens h.lines i.lines h.lexed i.lexed in
-    let q = same_reported j k h.before h.rest i.before i.rest (sym h.split ∙ e.0 ∙ i.split) h.recounted i.recounted in
+    let q = same_reported j k h.before h.rest i.before i.rest (sym h.split ∙ e.0 ∙ i.split) h.matches i.matches in
     let at : Some l ≡ Some m = sym h.in_state ∙ ap (λ ls. slice_get ls (length h.before)) e.1
     ∙ ap (λ n. slice_get i.lines n) q.1 ∙ i.in_state in
     (q.0, cc at)

@@ -195,8 +195,8 @@ impl Reader<'_> {
         let process = self.name(place, Class::Process)?;
         let event = self.sent(place)?;
         let word = self.expression(place)?;
-        let recounted = self.into_end(place)?;
-        Ok(Action::Post(process, event, word, recounted))
+        let into = self.into_end(place)?;
+        Ok(Action::Post(process, event, word, into))
     }
 
     fn broadcast(&mut self, place: &Context) -> Result<Action, ReadFailure>
@@ -207,8 +207,8 @@ impl Reader<'_> {
         self.begin(place, Keyword::Broadcast)?;
         let event = self.cast(place)?;
         let word = self.expression(place)?;
-        let recounted = self.into_end(place)?;
-        Ok(Action::Broadcast(event, word, recounted))
+        let into = self.into_end(place)?;
+        Ok(Action::Broadcast(event, word, into))
     }
 
     fn synch(&mut self, place: &Context) -> Result<Action, ReadFailure>

@@ -29,5 +29,5 @@ pub record IsErrorOf (text : List ℕ) (kind : ReadErrorKind) (line : ℕ) : Typ
   pub before : List Token
   pub rest : List Token
   pub split : tokens ≡ before ++ rest
-  pub recounted : IsFirstFault kind before rest
+  pub matches : IsFirstFault kind before rest
   pub in_state : slice_get lines (length before) ≡ Some line

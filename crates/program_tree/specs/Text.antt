@@ -111,5 +111,5 @@ pub record IsLexed (text : List ℕ) (tokens : List Token) (lines : List ℕ) : 
   pub pieces : List Piece
   pub spelled : text ≡ text_of pieces
   pub fit : AllFit pieces
-  pub recounted : tokens ≡ tokens_of pieces
+  pub matches : tokens ≡ tokens_of pieces
   pub placed : lines ≡ lines_from 1 pieces

@@ -81,7 +81,7 @@ traces_name (m ∷ ms) f h =
 
 pub runs_name_only : RunsNameOnly
 runs_name_only n declare r report =
-    subst (λ (x : ReportModel). AreNamed n.motes x.traces) (sym report.recounted) (traces_name n.motes report.last.traces (run_sound n declare report.run (boot_sound n declare)).traces)
+    subst (λ (x : ReportModel). AreNamed n.motes x.traces) (sym report.matches) (traces_name n.motes report.last.traces (run_sound n declare report.run (boot_sound n declare)).traces)
 
 -- with numbers of 64 bits, a run's report has names in each net of the same motes
 named_there : (m n : NetModel) (r : ReportModel) → n.motes ≡ m.motes → ProgramsDeclare m → IsRunOf n r → IsNamed m r

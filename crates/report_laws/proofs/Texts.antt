@@ -48,7 +48,7 @@ module _ (P : Tree → Type 0) (none : P no_program.tree) (each : (text : List �
   net_trees text net tells =
       let trees = tells.1.programs.trees in
       let all = read_trees _ trees tells.1.programs.read in
-      subst (λ (n : NetModel). Each (λ (m : MoteSetup). P m.tree) n.motes) (sym tells.1.recounted)
+      subst (λ (n : NetModel). Each (λ (m : MoteSetup). P m.tree) n.motes) (sym tells.1.matches)
       (mote_trees (table_at (codes "queue") tells.0.top) trees (tables_at (codes "mote") tells.0.top) all)
 
 abbrev Declares : Tree → Type 0

@@ -31,7 +31,7 @@ nets_run_forward n fault placed = system_is n fault placed
 pub report_is_there : ReportIsThere
 report_is_there n fault placed =
     let r = run_is_there (system_of n) (system_is n fault placed) n.end in
-    (report_at n r.0, record { last = r.0; run = r.1; recounted = refl })
+    (report_at n r.0, record { last = r.0; run = r.1; matches = refl })
 
 -- packets that are numbered on: the first, and the rest
 number_first : (k : ℕ) (x : Sent) (xs : List Sent) → AreNumberedFrom k (x ∷ xs) → x.number ≡ k
@@ -82,7 +82,7 @@ unfolding system_of
 windows_commute n fault placed motes windows log is rest left = record {
   last = r.net;
   run = r.run;
-  recounted =
+  matches =
       ap (λ traces. reported_of traces (map (packet_with_fates n.radio) log) (length rest)) r.traces_are
       ∙ (ap (λ l. reported_of (map r.net.traces (up_to (length n.motes))) (map (packet_with_fates n.radio) l) (length rest)) log_is
       ∙ ap (reported_of (map r.net.traces (up_to (length n.motes))) (map (packet_with_fates n.radio) r.net.log)) r.left_is);

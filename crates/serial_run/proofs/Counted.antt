@@ -87,7 +87,7 @@ unfolding system_of
 late_copies_stay n r report = late_run (system_of n) n.end report.run (all_boot (system_of n) (is_after n.end))
 
 left_is : (n : NetModel) (r : ReportModel) (report : IsReportOf n r) → r.left ≡ length (filter (is_after n.end) (flat_map (copies n.radio) report.last.log))
-left_is n r report = ap (λ t. t.left) report.recounted ∙ ap length (late_copies_stay n r report)
+left_is n r report = ap (λ t. t.left) report.matches ∙ ap length (late_copies_stay n r report)
 
 pub left_is_counted : LeftIsCounted
 left_is_counted n r report = left_is n r report ∙ length-filter (is_after n.end) (flat_map (copies n.radio) report.last.log)
@@ -115,5 +115,5 @@ pub fates_tell_left : FatesTellLeft
 fates_tell_left n r report =
     left_is n r report
     ∙ (log_tells n.radio n.end report.last.log
-    ∙ (ap (λ (t : ReportModel). length (filter (is_late n.end) (flat_map (λ packet. packet.fates) t.log))) (sym report.recounted)
+    ∙ (ap (λ (t : ReportModel). length (filter (is_late n.end) (flat_map (λ packet. packet.fates) t.log))) (sym report.matches)
     ∙ length-filter (is_late n.end) (flat_map (λ packet. packet.fates) r.log)))

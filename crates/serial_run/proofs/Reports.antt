@@ -40,7 +40,7 @@ pub report_is : (n : NetModel) (engine : Engine) (report : Report) → IsWhole n
 report_is n engine report whole at traces log left = record {
   last = at.last;
   run = at.run;
-  recounted = rw (traces, log, left, all, at.in_state.log) refl;
+  matches = rw (traces, log, left, all, at.in_state.log) refl;
 }
   where
     all : map lines_in engine.traces.items ≡ map at.last.traces (up_to (length n.motes))
@@ -51,4 +51,4 @@ report_is n engine report whole at traces log left = record {
 pub all_in_order : (n : NetModel) (engine : Engine) → IsWhole n engine → HasEnded n engine → All (λ (v : Vec Line Global). IsInOrder v.items) engine.traces.items
 all_in_order n engine whole at k d h =
     let there : k < length n.motes = (let e = whole.traces in omega arith) in
-    subst IsInOrder (sym (at.in_state.traces k there d)) (traces_hand_on n (report_at n at.last) (record { last = at.last; run = at.run; recounted = refl }) k there)
+    subst IsInOrder (sym (at.in_state.traces k there d)) (traces_hand_on n (report_at n at.last) (record { last = at.last; run = at.run; matches = refl }) k there)

@@ -96,7 +96,7 @@ all_traces P traces (k ∷ ks) h = All-cons P (traces k) (map traces ks) (h k) (
 pub traces_never_go_back : TracesNeverGoBack
 traces_never_go_back n r report =
     let last = report.last in
-    rw (report.recounted) (all_traces NeverGoBack last.traces (up_to (length n.motes)) (run_rises n report.run 0 (boot_rises n)))
+    rw (report.matches) (all_traces NeverGoBack last.traces (up_to (length n.motes)) (run_rises n report.run 0 (boot_rises n)))
 
 -- packets
 
@@ -182,5 +182,5 @@ run_counts_up n run mote = (run_counts n run (boot_counts n) mote).numbered
 pub log_counts_up : LogCountsUp
 log_counts_up n r report mote =
     let last = report.last in
-    let is : map (λ (p : OfReport). p.sent) r.log ≡ last.log = ap (λ (x : ReportModel). map (λ (p : OfReport). p.sent) x.log) report.recounted ∙ sent_packets n last.log in
+    let is : map (λ (p : OfReport). p.sent) r.log ≡ last.log = ap (λ (x : ReportModel). map (λ (p : OfReport). p.sent) x.log) report.matches ∙ sent_packets n last.log in
     subst (λ l. AreNumberedFrom 0 (sent_by mote l)) (sym is) (run_counts_up n report.run mote)

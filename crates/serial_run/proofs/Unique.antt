@@ -5,4 +5,4 @@ use Rattle.serial_run.specs.NetRun.{report_at}
 use Rattle.serial_run.specs.Laws.{ReportIsOne}
 
 pub report_is_one : ReportIsOne
-report_is_one n a b p q = q.recounted ∙ (ap (report_at n) (run_is_one _ n.end p.run q.run) ∙ sym p.recounted)
+report_is_one n a b p q = q.matches ∙ (ap (report_at n) (run_is_one _ n.end p.run q.run) ∙ sym p.matches)

@@ -26,4 +26,4 @@ report_at n last = record {
 pub record IsReportOf (n : NetModel) (r : ReportModel) : Type 0 where
   pub last : NetState Node Line
   pub run : Run (system_of n) n.end (boot (system_of n)) last
-  pub recounted : r ≡ report_at n last
+  pub matches : r ≡ report_at n last

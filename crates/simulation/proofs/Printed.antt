@@ -18,11 +18,11 @@ use Rattle.simulation.specs.Simulation.{IsScenario, Reported, RefusesText, Way, 
 
 -- the text describes this net
 abbrev pub scenario_of : (bytes : List ℕ) (n : NetModel) → IsText bytes → TellsNet bytes n → IsScenario bytes
-scenario_of bytes n short recounted = record { is_text = short; net = n; recounted = recounted }
+scenario_of bytes n short matches = record { is_text = short; net = n; matches = matches }
 
 -- whatever is written of the report's text is written of the bytes' report
 pub reported : (written : List ℕ → Type 0) (bytes : List ℕ) (n : NetModel) (r : ReportModel) → IsText bytes → TellsNet bytes n → IsReportOf n r → written (report_text n r) → Reported bytes written
-reported written bytes n r short recounted ran h = record { from = scenario_of bytes n short recounted; report = r; run = ran; got = h }
+reported written bytes n r short matches ran h = record { from = scenario_of bytes n short matches; report = r; run = ran; got = h }
 
 -- a fault that a text is refused with is its first, or out of memory
 pub refused : (bytes : List ℕ) (e : ScenarioError) → Answers bytes (Err e) → RefusesText bytes e
@@ -51,7 +51,7 @@ same_text one m n r s same ran run =
 
 same_report : OneNet → ReportIsOne → (bytes old a b : List ℕ) → Reported bytes (λ text. a ≡ old ++ text) → Reported bytes (λ text. b ≡ old ++ text) → a ≡ b
 same_report one_net one_run bytes old a b x y =
-    x.got ∙ ap (λ text. old ++ text) (same_text one_run x.from.net y.from.net x.report y.report (one_net bytes x.from.net y.from.net x.from.recounted y.from.recounted) x.run y.run) ∙ sym y.got
+    x.got ∙ ap (λ text. old ++ text) (same_text one_run x.from.net y.from.net x.report y.report (one_net bytes x.from.net y.from.net x.from.matches y.from.matches) x.run y.run) ∙ sym y.got
 
 -- two runs on the same bytes that write a whole report write the same, whatever made them
 pub one_report : OneNet → ReportIsOne → OneReport

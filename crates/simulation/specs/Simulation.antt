@@ -30,7 +30,7 @@ sim_fault input.Memory = fault.Memory
 pub record IsScenario (bytes : List ℕ) : Type 0 where
   pub is_text : IsText bytes
   pub net : NetModel
-  pub recounted : TellsNet bytes net
+  pub matches : TellsNet bytes net
 
 -- the bytes are a scenario, and of the text of the report of its net's run the writer has got this
 pub record Reported (bytes : List ℕ) (written : List ℕ → Type 0) : Type 0 where

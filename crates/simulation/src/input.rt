@@ -35,7 +35,7 @@ impl From<AllocError> for InputError {
 /// All bytes of a reader, if they are at most `LONGEST_TEXT`. Reading stops at the first call that passes this limit,
 /// so the function returns even if the reader has no end.
 fn read_all<R: Read>(alloc: Global, reader: &mut R) -> Result<Vec<u8>, InputError>
-    ensures recounted { IfSome (R.remaining reader.old) (λ input. ReadsBytes input result) }
+    ensures matches { IfSome (R.remaining reader.old) (λ input. ReadsBytes input result) }
     ensures bounded { IfOk result (λ bytes. vec_len bytes ≤ longest_text) }
 {
     let mut bytes = Vec::new(alloc);
@@ -57,7 +57,7 @@ fn read_all<R: Read>(alloc: Global, reader: &mut R) -> Result<Vec<u8>, InputErro
 /// `LONGEST_TEXT` bytes arrived, `NotText` if they aren't UTF-8. `Memory` only if an allocation failed.
 pub fn read_text<R: Read>(alloc: Global, reader: &mut R) -> Result<String, InputError>
     // If the reader's contents are known, the result is that of reading these bytes.
-    ensures recounted { IfSome (R.remaining reader.old) (λ input. ReadsText input result) }
+    ensures matches { IfSome (R.remaining reader.old) (λ input. ReadsText input result) }
     ensures bounded { IfOk result (λ text. string_len text ≤ longest_text) }
 {
     let bytes = read_all(alloc, reader)?;

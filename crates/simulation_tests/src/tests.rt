@@ -172,7 +172,7 @@ where
 /// A simulation to be tried.
 #[derive(Clone, Copy)]
 struct Trial<'a> {
-    recounted: OnRecord<'a>,
+    on_record: OnRecord<'a>,
     /// The text that is read instead of the scenario.
     instead: Option<&'a [u8]>,
     /// The worker of each mote.
@@ -190,7 +190,7 @@ struct Trial<'a> {
 
 /// One mote with one turn. The reader gives 16 bytes a call, the writer takes a byte a call, and nothing fails.
 const PRINTING: Trial<'static> = Trial {
-    recounted: PRINT_THEN_YIELD,
+    on_record: PRINT_THEN_YIELD,
     instead: None,
     of: &[0],
     shut: None,
@@ -203,7 +203,7 @@ const PRINTING: Trial<'static> = Trial {
 
 /// The same with three motes, each with a worker of its own.
 const SENDING: Trial<'static> = Trial {
-    recounted: TWO_SENDERS,
+    on_record: TWO_SENDERS,
     of: &[0, 1, 2],
     ..PRINTING
 };
@@ -241,7 +241,7 @@ where
     T: AllocGlobal + Files + Threads + Wait + RandomSource + Sync,
 {
     let mut reader = Source {
-        rest: trial.instead.unwrap_or(trial.recounted.scenario.as_bytes()),
+        rest: trial.instead.unwrap_or(trial.on_record.scenario.as_bytes()),
         most: trial.gives,
         calls: trial.reads,
     };
@@ -254,7 +254,7 @@ where
         others: AtomicU64::new(0),
     };
     let answer = simulate_by(rt, way, &mut reader, &mut writer, &gate);
-    let front = front_of(trial.recounted.report, writer.text.as_bytes());
+    let front = front_of(trial.on_record.report, writer.text.as_bytes());
     write_answer(text, &answer, front, &gate)
 }
 

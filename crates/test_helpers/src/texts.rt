@@ -9,11 +9,11 @@ use trace_lines::Line;
 ///
 /// # Errors
 /// `Fail`, which shows both texts, if they differ.
-pub fn same_text(recounted: &str, want: &str) -> Result<(), Fail> {
-    if recounted == want {
+pub fn same_text(actual: &str, want: &str) -> Result<(), Fail> {
+    if actual == want {
         return Ok(());
     }
-    Err(Fail::new(format_args!("{recounted} in place of {want}")))
+    Err(Fail::new(format_args!("{actual} in place of {want}")))
 }
 
 /// Writes down each copy: its moment and receiver, its sender, its number and its value.

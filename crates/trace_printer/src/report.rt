@@ -147,8 +147,8 @@ pub fn write_medium<W: Write>(
     page: &mut Page,
     report: &Report,
 ) -> Result<(), PrintError>
-    ensures writes { let recounted = report_of report.now
-        in let text = page.old ++ (medium_text recounted.log ++ left_text recounted.left)
+    ensures writes { let model = report_of report.now
+        in let text = page.old ++ (medium_text model.log ++ left_text model.left)
         in Writes (W.contents writer.old) (W.contents writer.new) result text }
 {
     print_medium(writer, page, &report.medium)?;

@@ -63,11 +63,11 @@ module _ (n : NetModel) (fault : medium_fault n.radio ≡ None) (placed : length
       let w = by_windows r.log is in record {
         last = w.last;
         run = w.run;
-        recounted =
+        matches =
             ap (λ t. reported_of t r.log r.left) traces
-            ∙ (ap (λ l. reported_of (map (λ number. (at.motes number).lines) (up_to (length n.motes))) l r.left) is.recounted
+            ∙ (ap (λ l. reported_of (map (λ number. (at.motes number).lines) (up_to (length n.motes))) l r.left) is.matches
             ∙ (ap (reported_of (map (λ number. (at.motes number).lines) (up_to (length n.motes))) (map (packet_with_fates n.radio) is.sorted)) left
-            ∙ w.recounted));
+            ∙ w.matches));
       }
 
   -- the results of the workers, joined, are the report of the net
@@ -84,7 +84,7 @@ module _ (n : NetModel) (fault : medium_fault n.radio ≡ None) (placed : length
   packets_are : (r : ReportModel) → IsReportOf n r → logged_packets r ≡ as_log (logs_of ended)
   packets_are r report =
       let by = is_report n fine of group at ended ends in
-      ap logged_packets report.recounted
+      ap logged_packets report.matches
       ∙ (sent_packets n report.last.log
       ∙ (ap (λ net. net.log) (run_is_one (system_of n) n.end by.run report.run) ∙ sym by.log_is))
 
@@ -105,7 +105,7 @@ module _ (n : NetModel) (fault : medium_fault n.radio ≡ None) (placed : length
 -- ---- the properties of every report
 pub one_trace_each : (n : NetModel) (r : Report) → IsReportOf n (report_of r) → length r.traces.items ≡ length n.motes
 one_trace_each n r report =
-    sym (length-map r.traces.items lines_in) ∙ (ap (λ (t : ReportModel). length t.traces) report.recounted ∙ (length-map (up_to (length n.motes)) report.last.traces ∙ counted (length n.motes)))
+    sym (length-map r.traces.items lines_in) ∙ (ap (λ (t : ReportModel). length t.traces) report.matches ∙ (length-map (up_to (length n.motes)) report.last.traces ∙ counted (length n.motes)))
   where
     counted : (k : ℕ) → length (up_to k) ≡ k
     counted zero = refl
@@ -114,5 +114,5 @@ one_trace_each n r report =
 pub all_hand_on : (n : NetModel) (r : Report) → IsReportOf n (report_of r) → All (λ (v : Vec Line Global). IsInOrder v.items) r.traces.items
 all_hand_on n r report =
     All-from_recursion (λ (v : Vec Line Global). IsInOrder v.items) r.traces.items
-    (each_mapped IsInOrder lines_in r.traces.items (subst (Each IsInOrder) (sym (ap (λ (t : ReportModel). t.traces) report.recounted)) (every_map IsInOrder report.last.traces (up_to (length n.motes))
+    (each_mapped IsInOrder lines_in r.traces.items (subst (Each IsInOrder) (sym (ap (λ (t : ReportModel). t.traces) report.matches)) (every_map IsInOrder report.last.traces (up_to (length n.motes))
     (every_weaker (λ k. k < length n.motes) (λ k. IsInOrder (report.last.traces k)) (λ k h. traces_hand_on n (report_of r) report k h) (up_to (length n.motes)) (below_all (length n.motes))))))

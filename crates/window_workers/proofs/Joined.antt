@@ -135,10 +135,10 @@ module _ (n : NetModel) (fine : RunsForward (system_of n)) (of : List ℕ) (grou
           let w = some_worker (length n.motes) workers of at.cut k (subst (λ l. k < l) at.cut.len low) in
           let o = there ended w.0 (subst (λ l. w.0 < l) (sym ended_long) w.2) in
           let its : get_or of k 0 ≡ w.0 = read of k w.0 0 w.1 in
-          let recounted : get_or ended w.0 o.0 ≡ o.0 = read ended w.0 o.0 o.0 o.1 in
+          let matches : get_or ended w.0 o.0 ≡ o.0 = read ended w.0 o.0 o.0 o.1 in
           ap lines_in (is.each k o.0 d low)
           ∙ (ap (λ v. lines_in (get_or (get_or ended v o.0).traces.items k d)) its
-          ∙ (ap (λ (x : Ended). lines_in (get_or x.traces.items k d)) recounted ∙ (piece w.0 o.0 o.1).tells.traces k (own_by of w.0 k w.1) d))
+          ∙ (ap (λ (x : Ended). lines_in (get_or x.traces.items k d)) matches ∙ (piece w.0 o.0 o.1).tells.traces k (own_by of w.0 k w.1) d))
 
   -- ---- copies
   all_had : Each (λ copy. IsHad of workers copy.to) (coming (system_of n) fine (suc n.end) at.motes)
@@ -157,7 +157,7 @@ module _ (n : NetModel) (fine : RunsForward (system_of n)) (of : List ℕ) (grou
       → left ≡ length (coming (system_of n) fine (suc n.end) at.motes)
   left_is left pairs long takers sums =
       let all = coming (system_of n) fine (suc n.end) at.motes in
-      let recounted = two_sums (λ (one : Ended). one.left) (λ (pair : Pair). length (gathered_by pair.1)) (λ (pair : Pair). length (taken_by pair.1)) (λ v. length (filter (is_to of v) all)) ended pairs (long ∙ sym ended_long) each in
+      let matches = two_sums (λ (one : Ended). one.left) (λ (pair : Pair). length (gathered_by pair.1)) (λ (pair : Pair). length (taken_by pair.1)) (λ v. length (filter (is_to of v) all)) ended pairs (long ∙ sym ended_long) each in
       let count : total (λ v. length (filter (is_to of v) all)) (length ended) ≡ length all = ap (total (λ v. length (filter (is_to of v) all))) ended_long ∙ by_worker of workers all all_had in
       omega arith
     where

@@ -37,9 +37,9 @@ module _ (n : NetModel) (fine : RunsForward (system_of n)) (of : List ℕ) (from
   -- this worker's part of the copies left
   pub left_here : (left : ℕ) (rest : List RadioCopy) → left ≡ length rest → ((s : ℕ) → filter (is_from_sender s) rest ≡ filter (is_to_come (is_own of v) from) (copies_seen (system_of n) (is_own of v) motes (taken_by taker) s))
       → left + length (gathered_by taker) ≡ length (filter (is_to of v) (coming (system_of n) fine from motes)) + length (taken_by taker)
-  left_here left rest is recounted =
+  left_here left rest is matches =
       let gathered = length_permutation (gathered_by taker) (taken_by taker ++ lying) (gathered_is n fine of from motes led first starts v share taker here) in
-      let comes = length_permutation (filter (is_to of v) (coming (system_of n) fine from motes)) (rest ++ lying) (to_come_is n fine of from motes led first starts v share taker here rest recounted) in
+      let comes = length_permutation (filter (is_to of v) (coming (system_of n) fine from motes)) (rest ++ lying) (to_come_is n fine of from motes led first starts v share taker here rest matches) in
       let taken_and = length-append (taken_by taker) lying in
       let rest_and = length-append rest lying in
       omega arith

@@ -11,7 +11,7 @@ use Rattle.mote_net.specs.Net.{NetModel}
 use Rattle.window_laws.specs.Sorts.{is_sooner}
 use Rattle.worker_window.specs.declared.share.Share.{Share}
 use Rattle.worker_window.specs.declared.share.Ended.{Ended}
-use Rattle.worker_window.specs.Share.{Motes, Keeps}
+use Rattle.worker_window.specs.Share.{Motes, IsWholeShare}
 use Rattle.worker_window.specs.Ended.{TellsAtEnd}
 use Rattle.worker_window.specs.Log.{packets_in}
 use Rattle.all_workers.specs.declared.workers.WorkerGroup.{WorkerGroup}
@@ -29,7 +29,7 @@ pub record AreAtEnd (n : NetModel) (of : List ℕ) (group : WorkerGroup) : Type 
 -- a share that is taken apart yields its contents
 abbrev pub TellsWhatItKept : Share → Ended → Type 0
 TellsWhatItKept share ended = (n : NetModel) (of : List ℕ) (worker from : ℕ) (motes : Motes) (taken : List RadioCopy)
-    → Keeps n of worker from motes taken share → TellsAtEnd n of worker from motes taken ended
+    → IsWholeShare n of worker from motes taken share → TellsAtEnd n of worker from motes taken ended
 
 -- the packets of all workers with their fates, one worker's after another's
 abbrev pub lines_of : List Ended → List LogLine
@@ -59,7 +59,7 @@ pub record IsLogOf (n : NetModel) (sends : List Sent) (log : List Packet) : Type
   pub sorted : List Sent
   pub same : IsPermutation sends sorted
   pub in_order : IsSortedBy is_sooner sorted
-  pub recounted : log ≡ map (packet_with_fates n.radio) sorted
+  pub matches : log ≡ map (packet_with_fates n.radio) sorted
 
 -- one mote's trace, as one worker reports it
 abbrev pub trace_at : List Ended → (worker mote : ℕ) → Ended → Vec Line Global → Vec Line Global

@@ -27,12 +27,12 @@ module _ {S L : Type 0} (system : System S L) (of : List ℕ) where
       → (given : List RadioCopy)
       → ((t s : ℕ) → filter (is_from_sender s) (filter (is_at t) given) ≡ filter (is_at t) (filter (is_within k from bound) (copies_seen system (is_own of v) motes taken s)))
       → IsGiven system from bound motes k given
-  given_is motes gathered taken v k from bound h recounted whole given is t s = is t s ∙ ap (filter (is_at t)) (of_case (cases_Bool (is_own of v s)))
+  given_is motes gathered taken v k from bound h matches whole given is t s = is t s ∙ ap (filter (is_at t)) (of_case (cases_Bool (is_own of v s)))
     where
       of_case : (is_own of v s ≡ true) ⊎ (is_own of v s ≡ false) → filter (is_within k from bound) (copies_seen system (is_own of v) motes taken s) ≡ filter (is_within k from bound) (copies_by system motes s)
       of_case (inl e) = rw e refl
       of_case (inr e) =
-          let f : filter (is_from_sender s) taken ≡ filter (is_to of v) (copies_by system motes s) = whole s ∙ (recounted s ∙ (rw e refl)) in
+          let f : filter (is_from_sender s) taken ≡ filter (is_to of v) (copies_by system motes s) = whole s ∙ (matches s ∙ (rw e refl)) in
           rw e (ap (filter (is_within k from bound)) f ∙ filter_stronger (is_within k from bound) (is_to of v) (within_to v k from bound h) (copies_by system motes s))
 
   to_outgoing : (u v : ℕ) → (u ≡ v → ⊥) → (c : RadioCopy) → is_to of v c ≡ true → is_for_others (is_own of u) c ≡ true

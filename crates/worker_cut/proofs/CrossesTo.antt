@@ -99,7 +99,7 @@ module _ {S L : Type 0} (system : System S L) (fine : RunsForward system) where
       → ((s : ℕ) → AllByRecursion (λ copy. copy.sender ≡ s) (copies_by system motes s)) → IsJoined system motes joined
       → ((s : ℕ) → filter (is_from_sender s) gathered ≡ crossed system of motes v s)
       → AreThoseTo system.copies of v (as_log joined) gathered
-  crossed_once of motes v gathered joined senders is recounted =
+  crossed_once of motes v gathered joined senders is matches =
       IsPermutation-trans _ _ _
       (IsPermutation-sym _ _ (sorted_passing system.copies (crosses_to of v) (λ sent. sent.at) (λ sent. sent.sender) joined))
       (same_by_sender _ gathered each)
@@ -116,4 +116,4 @@ module _ {S L : Type 0} (system : System S L) (fine : RunsForward system) where
       each : (s : ℕ) → filter (is_from_sender s) (filter (crosses_to of v) (flat_map system.copies joined)) ≡ filter (is_from_sender s) gathered
       each s =
           filter_filter (is_from_sender s) (crosses_to of v) (flat_map system.copies joined)
-          ∙ (ap (filter (crosses_to of v)) (from_sender s joined ∙ ap (flat_map system.copies) (is s)) ∙ (of_sender s ∙ sym (recounted s)))
+          ∙ (ap (filter (crosses_to of v)) (from_sender s joined ∙ ap (flat_map system.copies) (is s)) ∙ (of_sender s ∙ sym (matches s)))

@@ -156,8 +156,8 @@ fn write_report(
     report: &Report,
     text: &mut String,
 ) -> Result<(), AllocError> {
-    let recounted = format!(in alloc; "{report:?}")?;
-    if recounted.as_str() == one {
+    let actual = format!(in alloc; "{report:?}")?;
+    if actual.as_str() == one {
         write!(text, "Same({})", report.left)
     } else {
         text.push_str("Other")
@@ -168,10 +168,10 @@ fn write_report(
 fn write_result(
     alloc: Global,
     one: &str,
-    recounted: Result<Report, RunError>,
+    actual: Result<Report, RunError>,
     text: &mut String,
 ) -> Result<(), AllocError> {
-    match recounted {
+    match actual {
         Ok(report) => write_report(alloc, one, &report, text),
         Err(error) => write!(text, "Fault({error:?})"),
     }
@@ -190,8 +190,8 @@ where
     R: Threads + Wait + Sync + RandomSource + AllocGlobal,
     G: Gate + Sync,
 {
-    let recounted = run_workers(rt, rt.alloc(), scene.net, workers, cut, scene.sync, gate);
-    write_result(rt.alloc(), scene.one, recounted, text)
+    let actual = run_workers(rt, rt.alloc(), scene.net, workers, cut, scene.sync, gate);
+    write_result(rt.alloc(), scene.one, actual, text)
 }
 
 /// Writes down the observation in a run.

@@ -22,7 +22,7 @@ use Rattle.net_agenda.proofs.NewWakes.{new_wakes, new_numbers}
 use Rattle.worker_window.specs.declared.share.Share.{Share}
 use Rattle.worker_cut.specs.Crossed.{is_own, copies_seen}
 use Rattle.worker_window.specs.Log.{HaveFates, packets_in}
-use Rattle.worker_window.specs.Share.{node_at, mote_here, Keeps, is_to_come}
+use Rattle.worker_window.specs.Share.{node_at, mote_here, IsWholeShare, is_to_come}
 use Rattle.worker_window.proofs.NoTurnIsPast.{not_begun}
 use Rattle.worker_window.proofs.Items.{all_wakes}
 
@@ -82,7 +82,7 @@ module _ (n : NetModel) (of : List ℕ) (worker : ℕ) (long : length of ≡ len
       → ((k : ℕ) → k < length n.motes → own k ≡ true → node_at (tree_at n k) (mote_here share.motes.items k) ≡ Some (first_node_in n k))
       → ((k : ℕ) (d : Vec Line Global) → k < length n.motes → (get_or share.traces.items k d).items ≡ [])
       → share.log.items ≡ [] → Holds share.agenda.buckets (map (λ k. Wake 0 k) (filter own (up_to (length n.motes))))
-      → Keeps n of worker 0 (first_mote (system_of n)) [] share
+      → IsWholeShare n of worker 0 (first_mote (system_of n)) [] share
   begins share is_worker motes traced nodes traces log holds = record {
     is_worker = is_worker;
     places = motes;

@@ -90,8 +90,8 @@ pub gives_open : (n : NetModel) (until : ℕ) (r : LentMote) (out : WindowOut) (
     → Gives (record { program = tree_at n r.number; until = until; copies = r.copies.items; mote = lone_node r.trace.items state }) out
 gives_open n until r out state h f g =
     let e = mote_there n r.number h in
-    let recounted = rw e at g in
-    let is = rw f at recounted in
+    let matches = rw e at g in
+    let is = rw f at matches in
     is
 
 -- and what comes to it comes after its last turn
@@ -138,21 +138,21 @@ module _ (n : NetModel) (from until : ℕ) where
         there = there;
         last = in_front [] (motes k).sends gives.last;
         alone = subst (λ m. Alone (system_of n) k until (window_copies k) m (in_front [] (motes k).sends gives.last)) front_is (alone_in_front (system_of n) k until [] (motes k).sends alone);
-        node = recounted.node;
-        wake = recounted.wake;
-        lines = sym recounted.lines;
-        sends = ap (λ l. (motes k).sends ++ l) (sym recounted.sends);
+        node = matches.node;
+        wake = matches.wake;
+        lines = sym matches.lines;
+        sends = ap (λ l. (motes k).sends ++ l) (sym matches.sends);
         number_is = alone_keeps (system_of n) k until later from (λ m. number_of m.state ≡ k) (λ t m g h l e. number_kept k t m g e) quiet numbered alone;
         wakes = alone_keeps (system_of n) k until later from (λ m. m.wake ≡ wake_of m.state) (λ t m g h l e. wake_kept k t m g) quiet refl alone;
         quiet = rests_quiet (system_of n) k until alone;
         turned_before = alone_keeps (system_of n) k until later from (λ m. is_past until m.state.last ≡ false) (λ t m g h l e. turn_before n k t until m g l) quiet before alone;
-        sent = subst (AllByRecursion (IsSentIn k from until)) (sym recounted.sends)
+        sent = subst (AllByRecursion (IsSentIn k from until)) (sym matches.sends)
             (alone_keeps (system_of n) k until later from (λ m. AllByRecursion (IsSentIn k from until) m.sends)
             (λ t m g h l e. every_append (IsSentIn k from until) m.sends _ e (stamps k t h l _)) quiet tt alone);
       }
         where
-          recounted : IsFirstFault (node_in (tree_at n k) out.mote) out gives.last
-          recounted = reported_equals (node_in (tree_at n k) out.mote) out gives.last gives.given
+          matches : IsFirstFault (node_in (tree_at n k) out.mote) out gives.last
+          matches = reported_equals (node_in (tree_at n k) out.mote) out gives.last gives.given
 
           alone : Alone (system_of n) k until (window_copies k) (lone_node (motes k).lines (motes k).state) gives.last
           alone = alone_alike (system_of n) k until (window_copies k) alike (subst (λ j. Alone (system_of n) j until given (lone_node (motes k).lines (motes k).state) gives.last) numbered (gives.run (system_of n) turn_is))

@@ -30,7 +30,7 @@ pub record Lent (until : ℕ) (calls rest : CalledMotes) (old now : List (Option
   pub traces_kept : length left ≡ length traces
   pub traces_left : (k : ℕ) → is_one_of k (numbers_of lent_motes) ≡ false → (d : Vec Line Global) → get_or left k d ≡ get_or traces k d
   pub gone : (k : ℕ) → mote_here now k ≡ cond (is_one_of k (numbers_of lent_motes)) None (mote_here old k)
-  pub recounted : AllZip (IsWakeOf until) lent_motes wakes
+  pub matches : AllZip (IsWakeOf until) lent_motes wakes
 
 some_within : {X : Type 0} (xs : List (Option X)) (k : ℕ) (x : X) → get_or xs k None ≡ Some x → k < length xs
 some_within [] k x e = absurd (none_is_not x e)
@@ -117,7 +117,7 @@ none_lent until calls rest motes traces wakes f same =
       traces_kept = refl;
       traces_left = λ k none d. refl;
       gone = λ k. refl;
-      recounted = tt;
+      matches = tt;
     })
 
 -- a mote that is still to be lent was called
@@ -187,7 +187,7 @@ module _ (until : ℕ) (calls rest rest' : CalledMotes) (old now now' : List (Op
   no : (j : ℕ) → (j ≡ k → ⊥) → is_one_of j (numbers_of lent_motes') ≡ is_one_of j ks
   no j ne = among j ∙ (ap (λ b. is_one_of j ks || b) (ne_eqb k j (λ f. ne (sym f))) ∙ or_none (is_one_of j ks))
 
-  module _ (mote : mote_here now k ≡ Some r.mote) (put : now' ≡ set now k None) (took : TakesTrace k r.trace left left') (wake : Option ℕ) (recounted : IsWakeOf until r wake) (woken : wakes' ≡ wakes ++ wake ∷ []) where
+  module _ (mote : mote_here now k ≡ Some r.mote) (put : now' ≡ set now k None) (took : TakesTrace k r.trace left left') (wake : Option ℕ) (matches : IsWakeOf until r wake) (woken : wakes' ≡ wakes ++ wake ∷ []) where
     within : k < length now
     within = some_within now k r.mote mote
 
@@ -219,7 +219,7 @@ module _ (until : ℕ) (calls rest rest' : CalledMotes) (old now now' : List (Op
       traces_kept = ap length took.put ∙ (length-set left k took.left ∙ lent.traces_kept);
       traces_left = left_else;
       gone = gone';
-      recounted = subst (λ ws. AllZip (IsWakeOf until) (lent_motes ++ r ∷ []) ws) (sym woken) (zip_more (IsWakeOf until) lent_motes wakes r wake lent.recounted recounted);
+      matches = subst (λ ws. AllZip (IsWakeOf until) (lent_motes ++ r ∷ []) ws) (sym woken) (zip_more (IsWakeOf until) lent_motes wakes r wake lent.matches matches);
     }
 
 pub all_lent : (until : ℕ) (calls rest : CalledMotes) (old now : List (Option Mote)) (traces left : List (Vec Line Global)) (lent_motes : List LentMote) (wakes : List (Option ℕ))
@@ -232,7 +232,7 @@ all_lent until calls rest old now traces left lent_motes wakes lent none = recor
   traces_kept = lent.traces_kept;
   others = lent.traces_left;
   gone = lent.gone;
-  recounted = lent.recounted;
+  matches = lent.matches;
 }
   where
     called_one : (k : ℕ) (rs : List LentMote) → AllByRecursion (IsCalled calls old traces) rs → is_one_of k (numbers_of rs) ≡ true → is_some (copies_for calls k) ≡ true

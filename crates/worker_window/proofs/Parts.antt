@@ -18,7 +18,7 @@ use Rattle.net_agenda.specs.NetSystem.{system_of}
 use Rattle.worker_window.specs.declared.share.Share.{Share}
 use Rattle.worker_window.specs.Calls.{is_not_before, calls_for, TakesCopiesFor}
 use Rattle.worker_cut.specs.Crossed.{is_own, copies_seen, IsExpected}
-use Rattle.worker_window.specs.Share.{Motes, Keeps, is_to_come, wake_from}
+use Rattle.worker_window.specs.Share.{Motes, IsWholeShare, is_to_come, wake_from}
 use Rattle.worker_window.specs.Lending.{is_one_of}
 use Rattle.worker_window.proofs.Items.{inside, all_wakes, packets_of_all}
 use Rattle.worker_window.proofs.Rises.{sorted_is_sorted}
@@ -63,7 +63,7 @@ late_wakes : (until k : ℕ) (wake : Option ℕ) → filter (is_not_before until
 late_wakes until k None = refl
 late_wakes until k (Some t) = elim (cases_Bool (ltb t until)) [ inl e ↦ rw e refl | inr e ↦ rw e refl ]
 
-module _ (n : NetModel) (of : List ℕ) (worker from until : ℕ) (motes : Motes) (taken arrived : List RadioCopy) (share : Share) (keeps : Keeps n of worker from motes taken share)
+module _ (n : NetModel) (of : List ℕ) (worker from until : ℕ) (motes : Motes) (taken arrived : List RadioCopy) (share : Share) (keeps : IsWholeShare n of worker from motes taken share)
     (le : from ≤ until) (come : AllByRecursion (IsExpected of worker from) arrived) where
   abbrev pub own : ℕ → Bool
   own = is_own of worker

@@ -23,7 +23,7 @@ use Rattle.worker_window.specs.declared.share.Share.{Share}
 use Rattle.worker_window.specs.Calls.{CalledMotes, copies_for, calls_for, TakesEventsBefore}
 use Rattle.worker_cut.specs.Crossed.{is_own, IsExpected}
 use Rattle.worker_window.specs.Log.{HaveFates, packets_in}
-use Rattle.worker_window.specs.Share.{Motes, IsShare, Keeps, node_at, mote_here, wake_from}
+use Rattle.worker_window.specs.Share.{Motes, IsShare, IsWholeShare, node_at, mote_here, wake_from}
 use Rattle.worker_window.specs.Window.{outgoing_by}
 use Rattle.worker_window.specs.Lending.{IsCalled, IsWakeOf, MotesAreLent, is_one_of, numbers_of}
 use Rattle.worker_window.proofs.Begins.{own_there}
@@ -47,7 +47,7 @@ held_still {a} {b} {items} e h = subst (λ (agenda : Agenda). Holds agenda.bucke
 abbrev pub IsLeft : (old new : Share) → Type 0
 IsLeft old new = (new.worker ≡ old.worker) × (new.log.items ≡ old.log.items)
 
-module _ (n : NetModel) (of : List ℕ) (worker from until : ℕ) (motes : Motes) (taken arrived : List RadioCopy) (old new : Share) (keeps : Keeps n of worker from motes taken old)
+module _ (n : NetModel) (of : List ℕ) (worker from until : ℕ) (motes : Motes) (taken arrived : List RadioCopy) (old new : Share) (keeps : IsWholeShare n of worker from motes taken old)
     (le : from ≤ until) (come : AllByRecursion (IsExpected of worker from) arrived) (long : length of ≡ length n.motes)
     (calls : CalledMotes) (lent_motes : List LentMote) (wakes : List (Option ℕ)) (takes_events : TakesEventsBefore until (items n of worker from until motes taken arrived old keeps le come) calls)
     (holds : Holds new.agenda.buckets (later n of worker from until motes taken arrived old keeps le come))
@@ -122,10 +122,10 @@ module _ (n : NetModel) (of : List ℕ) (worker from until : ℕ) (motes : Motes
       (λ moment next. past_later from moment (not_before from moment wake r.copies.items quiet next.comes) (motes k).state.last (keeps.turned_before k h))
 
   one_pending : (r : LentMote) (wake : Option ℕ) → IsCalled calls old.motes.items old.traces.items r → IsWakeOf until r wake → IsPending until motes r.number wake
-  one_pending r wake called recounted =
+  one_pending r wake called matches =
       let k = r.number in
       let h = called_mine k (ap is_some called.copies) in
-      recounted (tree_at n k)
+      matches (tree_at n k)
       ∙ (ap (λ o. wake_from until (wake_in o)) (ap (node_at (tree_at n k)) (sym called.mote) ∙ keeps.nodes k h) ∙ ap (wake_from until) (sym (keeps.wakes k h)))
 
   -- the motes that are called can go on
@@ -138,7 +138,7 @@ module _ (n : NetModel) (of : List ℕ) (worker from until : ℕ) (motes : Motes
     different = lent.different;
     now = motes;
     backs = zip_numbers (IsCalled calls old.motes.items old.traces.items) (LentMoteGives n until) (IsBack n mine from until motes boxes) one_gives lent_motes outs lent.called gives;
-    pending = zip_numbers (IsCalled calls old.motes.items old.traces.items) (IsWakeOf until) (IsPending until motes) one_pending lent_motes wakes lent.called lent.recounted;
+    pending = zip_numbers (IsCalled calls old.motes.items old.traces.items) (IsWakeOf until) (IsPending until motes) one_pending lent_motes wakes lent.called lent.matches;
     in_state = in_state_left same;
     waits = λ k e. refl;
     others = λ k e. refl;

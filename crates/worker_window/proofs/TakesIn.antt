@@ -8,12 +8,12 @@ use Rattle.net_agenda.specs.Buckets.{Holds}
 use Rattle.window_laws.specs.Agenda.{Packet}
 use Rattle.worker_cut.specs.Crossed.{is_own, IsExpected}
 use Rattle.worker_window.specs.declared.share.Share.{Share}
-use Rattle.worker_window.specs.Share.{Motes, Keeps}
+use Rattle.worker_window.specs.Share.{Motes, IsWholeShare}
 use Rattle.worker_window.proofs.Items.{all_wakes}
 use Rattle.worker_window.proofs.Parts.{items, wakes_now, known_now}
 
-pub takes_in : (n : NetModel) (of : List ℕ) (worker from : ℕ) (motes : Motes) (taken arrived : List RadioCopy) (share : Share) (agenda : Agenda) (keeps : Keeps n of worker from motes taken share)
-    → AllByRecursion (IsExpected of worker from) arrived → Holds agenda.buckets (keeps.agenda.items ++ map Packet arrived) → Keeps n of worker from motes (taken ++ arrived) (record share { agenda = agenda })
+pub takes_in : (n : NetModel) (of : List ℕ) (worker from : ℕ) (motes : Motes) (taken arrived : List RadioCopy) (share : Share) (agenda : Agenda) (keeps : IsWholeShare n of worker from motes taken share)
+    → AllByRecursion (IsExpected of worker from) arrived → Holds agenda.buckets (keeps.agenda.items ++ map Packet arrived) → IsWholeShare n of worker from motes (taken ++ arrived) (record share { agenda = agenda })
 takes_in n of worker from motes taken arrived share agenda keeps come holds = record {
   is_worker = keeps.is_worker;
   places = keeps.places;

@@ -60,7 +60,7 @@ pub record MotesAreLent (until : ℕ) (calls : CalledMotes) (old new : List (Opt
   pub others : (k : ℕ) → is_one_of k (numbers_of lent_motes) ≡ false → (d : Vec Line Global)
       → slice_index_or left k d ≡ slice_index_or traces k d
   pub gone : (k : ℕ) → mote_here new k ≡ (if is_one_of k (numbers_of lent_motes) then None else mote_here old k)
-  pub recounted : AllZip (IsWakeOf until) lent_motes wakes
+  pub matches : AllZip (IsWakeOf until) lent_motes wakes
 
 -- the mote has this number
 pub record HasNumber (number : ℕ) (mote : Mote) : Type 0 where

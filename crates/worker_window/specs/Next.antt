@@ -7,7 +7,7 @@ use Rattle.window_laws.specs.Windows.{NoneBefore}
 use Rattle.net_agenda.specs.NetSystem.{system_of}
 use Rattle.worker_cut.specs.Crossed.{is_own, copies_seen}
 use Rattle.worker_window.specs.declared.share.Share.{Share}
-use Rattle.worker_window.specs.Share.{Motes, Keeps, is_to_come}
+use Rattle.worker_window.specs.Share.{Motes, IsWholeShare, is_to_come}
 
 -- the copies from this sender that are still on their way to the worker's motes
 abbrev pub copies_to_come : NetModel → (of : List ℕ) → (worker from : ℕ) → Motes → (taken : List RadioCopy)
@@ -20,11 +20,11 @@ copies_to_come n of worker from motes taken sender =
 pub record IsNextFrom (n : NetModel) (of : List ℕ) (worker from : ℕ) (motes : Motes) (taken : List RadioCopy)
     (share : Share) (next : Option ℕ) : Type 0 where
   pub wakes : NoneBefore from next
-  pub idle : (moment : ℕ) → from ≤ moment → NoneBefore moment next → Keeps n of worker moment motes taken share
+  pub idle : (moment : ℕ) → from ≤ moment → NoneBefore moment next → IsWholeShare n of worker moment motes taken share
   pub no_copies : (moment : ℕ) → NoneBefore moment next → (sender : ℕ)
       → Each (λ copy. moment ≤ copy.at) (copies_to_come n of worker from motes taken sender)
 
 -- this is the first pending event, whichever worker's share it is, and at whatever moment
 abbrev pub TellsNext : Share → (next : Option ℕ) → Type 0
 TellsNext share next = (n : NetModel) (of : List ℕ) (worker from : ℕ) (motes : Motes) (taken : List RadioCopy)
-    → Keeps n of worker from motes taken share → IsNextFrom n of worker from motes taken share next
+    → IsWholeShare n of worker from motes taken share → IsNextFrom n of worker from motes taken share next

@@ -74,8 +74,9 @@ pub record IsShare (n : NetModel) (of : List ℕ) (worker : ℕ) (here : ℕ →
   pub agenda : HasToCome n (is_own of worker) from motes taken share.agenda.buckets
 
 -- with all of its motes in it, as between windows
-abbrev pub Keeps : NetModel → (of : List ℕ) → (worker from : ℕ) → Motes → (taken : List RadioCopy) → Share → Type 0
-Keeps n of worker from motes taken share = IsShare n of worker (is_own of worker) from motes taken share
+abbrev pub IsWholeShare : NetModel → (of : List ℕ) → (worker from : ℕ) → Motes → (taken : List RadioCopy) → Share
+    → Type 0
+IsWholeShare n of worker from motes taken share = IsShare n of worker (is_own of worker) from motes taken share
 
 -- the share of some worker at some moment
 pub record IsKept (n : NetModel) (of : List ℕ) (share : Share) : Type 0 where
@@ -83,4 +84,4 @@ pub record IsKept (n : NetModel) (of : List ℕ) (share : Share) : Type 0 where
   pub from : ℕ
   pub motes : Motes
   pub taken : List RadioCopy
-  pub keeps : Keeps n of worker from motes taken share
+  pub keeps : IsWholeShare n of worker from motes taken share

@@ -8,7 +8,7 @@ use Rattle.net_agenda.specs.NetSystem.{system_of}
 use Rattle.worker_cut.specs.Crossed.{is_for_others, is_own, IsExpected}
 use Rattle.worker_cut.specs.Laws.{IsFromSources}
 use Rattle.worker_window.specs.declared.share.Share.{Share}
-use Rattle.worker_window.specs.Share.{Motes, Keeps}
+use Rattle.worker_window.specs.Share.{Motes, IsWholeShare}
 
 -- A mote runs by itself on copies that the worker has seen: at each moment of the window, for each sender, the copies
 -- for it, in the order of sending, and none at other moments.
@@ -32,17 +32,17 @@ pub record RunsWindow (n : NetModel) (of : List ℕ) (worker from until : ℕ) (
   pub next : Motes
   pub runs : (k : ℕ) → is_own of worker k ≡ true → RunsOwnMote n (is_own of worker) from until motes next taken k
   pub others : (k : ℕ) → is_own of worker k ≡ false → next k ≡ motes k
-  pub keeps : Keeps n of worker until next taken new
+  pub keeps : IsWholeShare n of worker until next taken new
   pub out : (s : ℕ) → outgoing_by n (is_own of worker) next s ≡ outgoing_by n (is_own of worker) motes s
       ++ filter (is_from_sender s) outgoing
   pub late : Each (λ (copy : RadioCopy). until ≤ copy.at) outgoing
 
--- For each moment `from` <= `until` at which `old` was a whole share (`Keeps`): if until - from <= lookahead and each
--- arrived copy is expected, then `new` is the share after the window, and `outgoing` are the outgoing copies.
+-- For each moment `from` <= `until` at which `old` was a whole share (`IsWholeShare`): if until - from <= lookahead and
+-- each arrived copy is expected, then `new` is the share after the window, and `outgoing` are the outgoing copies.
 abbrev pub RunsThrough : NetModel → (of : List ℕ) → (until : ℕ) → (arrived : List RadioCopy) → (old new : Share)
     → (outgoing : List RadioCopy) → Type 0
 RunsThrough n of until arrived old new outgoing = (worker from : ℕ) (motes : Motes) (taken : List RadioCopy)
-    → Keeps n of worker from motes taken old → from ≤ until → until ≤ from + (system_of n).lookahead
+    → IsWholeShare n of worker from motes taken old → from ≤ until → until ≤ from + (system_of n).lookahead
     → Each (IsExpected of worker from) arrived
     → RunsWindow n of worker from until motes (taken ++ arrived) new outgoing
 
@@ -50,8 +50,8 @@ RunsThrough n of until arrived old new outgoing = (worker from : ℕ) (motes : M
 -- as `old` at `from`, with these copies among what it has taken
 abbrev pub TakesIn : (arrived : List RadioCopy) → (old new : Share) → Type 0
 TakesIn arrived old new = (n : NetModel) (of : List ℕ) (worker from : ℕ) (motes : Motes) (taken : List RadioCopy)
-    → Keeps n of worker from motes taken old → Each (IsExpected of worker from) arrived
-    → Keeps n of worker from motes (taken ++ arrived) new
+    → IsWholeShare n of worker from motes taken old → Each (IsExpected of worker from) arrived
+    → IsWholeShare n of worker from motes (taken ++ arrived) new
 
 -- the copy is from a mote of this worker, to a mote of the net that isn't this worker's
 pub record IsOutgoing (n : NetModel) (of : List ℕ) (worker : ℕ) (copy : RadioCopy) : Type 0 where
@@ -66,6 +66,6 @@ pub record CanRun (n : NetModel) (of : List ℕ) (until : ℕ) (share : Share) (
   pub from : ℕ
   pub motes : Motes
   pub taken : List RadioCopy
-  pub keeps : Keeps n of worker from motes taken share
+  pub keeps : IsWholeShare n of worker from motes taken share
   pub order : from ≤ until
   pub expected : Each (IsExpected of worker from) arrived

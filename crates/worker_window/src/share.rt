@@ -10,7 +10,7 @@ ghost use Rattle.mote_net.specs.Meaning.{net_of};
 ghost use Rattle.net_agenda.specs.NetSystem.{first_node_in, system_of, tree_at};
 ghost use Rattle.net_agenda.specs.Changes.{Adds};
 ghost use Rattle.worker_window.specs.Next.{TellsNext};
-ghost use Rattle.worker_window.specs.Share.{Motes, Keeps, node_at};
+ghost use Rattle.worker_window.specs.Share.{Motes, IsWholeShare, node_at};
 ghost use Rattle.worker_window.specs.Ended.{TellsAtEnd};
 
 use crate::scratch::Rooms;
@@ -86,7 +86,7 @@ impl Share {
     pub fn new(alloc: Global, net: &Net, of: &[u16], worker: u16) -> Result<Share, AllocError>
         requires covers_motes { length of.now ≡ length (net_of net.now).motes }
         ensures keeps { let n = net_of net.now in IfOk result
-            (λ share. Keeps n of.now worker 0 (first_mote (system_of n)) [] share) }
+            (λ share. IsWholeShare n of.now worker 0 (first_mote (system_of n)) [] share) }
     {
         let mut share = Share {
             alloc,
@@ -122,7 +122,7 @@ impl Share {
     /// `AllocError` only for a number of copies above `u64::MAX`, for which no memory has room. Nothing is allocated.
     pub fn end(self) -> Result<Ended, AllocError>
         ensures tells_at_end { (n : NetModel) (of : List ℕ) (worker from : ℕ) (motes : Motes) (taken : List RadioCopy)
-            → Keeps n of worker from motes taken self
+            → IsWholeShare n of worker from motes taken self
             → IfOk result (TellsAtEnd n of worker from motes taken) }
     {
         let Share {

@@ -32,7 +32,7 @@ pub(crate) enum Scene {
 }
 
 impl Scene {
-    /// The windows that worker 2 receives, as long as they come, each after the moment at which it begins.
+    /// The windows that worker 2 receives, each as the moment at which it begins and its number.
     pub(crate) fn windows(self) -> &'static [(u64, u64)] {
         match self {
             Scene::Windows => &[(5, 0), (9, 1), (10, 2)],

@@ -18,7 +18,7 @@ fn has_canonical(alloc: Global, text: &str, want: &str) -> Result<(), Fail> {
     same_text(printed.as_str(), want)
 }
 
-/// Fails unless `want` is the canonical text of a text's program, and of its own.
+/// Fails unless `want` is the canonical text of a text's program, and the canonical text of `want`'s own program.
 fn prints(alloc: Global, text: &str, want: &str) -> Result<(), Fail> {
     has_canonical(alloc, text, want)?;
     has_canonical(alloc, want, want)

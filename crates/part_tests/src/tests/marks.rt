@@ -69,7 +69,7 @@ fn write_items<R: Wait>(rt: &R, alloc: Global, text: &mut String) -> Result<(), 
     Ok(())
 }
 
-/// Before each item, and at the end, is the number of items that are known.
+/// The number of items that are known precedes each item, and is also the last in the text.
 #[test]
 fn items_one_by_one(rt: HostRuntime) -> Result<(), Fail> {
     let mut text = String::new(rt.alloc());

@@ -97,7 +97,7 @@ fn tells(
     same_text(text.as_str(), want)
 }
 
-/// A turn at a moment that isn't later than the last turn's is refused, and the next one that is later isn't.
+/// A turn that isn't later than the last one is refused. A later turn after it is taken.
 const PAST_TURN: &str =
     "Some(0)|0 Start(Etimer)|0 Start(Ctimer)|0 Start(Radio)|0 Start(Own(0))|0 Print(Own(0), 1)|\
      wake None|None|Past|None|wake None|None|";

@@ -64,7 +64,7 @@ enum Act {
     Event(u8, u16),
     /// The operation that it asked for gets its result.
     Answer(u16),
-    /// A thread of this part, at its beginning, takes its place.
+    /// It is replaced by a thread of this part, at its beginning.
     Begin(Part),
     /// It has this many units from now on.
     Units(u32),

@@ -1,6 +1,6 @@
 //! The results of kernels and motes once an allocation has failed. `tools/dev/refuse_memory` makes each allocation of
-//! this test fail, one in each run: each time it passes if each call answers as it has to, or ends as out of memory if
-//! it got no kernel or no mote.
+//! this test fail, one in each run. The test passes if each call answers as it has to; it ends as out of memory if it
+//! got no kernel or no mote.
 
 use mote_node::{Mote, MoteError};
 use mote_program::read;

@@ -44,9 +44,9 @@ pub(crate) fn report_of_trace(alloc: Global, trace: Vec<Line>) -> Result<Report,
 }
 
 /// Fails unless these are the bytes of this text.
-fn same_bytes(recounted: &[u8], want: &str) -> Result<(), Fail> {
-    match str::from_utf8(recounted) {
-        Ok(recounted) => same_text(recounted, want),
+fn same_bytes(actual: &[u8], want: &str) -> Result<(), Fail> {
+    match str::from_utf8(actual) {
+        Ok(actual) => same_text(actual, want),
         Err(_) => Err(Fail::new(format_args!("no text"))),
     }
 }

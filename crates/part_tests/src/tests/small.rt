@@ -42,9 +42,9 @@ fn refuses_the_second(queue: &mut EventQueue) -> bool
 
 const OWN: Proc = Proc::Own(0);
 
-/// Tests whether timer 1, whose event is refused at moment 1, stays and is followed by timer 0, comes before timer 0
-/// again once it was restarted and is due, and is gone once it was stopped. A new timer was never set, so it has
-/// expired.
+/// Tests timer 1, whose event is refused at moment 1: it stays, followed by timer 0. Once it was restarted and is due,
+/// it comes before timer 0 again. Once it was stopped, it is gone. A new timer was never set, so it has expired.
+/// Returns whether all is so.
 fn refused_one_stays(timers: &mut Timers) -> bool
     requires two_timers { length timers.old.timers ≡ 2 }
 {

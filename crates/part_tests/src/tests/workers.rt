@@ -113,8 +113,8 @@ fn write_joined<R: Threads + Wait + Sync>(
     }
 }
 
-/// Of the workers that give up, the first one that didn't stop because of another has its error reported, and all were
-/// started.
+/// Of the workers that give up, the first one with a reason of its own has its error reported, not one that stopped
+/// because of another. All were started.
 fn write_giving_up<R: Threads + Wait + Sync>(rt: &R, alloc: Global, text: &mut String) {
     for workers in [
         [1, 2, 3],

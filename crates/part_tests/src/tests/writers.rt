@@ -95,14 +95,14 @@ fn gets<R: Threads + Wait + AllocGlobal + Sync>(
         most,
         room,
     };
-    let recounted = write_by(rt, workers, net, report, &mut writer);
+    let actual = write_by(rt, workers, net, report, &mut writer);
     let bytes = writer.bytes.as_slice();
     let answer = if room == wanted.len() {
         Ok(())
     } else {
         Err(PrintError::Write)
     };
-    recounted == answer && bytes.len() == room && wanted.starts_with(bytes)
+    actual == answer && bytes.len() == room && wanted.starts_with(bytes)
 }
 
 /// Tests the same for each number of bytes by which the room falls short.
@@ -168,7 +168,7 @@ const FEW: [(u64, What); 2] = [
     (0, What::Print(Proc::Own(0), 1)),
 ];
 
-/// Tests both for the report of few lines.
+/// Tests both kinds of writers for the report of few lines.
 fn few_lines<R: Threads + Wait + AllocGlobal + Sync>(rt: &R, net: &Net) -> Result<bool, AllocError>
     requires one_mote { length (net_of net.now).motes ≡ 1 }
 {

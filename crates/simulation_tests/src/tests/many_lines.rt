@@ -44,7 +44,7 @@ fn write_report_of_125(text: &mut String) -> Result<(), AllocError> {
 /// The run, with streams that give and take all bytes in one call.
 fn running(report: &str) -> Trial<'_> {
     Trial {
-        recounted: OnRecord {
+        on_record: OnRecord {
             scenario: EACH_125,
             report: report.as_bytes(),
         },

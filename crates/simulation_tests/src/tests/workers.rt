@@ -43,7 +43,7 @@ static TRIALS: [Trials<'static>; 21] = [
     // Each turn is taken by the worker of its mote, in one window with a start for each of two workers.
     Trials {
         trial: Trial {
-            recounted: FOUR_MOTES,
+            on_record: FOUR_MOTES,
             of: &[0, 0, 1, 1],
             ..PRINTING
         },
@@ -54,7 +54,7 @@ static TRIALS: [Trials<'static>; 21] = [
     },
     Trials {
         trial: Trial {
-            recounted: FOUR_MOTES,
+            on_record: FOUR_MOTES,
             of: &[0, 1, 0, 1],
             ..PRINTING
         },

@@ -4,7 +4,7 @@ use Rattle.window_laws.specs.Windows.{first_mote}
 use Rattle.net_agenda.specs.NetSystem.{system_of}
 use Rattle.net_agenda.proofs.Boots.{pushed}
 use Rattle.worker_window.specs.declared.share.Share.{Share}
-use Rattle.worker_window.specs.Share.{Keeps}
+use Rattle.worker_window.specs.Share.{IsWholeShare}
 use Rattle.all_workers.proofs.workers.first_shares.Goals as goal
 
 pub loop-worker-preserved : goal.loop-worker-preserved
@@ -15,7 +15,7 @@ loop-worker-preserved c =
     record {
       count = (let e = inv.count in omega arith);
       each = λ v share low.
-          pushed (λ k (s : Share). Keeps n c.args.of.now k 0 (first_mote (system_of n)) [] s) c.loop-worker.shares.items _ c.in_ok-share.share c.loop-worker.worker
+          pushed (λ k (s : Share). IsWholeShare n c.args.of.now k 0 (first_mote (system_of n)) [] s) c.loop-worker.shares.items _ c.in_ok-share.share c.loop-worker.worker
           c.in_ok-push.ensures.items inv.count (λ k d h. inv.each k d h) c.in_ok-share.ensures.keeps v share low;
     }
 

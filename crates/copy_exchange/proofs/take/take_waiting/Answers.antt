@@ -28,11 +28,11 @@ loop-init g c =
 pub loop-preserved-in-Continue-1 : goal.loop-preserved-in-Continue-1
 loop-preserved-in-Continue-1 g c =
     let item = c.in-Some-take_next.item in
-    let recounted = c.in-Some-take_next.ensures in
+    let matches = c.in-Some-take_next.ensures in
     let heard = c.in_ok-hear-in-Some-take_next.ensures in
     record {
-      took = takes_more (position_of c.args.window_position.now) c.args.taker.now c.loop.taker c.take_next.new.taker item c.loop.arrived.items c.hear.new.arrived.items c.loop.invariant.took recounted.next.number recounted.taken heard.arrived;
-      counts = subst (λ (t : TakerView). Counts c.hear.new.marks.items t.state) (sym recounted.taken) (heard.counts c.loop.taker.state c.loop.invariant.counts recounted.next);
+      took = takes_more (position_of c.args.window_position.now) c.args.taker.now c.loop.taker c.take_next.new.taker item c.loop.arrived.items c.hear.new.arrived.items c.loop.invariant.took matches.next.number matches.taken heard.arrived;
+      counts = subst (λ (t : TakerView). Counts c.hear.new.marks.items t.state) (sym matches.taken) (heard.counts c.loop.taker.state c.loop.invariant.counts matches.next);
     }
 
 pub loop-preserved : goal.loop-preserved

@@ -62,7 +62,7 @@ loop-place-preserved g c =
     let takers = c.requires.takers.count in
     let senders = c.requires.senders.count in
     let was = c.index_mut.ensures.value ∙ ap (λ v. get_or c.loop-place.takers.items v c.index_mut.result.now) place in
-    let step = gathers_next k c.args.takers.now.items c.loop-place.takers.items c.args.senders.items c.index_mut.result.now c.gather_one.new.taker c.in-Some.sender i.gathered (omega arith) was n.1 c.gather_one.ensures.gathered c.gather_one.ensures.recounted in
+    let step = gathers_next k c.args.takers.now.items c.loop-place.takers.items c.args.senders.items c.index_mut.result.now c.gather_one.new.taker c.in-Some.sender i.gathered (omega arith) was n.1 c.gather_one.ensures.gathered c.gather_one.ensures.matches in
     let long : length (c.loop-place.yielded ++ (c.in-Some.place, c.in-Some.sender) ∷ []) ≡ k + 1 = length-append c.loop-place.yielded ((c.in-Some.place, c.in-Some.sender) ∷ []) in
     record {
       gathered = rw (long, place) step;

@@ -26,45 +26,45 @@ loop-handle-init g c = record {
 
 pub loop-handle-preserved-in_default : goal.loop-handle-preserved-in_default
 loop-handle-preserved-in_default g c =
-    let recounted = c.join-result.ensures in
+    let matches = c.join-result.ensures in
     record {
-      kept = λ going. rw c.in_default.ensures.items (push_zip _ c.loop-handle.yielded c.loop-handle.done.items c.in-Some.handle c.in-Ok.worker (c.loop-handle.invariant.kept going) (IfOk-at_ok _ c.in-Ok.is recounted.0));
+      kept = λ going. rw c.in_default.ensures.items (push_zip _ c.loop-handle.yielded c.loop-handle.done.items c.in-Some.handle c.in-Ok.worker (c.loop-handle.invariant.kept going) (IfOk-at_ok _ c.in-Ok.is matches.0));
       ended = one_more (ends_of g) c.loop-handle.yielded c.loop-handle.failed c.in-Some.handle None c.loop-handle.invariant.ended tt;
-      parts = omega (arith, c.merge.ensures.parts, c.loop-handle.invariant.parts, recounted.2, length-append c.loop-handle.yielded (c.in-Some.handle ∷ []));
-      tokens = λ none. rw c.merge.ensures.amount (one_without c.loop-handle.failed _ _ (c.loop-handle.invariant.tokens none) (tokens_of_ok c.join-result.result.result c.in-Ok.worker _ c.in-Ok.is recounted.3));
+      parts = omega (arith, c.merge.ensures.parts, c.loop-handle.invariant.parts, matches.2, length-append c.loop-handle.yielded (c.in-Some.handle ∷ []));
+      tokens = λ none. rw c.merge.ensures.amount (one_without c.loop-handle.failed _ _ (c.loop-handle.invariant.tokens none) (tokens_of_ok c.join-result.result.result c.in-Ok.worker _ c.in-Ok.is matches.3));
     }
 
 pub loop-handle-preserved-in-Err-push : goal.loop-handle-preserved-in-Err-push
 loop-handle-preserved-in-Err-push g c =
-    let recounted = c.join-result.ensures in
+    let matches = c.join-result.ensures in
     record {
       kept = λ none. absurd (cc);
       ended =
           let none : c.loop-handle.failed ≡ None = search rules in
           subst (λ f. Ended (ends_of g) (c.loop-handle.yielded ++ c.in-Some.handle ∷ []) (with_end f (Some Memory))) none
           (one_more (ends_of g) c.loop-handle.yielded c.loop-handle.failed c.in-Some.handle (Some Memory) c.loop-handle.invariant.ended (inr refl));
-      parts = omega (arith, c.merge.ensures.parts, c.loop-handle.invariant.parts, recounted.2, length-append c.loop-handle.yielded (c.in-Some.handle ∷ []));
+      parts = omega (arith, c.merge.ensures.parts, c.loop-handle.invariant.parts, matches.2, length-append c.loop-handle.yielded (c.in-Some.handle ∷ []));
       tokens = λ none. tt;
     }
 
 pub loop-handle-preserved-else-is_none : goal.loop-handle-preserved-else-is_none
 loop-handle-preserved-else-is_none g c =
-    let recounted = c.join-result.ensures in
+    let matches = c.join-result.ensures in
     record {
       kept = λ none. absurd (search rules);
       ended = one_more (ends_of g) c.loop-handle.yielded c.loop-handle.failed c.in-Some.handle None c.loop-handle.invariant.ended tt;
-      parts = omega (arith, c.merge.ensures.parts, c.loop-handle.invariant.parts, recounted.2, length-append c.loop-handle.yielded (c.in-Some.handle ∷ []));
-      tokens = λ none. rw c.merge.ensures.amount (one_without c.loop-handle.failed _ _ (c.loop-handle.invariant.tokens none) (tokens_of_ok c.join-result.result.result c.in-Ok.worker _ c.in-Ok.is recounted.3));
+      parts = omega (arith, c.merge.ensures.parts, c.loop-handle.invariant.parts, matches.2, length-append c.loop-handle.yielded (c.in-Some.handle ∷ []));
+      tokens = λ none. rw c.merge.ensures.amount (one_without c.loop-handle.failed _ _ (c.loop-handle.invariant.tokens none) (tokens_of_ok c.join-result.result.result c.in-Ok.worker _ c.in-Ok.is matches.3));
     }
 
 pub loop-handle-preserved : goal.loop-handle-preserved
 loop-handle-preserved g c =
-    let recounted = c.join-result.ensures in
+    let matches = c.join-result.ensures in
     record {
       kept = λ none. absurd (cc);
-      ended = rw c.gravest.ensures.value (one_more (ends_of g) c.loop-handle.yielded c.loop-handle.failed c.in-Some.handle (Some c.in-Err.refused) c.loop-handle.invariant.ended (inl (IfErr-at_err _ c.in-Err.is recounted.1)));
-      parts = omega (arith, c.merge.ensures.parts, c.loop-handle.invariant.parts, recounted.2, length-append c.loop-handle.yielded (c.in-Some.handle ∷ []));
-      tokens = λ none. rw (c.merge.ensures.amount, c.gravest.ensures.value) (one_with c.loop-handle.failed c.in-Err.refused _ _ (c.loop-handle.invariant.tokens none) (tokens_of_err c.join-result.result.result c.in-Err.refused _ c.in-Err.is recounted.3));
+      ended = rw c.gravest.ensures.value (one_more (ends_of g) c.loop-handle.yielded c.loop-handle.failed c.in-Some.handle (Some c.in-Err.refused) c.loop-handle.invariant.ended (inl (IfErr-at_err _ c.in-Err.is matches.1)));
+      parts = omega (arith, c.merge.ensures.parts, c.loop-handle.invariant.parts, matches.2, length-append c.loop-handle.yielded (c.in-Some.handle ∷ []));
+      tokens = λ none. rw (c.merge.ensures.amount, c.gravest.ensures.value) (one_with c.loop-handle.failed c.in-Err.refused _ _ (c.loop-handle.invariant.tokens none) (tokens_of_err c.join-result.result.result c.in-Err.refused _ c.in-Err.is matches.3));
     }
 
 pub returns-in-None-failed-clause-kept : goal.returns-in-None-failed-clause-kept

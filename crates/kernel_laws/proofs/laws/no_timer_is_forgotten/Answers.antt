@@ -12,8 +12,8 @@ returns-clause-boot c = boot_forgets_none
 pub returns-clause-run : goal.returns-clause-run
 returns-clause-run c = run_forgets_none
 
-pub returns-clause-recounted : goal.returns-clause-recounted
-returns-clause-recounted c = run_tells_due
+pub returns-clause-due : goal.returns-clause-due
+returns-clause-due c = run_tells_due
 
 pub returns-clause-boot_owners : goal.returns-clause-boot_owners
 returns-clause-boot_owners c = boot_keeps_owners

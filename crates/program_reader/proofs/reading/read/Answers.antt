@@ -69,8 +69,8 @@ reported_here c =
     ∙ ap (λ i. get_or c.in_ok-lexed.lexed.lines.items i c.index.result.now) same) in
     reported_read _ _ _ _ c.in-Err-Fault.fault.left _ c.in_ok-lexed.ensures.is_lexed t at
 
-pub returns-clause-recounted : goal.returns-clause-recounted
-returns-clause-recounted c = λ e is other.
+pub returns-clause-matches : goal.returns-clause-matches
+returns-clause-matches c = λ e is other.
     let same : ◌≡◌ {A = ReadError} (record { kind = c.in-Err-Fault.fault.kind; line = c.index.result.now }) e = cc is in
     subst (λ z. IsErrorOf c.args.text.now z.kind z.line) same (reported_here c)
 

@@ -33,19 +33,19 @@ loop-sent-preserved c =
     let sends = c.args.sends.now in
     let i = c.loop-sent.sent-index in
     let sent = get_or sends i none in
-    let recounted = c.in_ok-fates.ensures.value in
+    let matches = c.in_ok-fates.ensures.value in
     let line : LogLine = record { sent = sent; fates = c.in_ok-fates.fates } in
     let lines = map line_model c.loop-sent.log.items in
     record {
       agenda = λ items holds.
           let all = items ++ map Packet (flat_map (copies radio) (take i sends)) in
           subst (λ l. Holds c.put_fates.new.self.buckets l)
-          (ap (λ (fates : List Fate). all ++ map Packet (filter_map (copy_of sent) fates)) (c.deref.ensures.value ∙ recounted) ∙ sends_more (copies radio) items sends i none c.loop-sent-test.true)
+          (ap (λ (fates : List Fate). all ++ map Packet (filter_map (copy_of sent) fates)) (c.deref.ensures.value ∙ matches) ∙ sends_more (copies radio) items sends i none c.loop-sent-test.true)
           (c.in_ok-put_fates.ensures.adds all (inv.agenda items holds));
       log =
           ap (map line_model) c.in_ok-push.ensures.items
           ∙ (map-append line_model c.loop-sent.log.items (line ∷ [])
-          ∙ (ap (λ (fates : List Fate). lines ++ record { sent = sent; fates = fates } ∷ []) recounted
+          ∙ (ap (λ (fates : List Fate). lines ++ record { sent = sent; fates = fates } ∷ []) matches
           ∙ log_more (packet_with_fates radio) (map line_model c.args.log.now.items) lines sends i none c.loop-sent-test.true inv.log));
     }
 

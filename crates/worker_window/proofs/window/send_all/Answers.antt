@@ -26,8 +26,8 @@ loop-sent-preserved c =
     let i = c.loop-sent.sent-index in
     let sent = get_or sends i none in
     let inv = c.loop-sent.invariant in
-    let recounted = c.in_ok-fates.ensures.value in
-    let given : filter_map (copy_of sent) c.deref.result.now ≡ made sent = ap (filter_map (copy_of sent)) (c.deref.ensures.value ∙ recounted) in
+    let matches = c.in_ok-fates.ensures.value in
+    let given : filter_map (copy_of sent) c.deref.result.now ≡ made sent = ap (filter_map (copy_of sent)) (c.deref.ensures.value ∙ matches) in
     let before = filter (is_for_others own) (flat_map made (take i sends)) in
     let line : LogLine = record { sent = sent; fates = c.in_ok-fates.fates } in
     record {
@@ -42,7 +42,7 @@ loop-sent-preserved c =
       log = ap packets_in c.in_ok-push.ensures.items
           ∙ (map-append (λ (l : LogLine). l.sent) c.loop-sent.log.items (line ∷ [])
           ∙ (ap (λ l. l ++ sent ∷ []) inv.log ∙ more_sends (packets_in c.args.log.now.items) sends i none c.loop-sent-test.true));
-      fates = λ h. subst (HaveFates radio) (sym c.in_ok-push.ensures.items) (every_append _ c.loop-sent.log.items (line ∷ []) (inv.fates h) (recounted, tt));
+      fates = λ h. subst (HaveFates radio) (sym c.in_ok-push.ensures.items) (every_append _ c.loop-sent.log.items (line ∷ []) (inv.fates h) (matches, tt));
     }
 
 pub returns-clause-own : goal.returns-clause-own

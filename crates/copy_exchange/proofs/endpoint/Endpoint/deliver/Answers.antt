@@ -21,10 +21,10 @@ loop-copy-preserved g c =
     let copies : List RadioCopy = c.args.copies.now in
     let index : ℕ = c.loop-copy.copy-index in
     let none : RadioCopy = record { at = 0; to = 0; sender = 0; number = 0; value = 0 } in
-    let recounted = c.in_ok-deliver_one.ensures in
-    let more = delivers_more c.args.of.now c.args.self.now c.loop-copy.self c.deliver_one.new.self (take index copies) _ c.loop-copy.invariant.delivers recounted.delivers in
+    let matches = c.in_ok-deliver_one.ensures in
+    let more = delivers_more c.args.of.now c.args.self.now c.loop-copy.self c.deliver_one.new.self (take index copies) _ c.loop-copy.invariant.delivers matches.delivers in
     record {
-      on_inboxes = recounted.on_inboxes;
+      on_inboxes = matches.on_inboxes;
       delivers = subst (λ (l : List RadioCopy). Delivers c.args.of.now c.args.self.now c.deliver_one.new.self l) (sym (take_more copies index none c.loop-copy-test.true)) more;
     }
 

@@ -19,8 +19,8 @@ push_copy-requires g c = record {
 }
 
 -- the item that was pushed, and its sender
-recounted : (g : _) (c : In_ok-map_err g) → (c.push_copy.new.sender.state ≡ after_pushing c.in-Some.sender.state (Packet c.args.copy)) × (Some c.in-Some.sender ≡ get_or c.args.self.now.senders.items c.from-to.result (Some c.in-Some.sender))
-recounted g c =
+matches : (g : _) (c : In_ok-map_err g) → (c.push_copy.new.sender.state ≡ after_pushing c.in-Some.sender.state (Packet c.args.copy)) × (Some c.in-Some.sender ≡ get_or c.args.self.now.senders.items c.from-to.result (Some c.in-Some.sender))
+matches g c =
     let value = c.index_mut.ensures.value in
     let is = c.in-Some.is in
     (search rules, sym is ∙ (value ∙ ap (get_or c.args.self.now.senders.items c.from-to.result) is))
@@ -29,12 +29,12 @@ pub returns-clause-on_inboxes : goal.returns-clause-on_inboxes
 returns-clause-on_inboxes g c =
     let inside = to_inside c.args.inboxes.now c.args.of.now c.args.self.now c.args.copy c.from-to.result c.from.result c.requires.on_inboxes c.requires.leaves c.from.ensures c.from-to.ensures in
     let is = to_is c.args.inboxes.now c.args.of.now c.args.self.now c.args.copy c.from-to.result c.from.result c.requires.on_inboxes c.requires.leaves c.from.ensures c.from-to.ensures in
-    let t = recounted g c in
+    let t = matches g c in
     endpoint_with c.args.inboxes.now c.args.of.now c.args.self.now c.args.copy c.from-to.result c.requires.on_inboxes inside c.requires.leaves.there is c.in-Some.sender c.push_copy.new.sender t.1 c.push_copy.ensures.inbox t.0
 
 pub returns-clause-delivers : goal.returns-clause-delivers
 returns-clause-delivers g c =
     let inside = to_inside c.args.inboxes.now c.args.of.now c.args.self.now c.args.copy c.from-to.result c.from.result c.requires.on_inboxes c.requires.leaves c.from.ensures c.from-to.ensures in
     let is = to_is c.args.inboxes.now c.args.of.now c.args.self.now c.args.copy c.from-to.result c.from.result c.requires.on_inboxes c.requires.leaves c.from.ensures c.from-to.ensures in
-    let t = recounted g c in
+    let t = matches g c in
     delivers_with c.args.inboxes.now c.args.of.now c.args.self.now c.args.copy c.from-to.result c.requires.on_inboxes inside c.requires.leaves.there is c.in-Some.sender c.push_copy.new.sender t.1 c.push_copy.ensures.inbox t.0

@@ -11,7 +11,7 @@ returns-in-Halted-clause-ok c =
     let one : n - i ≡ suc (n - (i + 1)) = omega (arith, c.runs-test.true) in record {
       leads = λ u is.
           run_last n (n - i) (n - (i + 1)) c.args.now u _ _ _ _ c.in_ok-run_on.field-0 one
-          (c.runs.invariant.0 u is) c.in_ok-run_on.ensures.recounted
+          (c.runs.invariant.0 u is) c.in_ok-run_on.ensures.matches
           (λ others v. rw c.in-Halted.is refl);
     }
 
@@ -30,7 +30,7 @@ returns-then-left-eq0-clause-ok c =
     let one : n - i ≡ suc (n - (i + 1)) = omega (arith, c.runs-test.true) in record {
       leads = λ u is.
           run_last n (n - i) (n - (i + 1)) c.args.now u _ _ _ _ c.in_ok-run_on.field-0 one
-          (c.runs.invariant.0 u is) c.in_ok-run_on.ensures.recounted
+          (c.runs.invariant.0 u is) c.in_ok-run_on.ensures.matches
           (λ others v. rw (c.in-Left.is, c.if-left-eq0.true) refl);
     }
 
@@ -41,9 +41,9 @@ runs-preserved c =
     let one : n - i ≡ suc (n - (i + 1)) = omega (arith, c.runs-test.true) in
     let some : 0 < c.in-Left.left = omega (arith, c.if-left-eq0.false) in (
       λ u is. run_next n (n - i) (n - (i + 1)) c.args.now u _ _ _ _ c.in-Left.left one (c.runs.invariant.0 u is)
-          (rw c.in-Left.is at c.in_ok-run_on.ensures.recounted) some,
+          (rw c.in-Left.is at c.in_ok-run_on.ensures.matches) some,
       so_far_next (run_given c.args.now) _ _ _ _ c.in_ok-run_on.field-0 _ _ c.runs.invariant.1
-          c.in_ok-run_on.ensures.recounted c.in_ok-run_on.ensures.begins,
+          c.in_ok-run_on.ensures.matches c.in_ok-run_on.ensures.begins,
     )
 
 pub runs-init : goal.runs-init
@@ -52,5 +52,5 @@ runs-init c = (search rules, so_far_none _ _)
 pub returns-in_err-run_on-clause-err : goal.returns-in_err-run_on-clause-err
 returns-in_err-run_on-clause-err c =
     let fails = so_far_fails
-    (run_given c.args.now) _ _ _ _ c.in_err-run_on.field-0.0 _ _ c.runs.invariant.1 c.in_err-run_on.ensures.recounted in
+    (run_given c.args.now) _ _ _ _ c.in_err-run_on.field-0.0 _ _ c.runs.invariant.1 c.in_err-run_on.ensures.matches in
     search (rules, fails)

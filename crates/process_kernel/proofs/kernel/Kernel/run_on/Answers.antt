@@ -11,18 +11,18 @@ use Rattle.process_kernel.specs.Given.{run_given, given, begun}
 use Rattle.process_kernel.proofs.Given.{failed, halted, finished, begins_with, begins_same, machine_kept}
 use Rattle.process_kernel.proofs.kernel.Kernel.run_on.Goals as goal
 
-pub returns-then-self-clause-recounted : goal.returns-then-self-clause-recounted
-returns-then-self-clause-recounted c = failed _ _ _ _ c.if-self.true
+pub returns-then-self-clause-matches : goal.returns-then-self-clause-matches
+returns-then-self-clause-matches c = failed _ _ _ _ c.if-self.true
 
-pub returns-then-self-2-clause-recounted : goal.returns-then-self-2-clause-recounted
+pub returns-then-self-2-clause-matches : goal.returns-then-self-2-clause-matches
 unfolding run_given
-returns-then-self-2-clause-recounted c =
+returns-then-self-2-clause-matches c =
     halted (tree_of c.args.program.now)
     (run_given c.args.now) c.args.self.now c.args.self.now.machine.out c.if-self.false (rw c.if-self-2.true refl)
 
-pub returns-clause-recounted : goal.returns-clause-recounted
+pub returns-clause-matches : goal.returns-clause-matches
 unfolding run_given begun_of
-returns-clause-recounted c =
+returns-clause-matches c =
     let t = tree_of c.args.program.now in
     let k = c.args.self.now in
     let out = k.machine.out in
@@ -35,8 +35,8 @@ returns-clause-recounted c =
     let machine = c.run_kernel-ran.new.self in
     let kept = machine_kept
     (record k { machine = machine }) c.close.new.self c.run_kernel-ran.result c.close.result c.close.ensures.closes in
-    subst (λ (recounted : Out).
-    MatchesOutcome (run_given c.args.now) (mote_in t k) out c.close.result (mote_in t c.close.new.self) recounted)
+    subst (λ (matches : Out).
+    MatchesOutcome (run_given c.args.now) (mote_in t k) out c.close.result (mote_in t c.close.new.self) matches)
     (sym (ap (λ (m : Machine). m.out) kept))
     (finished t (run_given c.args.now) k (record k { machine = machine }) c.close.new.self out machine.out
     (state_of t machine) o c.run_kernel-ran.result c.close.result
@@ -57,6 +57,6 @@ returns-clause-begins c =
     let machine = c.run_kernel-ran.new.self in
     let kept = machine_kept
     (record k { machine = machine }) c.close.new.self c.run_kernel-ran.result c.close.result c.close.ensures.closes in
-    subst (λ (recounted : Out). BeginsWith k.machine.out recounted) (sym (ap (λ (m : Machine). m.out) kept))
+    subst (λ (matches : Out). BeginsWith k.machine.out matches) (sym (ap (λ (m : Machine). m.out) kept))
     (begins_with k.machine.out machine.out
     (λ ls ss h. c.run_kernel-ran.ensures.follows.grows ls ss (c.begin.ensures.grows ls ss h)))

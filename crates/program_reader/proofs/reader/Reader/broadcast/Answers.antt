@@ -9,14 +9,14 @@ pub returns : goal.returns
 returns c = record {
   answers_action =
       let r = action_read {a = broadcast (cast_of c.in_ok-event.event) (expression_of c.in_ok-word.word)
-      c.in_ok-recounted.recounted}
-      (with_part c.in_ok-recounted.ensures.same (with_part c.in_ok-word.ensures.answers_expression.same
+      c.in_ok-into.into}
+      (with_part c.in_ok-into.ensures.same (with_part c.in_ok-word.ensures.answers_expression.same
       (with_part c.in_ok-event.ensures.same (begun c.args.self.now.scope c.begin.new.self.scope
       c.in_ok-begin.ensures.names c.in_ok-begin.ensures.ok
       refl)
       c.in_ok-event.ensures.ok c.in_ok-event.ensures.numbered c.in_ok-event.ensures.fits)
       c.in_ok-word.ensures.answers_expression.ok c.in_ok-word.ensures.answers_expression.numbered c.in_ok-word.ensures.answers_expression.fits)
-      c.in_ok-recounted.ensures.ok c.in_ok-recounted.ensures.numbered c.in_ok-recounted.ensures.fits)
+      c.in_ok-into.ensures.ok c.in_ok-into.ensures.numbered c.in_ok-into.ensures.fits)
       (record { spelled = λ n ms. refl; numbered = λ n p. cc; fit = λ w. refl }) in
       record {
         names = search rules;

@@ -89,7 +89,7 @@ loop-slot-init g c =
       worker = lends.worker;
       done = ends.done;
       wakes =
-          sym (zip_length (IsWakeOf c.args.until) _ _ lent.recounted) ∙ (zip_length (LentMoteGives n c.args.until) _ _ gives ∙ sym (zip_length SlotGives _ _ given));
+          sym (zip_length (IsWakeOf c.args.until) _ _ lent.matches) ∙ (zip_length (LentMoteGives n c.args.until) _ _ gives ∙ sym (zip_length SlotGives _ _ given));
       fits =
           all_fit n c.args.of.now c.args.self.now (kept_of c.requires.ready) c.args.arrived.items c.requires.to_own c.requires.of c.args.until c.in_ok-calls.calls.copies.items (c.in_ok-calls.ensures.taken _ base)
           c.lend.new.share.motes.items c.lend.new.share.traces.items lends.lent_motes c.lend.new.wakes.items lent c.requires.ready.order outs gives;

@@ -3,7 +3,7 @@ use Rattle.std.specs.List.{AllByRecursion, list_all}
 use Rattle.radio_packet.specs.declared.copy.RadioCopy.{RadioCopy}
 use Rattle.mote_net.specs.Meaning.{net_of}
 use Rattle.net_agenda.specs.NetSystem.{system_of}
-use Rattle.worker_window.specs.Share.{Motes, Keeps}
+use Rattle.worker_window.specs.Share.{Motes, IsWholeShare}
 use Rattle.worker_window.specs.Slots.{is_done, outs_of}
 use Rattle.worker_window.specs.Window.{IsOutgoing}
 use Rattle.worker_cut.specs.Crossed.{IsExpected}
@@ -20,7 +20,7 @@ invariant-loop-slot g l = let n = net_of l.net in record {
   wakes : length l.wakes.items ≡ length l.done.items;
   fits : AllByRecursion (IsFitOwn n l.of l.fn.self.worker l.until) (outs_of l.done.items);
   go_out : AllByRecursion (IsOutgoing n l.of l.fn.self.worker) l.outgoing.items;
-  coming : (worker from : ℕ) (motes : Motes) (taken : List RadioCopy) (keeps : Keeps n l.of worker from motes taken l.fn.self) (le : from ≤ l.until) → l.until ≤ from + (system_of n).lookahead
+  coming : (worker from : ℕ) (motes : Motes) (taken : List RadioCopy) (keeps : IsWholeShare n l.of worker from motes taken l.fn.self) (le : from ≤ l.until) → l.until ≤ from + (system_of n).lookahead
       → (come : AllByRecursion (IsExpected l.of worker from) l.fn.arrived.items)
       → PendingEvent n l.of worker from l.until motes (taken ++ l.fn.arrived.items) (window_copies n l.of worker from l.until motes taken l.fn.arrived.items l.fn.self keeps le come) l.self (outs_of l.done.items) l.wakes.items l.outgoing.items;
 }

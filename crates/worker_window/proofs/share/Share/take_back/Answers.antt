@@ -17,8 +17,8 @@ returns c = record {
       λ number numbered.
       let old = c.args.self.now in
       let out = c.args.out in
-      let recounted = rw numbered.is at (c.number-number.ensures.node numbered.tree) in
-      let same : c.number-number.result ≡ number = recounted ∙ numbered.number_is in
+      let matches = rw numbered.is at (c.number-number.ensures.node numbered.tree) in
+      let same : c.number-number.result ≡ number = matches ∙ numbered.number_is in
       let fit = c.requires.traces in
       let known_too = rw fit.numbered.is at (c.number-number.ensures.node fit.numbered.tree) in
       let low : c.number-number.result < length old.traces.items = subst (λ k. k < length old.traces.items) (sym (known_too ∙ fit.numbered.number_is)) fit.there in
