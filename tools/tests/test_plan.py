@@ -149,7 +149,9 @@ class PlanTest(unittest.TestCase):
 
     def test_a_row_of_results_names_true_and_false_as_texts_too(self) -> None:
         plan = Plan('p', '[parameters]\ncollide = false\nname = "a"\n', Files(Path('.')))
-        for value, seen in (True, True), ('True', True), ('true', True), ('False', False), ('maybe', 'maybe'), (1, 1):
+        pairs: list[tuple[int | str, int | str]] = [
+            (True, True), ('True', True), ('true', True), ('False', False), ('maybe', 'maybe'), (1, 1)]
+        for value, seen in pairs:
             self.assertIs(type(plan.with_given({'collide': value})['collide']), type(seen))
             self.assertEqual(plan.with_given({'collide': value})['collide'], seen)
         # (a parameter that is a text stays one)

@@ -788,10 +788,11 @@ class Command(unittest.TestCase):
         self.assertIn('leave it out', self.seen)
         interpreter_with(self, 'matplotlib')
         pictures = []
-        for name, more in ('a.svg', []), ('b.svg', ['--log']):
+        axes: dict[str, list[str]] = {'a.svg': [], 'b.svg': ['--log']}
+        for name, more in axes.items():
             self.plot('--measure', 'sent', '--show', 'cdf', '--where', 'period=1', *ONE, *more, '-o', name)
             pictures.append((self.folder / name).read_text())
-        self.assertNotEqual(*pictures)
+        self.assertNotEqual(pictures[0], pictures[1])
         (self.folder / 'net.csv').write_text(results().replace(',11,', ',0,'))
         self.plot('--measure', 'sent', '--show', 'cdf', '--where', 'period=1', *ONE, '--log', '-o', 'c.svg', status=2)
         self.assertIn('--log needs values above 0, and some of sent are not', self.seen)
