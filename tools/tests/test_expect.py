@@ -95,6 +95,7 @@ HOLDS = [
     'mote 1 prints flood at most 1 by 60', 'mote 1 prints flood exactly once by 60',
     'every mote but 0 prints flood 1 at 40 plus 3 for each hop from mote 0', 'every mote but 0 prints flood 1',
     'no mote prints flood 3', 'some mote prints flood 2', 'exactly 2 motes print flood 2',
+    'motes 1 to 3 together print just flood 1, 1, 1, 2, 2',
     'at least 1 mote but 1 prints flood 2', 'at most 1 mote halts', 'fewer than 2 motes halt',
     'more than 0 motes halt', 'mote 3 halts at 90', 'no mote but 3 halts', 'motes 0, 1 and 2 never halt',
     'mote 0 never prints', 'motes 0 to 2 never halt', 'all motes together send exactly 5 times',

@@ -274,6 +274,7 @@ class Warnings(unittest.TestCase):
             (CODE % 'yield_until is(packet); print data;', 5, 'calls them `deaf`; write `receiver a;` above'),
             (CODE % 'set t 4; while !expired(t) { }', 5, '`wait_while` and the same test, without a block'),
             (CODE % 'set t 4; while !expired(t) { seq = (seq + 1); }', 5, 'a loop that waits for nothing'),
+            (CODE % 'set t 4; while !is(packet) { }', 5, '`yield_until` and the opposite test, without a block'),
             (CODE % 'while 1 { seq = (seq + 1); }', 5, 'nothing waits'),
             (CODE % 'yield_until fired(t);', 5, '`t` is never set'),
             ('process a; autostart a; code a { ctimer c { print 1; } body { set c 5; yield_until fired(c); } }', 5,

@@ -21,9 +21,10 @@ STILL_TRUE = ('an endless loop in which only `%s` waits: its test is about the e
               'true until the next call, so the loop turns until the mote\'s work is used up, and the mote halts; `%s` '
               'waits for the next call first' % (AT_ONCE, LATER))
 BUSY = ('a loop that waits for nothing: its test can\'t change before the next call, so once it is true the loop '
-        'turns until the mote\'s work is used up, and the mote halts; `wait_while` and the same test, without a block, '
-        'lets the mote wait')
-LOOPS = ENDLESS, STILL_TRUE, BUSY
+        'turns until the mote\'s work is used up, and the mote halts; ')
+BUSY_FOR_STATE = BUSY + '`wait_while` and the same test, without a block, lets the mote wait'
+BUSY_FOR_EVENT = BUSY + '`%s` and the opposite test, without a block, waits for the next call first' % LATER
+LOOPS = ENDLESS, STILL_TRUE, BUSY_FOR_STATE, BUSY_FOR_EVENT
 # Statements after which a test may have another value, though no variable in it is assigned.
 CHANGES = frozenset(('spawn', 'synch', 'set', 'reset', 'restart_timer', 'stop', 'start', 'kill', 'acquire', 'signal'))
 OF_CTIMER = ('`%s` is a `ctimer`: its event goes to the process ctimer, which runs its block, so `fired(%s)` is never '
@@ -110,7 +111,8 @@ class Program:
                 elif len(waits) == 1 and block[waits[0]] == AT_ONCE and block[waits[0] + 1] in OF_EVENT:
                     yield STILL_TRUE, self.tokens[at + 2 + waits[0]]
             elif word == 'while' and self.is_busy(at):
-                yield BUSY, self.tokens[at]
+                test = self.words[at + 1:self.words.index('{', at)]
+                yield BUSY_FOR_EVENT if set(test) & set(OF_EVENT) else BUSY_FOR_STATE, self.tokens[at]
 
     def is_busy(self, at: int) -> bool:
         """Returns whether nothing in the block of a `while` waits or may change its test."""

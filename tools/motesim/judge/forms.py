@@ -35,7 +35,7 @@ MOTES = Table('MOTES', 'The sentence is about', ('%s sends', '%s send'), (
     (('mote 3', 'motes 3 to 7', 'motes 1, 3 and 5', 'each of motes 3 to 7', 'all of motes 1 and 3'), 'each of these'),
     (('every mote', 'each mote', 'all motes', 'every mote but 0', 'all motes but motes 0 and 1'),
      'each mote, except those after `but`'),
-    (('motes 3 to 7 together', 'all motes together'), 'all their lines, as if they were one mote'),
+    (('motes 3 to 7 together', 'all motes together'), 'all their lines, by moment and then by mote, as if they were one mote'),
     (('no mote', 'no mote but 0'), 'none of them: the sentence holds if no mote does it'),
     (('some mote',), 'at least one of them'),
     (('exactly 1 mote', 'at least 5 motes', 'at most 3 motes but 0'), 'that many of them'),
