@@ -783,6 +783,13 @@ class Command(unittest.TestCase):
                           r'#[0-9a-f]+; stroke-opacity: 0.4', (self.folder / 'a.svg').read_text())
         self.assertEqual(len(set(bars)), 2, bars)
 
+    def test_numbers_of_narrow_cells_do_not_touch(self) -> None:
+        from motesim.analysis.drawing import _form_of_numbers
+        for width, digits in (60.0, '0.202'), (21.0, '0.2'), (16.0, '0.2'):
+            form, size = _form_of_numbers([0.202, 0.403, 0.684], width)
+            self.assertEqual(form % 0.202, digits)
+            self.assertLessEqual(0.6 * size * (len(digits) + 1), width + 0.01)
+
     def test_a_logarithmic_axis_of_a_cdf(self) -> None:
         self.plot('--measure', 'sent', '--against', 'period', '--by', 'density', '--show', 'heat', '--log', status=2)
         self.assertIn('leave it out', self.seen)

@@ -152,6 +152,19 @@ def _draw_steps(axes: Any, shown: Shown, wish: Wish) -> None:
         _scale_of_measure(axes)
 
 
+def _form_of_numbers(numbers: Sequence[float], width: float) -> tuple[str, float]:
+    """The form of the numbers in cells of this width, and their size, both in points: with at most 3 digits, and with
+    fewer if they would be smaller than 6 points."""
+    form, size = '', 0.0
+    for form in '%.3g', '%.2g', '%.1g':
+        longest = max((len(form % it) for it in numbers), default=1)
+        # (a digit is about 6 tenths as wide as high, and a gap as wide as a digit)
+        size = min(8.0, width / (0.6 * (longest + 1)))
+        if size >= 6:
+            break
+    return form, max(size, 3.0)
+
+
 def _draw_heat(figure: Any, axes: Any, shown: Shown, wish: Wish) -> None:
     """A cell for each pair of values, with its number."""
     xs = sorted({point.against for point in shown.points}, key=order)
@@ -161,10 +174,12 @@ def _draw_heat(figure: Any, axes: Any, shown: Shown, wish: Wish) -> None:
         cells[ys.index(point.by)][xs.index(point.against)] = point.estimate.middle
     picture = axes.imshow(cells, origin='lower', aspect='auto', cmap='cividis')
     figure.colorbar(picture, ax=axes, label=wish.measure)
+    # (the cells have about 6 tenths of the width)
+    form, size = _form_of_numbers([it for y in cells for it in y if it == it], figure.get_figwidth() * 43 / len(xs))
     for row, y in enumerate(cells):
         for column, value in enumerate(y):
             if value == value:
-                axes.text(column, row, '%.3g' % value, ha='center', va='center', fontsize=8,
+                axes.text(column, row, form % value, ha='center', va='center', fontsize=size,
                           color='white' if picture.norm(value) < 0.6 else 'black')
     axes.set_xticks(range(len(xs)), [text_of(it) for it in xs])
     axes.set_yticks(range(len(ys)), [dict(wish.labels).get(text_of(it), text_of(it)) for it in ys])
