@@ -101,7 +101,7 @@ class Sorted(NamedTuple):
     left_out: dict[str, str]
     is_clone: bool
 
-    def told(self) -> list[str]:
+    def notes(self) -> list[str]:
         """The lines on files that aren't the repository's own, and on those that are left out."""
         lines = [] if self.is_clone else ['Git lists no files of this tree, so all files of its folders are packed.']
         lines += ['Added: %s' % one_line(it) for it in self.added]
@@ -222,7 +222,7 @@ def main() -> int:
     path = asked.output or Path(folder + '.tar.gz')
     data = archive(folder, packed, its)
     path.write_bytes(data)
-    for line in its.told():
+    for line in its.notes():
         print(line)
     print('%s: %.1f MB. %s' % (path, len(data) / 1e6, about_proof(packed)))
     print('Students unpack it by: tar xzf %s && cd %s && ./run examples/flooding.toml' % (path.name, folder))

@@ -181,7 +181,7 @@ class Pack(unittest.TestCase):
         parts = ['docs/use', 'examples']
         found = pack.sorted_files(parts, (), top)
         self.assertEqual(sorted(found.packed), ['docs/use/QUICK.md', 'examples/a.toml'])
-        self.assertEqual(found.told(), [
+        self.assertEqual(found.notes(), [
             'Left out: docs/use/TEACH.md (for teachers)',
             'Left out: examples/lab/Hidden_nets/a.toml (for teachers)',
             'Left out: examples/lab/hidden.toml (for teachers)',
@@ -215,9 +215,9 @@ class Pack(unittest.TestCase):
     def test_a_file_that_differs_from_the_commit_is_listed(self) -> None:
         top = self.tree('examples/a.toml', '')
         (top / 'examples/a.toml').write_text('# the solution')
-        self.assertEqual(pack.sorted_files(['examples'], (), top).told(), ['Not as in the commit: examples/a.toml'])
+        self.assertEqual(pack.sorted_files(['examples'], (), top).notes(), ['Not as in the commit: examples/a.toml'])
         shutil.rmtree(top / '.git')
-        self.assertEqual(pack.sorted_files(['examples'], (), top).told(), [
+        self.assertEqual(pack.sorted_files(['examples'], (), top).notes(), [
             'Git lists no files of this tree, so all files of its folders are packed.'])
 
     def test_it_has_the_simulator_in_c_that_export_copies(self) -> None:

@@ -162,16 +162,16 @@ class Explainer:
         timer = self.program.timers[self.timer_of(at)]
         due = max(link.since + link.interval, link.since)
         moment = int(self.replay.trace[at].partition(' ')[0])
-        told = 'timer %s was due' % timer.name
+        reason = 'timer %s was due' % timer.name
         if moment > due:
-            told += ' since %d, and is offered until the queue has room; it was due' % due
+            reason += ' since %d, and is offered until the queue has room; it was due' % due
         if due > link.since:
-            told += ' %s after' % count(due - link.since, 'moment')
+            reason += ' %s after' % count(due - link.since, 'moment')
         else:
-            told += ' as soon as'
-        told += ' %s set it in %s' % (self.name(link.frame.process) if link.frame else 'the mote',
+            reason += ' as soon as'
+        reason += ' %s set it in %s' % (self.name(link.frame.process) if link.frame else 'the mote',
                                       self.statement(link.row))
-        return '; '.join([told, *self.calls(link.frame)])
+        return '; '.join([reason, *self.calls(link.frame)])
 
     def timer_of(self, at: int) -> int:
         return int(self.replay.trace[at].rsplit(' ', 1)[1])
@@ -201,12 +201,12 @@ class Explainer:
         """The reason why a packet came, and its fate."""
         sent = self.source.traces.send_of(int(words[2]), int(words[3]))
         later = int(words[0]) - (self.source.traces.moment(sent) if sent else 0)
-        told = 'packet %s of mote %s arrived after %s on the way' % (words[3], words[2], count(later, 'moment'))
+        reason = 'packet %s of mote %s arrived after %s on the way' % (words[3], words[2], count(later, 'moment'))
         if words[1] == 'lost':
-            return told + ', but eight packets were waiting already'
+            return reason + ', but eight packets were waiting already'
         if words[1] == 'collide':
-            return told + ', together with %s' % others(self.source, At(self.mote, at))
-        return told
+            return reason + ', together with %s' % others(self.source, At(self.mote, at))
+        return reason
 
 
 def wait_of(link: Link, at: int, before: int) -> str:
@@ -246,10 +246,10 @@ class Path(NamedTuple):
         names = {'timer': ('waiting for %s', 'timer'), 'medium': ('on the way, over %s', 'hop'),
                  'queue': ('in queues', ''), 'full': ('for timers that found the queue full', '')}
         parts = []
-        for kind, (told, what) in names.items():
+        for kind, (reason, what) in names.items():
             moments, times = self.waits[kind]
             if times or kind in ('timer', 'medium'):
-                parts.append('%d %s' % (moments, told % count(times, what) if what else told))
+                parts.append('%d %s' % (moments, reason % count(times, what) if what else reason))
         return '%s: %s' % (count(self.moments, 'moment'), ', '.join(parts))
 
 
