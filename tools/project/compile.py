@@ -16,7 +16,7 @@ from motesim.runner.programs import PROGRAMS, TOP, compiled_kept, is_program
 from project import kit
 from project.running import end_on_signals, locked
 
-COMPILING = 'motesim is not built yet: compiling it, without a proof; this needs about a minute'
+COMPILING = 'motesim is not built yet: compiling it, without a proof; this needs one to two minutes'
 WAITING = 'another run is compiling the program; this one waits for it'
 
 
