@@ -1,5 +1,5 @@
-//! Tests of inboxes, with marks and without, and of a worker that waits for marks. They need few of the crates, so they
-//! are in a crate of their own, whose check loads only these.
+//! Tests of inboxes, with marks and without, and of a worker that waits for marks. They depend on few crates. So they
+//! are in a crate of their own, and its check loads only these few crates.
 #![tactic(auto)]
 
 #[cfg(test)]

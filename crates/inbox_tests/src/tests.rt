@@ -1,5 +1,5 @@
-//! Most tests write their observations into one text and compare it once, in a function that they share. So a test
-//! owns little wherever it can end early; owning much there would cost its proof most.
+//! Most tests write their observations into one text, and a shared function compares this text once. So a test owns
+//! few values when it ends early: owning many values there would make its proof expensive.
 
 mod marked;
 mod plain;
@@ -38,7 +38,7 @@ fn make(alloc: Global, marked: bool) -> Result<(Inbox, Taker), InboxError>
     }
 }
 
-/// The same with two senders.
+/// A new inbox, with marks or without, its taker, and two senders.
 fn with_two(alloc: Global, marked: bool) -> Result<(Inbox, Taker, Sender, Sender), InboxError>
     ensures inbox { IfOk result (λ made. (made.1.inbox ≡ made.0) × (made.2.inbox ≡ made.0) × (made.3.inbox ≡ made.0)) }
     ensures taker { IfOk result (λ made. made.1.state ≡ make_taker_state marked 2 [] []) }
@@ -84,7 +84,7 @@ fn push_mark<R: Wait>(
         .map_err(|_| InboxError::Memory)
 }
 
-/// Writes down a copy as its sender and its number.
+/// Writes down the sender and the number of a copy.
 fn write_copy(text: &mut String, copied: RadioCopy) -> Result<(), AllocError> {
     write!(text, "{} {}|", copied.sender, copied.number)
 }
@@ -96,7 +96,7 @@ fn write_known(text: &mut String, inbox: &Inbox, taker: &Taker) -> Result<(), Al
     write!(text, "known {}|", inbox.known(taker))
 }
 
-/// Closes the inbox, and writes down the rest of its items.
+/// Closes the inbox, and writes down the items that are left in it.
 fn write_rest<R: Wait>(
     rt: &R,
     text: &mut String,

@@ -1,6 +1,6 @@
-//! Parts of motes and of nets, from the bottom up. Most tests write all that a part answered into one text, and
-//! compare that once, in a function that they share. So a test owns nothing when it can end early, because owning
-//! values there makes a proof expensive. For the same reason no test ends if a write to its text fails: the text then
+//! Tests of the parts of motes and of nets, from the bottom up. Most tests write all results of a part into one text,
+//! and a shared function compares this text once. So a test owns no values when it ends early: owning values there
+//! would make its proof expensive. For the same reason no test ends when a write to its text fails: then the text
 //! lacks something, and the comparison fails.
 
 mod blocks;
@@ -25,11 +25,11 @@ use copy_inbox::{Inbox, Taker};
 use std::sync::Wait;
 use test_helpers::write_copies;
 
-/// A process that prints, and yields for ever.
+/// A process that prints, and then yields for ever.
 const PRINT_THEN_YIELD: &str =
     "process a; autostart a; code a { body { print 1; yield; print 2; } }";
 
-/// Ends an inbox, and writes down the copies that are left. If an allocation fails, nothing is written.
+/// Closes an inbox, and writes down the copies that are left in it. If an allocation fails, nothing is written.
 fn write_rest<R: Wait>(rt: &R, text: &mut String, inbox: Inbox, taker: Taker)
     requires inbox { taker.inbox ≡ inbox }
     requires gathered { AllGathered taker.state }

@@ -1,7 +1,7 @@
-//! Tests of things that no scenario and no command line shows: streams that fail, gates, and calls with options that
-//! no arguments can ask for. Most tests write the results of some runs into a text, and compare it in a function that
-//! they share. All runs have one reader, one writer and one gate, so that the code that they call is compiled only for
-//! these.
+//! Tests of properties that no scenario and no command line shows: streams that fail, gates, and calls with options
+//! that no arguments can mean. Most tests write the results of some runs into a text, and a shared function compares
+//! this text. All runs have the same type of reader, of writer and of gate, so the code that they call is compiled
+//! only once.
 
 mod fault_lines;
 mod input;
@@ -25,14 +25,14 @@ use std::test::Fail;
 use std::thread::Threads;
 use test_helpers::same_text;
 
-/// A scenario and its report.
+/// A scenario and its expected report.
 #[derive(Clone, Copy)]
 struct OnRecord<'a> {
     scenario: &'a str,
     report: &'a [u8],
 }
 
-/// A process prints, and yields for ever.
+/// A process that prints, and then yields for ever.
 const PRINT_THEN_YIELD: OnRecord = OnRecord {
     scenario: test_helpers::PRINT_THEN_YIELD,
     report: b"mote 0 p\n0 start etimer\n0 start ctimer\n0 start radio\n0 start a\n0 print a 1\nmedium\nleft 0\n",
@@ -49,8 +49,8 @@ const TWO_SENDERS: OnRecord = OnRecord {
         0 start a\n0 send 0 7\n0 leave a\nmedium\n0 0 0 5 1@2\n0 2 0 7 1@2\nleft 0\n",
 };
 
-/// A reader that returns at most `most` bytes a call. The call after `calls` calls fails, and those after it work, so
-/// a call that is tried again goes well.
+/// A reader that returns at most `most` bytes per call. After `calls` calls one call fails, and later calls succeed,
+/// so a second try of the failed call would succeed.
 #[derive(Drop)]
 struct Source<'a> {
     rest: &'a [u8],
@@ -72,8 +72,8 @@ impl Read for Source<'_> {
     }
 }
 
-/// A writer of ASCII that takes at most `most` bytes a call. The call after `calls` calls fails, or takes nothing, and
-/// those after it work.
+/// A writer of ASCII that takes at most `most` bytes per call. After `calls` calls one call fails or takes nothing,
+/// and later calls succeed.
 #[derive(Drop)]
 struct Sink {
     text: String,
@@ -116,8 +116,8 @@ impl Write for Sink {
     }
 }
 
-/// A gate that lets no thread of one worker start. It counts the starts that it is asked for, the turns that a mote's
-/// own worker takes, and those that another one takes.
+/// A gate that allows no start of one worker. It counts the starts that are requested, the turns that a mote's own
+/// worker takes, and the turns that another worker takes.
 #[derive(Drop)]
 struct Watch<'a> {
     /// The worker of each mote.
@@ -143,7 +143,7 @@ impl Gate for Watch<'_> {
     }
 }
 
-/// By which call a scenario is simulated.
+/// The function that simulates a scenario.
 #[derive(Clone, Copy)]
 enum Way<'a> {
     Serial,
@@ -151,7 +151,7 @@ enum Way<'a> {
     Asked(&'a Asked<'a>),
 }
 
-/// Simulates in this way what the reader gives.
+/// Simulates the scenario from the reader with this function.
 fn simulate_by<T>(
     rt: &T,
     way: Way,
@@ -169,26 +169,28 @@ where
     }
 }
 
-/// A simulation to be tried.
+/// A simulation as a test case.
 #[derive(Clone, Copy)]
 struct Trial<'a> {
     on_record: OnRecord<'a>,
-    /// The text that is read instead of the scenario.
+    /// The text that the reader returns instead of the scenario.
     instead: Option<&'a [u8]>,
     /// The worker of each mote.
     of: &'a [u16],
-    /// The worker that gets no thread.
+    /// The worker that isn't allowed to start.
     shut: Option<u16>,
-    /// The number of bytes that the reader returns a call, and of calls after which it fails.
+    /// The number of bytes that the reader returns per call, and the number of calls after which it fails.
     gives: usize,
     reads: usize,
-    /// The number of bytes that the writer takes a call, and of calls after which it fails, or takes nothing.
+    /// The number of bytes that the writer takes per call, and the number of calls after which it fails or takes
+    /// nothing.
     takes: usize,
     writes: usize,
     fails: bool,
 }
 
-/// One mote with one turn. The reader gives 16 bytes a call, the writer takes a byte a call, and nothing fails.
+/// One mote with one turn. The reader returns 16 bytes per call, the writer takes one byte per call, and neither
+/// fails.
 const PRINTING: Trial<'static> = Trial {
     on_record: PRINT_THEN_YIELD,
     instead: None,
@@ -201,14 +203,14 @@ const PRINTING: Trial<'static> = Trial {
     fails: true,
 };
 
-/// The same with three motes, each with a worker of its own.
+/// The same streams with three motes, each of which has its own worker.
 const SENDING: Trial<'static> = Trial {
     on_record: TWO_SENDERS,
     of: &[0, 1, 2],
     ..PRINTING
 };
 
-/// The number of these bytes, or `None` if they aren't a prefix of the report.
+/// The number of these bytes, or `None` if the report doesn't begin with them.
 fn front_of(report: &[u8], bytes: &[u8]) -> Option<usize> {
     if report.starts_with(bytes) {
         Some(bytes.len())
@@ -217,8 +219,9 @@ fn front_of(report: &[u8], bytes: &[u8]) -> Option<usize> {
     }
 }
 
-/// Writes down what a simulation answered, how many bytes of the report are out, and how many starts were asked for;
-/// at `Ok` also the turns by each mote's own worker and those by others.
+/// Writes down the result of a simulation, the number of bytes of the report that were written, and the number of
+/// starts that were requested. If the result is `Ok`, also writes down how many turns the motes' own workers took, and
+/// how many turns other workers took.
 fn write_answer(
     text: &mut String,
     answer: &Result<(), SimError>,
@@ -235,7 +238,7 @@ fn write_answer(
     text.push('|')
 }
 
-/// Writes down the result of a trial in this way.
+/// Writes down the result of a trial with this function.
 fn write_trial<T>(rt: &T, text: &mut String, trial: Trial, way: Way) -> Result<(), AllocError>
 where
     T: AllocGlobal + Files + Threads + Wait + RandomSource + Sync,
@@ -258,7 +261,7 @@ where
     write_answer(text, &answer, front, &gate)
 }
 
-/// Fails unless the text written about a trial in this way is `want`.
+/// Fails unless the text that is written about a trial with this function is `want`.
 fn tells<T>(rt: &T, trial: Trial, way: Way, want: &str) -> Result<(), Fail>
 where
     T: AllocGlobal + Files + Threads + Wait + RandomSource + Sync,
@@ -272,8 +275,8 @@ const CUTS: &[CutKind] = &[CutKind::Block, CutKind::Stripe];
 
 const SYNCS: &[SyncKind] = &[SyncKind::Joins, SyncKind::Marks];
 
-/// One trial by each of these numbers of workers, cuts and kinds of synchronisation, and the text that is written
-/// about each.
+/// One trial with each of these numbers of workers, partitions and kinds of synchronisation, and the text that is
+/// written about each run.
 #[derive(Clone, Copy)]
 struct Trials<'a> {
     trial: Trial<'a>,
@@ -283,7 +286,7 @@ struct Trials<'a> {
     want: &'a str,
 }
 
-/// Fails unless the text written about a trial, for each of its options, is the wanted one.
+/// Fails unless the text that is written about each run of a trial is the expected one.
 fn each_tells<T>(rt: &T, trials: &Trials) -> Result<(), Fail>
 where
     T: AllocGlobal + Files + Threads + Wait + RandomSource + Sync,
@@ -303,8 +306,8 @@ where
     Ok(())
 }
 
-/// Fails unless the texts written about all these trials are the wanted ones. The tables of trials are statics, since
-/// a function makes a constant again at each place that names it.
+/// Fails unless the texts that are written about all these trials are the expected ones. The tables of trials are
+/// statics, because a function builds a constant again at each place that names it.
 fn all_tell<T>(rt: &T, table: &[Trials]) -> Result<(), Fail>
 where
     T: AllocGlobal + Files + Threads + Wait + RandomSource + Sync,

@@ -1,5 +1,5 @@
-//! The common part of several crates of tests: they write the results of a part into a text, which is compared once,
-//! and they simulate nets of a few motes. The functions have no contracts, since no proof rests on them.
+//! The common part of several crates of tests. Tests write the results of a part into a text, which is compared once,
+//! and they simulate nets of a few motes. The functions here have no contracts, because no proof depends on them.
 #![tactic(auto)]
 
 mod nets;

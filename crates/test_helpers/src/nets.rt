@@ -1,6 +1,6 @@
 //! Scenarios of a few motes.
 
-/// One mote, whose process prints and then yields for ever.
+/// One mote. Its process prints, and then yields for ever.
 pub const PRINT_THEN_YIELD: &str = "\
     version = 1\n\
     end = 5\n\
@@ -15,7 +15,7 @@ pub const PRINT_THEN_YIELD: &str = "\
     y = 0\n\
     program = \"p\"\n";
 
-/// A receiver between two senders. There are two windows: the packets are sent at 0, and come at 2.
+/// A receiver between two senders. A run has two windows: the packets are sent at 0, and arrive at 2.
 pub const TWO_SENDERS: &str = "\
     version = 1\n\
     end = 9\n\

@@ -16,7 +16,7 @@ pub fn same_text(actual: &str, want: &str) -> Result<(), Fail> {
     Err(Fail::new(format_args!("{actual} in place of {want}")))
 }
 
-/// Writes down each copy: its moment and receiver, its sender, its number and its value.
+/// Writes down each copy: the moment of its arrival, its receiver, its sender, its number and its value.
 ///
 /// # Errors
 /// `AllocError` if an allocation for the text fails.
@@ -31,7 +31,7 @@ pub fn write_copies(text: &mut String, copies: &[RadioCopy]) -> Result<(), Alloc
     Ok(())
 }
 
-/// Writes each line down as its moment and its event.
+/// Writes down each line: its moment and its event.
 ///
 /// # Errors
 /// `AllocError` if an allocation for the text fails.

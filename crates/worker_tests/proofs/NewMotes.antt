@@ -1,4 +1,4 @@
--- To a new mote nothing comes too late.
+-- No copy is too late for a new mote.
 use Rattle.std.proofs.Common.{◌≡◌, ℕ, List, Option, Some, None, refl, option_map}
 use Rattle.std.specs.Prelude.{IfSome}
 use Rattle.program_tree.specs.Code.{Tree}

@@ -1,5 +1,5 @@
-//! Most tests write their observations into one text and compare it once, in a function that they share. So a test
-//! owns little wherever it can end early; owning much there would cost its proof most.
+//! Most tests write their observations into one text, and a shared function compares this text once. So a test owns
+//! few values when it ends early: owning many values there would make its proof expensive.
 
 mod failing_executor;
 mod held_back;
@@ -25,7 +25,7 @@ use std::thread::Threads;
 use test_helpers::same_text;
 use window_workers::{Cut, Gate, NoGate, Report, RunError, SyncKind, run_serial, run_workers};
 
-/// A mote that sends at 2 to one next to it, which gets the packet at 5.
+/// A mote that sends a packet at 2. Another mote, next to it, gets the packet at 5.
 const PACKET_AFTER_TIMER: &str = "\
     version = 1\n\
     end = 5\n\
@@ -46,7 +46,7 @@ const PACKET_AFTER_TIMER: &str = "\
     y = 1\n\
     program = \"r\"\n";
 
-/// The same, and the end comes before the packet.
+/// The same motes, but the run ends before the packet arrives.
 const COPY_PAST_THE_END: &str = "\
     version = 1\n\
     end = 4\n\
@@ -87,7 +87,7 @@ const BUSY_PAIR: &str = "\
     y = 0\n\
     program = \"p\"\n";
 
-/// Three such motes.
+/// Three motes of the same kind.
 const BUSY_TRIO: &str = "\
     version = 1\n\
     end = 2\n\
@@ -111,7 +111,7 @@ const BUSY_TRIO: &str = "\
     y = 0\n\
     program = \"p\"\n";
 
-/// The common data of runs: a net, the text of its report by one thread, and a kind of synchronisation.
+/// The common data of runs: a net, the text of its report from one thread, and a kind of synchronisation.
 #[derive(Clone, Copy)]
 struct Scene<'a> {
     net: &'a Net,
@@ -119,28 +119,28 @@ struct Scene<'a> {
     sync: SyncKind,
 }
 
-/// The observation in a run.
+/// The kind of observation in a run.
 #[derive(Clone, Copy)]
 enum Watch {
-    /// The number of starts that are requested, and of turns that the motes' own workers take. This worker isn't
-    /// allowed to start.
+    /// The number of starts that are requested, and the number of turns that the motes' own workers take. The worker
+    /// with this number isn't allowed to start.
     Starts(Option<u16>),
-    /// Worker 0 gets ahead of worker 1, or not.
+    /// Observes whether worker 0 gets ahead of worker 1.
     Ahead,
-    /// The number of workers that meet inside their turns.
+    /// For each moment, the number of workers that meet inside their turns.
     Meetings { over_inboxes: bool },
-    /// The contents of the inboxes at the end.
+    /// The contents of the inboxes at the end of the run.
     Inboxes,
 }
 
 /// A run in which all workers are allowed to start.
 const STARTS: Watch = Watch::Starts(None);
 
-/// A run: the observation, the number of workers, the worker of each mote, and the greatest length of windows; 0 for no
-/// such limit.
+/// A run: the kind of observation, the number of workers, the worker of each mote, and the greatest length of a window
+/// (0 means that there is no limit).
 type Case<'a> = (Watch, u16, &'a [u16], u32);
 
-/// Runs of one scenario, and the texts that are written of them with fork-join and with null messages.
+/// Runs of one scenario, and the texts that are written about them with fork-join and with null messages.
 #[derive(Clone, Copy)]
 struct Trials<'a> {
     scenario: &'a str,
@@ -149,7 +149,7 @@ struct Trials<'a> {
     marks: &'a str,
 }
 
-/// Writes down whether a report is that of one thread, and how many copies are left in it.
+/// Writes down whether a report is the same as that of one thread, and how many copies are left in it.
 fn write_report(
     alloc: Global,
     one: &str,
@@ -194,7 +194,7 @@ where
     write_result(rt.alloc(), scene.one, actual, text)
 }
 
-/// Writes down the observation in a run.
+/// Writes down the result of this kind of observation in a run.
 fn write_case<R>(rt: &R, scene: Scene<'_>, case: &Case<'_>, text: &mut String) -> Result<(), Fail>
 where
     R: Threads + Wait + Sync + RandomSource + AllocGlobal,
@@ -213,7 +213,7 @@ where
     Ok(())
 }
 
-/// Fails unless the text written about these runs is `want`.
+/// Fails unless the text that is written about these runs is `want`.
 fn tells_by<R>(rt: &R, scene: Scene<'_>, cases: &[Case<'_>], want: &str) -> Result<(), Fail>
 where
     R: Threads + Wait + Sync + RandomSource + AllocGlobal,
@@ -225,13 +225,13 @@ where
     same_text(text.as_str(), want)
 }
 
-/// The text of the report of one thread.
+/// The text of the report from one thread.
 fn text_of_one_thread(alloc: Global, net: &Net) -> Result<String, Fail> {
     let report = run_serial(alloc, net)?;
     Ok(format!(in alloc; "{report:?}")?)
 }
 
-/// Fails unless the text written about these runs is the expected one, with fork-join and with null messages.
+/// Fails unless the text that is written about these runs is the expected one, with fork-join and with null messages.
 fn tells<R>(rt: &R, runs: &Trials<'_>) -> Result<(), Fail>
 where
     R: Threads + Wait + Sync + RandomSource + AllocGlobal,
@@ -251,7 +251,7 @@ where
     tells_by(rt, scene, runs.cases, runs.marks)
 }
 
-/// Fails unless each of these runs has the expected text, as [`tells`] tests it.
+/// Fails unless each row of runs has its expected texts, as [`tells`] tests it.
 fn all_tell<R>(rt: &R, table: &[Trials<'_>]) -> Result<(), Fail>
 where
     R: Threads + Wait + Sync + RandomSource + AllocGlobal,

@@ -1,4 +1,4 @@
-//! An inbox with marks, by hand in one thread.
+//! An inbox with marks, used in one thread.
 
 ghost use Rattle.std.specs.Prelude.{◌≡◌};
 
@@ -28,7 +28,7 @@ fn write_item(text: &mut String, item: Option<Item>) -> Result<(), AllocError> {
     }
 }
 
-/// Writes down the next item, four times, before any sender is gathered.
+/// Takes the next item four times, before any sender is gathered, and writes down the items.
 fn write_four<R: Wait>(
     rt: &R,
     text: &mut String,
@@ -46,8 +46,8 @@ fn write_four<R: Wait>(
     Ok(())
 }
 
-/// Sender 0 pushes a copy and a mark, sender 1 a mark. All is taken; then both senders are gathered, and the inbox is
-/// closed.
+/// Sender 0 pushes a copy and a mark, and sender 1 a mark. All items are taken. Then both senders are gathered, and
+/// the inbox is closed.
 #[tactic(auto, using(copy_inbox::proofs::Counts::none_left))]
 fn write_marked<R: Wait>(rt: &R, alloc: Global, text: &mut String) -> Result<(), InboxError> {
     let (inbox, mut taker, mut first, mut second) = with_two(alloc, true)?;

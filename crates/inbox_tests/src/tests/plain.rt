@@ -1,4 +1,4 @@
-//! An inbox without marks, by hand in one thread, and filled by three threads at once.
+//! An inbox without marks: one is used in one thread, and another is filled by three threads at once.
 
 ghost use Rattle.std.specs.Prelude.{◌≡◌, false, [], IfOk, OnOk};
 ghost use Rattle.copy_inbox.specs.Views.{make_taker_state};
@@ -13,7 +13,7 @@ use std::thread;
 use std::thread::Threads;
 use test_helpers::same_text;
 
-/// Drains one copy, if one is known, and writes it down between the numbers of known copies before and after.
+/// Drains one copy if one is known, and writes it down. Before and after it, writes down the number of known copies.
 fn write_drained<R: Wait>(
     rt: &R,
     text: &mut String,
@@ -34,8 +34,8 @@ fn write_drained<R: Wait>(
     Ok(())
 }
 
-/// Both senders push a copy, sender 0 first, and only sender 1 is gathered before one copy is drained: that of sender
-/// 0, because it is in the shared queue too.
+/// Both senders push a copy, first sender 0 and then sender 1. Only sender 1 is gathered. Then the copy of sender 0 is
+/// drained, because it is the first one in the shared queue.
 fn write_shared<R: Wait>(rt: &R, alloc: Global, text: &mut String) -> Result<(), InboxError> {
     let (inbox, mut taker, mut first, mut second) = with_two(alloc, false)?;
     push(rt, &inbox, &mut first, copy(0, 7))?;
@@ -47,7 +47,8 @@ fn write_shared<R: Wait>(rt: &R, alloc: Global, text: &mut String) -> Result<(),
     write_rest(rt, text, inbox, taker)
 }
 
-/// Sender 0 pushes a copy and is gathered; then sender 1 is made and pushes one. The copy that is known is drained.
+/// Sender 0 pushes a copy and is gathered. Then sender 1 is made, and pushes a copy. Only one copy is known, and it is
+/// drained.
 fn write_later<R: Wait>(rt: &R, alloc: Global, text: &mut String) -> Result<(), InboxError> {
     let (inbox, mut taker) = make(alloc, false)?;
     let mut first = inbox.sender(&mut taker)?;
@@ -74,7 +75,7 @@ fn push_thousand<R: Wait>(
     Ok(sender)
 }
 
-/// Two senders, after each has pushed 1,000 copies in a thread of its own.
+/// Lets two senders push 1,000 copies each, in threads of their own, and returns the senders.
 fn push_two_thousand<R: Threads + Wait + Sync>(
     rt: &R,
     inbox: &Inbox,
@@ -97,7 +98,7 @@ fn push_two_thousand<R: Threads + Wait + Sync>(
     Ok((second?, third?))
 }
 
-/// Three senders, after each has pushed 1,000 copies in a thread of its own.
+/// Lets three senders push 1,000 copies each, in threads of their own, and returns the senders.
 fn push_three_thousand<R: Threads + Wait + Sync>(
     rt: &R,
     inbox: &Inbox,
@@ -123,7 +124,8 @@ fn push_three_thousand<R: Threads + Wait + Sync>(
     Ok((first?, second, third))
 }
 
-/// Counts the copies of each of three motes, as long as they come in each mote's order.
+/// Writes down the number of copies, and the number of copies of each of three motes, if the copies of each mote are
+/// in order.
 fn write_counts(text: &mut String, copies: &[RadioCopy]) -> Result<(), AllocError> {
     let mut next = [0u64; 3];
     for copied in copies {
@@ -136,7 +138,7 @@ fn write_counts(text: &mut String, copies: &[RadioCopy]) -> Result<(), AllocErro
     write!(text, "{} {next:?}|", copies.len())
 }
 
-/// The rest once three senders were gathered that pushed 1,000 copies each.
+/// Gathers three senders that pushed 1,000 copies each, closes the inbox, and writes down the numbers of its copies.
 fn write_thousands<R: Wait>(
     rt: &R,
     text: &mut String,
@@ -160,7 +162,8 @@ fn write_thousands<R: Wait>(
     Ok(())
 }
 
-/// Three threads push 1,000 copies each; all are gathered after the joins, and the inbox is closed.
+/// Three threads push 1,000 copies each. After the threads are joined, all senders are gathered, and the inbox is
+/// closed.
 fn write_three_threads<R: Threads + Wait + Sync>(
     rt: &R,
     alloc: Global,
@@ -183,7 +186,7 @@ fn write_plain<R: Threads + Wait + Sync>(
     write_three_threads(rt, alloc, text)
 }
 
-/// An inbox without marks, in one thread; and one that three threads fill.
+/// An inbox without marks that is used in one thread, and one that three threads fill.
 #[test]
 fn inbox_in_one_thread(rt: HostRuntime) -> Result<(), Fail> {
     let mut text = String::new(rt.alloc());

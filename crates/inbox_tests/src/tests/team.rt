@@ -21,7 +21,7 @@ use std::time::{Clock, Duration};
 /// The worker of each mote.
 const OF: [u16; 3] = [0, 1, 2];
 
-/// Writes down the copies of a window whose marks have come.
+/// Writes down the copies of a window after all of its marks have arrived.
 fn write_copies(text: &mut String, copies: &[RadioCopy]) -> Result<(), AllocError> {
     for copied in copies {
         write!(text, "{} {}, ", copied.at, copied.number)?;
@@ -29,7 +29,8 @@ fn write_copies(text: &mut String, copies: &[RadioCopy]) -> Result<(), AllocErro
     text.push_str("marks|")
 }
 
-/// Writes down the copies of a window, or the reason why there are none. Returns whether its marks came.
+/// Writes down the copies of a window, or the error if there are none. Returns `true` if the marks of the window
+/// arrived.
 fn write_window<R: Wait, L: Ledger>(
     rt: &R,
     alloc: Global,
@@ -63,7 +64,7 @@ fn write_window<R: Wait, L: Ledger>(
     }
 }
 
-/// The record of a worker: for worker 2 its endpoint, and for worker 1 its sender.
+/// The data of a worker: the endpoint of worker 2, or the sender of worker 1.
 #[derive(Drop)]
 struct Member {
     worker_2: Option<MarkEndpoint>,
@@ -76,7 +77,8 @@ struct Team<'a, R> {
     alloc: Global,
     inbox: &'a Inbox,
     scene: Scene,
-    /// The number of windows for which worker 2 has begun to wait; at its end the greatest number.
+    /// The number of windows for which worker 2 has begun to wait. When worker 2 ends, it is the greatest number of
+    /// its type.
     begun: AtomicU64,
     /// The text that worker 2 writes.
     text: &'a Mutex<String>,
@@ -96,8 +98,8 @@ impl<R> Drop for Team<'_, R> {
 }
 
 impl<R: Wait + Clock> Team<'_, R> {
-    /// Worker 2 receives the windows of the scene, as long as they come; if worker 1 fails at once, only after the flag
-    /// is set.
+    /// Receives the windows of the scene as worker 2, until one doesn't arrive. If worker 1 fails at once, worker 2
+    /// begins only after the flag is set.
     fn take<L: Ledger>(
         &self,
         mut worker_2: MarkEndpoint,
@@ -125,12 +127,13 @@ impl<R: Wait + Clock> Team<'_, R> {
                 break;
             }
         }
-        // Worker 1 waits no longer.
+        // From now on worker 1 doesn't wait for worker 2.
         self.begun.store(u64::MAX, SeqCst);
         self.text.lock(self.rt).push_str(text.as_str())
     }
 
-    /// Waits until worker 2 has begun to wait for this many windows, and a while longer, so that it has fallen asleep.
+    /// Waits until worker 2 has begun to wait for this many windows, and then 30 ms longer, so that worker 2 is
+    /// asleep.
     fn wait_until_begun<L: Ledger>(&self, watch: &mut Watch<'_, L>, begun: u64) {
         for _ in self.rt.forever() {
             if self.begun.load(SeqCst) >= begun || watch.is_set(self.rt) {
@@ -141,7 +144,7 @@ impl<R: Wait + Clock> Team<'_, R> {
         thread::sleep(self.rt, Duration::from_millis(30));
     }
 
-    /// Worker 1 waits for worker 2, if it doesn't fail at once, and pushes its late mark, if there is one.
+    /// Waits for worker 2 as worker 1, unless worker 1 fails at once, and pushes the late mark if the scene has one.
     fn push_late<L: Ledger>(
         &self,
         mut second: Sender,
@@ -206,7 +209,7 @@ fn wait_for_flag<R: Wait, L: Ledger>(rt: &R, watch: &mut Watch<'_, L>) {
     }
 }
 
-/// Runs both workers, and writes down the result of the team, and what worker 2 wrote.
+/// Runs both workers, and writes down the result of the team and the text of worker 2.
 pub(crate) fn write_team<R: Threads + Wait + Clock + Sync>(
     rt: &R,
     alloc: Global,

@@ -1,5 +1,5 @@
-//! The windows of a worker that waits for marks, by hand: workers 0 and 1 push, and worker 2 receives. Mote 0 is
-//! worker 0's, mote 1 worker 1's, and mote 2 worker 2's.
+//! The windows of a worker that waits for marks: workers 0 and 1 push items, and worker 2 receives them. Mote 0
+//! belongs to worker 0, mote 1 to worker 1, and mote 2 to worker 2.
 
 ghost use Rattle.std.specs.Prelude.{◌≡◌, true, [], IfOk};
 ghost use Rattle.copy_inbox.specs.Views.{make_taker_state};
@@ -20,19 +20,19 @@ use test_helpers::same_text;
 /// The actions of worker 2, which receives windows, and of worker 1, which fails.
 #[derive(Clone, Copy)]
 pub(crate) enum Scene {
-    /// Worker 1 fails at once, and the marks of each window are there.
+    /// Worker 1 fails at once. All marks of each window are in the inbox.
     Windows,
-    /// Worker 1 fails at once, and its mark is missing.
+    /// Worker 1 fails at once. Its mark isn't in the inbox.
     Stopped,
-    /// Worker 1 fails while worker 2 waits for its mark.
+    /// Worker 1 fails while worker 2 waits for a mark of worker 1.
     Woken,
-    /// Windows above 1,000: one whose marks are there, one whose last mark comes late, and one whose marks don't come
-    /// before worker 1 fails.
+    /// Three windows above 1,000. The marks of the first one are in the inbox, the last mark of the second one arrives
+    /// late, and the last mark of the third one doesn't arrive before worker 1 fails.
     Late,
 }
 
 impl Scene {
-    /// The windows that worker 2 receives, each as the moment at which it begins and its number.
+    /// The windows that worker 2 receives. A window is given as the moment at which it begins and its number.
     pub(crate) fn windows(self) -> &'static [(u64, u64)] {
         match self {
             Scene::Windows => &[(5, 0), (9, 1), (10, 2)],
@@ -67,7 +67,7 @@ fn make_worker_2(alloc: Global, taker: Taker) -> Result<MarkEndpoint, InboxError
     MarkEndpoint::new(alloc, endpoint, 2)
 }
 
-/// Pushes a copy and the mark of a window.
+/// Pushes a copy, and the mark of the window in which it was sent.
 fn push_window<R: Wait>(
     rt: &R,
     inbox: &Inbox,
@@ -83,7 +83,7 @@ fn push_window<R: Wait>(
     push_mark(rt, inbox, sender, window)
 }
 
-/// Pushes the marks of the windows before this one.
+/// Pushes the marks of the windows before window `windows`.
 fn push_marks<R: Wait>(
     rt: &R,
     inbox: &Inbox,
@@ -100,9 +100,9 @@ fn push_marks<R: Wait>(
     Ok(())
 }
 
-/// Worker 0 pushes windows 0 and 1, and worker 1 window 0, so that taking window 0 returns the copies that worker 0
-/// sent in both; then worker 1 pushes its next mark, after which taking window 1 returns nothing more. Then worker 0
-/// pushes a copy that comes too soon.
+/// Worker 0 pushes windows 0 and 1, and worker 1 pushes window 0. So taking window 0 returns the copies that worker 0
+/// sent in both windows. Then worker 1 pushes its next mark, so taking window 1 returns no copies. Last, worker 0
+/// pushes a copy of window 2 that arrives before the window begins.
 fn push_three_windows<R: Wait>(
     rt: &R,
     inbox: &Inbox,
@@ -120,7 +120,7 @@ fn push_three_windows<R: Wait>(
     push_window(rt, inbox, first, copy(9, 2), 2)
 }
 
-/// Worker 0 pushes the marks of the windows up to 1002, and worker 1 those up to 1001.
+/// Worker 0 pushes the marks of the windows up to 1002, and worker 1 those of the windows up to 1001.
 fn push_thousand_marks<R: Wait>(
     rt: &R,
     inbox: &Inbox,
@@ -154,7 +154,7 @@ fn push_before<R: Wait>(
     }
 }
 
-/// Runs a scene, and writes down the result of the team, and the windows that worker 2 received.
+/// Runs a scene, and writes down the result of the team and the windows that worker 2 received.
 fn write_scene<R: Threads + Wait + Clock + Sync>(
     rt: &R,
     alloc: Global,
@@ -168,7 +168,7 @@ fn write_scene<R: Threads + Wait + Clock + Sync>(
     Ok(())
 }
 
-/// Writes down all scenes.
+/// Runs all scenes, and writes down their results.
 fn write_scenes<R: Threads + Wait + Clock + Sync>(
     rt: &R,
     alloc: Global,
@@ -180,7 +180,7 @@ fn write_scenes<R: Threads + Wait + Clock + Sync>(
     write_scene(rt, alloc, text, Scene::Late)
 }
 
-/// The windows that arrive although the flag is set; a window whose mark is missing; the same with a worker that
+/// Windows that are received although the flag is set; a window whose mark is missing; the same with a worker that
 /// sleeps when the flag is set; and windows above 1,000.
 #[test]
 fn windows_by_hand(rt: HostRuntime) -> Result<(), Fail> {

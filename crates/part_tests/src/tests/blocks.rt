@@ -4,12 +4,12 @@ use mote_program::read;
 use std::alloc::{AllocError, Global};
 use std::test::Fail;
 
-/// Numbers of statements: round ones, and those next to a power of two.
+/// Numbers of statements: round numbers, and numbers next to a power of two.
 static LENGTHS: [usize; 17] = [
     0, 1, 2, 10, 100, 127, 128, 500, 512, 998, 999, 1_000, 1_001, 1_023, 1_024, 1_025, 2_000,
 ];
 
-/// Tests whether a body of this many statements is read.
+/// Tests whether the reader accepts a body of this many statements.
 fn is_read(alloc: Global, length: usize) -> Result<bool, AllocError> {
     let mut text = String::from_str(alloc, "process a; code a { body { ")?;
     for _ in 0..length {
@@ -19,7 +19,7 @@ fn is_read(alloc: Global, length: usize) -> Result<bool, AllocError> {
     Ok(read(alloc, text.as_str()).is_ok())
 }
 
-/// Tests whether a body of each of these numbers is read.
+/// Tests whether the reader accepts a body of each of these lengths.
 fn all_are_read(alloc: Global) -> Result<bool, AllocError> {
     for length in LENGTHS.as_slice() {
         if !is_read(alloc, *length)? {

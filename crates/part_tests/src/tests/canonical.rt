@@ -6,19 +6,19 @@ use std::alloc::Global;
 use std::test::Fail;
 use test_helpers::same_text;
 
-/// The canonical text of the program of a text.
+/// The canonical text of the program that a text describes.
 fn canonical(alloc: Global, text: &str) -> Result<String, Fail> {
     let program = read(alloc, text)?;
     Ok(print_program(alloc, &program)?)
 }
 
-/// Fails unless `want` is the canonical text of a text's program.
+/// Fails unless `want` is the canonical text of the program of `text`.
 fn has_canonical(alloc: Global, text: &str, want: &str) -> Result<(), Fail> {
     let printed = canonical(alloc, text)?;
     same_text(printed.as_str(), want)
 }
 
-/// Fails unless `want` is the canonical text of a text's program, and the canonical text of `want`'s own program.
+/// Fails unless `want` is the canonical text of the program of `text`, and also of the program of `want` itself.
 fn prints(alloc: Global, text: &str, want: &str) -> Result<(), Fail> {
     has_canonical(alloc, text, want)?;
     has_canonical(alloc, want, want)
@@ -137,7 +137,7 @@ code a {
 }
 ";
 
-/// Texts, and the canonical texts of their programs.
+/// Texts of programs, each with its canonical text.
 const CASES: &[(&str, &str)] = &[
     (PRINT_THEN_YIELD, PRINT_THEN_YIELD_PRINTED),
     (

@@ -44,7 +44,7 @@ pub(crate) fn with_one(alloc: Global, marked: bool) -> Result<(Inbox, Taker, Sen
     Ok((inbox, taker, sender))
 }
 
-/// The same with a second sender.
+/// A new inbox, with marks or without, its taker, and two senders.
 pub(crate) fn with_two(
     alloc: Global,
     marked: bool,
@@ -68,7 +68,7 @@ pub(crate) fn push<R: Wait>(rt: &R, inbox: &Inbox, sender: &mut Sender, copied: 
     let _ = inbox.push_copy(rt, sender, copied);
 }
 
-// Pushes each copy, given by its sender and number.
+// Pushes each of these copies. A copy is given as its sender and its number.
 fn push_each<R: Wait>(
     rt: &R,
     inbox: &Inbox,
@@ -99,8 +99,8 @@ pub(crate) fn write_known(text: &mut String, inbox: &Inbox, taker: &Taker)
     let _ = write!(text, "known {known}|");
 }
 
-// Takes `most` copies, or all known ones if those are fewer. Writes them down, between the numbers of known copies
-// before and after. If an allocation fails, none is taken.
+// Takes `most` copies, or all known copies if there are fewer. Writes down these copies, and before and after them the
+// number of known copies. If an allocation fails, no copy is taken.
 fn write_taken<R: Wait>(rt: &R, text: &mut String, inbox: &Inbox, taker: &mut Taker, most: u64)
     requires plain_taker { (taker.old.inbox ≡ inbox.now) × (taker.old.state.marked ≡ false) }
     ensures taker { (taker.new.inbox ≡ inbox.now) × (taker.new.state.marked ≡ false)
@@ -114,8 +114,8 @@ fn write_taken<R: Wait>(rt: &R, text: &mut String, inbox: &Inbox, taker: &mut Ta
     write_known(text, inbox, taker);
 }
 
-// Two senders push these copies. Writes down the copies that are taken after each is gathered, and those that are left
-// at the end.
+// Lets two senders push these copies, and gathers one sender after the other. Writes down the copies that are taken
+// after each sender is gathered, and the copies that are left at the end.
 fn write_of_two<R: Wait>(
     rt: &R,
     alloc: Global,
@@ -134,12 +134,13 @@ fn write_of_two<R: Wait>(
     Ok(())
 }
 
-// Copies that two senders push, by their senders and numbers, and how many are taken at most after each is gathered.
+// Rows: a name, the copies that two senders push (as senders and numbers), and how many copies are taken at most after
+// the first sender is gathered, and after the second.
 static OF_TWO: [(&str, &[(u16, u64)], (u64, u64)); 3] = [
-    // Two copies of each sender: three are drained, and closing the inbox gives the last.
+    // Two copies of each sender: three are drained, and closing the inbox returns the fourth.
     ("", &[(0, 0), (1, 0), (1, 1), (0, 1)], (0, 3)),
-    // A copy is in the inbox before its sender is gathered: the taker takes it, though only the other sender's copy
-    // is known.
+    // A copy is in the inbox before its sender is gathered: the taker gets this copy, although only the other sender's
+    // copy is known.
     ("of both|", &[(1, 8), (0, 7)], (1, 0)),
     ("of nobody|", &[], (0, 0)),
 ];
@@ -157,7 +158,7 @@ fn write_in_one_thread<R: Wait>(
     Ok(())
 }
 
-/// The copies that are known and taken when senders push and are gathered, all in one thread.
+/// The copies that are known and that are taken while senders push copies and are gathered, all in one thread.
 #[test]
 fn in_one_thread(rt: HostRuntime) -> Result<(), Fail> {
     let mut text = String::new(rt.alloc());

@@ -1,4 +1,4 @@
-//! Kernels of whole programs, with their answers and lines worked by hand.
+//! Kernels of whole programs. Their results and lines were worked out by hand.
 
 use mote_program::read;
 use process_kernel::{Kernel, KernelError, Out, Ran};
@@ -17,22 +17,22 @@ const RUNAWAY: &str =
 const RECEIVER: &str = "process r; autostart r; receiver r; code r { body { while 1 { yield; \
      if is(packet) { print from; print data; } } } }";
 
-/// The calls of a kernel.
+/// A call of a kernel.
 #[derive(Clone, Copy)]
 enum Act {
-    /// Its number is read, and whether it is booted, halted and pending.
+    /// Reads the kernel's number, whether it is booted, halted and pending, and when its next timer expires.
     Look,
-    /// It is booted at moment 0.
+    /// Boots the kernel at moment 0.
     Boot,
-    /// This many packets of mote 3 are put into its ring, with their numbers as their values.
+    /// Adds this many packets of mote 3 to the kernel's ring. The value of each packet is its number.
     Packets(u16),
-    /// A process is to be polled.
+    /// Asks the kernel to poll a process.
     Poll(Proc),
-    /// It is run at this moment until nothing is left.
+    /// Runs the kernel at this moment until no work is left.
     RunOut(u16),
 }
 
-/// The last answer of at most 64 runs at this moment.
+/// The result of the last of at most 65 runs at this moment.
 fn run_out(
     program: &Program,
     kernel: &mut Kernel,
@@ -48,7 +48,7 @@ fn run_out(
     kernel.run(program, u64::from(now), out)
 }
 
-/// The number of packets, of `count`, that the ring takes.
+/// The number of packets, of `count`, that the ring accepts.
 fn packets_taken(kernel: &mut Kernel, count: u16) -> u32 {
     let mut taken = 0u32;
     for number in 0..count {
@@ -78,7 +78,7 @@ fn write_ran(text: &mut String, ran: Result<Ran, KernelError>) {
     };
 }
 
-/// Makes the call, and writes down the answer.
+/// Makes a call, and writes down its result.
 fn write_act(text: &mut String, program: &Program, kernel: &mut Kernel, out: &mut Out, act: Act) {
     match act {
         Act::Look => write_look(text, kernel),
@@ -92,7 +92,7 @@ fn write_act(text: &mut String, program: &Program, kernel: &mut Kernel, out: &mu
     }
 }
 
-/// Writes down the lines and packets since this was last done.
+/// Writes down the lines and packets since the previous call of this function.
 fn write_out(text: &mut String, out: &mut Out) {
     let _ = write_lines(text, &out.lines);
     let _ = write_sends(text, &out.sends);
@@ -100,7 +100,7 @@ fn write_out(text: &mut String, out: &mut Out) {
     out.sends.clear();
 }
 
-/// Makes all these calls of a new kernel of mote 7, and writes down the answer to each and its lines and packets.
+/// Makes all these calls of a new kernel of mote 7. For each call, writes down its result, its lines and its packets.
 fn write_acts(alloc: Global, text: &mut String, program: &Program, acts: &[Act]) {
     let Ok(mut kernel) = Kernel::new(alloc, program, 7, 32) else {
         return;
@@ -115,7 +115,7 @@ fn write_acts(alloc: Global, text: &mut String, program: &Program, acts: &[Act])
     }
 }
 
-/// Fails unless the text written about that is `want`.
+/// Fails unless the text that is written about these calls is `want`.
 fn tells(alloc: Global, program: &str, acts: &[Act], want: &str) -> Result<(), Fail> {
     let program = read(alloc, program)?;
     let mut text = String::new(alloc);
@@ -123,7 +123,7 @@ fn tells(alloc: Global, program: &str, acts: &[Act], want: &str) -> Result<(), F
     same_text(text.as_str(), want)
 }
 
-/// Programs, the calls of their kernels, and the text that is written about that.
+/// Programs, the calls of their kernels, and the text that is written about these calls.
 const CASES: &[(&str, &[Act], &str)] = &[
     (
         SENDER,
@@ -131,13 +131,13 @@ const CASES: &[(&str, &[Act], &str)] = &[
         "7 false false false None|Left(0)|0 Start(Etimer)|0 Start(Ctimer)|0 Start(Radio)|0 Start(Own(0))|\
          0 Send(0, 12)|sent 0 7 0 12|7 true false false None|",
     ),
-    // A mote that has halted stays so, and writes nothing more.
+    // A mote that has halted stays halted, and writes nothing more.
     (
         RUNAWAY,
         &[Act::Boot, Act::Look, Act::RunOut(1)],
         "Halted|0 Start(Etimer)|0 Start(Ctimer)|0 Start(Radio)|0 Start(Own(0))|0 Halt|7 true true false None|Halted|",
     ),
-    // The ring holds eight packets, and the ninth and tenth are refused.
+    // The ring holds eight packets. It refuses the ninth and the tenth.
     (
         RECEIVER,
         &[
@@ -158,7 +158,7 @@ const CASES: &[(&str, &[Act], &str)] = &[
          2 Take(5, Own(0))|2 Print(Own(0), 3)|2 Print(Own(0), 5)|2 Take(6, Own(0))|2 Print(Own(0), 3)|\
          2 Print(Own(0), 6)|2 Take(7, Own(0))|2 Print(Own(0), 3)|2 Print(Own(0), 7)|",
     ),
-    // Nobody receives the packets of a program that has no receiver.
+    // If a program has no receiver, nobody receives its packets.
     (
         SENDER,
         &[

@@ -1,4 +1,4 @@
-//! A caller that goes by a program's numbers.
+//! A caller that looks up a program's variables by their numbers.
 
 ghost use Rattle.std.specs.Prelude.{◌<◌, length};
 ghost use Rattle.program_tree.specs.Program.{tree_of};
@@ -8,8 +8,8 @@ use mote_program::read;
 use program_tree::{Action, Program, Stmt};
 use std::test::Fail;
 
-/// The first value of the variable that the first statement of a process's body sets. Its place is looked up
-/// without a test.
+/// The first value of the variable that the first statement of a process's body sets. The function looks up the place
+/// of the variable without a test that it exists.
 fn first_set(program: &Program, process: u8) -> Option<u16>
     requires process_exists { process < length (tree_of program.now).processes }
 {
@@ -24,7 +24,7 @@ fn first_set(program: &Program, process: u8) -> Option<u16>
     Some(code.starts()[usize::from(*variable)])
 }
 
-/// The same of the first two processes, if there are two.
+/// The same value for each of the first two processes, if there are two.
 fn first_two(program: &Program) -> [Option<u16>; 2] {
     if program.processes() < 2 {
         return [None; 2];

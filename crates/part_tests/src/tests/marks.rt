@@ -22,7 +22,7 @@ fn push_mark<R: Wait>(rt: &R, inbox: &Inbox, sender: &mut Sender, window: u64)
     let _ = inbox.push_mark(rt, sender, window);
 }
 
-// Writes down what was taken, with its sender's number.
+// Writes down an item that was taken, with its sender's number.
 fn write_item(text: &mut String, item: Item) {
     let _ = write!(text, "of {} ", item.sender);
     let _ = match item.what {
@@ -31,7 +31,7 @@ fn write_item(text: &mut String, item: Item) {
     };
 }
 
-// Takes the next item `count` times, and writes down how many are known before each, and the item.
+// Takes the next item `count` times. Writes down each item, and before it the number of known items.
 fn write_nexts<R: Wait>(rt: &R, text: &mut String, inbox: &Inbox, taker: &mut Taker, count: u8)
     requires inbox { taker.old.inbox ≡ inbox.now }
     ensures taker { (taker.new.inbox ≡ inbox.now) × (taker.new.state.marked ≡ taker.old.state.marked)
@@ -48,8 +48,8 @@ fn write_nexts<R: Wait>(rt: &R, text: &mut String, inbox: &Inbox, taker: &mut Ta
     }
 }
 
-// What two senders push is taken item by item, each with its sender's number, whether it is known or not. The second
-// sender is made once the first one is gathered. At the end nothing is left.
+// Takes the items of two senders one by one, both known items and others, and writes each down with its sender's
+// number. The second sender is made once the first one is gathered. At the end no item is left.
 #[tactic(auto, using(copy_inbox::proofs::Counts::none_left))]
 fn write_items<R: Wait>(rt: &R, alloc: Global, text: &mut String) -> Result<(), InboxError> {
     let (inbox, mut taker, mut first) = with_one(alloc, true)?;
@@ -69,7 +69,7 @@ fn write_items<R: Wait>(rt: &R, alloc: Global, text: &mut String) -> Result<(), 
     Ok(())
 }
 
-/// The number of items that are known precedes each item, and is also the last in the text.
+/// The text has the number of known items before each item, and once more before the end.
 #[test]
 fn items_one_by_one(rt: HostRuntime) -> Result<(), Fail> {
     let mut text = String::new(rt.alloc());
@@ -80,7 +80,7 @@ fn items_one_by_one(rt: HostRuntime) -> Result<(), Fail> {
     )
 }
 
-// Pushes three copies of a mote and the mark of each window.
+// For each window, pushes three copies of a mote's packets and a mark.
 fn push_windows<R: Wait>(rt: &R, inbox: &Inbox, mut sender: Sender, mote: u16, windows: u64)
     requires inbox { sender.inbox ≡ inbox.now }
     requires marked { sender.state.marked ≡ true }
@@ -93,7 +93,7 @@ fn push_windows<R: Wait>(rt: &R, inbox: &Inbox, mut sender: Sender, mote: u16, w
     }
 }
 
-// Whether this is what its sender pushed at this position.
+// Tests whether a sender pushed this item at this position.
 fn is_pushed(item: Item, position: u64) -> bool {
     match item.what {
         Carried::Packet(copied) => {
@@ -105,8 +105,8 @@ fn is_pushed(item: Item, position: u64) -> bool {
     }
 }
 
-// Takes what two senders push in so many windows each, and yields the processor while the inbox is empty. Returns
-// whether all came, and each sender's in order.
+// Takes the items that two senders push in so many windows each, and yields the processor while the inbox is empty.
+// Returns whether all items arrived, and the items of each sender in order.
 fn take_windows<R: Wait>(rt: &R, inbox: &Inbox, mut taker: Taker, windows: u64) -> bool
     requires inbox { taker.inbox ≡ inbox.now }
 {
@@ -130,7 +130,7 @@ fn take_windows<R: Wait>(rt: &R, inbox: &Inbox, mut taker: Taker, windows: u64) 
     unreachable!()
 }
 
-// Pushes the second sender's windows, and takes both senders'.
+// Pushes the windows of the second sender, and takes the windows of both senders.
 fn push_and_take<R: Wait>(rt: &R, inbox: &Inbox, taker: Taker, second: Sender, windows: u64) -> bool
     requires taker { taker.inbox ≡ inbox.now }
     requires second { (second.inbox ≡ inbox.now) × (second.state.marked ≡ true) }
@@ -158,7 +158,7 @@ fn all_come<R: Threads + Wait + Sync>(
     Ok(all)
 }
 
-/// Two threads push copies and marks at once, and one of them then takes what both push: all copies of a window arrive
+/// Two threads push copies and marks at once, and then one of them takes all items. All copies of a window arrive
 /// before its mark.
 #[test]
 fn between_threads(rt: HostRuntime) -> Result<(), Fail> {

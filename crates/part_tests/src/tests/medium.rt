@@ -8,7 +8,7 @@ use std::alloc::Global;
 use std::test::Fail;
 use test_helpers::{same_text, write_copies};
 
-/// Writes down the fates of a packet that was sent at 1 with value 7, and its copies.
+/// Writes down the fates and the copies of a packet that was sent at 1 with value 7.
 fn write_packet(text: &mut String, medium: &Medium, sender: u16, number: u64)
     requires sender { sender < length medium.now.places }
 {
@@ -26,7 +26,7 @@ fn write_packet(text: &mut String, medium: &Medium, sender: u16, number: u64)
     }
 }
 
-/// Two motes at a distance of 5. A packet needs 2 moments and one more for each 10 of the square of the distance.
+/// Two motes at a distance of 5. A packet needs 2 moments, and one more for each 10 in the square of the distance.
 fn two_motes(alloc: Global, range: u32, losses: &[Loss]) -> Result<Medium, MediumError>
     requires range_bounded { range ≤ 100000 }
     ensures two_places { IfOk result (λ medium. length medium.places ≡ 2) }
@@ -62,7 +62,7 @@ fn write_two_motes(
     Ok(())
 }
 
-/// Four motes, of which mote 1 hears and is heard by all others, the nearest being mote 2 and the farthest mote 3.
+/// Four motes. Mote 1 hears all others, and they hear it; of these, mote 2 is the nearest and mote 3 the farthest.
 /// Mote 2 loses each third packet of mote 1.
 fn four_motes(alloc: Global) -> Result<Medium, MediumError>
     ensures four_places { IfOk result (λ medium. length medium.places ≡ 4) }
@@ -81,7 +81,7 @@ fn four_motes(alloc: Global) -> Result<Medium, MediumError>
     Medium::new(alloc, &places, 3, 2, 1, &[loss])
 }
 
-/// Copies come in the order of their receivers, not of their arrivals.
+/// Writes down copies: they are in the order of their receivers, not of their arrivals.
 fn write_four_motes(alloc: Global, text: &mut String) -> Result<(), MediumError> {
     let medium = four_motes(alloc)?;
     write_packet(text, &medium, 1, 3);
@@ -91,14 +91,14 @@ fn write_four_motes(alloc: Global, text: &mut String) -> Result<(), MediumError>
     Ok(())
 }
 
-/// The losses among mote 0's packets.
+/// The loss of each second packet of mote 0.
 const EACH_SECOND: Loss = Loss {
     sender: 0,
     to: 1,
     every: 2,
 };
 
-/// Writes down why a medium was refused, and the number of that error.
+/// Writes down the error of a refused medium and its number.
 fn write_fault(text: &mut String, fault: Option<MediumError>) {
     let _ = match fault {
         Some(error) => write!(text, "{error:?} {}|", error.number()),
@@ -106,7 +106,7 @@ fn write_fault(text: &mut String, fault: Option<MediumError>) {
     };
 }
 
-/// Each loss that is refused, next to one that isn't.
+/// Writes down the error for each kind of bad loss. Next to the bad loss there is always a good one.
 fn write_bad_losses(alloc: Global, text: &mut String) {
     for (sender, to, every) in [(2, 1, 1), (0, 2, 1), (1, 1, 1), (1, 0, 0), (0, 1, 3)] {
         let losses = [EACH_SECOND, Loss { sender, to, every }];
@@ -114,7 +114,7 @@ fn write_bad_losses(alloc: Global, text: &mut String) {
     }
 }
 
-/// Tests which of several faults is reported.
+/// Writes down which error is reported if there are several.
 fn write_first_faults(alloc: Global, text: &mut String) {
     for (base, per) in [(0, 0), (1, 0), (1, 1)] {
         write_fault(
@@ -126,9 +126,9 @@ fn write_first_faults(alloc: Global, text: &mut String) {
 
 fn write_media(alloc: Global, text: &mut String) -> Result<(), MediumError> {
     write_two_motes(alloc, text, 5, &[])?;
-    // Beyond the range nobody hears the other.
+    // Motes farther apart than the range don't hear each other.
     write_two_motes(alloc, text, 4, &[])?;
-    // Each second packet of mote 0 is lost, and none of mote 1.
+    // Each second packet of mote 0 is lost, and no packet of mote 1.
     write_two_motes(alloc, text, 5, &[EACH_SECOND])?;
     write_four_motes(alloc, text)?;
     write_bad_losses(alloc, text);

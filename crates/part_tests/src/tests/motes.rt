@@ -1,4 +1,4 @@
-//! Turns of motes, with their lines worked by hand.
+//! Turns of motes. Their lines were worked out by hand.
 
 use super::PRINT_THEN_YIELD;
 use mote_node::{Mote, MoteError, TurnOut};
@@ -10,15 +10,15 @@ use std::alloc::{AllocError, Global};
 use std::test::Fail;
 use test_helpers::{same_text, write_lines, write_sends};
 
-/// A process that sends one packet and leaves.
+/// A process that sends one packet and then leaves.
 const SENDER: &str = "process a; autostart a; code a { body { send (self + 5); } }";
 
-/// A process that prints where each packet comes from and what it carries.
+/// A process that prints the sender and the value of each packet.
 const RECEIVER: &str = "process r; autostart r; receiver r; code r { body { while 1 { yield; \
      if is(packet) { print from; print data; } } } }";
 
-/// A turn: its moment, and the packets that arrive then. They are packets of one mote, numbered from 0 on, and their
-/// values rise from this one on.
+/// A turn: its moment, and the packets that arrive at that moment. All of them are packets of mote `sender`, numbered
+/// from 0. The first one has the value `value`, and each later one a value greater by 1.
 #[derive(Clone, Copy)]
 struct Turn {
     moment: u16,
@@ -61,14 +61,14 @@ fn write_out(text: &mut String, out: Result<TurnOut, MoteError>) {
     };
 }
 
-/// Writes down when a mote says that it wakes next.
+/// Writes down the moment at which a mote asks to be woken next.
 fn write_wake(text: &mut String, mote: &Mote) {
     let wake = mote.wake();
     let _ = write!(text, "{wake:?}|");
 }
 
-/// Takes these turns with a new mote of this number, and writes down the result of each, and when the mote says that
-/// it wakes next.
+/// Makes a new mote of this number take these turns. Writes down the result of each turn, and when the mote asks to be
+/// woken next.
 fn write_turns(alloc: Global, text: &mut String, number: u16, program: &Program, turns: &[Turn]) {
     let Ok(mut mote) = Mote::new(alloc, number, program, 32) else {
         return;
@@ -83,7 +83,7 @@ fn write_turns(alloc: Global, text: &mut String, number: u16, program: &Program,
     }
 }
 
-/// Fails unless the text written about that is `want`.
+/// Fails unless the text that is written about these turns is `want`.
 fn tells(
     alloc: Global,
     number: u16,
@@ -97,7 +97,7 @@ fn tells(
     same_text(text.as_str(), want)
 }
 
-/// A turn that isn't later than the last one is refused. A later turn after it is taken.
+/// A turn that isn't later than the last one is refused. After that a later turn is accepted.
 const PAST_TURN: &str =
     "Some(0)|0 Start(Etimer)|0 Start(Ctimer)|0 Start(Radio)|0 Start(Own(0))|0 Print(Own(0), 1)|\
      wake None|None|Past|None|wake None|None|";
@@ -107,7 +107,7 @@ const DEAF: &str =
     "Some(0)|0 Start(Etimer)|0 Start(Ctimer)|0 Start(Radio)|0 Start(Own(0))|0 Print(Own(0), 1)|wake None|None|\
      2 Recv(4, 0, 9)|2 Deaf(4, 0)|wake None|None|";
 
-/// Of nine packets that arrive together the ring takes eight, which are posted and then taken.
+/// Nine packets arrive at the same moment. The ring accepts eight of them, which are posted and then taken.
 const NINE: &str =
     "Some(0)|0 Start(Etimer)|0 Start(Ctimer)|0 Start(Radio)|0 Start(Own(0))|wake None|None|3 Recv(0, 0, 0)|\
      3 Recv(0, 1, 1)|3 Recv(0, 2, 2)|3 Recv(0, 3, 3)|3 Recv(0, 4, 4)|3 Recv(0, 5, 5)|3 Recv(0, 6, 6)|3 Recv(0, 7, 7)|\
@@ -124,7 +124,7 @@ const SENT: &str =
     "Some(0)|0 Start(Etimer)|0 Start(Ctimer)|0 Start(Radio)|0 Start(Own(0))|0 Send(0, 5)|\
      0 Leave(Own(0))|sent 0 0 0 5|wake None|None|";
 
-/// The numbers of motes, their programs and turns, and the text that is written about them.
+/// The numbers of motes, their programs and turns, and the text that is written about these turns.
 const CASES: &[(u16, &str, &[Turn], &str)] = &[
     (
         7,
@@ -162,7 +162,7 @@ const CASES: &[(u16, &str, &[Turn], &str)] = &[
     (0, SENDER, &[QUIET], SENT),
 ];
 
-/// Motes that print, one that receives, and one that sends.
+/// Two motes that print, one that receives, and one that sends.
 #[test]
 fn mote_by_hand(rt: HostRuntime) -> Result<(), Fail> {
     for (number, program, turns, want) in CASES {

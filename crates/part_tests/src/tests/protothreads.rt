@@ -1,4 +1,4 @@
-//! Whole protothreads, only by `advance`.
+//! Whole protothreads, tested only with `advance`.
 
 ghost use Rattle.std.specs.Prelude.{[], ◌∷◌};
 
@@ -9,7 +9,7 @@ use std::alloc::Global;
 use std::test::Fail;
 use test_helpers::same_text;
 
-/// One fixed state of a mote: one timer that nobody owns, one process that runs, and one semaphore.
+/// A fixed state of a mote: one expired timer, one process that is running, and one semaphore.
 #[derive(Clone, Copy)]
 struct Fixed {
     moment: u64,
@@ -57,16 +57,16 @@ impl Look for Fixed {
     }
 }
 
-/// The calls of a thread of a program's first process.
+/// A call of a thread of a program's first process.
 #[derive(Clone, Copy)]
 enum Act {
-    /// It is advanced with an event of this number and word, which mote 3 sent.
+    /// Advances the thread with an event of this number and word, which mote 3 sent.
     Event(u8, u16),
-    /// The operation that it asked for gets its result.
+    /// Hands the thread the result of the operation that it asked for.
     Answer(u16),
-    /// It is replaced by a thread of this part, at its beginning.
+    /// Replaces the thread by a new thread of this part, at its beginning.
     Begin(Part),
-    /// It has this many units from now on.
+    /// Sets the number of units that are left.
     Units(u32),
 }
 
@@ -76,7 +76,7 @@ const INIT: Act = Act::Event(0x81, 0);
 /// MSG of `process.h`, with the word 0.
 const MSG_0: Act = Act::Event(0x86, 0);
 
-/// And with the word 1.
+/// MSG of `process.h`, with the word 1.
 const MSG_1: Act = Act::Event(0x86, 1);
 
 /// A thread with its variables and units.
@@ -88,7 +88,7 @@ struct Bench {
 }
 
 impl Bench {
-    /// Makes the call, and writes down each step with the units that are left.
+    /// Makes the call. If it advances the thread, writes down the step and the number of units that are left.
     fn write_act(&mut self, text: &mut String, code: &ProcessText, act: Act) {
         match act {
             Act::Event(number, word) => {
@@ -122,7 +122,7 @@ fn write_acts(text: &mut String, code: &ProcessText, units: u32, acts: &[Act]) {
     }
 }
 
-/// Fails unless the text written about that is `want`, with a program's first process.
+/// Fails unless `want` is the text that is written about these calls of a thread of the program's first process.
 fn tells(alloc: Global, program: &str, units: u32, acts: &[Act], want: &str) -> Result<(), Fail> {
     let program = read(alloc, program)?;
     let mut text = String::new(alloc);
@@ -135,45 +135,46 @@ fn tells(alloc: Global, program: &str, units: u32, acts: &[Act], want: &str) -> 
 /// CONTINUE of `process.h`, with a word.
 const GO_ON: Act = Act::Event(0x85, 3);
 
-/// Programs with their units, the calls of their threads, and the text that is written about that.
+/// Programs with their units, the calls of their threads, and the text that is written about these calls.
 const CASES: &[(&str, u32, &[Act], &str)] = &[
-    // From wait to wait.
+    // The thread continues from one wait to the next.
     (
         "process a; code a { body { print 1; yield; print 2; } }",
         100,
         &[INIT; 5],
         "Op(Print(1)) 99|Done(Yielded) 98|Op(Print(2)) 96|Done(Ended) 96|Op(Print(1)) 95|",
     ),
-    // The first event already has the word 0, and the thread yields all the same.
+    // The first event already has the word 0, but the thread yields all the same.
     (
         "process a; code a { body { yield_until (data == 0); print 1; } }",
         100,
         &[MSG_0, MSG_1, MSG_0, MSG_0],
         "Done(Yielded) 99|Done(Yielded) 98|Op(Print(1)) 96|Done(Ended) 96|",
     ),
-    // An endless loop runs away, and stays so with more units. `onexit` prints the value of its variable.
+    // An endless loop runs away, and is still a runaway with more units. `onexit` prints the value of the variable
+    // `x`.
     (
         "process a; code a { var x = 0; onexit { print x; } body { while 1 { x = (x + 1); } } }",
         9_996,
         &[INIT, Act::Units(100), INIT, Act::Begin(Part::OnExit), INIT],
         "Runaway 0|Runaway 100|Op(Print(4998)) 99|",
     ),
-    // A loop ends within its units. Of 10,000 units the first call at boot has 9,996: the three system
-    // processes and the process itself were called.
+    // A loop ends within its units. Of 10,000 units, 9,996 are left for the first call at boot, because the three
+    // system processes and the process itself were called before.
     (
         "process a; code a { var i = 0; body { while (i < 4996) { i = (i + 1); } print i; yield; } }",
         9_996,
         &[INIT; 2],
         "Op(Print(4996)) 2|Done(Yielded) 1|",
     ),
-    // With one more pass there are no units left to yield.
+    // With one more iteration of the loop, no unit is left for the `yield`.
     (
         "process a; code a { var i = 0; body { while (i < 4997) { i = (i + 1); } print i; yield; } }",
         9_996,
         &[INIT; 2],
         "Op(Print(4997)) 0|Runaway 0|",
     ),
-    // Both branches of an `if`.
+    // An `if` runs one branch or the other.
     (
         "process a; code a { body { if 0 { print 1; } else { print 2; } if 7 { print 3; } else { \
          print 4; } if 0 { print 5; } print 6; } }",
@@ -181,14 +182,14 @@ const CASES: &[(&str, u32, &[Act], &str)] = &[
         &[INIT; 4],
         "Op(Print(2)) 8|Op(Print(3)) 6|Op(Print(6)) 4|Done(Ended) 4|",
     ),
-    // A variable has its first value, and outlives the body.
+    // A variable begins with its first value, and keeps its value when the body ends.
     (
         "process a; code a { var n = 5; body { n = (n + 1); yield; print n; } }",
         10,
         &[INIT; 5],
         "Done(Yielded) 8|Op(Print(6)) 6|Done(Ended) 6|Done(Yielded) 4|Op(Print(7)) 2|",
     ),
-    // It continues at its wait inside an `if` of a loop within a loop, three levels deep.
+    // The thread continues at its wait, which is three levels deep: in a loop, in an `if` of another loop.
     (
         "process a; code a { var i = 0; body { while (i < 2) { i = (i + 1); if (i == 2) { print 8; } else { while \
          data { yield; print i; } } print 9; } } }",
@@ -197,7 +198,7 @@ const CASES: &[(&str, u32, &[Act], &str)] = &[
         "Done(Yielded) 95|Op(Print(1)) 93|Done(Yielded) 91|Op(Print(1)) 89|Op(Print(9)) 87|\
          Op(Print(8)) 83|Op(Print(9)) 82|Done(Ended) 81|",
     ),
-    // The three calls of the body answer 0, 0 and 3. Each later call pays for the two spawns that it passes.
+    // The three calls of the body return 0, 0 and 3. Each later call also pays for the two `spawn`s that it passes.
     (
         "process a; autostart a; code a { var n = 0; thread c { n = (n + 1); if (n == 1) { poll a; yield; poll a; \
          restart; } print n; exit; print 8; } thread d { spawn c; print 7; } body { spawn d; print 6; } }",
@@ -206,14 +207,14 @@ const CASES: &[(&str, u32, &[Act], &str)] = &[
         "Op(Poll(Own(0))) 95|Done(Waiting) 94|Op(Poll(Own(0))) 90|Done(Waiting) 89|Op(Print(2)) 84|\
          Op(Print(7)) 82|Op(Print(6)) 81|Done(Ended) 81|",
     ),
-    // The answer to a pause's post isn't used, and any CONTINUE ends the wait.
+    // The thread doesn't use the result of the post that a pause makes. Any CONTINUE ends the wait.
     (
         "process a; code a { var v = 7; body { pause; print v; exit; print 9; } }",
         10,
         &[INIT, Act::Answer(1), INIT, INIT, GO_ON, GO_ON],
         "Op(Post(One(Own(0)), 133, 0)) 9|Done(Yielded) 9|Done(Yielded) 8|Op(Print(7)) 6|Done(Exited) 5|",
     ),
-    // Only the variable after `into` gets the answer.
+    // A result is stored only in the variable after `into`.
     (
         "event e; process a, b; code a { var v = 7; body { post b e 5 into v; print v; broadcast msg 6; \
          print v; synch b exit 2; } } code b { body { } }",
@@ -222,14 +223,14 @@ const CASES: &[(&str, u32, &[Act], &str)] = &[
         "Op(Post(One(Own(1)), 139, 5)) 9|Op(Print(1)) 8|Op(Post(All, 134, 6)) 7|\
          Op(Print(1)) 6|Op(Synch(Own(1), 131, 2)) 5|",
     ),
-    // The mote's fixed state has a count of 4 for semaphore 0, and of 0 for any other.
+    // In the mote's fixed state, semaphore 0 has a count of 4, and any other semaphore a count of 0.
     (
         "semaphore s = 4; semaphore t = 0; process a; code a { body { acquire s; signal t; acquire t; } }",
         10,
         &[INIT; 4],
         "Op(Take(0)) 9|Op(Signal(1)) 8|Done(Waiting) 7|Done(Waiting) 6|",
     ),
-    // A part that the text lacks is an empty block.
+    // A part that the text of the program lacks is an empty block.
     (
         "process a; code a { ctimer c { print 5; } onexit { print 6; } body { print 7; } }",
         10,
@@ -247,7 +248,7 @@ const CASES: &[(&str, u32, &[Act], &str)] = &[
         ],
         "Done(Ended) 10|Done(Ended) 10|Op(Print(5)) 9|Op(Print(6)) 8|Op(Print(7)) 7|",
     ),
-    // Values are of 16 bits, and each expression takes one unit.
+    // Values have 16 bits, and each expression costs one unit.
     (
         "process a; code a { body { print (65535 + 2); print (1 - 2); print (257 * 256); print (7 / 2); print (7 / \
          0); print (7 % 4); print (7 % 0); print (2 == 2); print (2 != 2); print (2 < 3); print (3 <= 2); print (3 \

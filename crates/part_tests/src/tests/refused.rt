@@ -1,6 +1,6 @@
-//! The results of kernels and motes once an allocation has failed. `tools/dev/refuse_memory` makes each allocation of
-//! this test fail, one in each run. The test passes if each call answers as it has to; it ends as out of memory if it
-//! got no kernel or no mote.
+//! The results of kernels and motes once an allocation has failed. `tools/dev/refuse_memory` runs this test many
+//! times, and makes another allocation fail in each run. The test passes if each call returns the right result. It
+//! ends with the error "out of memory" if no kernel or no mote can be made.
 
 use mote_node::{Mote, MoteError};
 use mote_program::read;
@@ -13,12 +13,12 @@ use std::test::Fail;
 const BUSY: &str =
     "process a; autostart a; code a { var i = 0; body { while 1 { print i; send i; i = (i + 1); poll a; yield; } } }";
 
-/// A process that starts others, which leave again, in each run.
+/// A process that starts other processes in each run. They leave again.
 const STARTER: &str =
     "process a, b, c; autostart a; code a { body { while 1 { start b; kill b; start c; poll a; yield; } } } \
      code b { body { yield; } } code c { body { } }";
 
-/// A line that was written before those of the kernel.
+/// A line that was written before the lines of the kernel.
 const BEFORE: Line = Line {
     at: 9,
     what: What::Lost(1, 2),
@@ -27,7 +27,7 @@ const BEFORE: Line = Line {
 /// The number of lines that the starter may write without an allocation.
 const LINES: usize = 1000;
 
-/// Calls a kernel: a boot at 0, and then runs one by one and in a row by turns.
+/// Calls a kernel: boots it at moment 0. Later calls alternate between a single run and several runs in a row.
 fn call(program: &Program, kernel: &mut Kernel, out: &mut Out, now: u16) -> Option<KernelError> {
     let moment = u64::from(now);
     if now == 0 {
@@ -49,7 +49,7 @@ fn first_error(program: &Program, kernel: &mut Kernel, out: &mut Out) -> Option<
     None
 }
 
-/// Tests whether each call returns that the kernel has failed, and nothing more is written.
+/// Tests whether each call reports that the kernel has failed, and writes no more lines.
 fn has_failed(program: &Program, kernel: &mut Kernel, out: &mut Out) -> bool {
     let lines = out.lines.len();
     let mut all = true;
@@ -59,8 +59,8 @@ fn has_failed(program: &Program, kernel: &mut Kernel, out: &mut Out) -> bool {
     all && out.lines.len() == lines
 }
 
-/// Tests whether a kernel fails for good once it is out of memory, and keeps the lines written before. One with room
-/// for all its lines allocates only a thread at a process's first call, and a copy of its first process list.
+/// Tests whether a kernel that is out of memory fails for good, and keeps the lines written before. A kernel with room
+/// for all its lines allocates only a thread at the first call of a process, and a copy of its first process list.
 fn kernel_fails_for_good(program: &Program, kernel: &mut Kernel, out: &mut Out) -> bool {
     let has_room = out.lines.capacity() >= LINES;
     let fails = match first_error(program, kernel, out) {
@@ -71,7 +71,7 @@ fn kernel_fails_for_good(program: &Program, kernel: &mut Kernel, out: &mut Out) 
     fails && out.lines.first().copied() == Some(BEFORE)
 }
 
-/// Tests that for a new kernel with room for this many lines, of which one is written.
+/// Makes the same test with a new kernel, and with room for this many lines, one of which is already written.
 fn new_kernel_fails(alloc: Global, program: &Program, room: usize) -> Result<bool, Fail> {
     let mut out = Out {
         lines: Vec::with_capacity(alloc, room)?,
@@ -92,7 +92,7 @@ fn first_error_of_turns(program: &Program, mote: &mut Mote) -> Option<MoteError>
     None
 }
 
-/// Tests whether a mote fails for good once it is out of memory, and then asks for no more turns.
+/// Tests whether a mote that is out of memory fails for good, and then asks for no more turns.
 fn mote_fails_for_good(program: &Program, mote: &mut Mote) -> bool {
     match first_error_of_turns(program, mote) {
         Some(MoteError::Memory) => {

@@ -1,4 +1,4 @@
-//! Reports with their texts, worked by hand.
+//! Reports. Their texts were worked out by hand.
 
 ghost use Rattle.std.specs.Prelude.{◌≡◌, IfOk, length, vec_len};
 ghost use Rattle.mote_net.specs.Meaning.{net_of};
@@ -14,13 +14,13 @@ use std::test::Fail;
 use test_helpers::same_text;
 use trace_printer::{PrintError, write_report};
 
-/// One mote, whose program has two events and two processes.
+/// One mote. Its program has two events and two processes.
 const TWO_PROCESSES: &str =
     "version = 1\nend = 5\n[medium]\nrange = 10\nbase = 1\nper = 100\n[programs]\n\
      p = \"event e; event f; process a, b; code a { body { } } code b { body { } }\"\n\
      [[mote]]\nx = 0\ny = 0\nprogram = \"p\"\n";
 
-/// Two motes with programs of their own.
+/// Two motes, each with its own program.
 const TWO_MOTES: &str =
     "version = 1\nend = 5\n[medium]\nrange = 10\nbase = 1\nper = 100\n[programs]\n\
      p = \"process a; code a { body { } }\"\nq_2 = \"process c; code c { body { } }\"\n[[mote]]\nx = 0\ny = 0\n\
@@ -43,7 +43,7 @@ pub(crate) fn report_of_trace(alloc: Global, trace: Vec<Line>) -> Result<Report,
     })
 }
 
-/// Fails unless these are the bytes of this text.
+/// Fails unless these bytes are the bytes of this text.
 fn same_bytes(actual: &[u8], want: &str) -> Result<(), Fail> {
     match str::from_utf8(actual) {
         Ok(actual) => same_text(actual, want),
@@ -63,7 +63,7 @@ fn lines_of(alloc: Global, happens: &[(u64, What)]) -> Result<Vec<Line>, AllocEr
     Ok(lines)
 }
 
-/// The report of one mote in which this happens.
+/// The report of one mote whose trace has these events.
 pub(crate) fn report_of(alloc: Global, happens: &[(u64, What)]) -> Result<Report, AllocError>
     ensures one_trace { IfOk result (λ r. vec_len r.traces ≡ 1) }
 {
@@ -71,7 +71,7 @@ pub(crate) fn report_of(alloc: Global, happens: &[(u64, What)]) -> Result<Report
     report_of_trace(alloc, trace)
 }
 
-/// Appends the report of one mote in which this happens.
+/// Appends the text of the report of one mote whose trace has these events.
 fn write_trace(
     alloc: Global,
     net: &Net,
@@ -84,7 +84,7 @@ fn write_trace(
     write_report(alloc, net, &report, output)
 }
 
-/// Events with their moments, by their kind.
+/// Events with their moments, grouped by their kind.
 const KINDS: &[&[(u64, What)]] = &[
     // Lines of processes.
     &[
@@ -106,7 +106,7 @@ const KINDS: &[&[(u64, What)]] = &[
         (0, What::Take(32, A)),
         (0, What::Drop(0, Proc::Radio)),
     ],
-    // Words of events.
+    // Events that are written as words.
     &[
         (0, What::Full(ALL, 0x81, 0)),
         (0, What::Full(ALL, 0x82, 0)),
@@ -126,7 +126,7 @@ const KINDS: &[&[(u64, What)]] = &[
     ],
 ];
 
-/// Writes a report for each kind of lines, of a net of one mote.
+/// For each kind of line, writes a report of a net of one mote.
 fn write_of_one_mote(alloc: Global, output: &mut Vec<u8>) -> Result<(), Fail> {
     let net = read_scenario(alloc, TWO_PROCESSES)?;
     if net.motes() == 1 {
@@ -137,17 +137,17 @@ fn write_of_one_mote(alloc: Global, output: &mut Vec<u8>) -> Result<(), Fail> {
     Ok(())
 }
 
-/// The trace of a mote that halts.
+/// The trace of a mote that halts after its start.
 const FIRST_TRACE: [(u64, What); 2] = [(0, What::Start(A)), (0, What::Halt)];
 
-/// The trace of one that ends.
+/// The trace of a mote whose processes leave at the last moment that a scenario can have.
 const SECOND_TRACE: [(u64, What); 3] = [
     (0, What::Print(A, 65535)),
     (1_000_000, What::Leave(A)),
     (1_000_000, What::Leave(Proc::Radio)),
 ];
 
-/// Their traces.
+/// The two traces.
 fn two_traces(alloc: Global) -> Result<Vec<Vec<Line>>, AllocError>
     ensures two_traces { IfOk result (λ traces. vec_len traces ≡ 2) }
 {
@@ -161,7 +161,7 @@ fn log_line(alloc: Global, sent: Sent, fates: &[Fate]) -> Result<LogLine, AllocE
     Ok(LogLine { sent, fates })
 }
 
-/// A packet with a copy that arrives and one that is lost.
+/// A packet with one copy that arrives and one that is lost.
 const HEARD: Sent = Sent {
     at: 2,
     sender: 1,
@@ -171,7 +171,7 @@ const HEARD: Sent = Sent {
 
 const HEARD_FATES: [Fate; 2] = [Fate { to: 0, at: Some(5) }, Fate { to: 3, at: None }];
 
-/// A packet that nobody hears.
+/// A packet that no mote hears.
 const UNHEARD: Sent = Sent {
     at: 7,
     sender: 0,
@@ -197,7 +197,7 @@ fn report_of_two(alloc: Global) -> Result<Report, AllocError>
     })
 }
 
-/// Writes that report, of a net of two motes.
+/// Writes the report of the two traces and the two packets.
 fn write_two(alloc: Global, net: &Net, output: &mut Vec<u8>) -> Result<(), PrintError>
     requires two_motes { length (net_of net.now).motes ≡ 2 }
 {

@@ -1,4 +1,4 @@
-//! Small parts by themselves: a queue of posted events, timers and callbacks.
+//! Small parts, each tested by itself: a queue of posted events, timers and callbacks.
 
 ghost use Rattle.std.specs.Prelude.{◌≡◌, ◌+◌, ◌<◌, ◌≤◌, length};
 
@@ -14,7 +14,7 @@ const EVENT: Event = Event {
     sender: 0,
 };
 
-/// The event as the first one that was accepted.
+/// The event as the first one that the queue accepted.
 const FIRST: Posted = Posted {
     serial: 0,
     target: Target::All,
@@ -29,8 +29,8 @@ fn post(queue: &mut EventQueue) -> Result<u64, Full>
     queue.post(Target::All, EVENT)
 }
 
-/// Tests whether a queue with room for one event refuses the second of two, and accepts one more once the first is
-/// taken. Serials count what was accepted: a refused event has none.
+/// Tests whether a queue with room for one event refuses the second of two events, and accepts another event after the
+/// first one is taken. Serial numbers count only accepted events: a refused event has none.
 fn refuses_the_second(queue: &mut EventQueue) -> bool
     requires none_accepted { queue.old.accepted ≡ 0 }
 {
@@ -42,9 +42,9 @@ fn refuses_the_second(queue: &mut EventQueue) -> bool
 
 const OWN: Proc = Proc::Own(0);
 
-/// Tests timer 1, whose event is refused at moment 1: it stays, followed by timer 0. Once it was restarted and is due,
-/// it comes before timer 0 again. Once it was stopped, it is gone. A new timer was never set, so it has expired.
-/// Returns whether all is so.
+/// Tests timers when the event of timer 1 is refused at moment 1: timer 1 remains due, and timer 0 follows it. Timer 1
+/// is restarted. At the moment when it is due again, it precedes timer 0 again. After it is stopped, it is no longer
+/// due. A new timer was never set, so it counts as expired. Returns `true` if all this is so.
 fn refused_one_stays(timers: &mut Timers) -> bool
     requires two_timers { length timers.old.timers ≡ 2 }
 {
@@ -68,8 +68,8 @@ fn refused_one_stays(timers: &mut Timers) -> bool
         && [behind, at_5, at_6, at_the_end] == [own, own, Some((1, OWN)), own]
 }
 
-/// Tests whether two new callbacks work: each is looked up, the second is put twice, both are looked up
-/// again, the first is removed, and the second is removed twice and looked up.
+/// Tests whether two new callbacks work. Each is looked up; the second is added twice; both are looked up again; the
+/// first is removed; the second is removed twice, and looked up once more.
 fn come_and_go(callbacks: &mut Callbacks) -> bool
     requires two_callbacks { callbacks.old.limit ≡ 2 }
 {
@@ -90,7 +90,7 @@ fn come_and_go(callbacks: &mut Callbacks) -> bool
     answers == [false, false, false, true, false, true, false, false]
 }
 
-/// Tests each part.
+/// Tests each of the three parts.
 fn parts_do(alloc: Global) -> Result<[bool; 3], Fail> {
     let queue = refuses_the_second(&mut EventQueue::new(alloc, 1)?);
     let timers = refused_one_stays(&mut Timers::new(alloc, 2)?);

@@ -1,4 +1,4 @@
-//! Some workers in threads of their own, each with a number.
+//! A few workers, each with a number and in its own thread.
 
 ghost use Rattle.std.specs.Prelude.{◌≡◌, ◌+◌, ◌^◌, ◌%◌, true};
 
@@ -12,20 +12,20 @@ use std::test::Fail;
 use std::thread::Threads;
 use test_helpers::same_text;
 
-/// Adds ten to the number of each worker, but gives up at some numbers, and refuses one start.
+/// Adds ten to the number of each worker. Workers with some numbers give up, and one start is refused.
 struct AddTen<'a, R> {
     rt: &'a R,
-    /// At this number it is out of memory.
+    /// The number of the worker that reports that it is out of memory.
     no_memory: u64,
-    /// At this number its thread fails.
+    /// The number of the worker that reports that its thread failed.
     no_thread: u64,
-    /// At this number it waits until another worker, or a start, has failed, and stops.
+    /// The number of the worker that waits until another worker or a start has failed, and then stops.
     stopped: u64,
-    /// The worker with this number isn't allowed to start.
+    /// The number of the worker that isn't allowed to start.
     shut_out: u64,
-    /// `true` if each worker waits like this.
+    /// `true` if all workers wait in the same way.
     waits: bool,
-    /// The number of workers that were asked for.
+    /// The number of starts that were requested.
     asked: AtomicU64,
 }
 
@@ -98,7 +98,7 @@ impl<R: Wait> Work<u64> for AddTen<'_, R> {
     }
 }
 
-/// Runs these workers, and writes down what they answer, and how many were asked for.
+/// Runs these workers. Writes down their results, and how many starts were requested.
 fn write_joined<R: Threads + Wait + Sync>(
     rt: &R,
     alloc: Global,
@@ -113,8 +113,8 @@ fn write_joined<R: Threads + Wait + Sync>(
     }
 }
 
-/// Of the workers that give up, the first one with a reason of its own has its error reported, not one that stopped
-/// because of another. All were started.
+/// Several workers give up, and all were started. The error of the first worker that has its own reason is reported,
+/// not that of a worker that stopped because another one failed.
 fn write_giving_up<R: Threads + Wait + Sync>(rt: &R, alloc: Global, text: &mut String) {
     for workers in [
         [1, 2, 3],
@@ -129,7 +129,7 @@ fn write_giving_up<R: Threads + Wait + Sync>(rt: &R, alloc: Global, text: &mut S
     }
 }
 
-/// Whichever start is refused, the workers that were started give up before they are joined.
+/// Refuses each start in a run of its own. The workers that were started before give up, and then they are joined.
 fn write_waiting<R: Threads + Wait + Sync>(rt: &R, alloc: Global, text: &mut String) {
     for shut_out in 0..4 {
         let work = add_ten(rt, 9, 9, 9, shut_out, true);
@@ -140,13 +140,13 @@ fn write_waiting<R: Threads + Wait + Sync>(rt: &R, alloc: Global, text: &mut Str
 fn write_workers<R: Threads + Wait + Sync>(rt: &R, alloc: Global, text: &mut String) {
     write_joined(rt, alloc, text, add_ten(rt, 0, 0, 0, 0, false), &[3, 1, 2]);
     write_giving_up(rt, alloc, text);
-    // A worker that isn't allowed to start is reported as one whose thread couldn't be started, and the next one isn't
-    // asked for.
+    // If a worker isn't allowed to start, the error is the same as if its thread couldn't be started. The start of the
+    // next worker isn't requested.
     write_joined(rt, alloc, text, add_ten(rt, 0, 0, 0, 2, false), &[1, 2, 3]);
     // The error of a worker that was started takes precedence over a refused start, unless that worker only stopped.
     write_joined(rt, alloc, text, add_ten(rt, 1, 0, 4, 2, false), &[1, 2, 3]);
     write_joined(rt, alloc, text, add_ten(rt, 1, 0, 4, 2, false), &[4, 2, 3]);
-    // A worker that failed lets the others stop, whichever its error is.
+    // After one worker has failed with either error, the other workers stop.
     write_joined(rt, alloc, text, add_ten(rt, 2, 9, 9, 9, true), &[1, 2, 3]);
     write_joined(rt, alloc, text, add_ten(rt, 9, 2, 9, 9, true), &[1, 2, 3]);
     write_waiting(rt, alloc, text);

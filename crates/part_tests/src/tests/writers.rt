@@ -1,4 +1,4 @@
-//! Writers that fail in the middle of a report, of few lines and of many, on one thread and by workers.
+//! Writers that fail in the middle of a report of few lines or of many, written on one thread or with workers.
 
 ghost use Rattle.std.specs.Prelude.{◌≡◌, ◌≤◌, IfOk, IfSome, length, vec_len};
 ghost use Rattle.mote_net.specs.Meaning.{net_of};
@@ -17,14 +17,14 @@ use std::thread::Threads;
 use test_helpers::PRINT_THEN_YIELD;
 use trace_printer::{PrintError, write_report, write_report_by};
 
-/// The report of `PRINT_THEN_YIELD` after the starts of the system processes.
+/// The text of the report of `PRINT_THEN_YIELD`, without the starts of the system processes.
 const OUTPUT: &str = "mote 0 p\n0 start a\n0 print a 1\nmedium\nleft 0\n";
 
-/// The number of lines of the trace of many lines: more than workers print in one round.
+/// The number of lines in the long trace: more than the workers print in one round.
 const LINES: u64 = 66_000;
 
-/// A writer that takes at most `most` bytes a call. Once it has taken `room` bytes a call fails, and those after it
-/// work, so a call that is tried again succeeds.
+/// A writer that takes at most `most` bytes per call. Once it has taken `room` bytes, one call fails, and later calls
+/// succeed, so a second try of the failed call would succeed.
 struct Roomy {
     bytes: Vec<u8>,
     most: usize,
@@ -58,7 +58,7 @@ impl Write for Roomy {
     }
 }
 
-/// Writes a report on one thread, or by this many workers.
+/// Writes a report on one thread, or with this many workers.
 fn write_by<R: Threads + Wait + AllocGlobal + Sync>(
     rt: &R,
     workers: Option<u16>,
@@ -75,9 +75,9 @@ fn write_by<R: Threads + Wait + AllocGlobal + Sync>(
     }
 }
 
-/// Writes a report, by this many workers if there is a number, to a writer that takes at most `most` bytes a call, and
-/// whose call after `room` bytes fails. Tests whether it gets the first `room` bytes of the wanted text, and whether
-/// the result is `Ok` if these are all, and otherwise an error of the writer.
+/// Writes a report with this many workers, or on one thread if there is no number. The writer takes at most `most`
+/// bytes per call, and fails once after `room` bytes. Tests whether the writer gets the first `room` bytes of the
+/// wanted text. If these are all bytes of the text, the result must be `Ok`, and otherwise an error of the writer.
 fn gets<R: Threads + Wait + AllocGlobal + Sync>(
     rt: &R,
     workers: Option<u16>,
@@ -105,7 +105,7 @@ fn gets<R: Threads + Wait + AllocGlobal + Sync>(
     actual == answer && bytes.len() == room && wanted.starts_with(bytes)
 }
 
-/// Tests the same for each number of bytes by which the room falls short.
+/// Makes this test with writers whose room is too small by each of these numbers of bytes.
 fn gets_each<R: Threads + Wait + AllocGlobal + Sync>(
     rt: &R,
     workers: Option<u16>,
@@ -134,7 +134,7 @@ fn gets_each<R: Threads + Wait + AllocGlobal + Sync>(
     true
 }
 
-/// Tests whether a writer that takes nothing is reported to have failed.
+/// Tests whether an error is reported if a writer takes nothing.
 fn takes_nothing(alloc: Global, net: &Net, report: &Report) -> bool
     requires traces { vec_len report.now.traces ≡ length (net_of net.now).motes }
 {
@@ -146,7 +146,7 @@ fn takes_nothing(alloc: Global, net: &Net, report: &Report) -> bool
     write_report(alloc, net, report, &mut closed) == Err(PrintError::Write)
 }
 
-/// Tests whether a writer that takes one byte a call gets as much of the report of few lines as it has room for.
+/// Tests whether a writer that takes one byte per call gets as much of the short report as it has room for.
 fn gets_byte_by_byte<R: Threads + Wait + AllocGlobal + Sync>(
     rt: &R,
     net: &Net,
@@ -162,13 +162,13 @@ fn gets_byte_by_byte<R: Threads + Wait + AllocGlobal + Sync>(
     true
 }
 
-/// The trace of `PRINT_THEN_YIELD` after the starts of the system processes.
+/// The trace of `PRINT_THEN_YIELD`, without the starts of the system processes.
 const FEW: [(u64, What); 2] = [
     (0, What::Start(Proc::Own(0))),
     (0, What::Print(Proc::Own(0), 1)),
 ];
 
-/// Tests both kinds of writers for the report of few lines.
+/// Makes both tests with the short report.
 fn few_lines<R: Threads + Wait + AllocGlobal + Sync>(rt: &R, net: &Net) -> Result<bool, AllocError>
     requires one_mote { length (net_of net.now).motes ≡ 1 }
 {
@@ -190,7 +190,7 @@ fn report_of_sends(alloc: Global) -> Result<Report, AllocError>
     report_of_trace(alloc, trace)
 }
 
-/// Writes the text of that report.
+/// Writes the expected text of that report.
 fn write_wanted(text: &mut String) {
     let _ = text.push_str("mote 0 p\n");
     for number in 0..LINES {
@@ -200,11 +200,12 @@ fn write_wanted(text: &mut String) {
     let _ = text.push_str("medium\nleft 0\n");
 }
 
-/// By how many bytes the room falls short for the report of many lines: in the last round of workers, or in the first.
+/// Numbers of bytes by which the writer's room is too small for the long report. The writer fails in the last round of
+/// the workers or in the first.
 const LACKS: [usize; 6] = [0, 1, 2, 5_000, 65_536, 200_000];
 
-/// Tests whether a writer that takes 1,000 bytes a call gets as much of this report as it has room for, on one thread
-/// and by two and five workers.
+/// Tests whether a writer that takes 1,000 bytes per call gets as much of the long report as it has room for, on one
+/// thread, with two workers and with five.
 fn gets_many<R: Threads + Wait + AllocGlobal + Sync>(
     rt: &R,
     net: &Net,
@@ -218,7 +219,7 @@ fn gets_many<R: Threads + Wait + AllocGlobal + Sync>(
         && gets_each(rt, Some(5), net, report, wanted, 1_000, &LACKS)
 }
 
-/// Tests that for the report of many lines.
+/// Makes this test with the long report.
 fn many_lines<R: Threads + Wait + AllocGlobal + Sync>(rt: &R, net: &Net) -> Result<bool, AllocError>
     requires one_mote { length (net_of net.now).motes ≡ 1 }
 {
@@ -228,7 +229,7 @@ fn many_lines<R: Threads + Wait + AllocGlobal + Sync>(rt: &R, net: &Net) -> Resu
     Ok(gets_many(rt, net, &report, wanted.as_bytes()))
 }
 
-/// Tests whether a net has one mote, and writers get both reports as they should.
+/// Tests whether a net has one mote, and whether writers get both reports correctly.
 fn few_and_many<R: Threads + Wait + AllocGlobal + Sync>(
     rt: &R,
     net: &Net,

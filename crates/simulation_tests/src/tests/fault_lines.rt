@@ -1,4 +1,4 @@
-//! The output and the status of the program when a stream fails, for the faults of a run, and for help.
+//! The output and the status of the program if a stream fails, for the errors of a run, and for help.
 
 use super::{PRINT_THEN_YIELD, Sink, Source, front_of};
 use simulation::{RunError, SimError, run_command, status_of};
@@ -10,7 +10,7 @@ use std::test::Fail;
 use std::thread::Threads;
 use test_helpers::same_text;
 
-/// The faults of a run.
+/// The errors of a run.
 static FAULTS: [RunError; 6] = [
     RunError::Workers,
     RunError::CutLength,
@@ -20,7 +20,7 @@ static FAULTS: [RunError; 6] = [
     RunError::Stopped,
 ];
 
-/// Writes down the program's status and line for each of them.
+/// Writes down the program's status and error line for each of these errors.
 fn write_faults(alloc: Global, text: &mut String) -> Result<(), AllocError> {
     for fault in FAULTS.as_slice() {
         let mut errors = Sink::new(alloc, usize::MAX, usize::MAX, true);
@@ -30,8 +30,8 @@ fn write_faults(alloc: Global, text: &mut String) -> Result<(), AllocError> {
     Ok(())
 }
 
-/// The scenario; after how many calls the reader, the report's writer and the faults' writer fail; and whether the two
-/// writers then fail or take nothing.
+/// The scenario; the number of calls after which the reader, the writer of the report and the writer of errors fail;
+/// and whether the two writers return an error then, or take nothing.
 #[derive(Clone, Copy)]
 struct Streams<'a> {
     scenario: &'a str,
@@ -41,7 +41,8 @@ struct Streams<'a> {
     fails: bool,
 }
 
-/// Writes down the status of the program, how many bytes of the report are out, and the text on standard error.
+/// Writes down the status of the program, the number of bytes of the report that were written, and the text on
+/// standard error.
 fn write_command<T>(rt: &T, text: &mut String, streams: Streams) -> Result<(), AllocError>
 where
     T: AllocGlobal + Files + Threads + Wait + RandomSource + Sync,
@@ -67,20 +68,20 @@ const WHOLE: Streams<'static> = Streams {
     fails: true,
 };
 
-/// The same, with writers that would take nothing instead of failing.
+/// The same streams, but writers take nothing instead of failing.
 const TAKES_NONE: Streams<'static> = Streams {
     fails: false,
     ..WHOLE
 };
 
-/// The same with an empty scenario.
+/// The same streams with an empty scenario.
 const EMPTY: Streams<'static> = Streams {
     scenario: "",
     ..TAKES_NONE
 };
 
-/// The input fails; the output fails, or takes nothing; and no byte of a fault's line can be written, or only the
-/// first bytes.
+/// First no stream fails. Then the input fails; the output fails, or takes nothing; and the line of an error can't be
+/// written, or only its first bytes.
 static FAILING: [Streams<'static>; 6] = [
     WHOLE,
     Streams { reads: 3, ..WHOLE },
@@ -110,7 +111,7 @@ fn faults_and_failing_streams(rt: HostRuntime) -> Result<(), Fail> {
     )
 }
 
-/// The help text, to the byte.
+/// The exact help text.
 const HELP: &str = "\
     Simulates a network of Contiki motes, and writes the traces of the motes and the log of the radio medium\n\n\
     Usage: motesim [OPTIONS] [FILE]\n\n\
@@ -122,8 +123,8 @@ const HELP: &str = "\
     and waits for marks of the others [default: joins] [possible values: joins, marks]\n  \
     -h, --help         Print help\n";
 
-/// Writes down the status of the program with this argument, all of its output, and its line on standard error. After
-/// `writes` calls one call of the output fails.
+/// Writes down the status of the program with this argument, all of its output, and its text on standard error. After
+/// `writes` calls, one call of the output takes nothing.
 fn write_help<T>(rt: &T, text: &mut String, word: &str, writes: usize) -> Result<(), AllocError>
 where
     T: AllocGlobal + Files + Threads + Wait + RandomSource + Sync,
@@ -139,7 +140,7 @@ where
     write!(text, "{status} {}|{}|", output.text, errors.text)
 }
 
-/// Help is written in full. An output that takes nothing doesn't change the status.
+/// The help text is written completely. If the output takes nothing, the status is still 0.
 #[test]
 fn help_in_full(rt: HostRuntime) -> Result<(), Fail> {
     let mut text = String::new(rt.alloc());

@@ -1,11 +1,11 @@
-//! Texts that come in pieces, and readers that fail.
+//! Texts that arrive in pieces, and readers that fail.
 
 use super::Source;
 use simulation::{InputError, read_text};
 use std::alloc::Global;
 use std::test::Fail;
 
-/// Tests whether these bytes are read unchanged, at most `most` at a time, from a reader that fails after `calls`
+/// Tests whether these bytes are read unchanged, at most `most` bytes per call, from a reader that fails after `calls`
 /// calls.
 fn reads(alloc: Global, bytes: &[u8], most: usize, calls: usize) -> Result<bool, InputError> {
     let mut reader = Source {
@@ -17,8 +17,8 @@ fn reads(alloc: Global, bytes: &[u8], most: usize, calls: usize) -> Result<bool,
     Ok(text.as_bytes() == bytes)
 }
 
-/// Tests whether a failing reader is reported. Its calls return one byte each, and one fails, after each number of
-/// calls up to 19. The next call would work.
+/// Tests whether the error of a failing reader is reported. Each call of the reader returns one byte, and one call
+/// fails: after each number of calls from 0 to 19. The next call would succeed.
 fn tells_failures(alloc: Global) -> bool {
     for calls in 0..20usize {
         if reads(alloc, &[b' '; 20], 1, calls) != Err(InputError::Read) {
@@ -28,13 +28,15 @@ fn tells_failures(alloc: Global) -> bool {
     true
 }
 
-/// One, two, three and 16 whole chunks, and one byte to either side; and the two greatest lengths of a text.
+/// One, two, three and 16 whole chunks, each also with one byte less and one byte more; and the two greatest lengths
+/// of a text.
 static LENGTHS: [usize; 14] = [
     4_095, 4_096, 4_097, 8_191, 8_192, 8_193, 12_287, 12_288, 12_289, 65_535, 65_536, 65_537,
     1_048_575, 1_048_576,
 ];
 
-/// Tests whether the first bytes are read, as many at a time as are asked for, or fewer.
+/// Tests whether a text of each of these lengths is read. The reader returns as many bytes as are asked for, or at
+/// most 1,000 or 4,096 per call.
 fn reads_chunks(alloc: Global, bytes: &[u8]) -> bool {
     for length in LENGTHS.as_slice() {
         let Some(front) = bytes.get(..*length) else {
@@ -49,7 +51,7 @@ fn reads_chunks(alloc: Global, bytes: &[u8]) -> bool {
     true
 }
 
-/// Repeats some digits and letters, of which any two that are 4,096 apart in the text differ.
+/// Repeats the digits and letters: any two of them that are 4,096 bytes apart in the text are different.
 #[test]
 fn texts_in_pieces(rt: HostRuntime) -> Result<(), Fail> {
     let mut bytes = Vec::new(rt.alloc());

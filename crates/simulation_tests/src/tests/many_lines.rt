@@ -1,4 +1,4 @@
-//! A run to the last moment that a scenario can have, with lines enough for workers to print them.
+//! A run to the last moment that a scenario can have, with so many lines that workers print them.
 
 use super::{OnRecord, PRINTING, SYNCS, Trial, Trials, Way, each_tells, tells};
 use simulation::CutKind;
@@ -9,7 +9,7 @@ use std::sync::Wait;
 use std::test::Fail;
 use std::thread::Threads;
 
-/// One mote, whose timer expires each 125 moments.
+/// One mote with a timer that expires every 125 moments.
 const EACH_125: &str = "\
     version = 1\n\
     end = 1000000\n\
@@ -25,10 +25,10 @@ const EACH_125: &str = "\
     y = 0\n\
     program = \"p\"\n";
 
-/// The number of times that this timer expires.
+/// The number of times that the timer expires.
 const TIMES: u64 = 8_000;
 
-/// Writes the report of that mote.
+/// Writes the expected report of this mote.
 fn write_report_of_125(text: &mut String) -> Result<(), AllocError> {
     text.push_str("mote 0 p\n0 start etimer\n0 start ctimer\n0 start radio\n0 start a\n")?;
     for serial in 0..TIMES {
@@ -41,7 +41,7 @@ fn write_report_of_125(text: &mut String) -> Result<(), AllocError> {
     text.push_str("medium\nleft 0\n")
 }
 
-/// The run, with streams that give and take all bytes in one call.
+/// A trial of this run. Its streams read and write all bytes in one call.
 fn running(report: &str) -> Trial<'_> {
     Trial {
         on_record: OnRecord {
@@ -54,7 +54,7 @@ fn running(report: &str) -> Trial<'_> {
     }
 }
 
-/// Fails unless the whole report is written on one thread.
+/// Fails unless one thread writes the whole report.
 fn writes_alone<T>(rt: &T, report: &str) -> Result<(), Fail>
 where
     T: AllocGlobal + Files + Threads + Wait + RandomSource + Sync,
@@ -64,8 +64,8 @@ where
     tells(rt, running(report), Way::Serial, want.as_str())
 }
 
-/// Fails unless it is written by so many workers, each of which is started once: no packet is sent, so there is one
-/// window.
+/// Fails unless this many workers write the whole report. Each worker is started once: no packet is sent, so there is
+/// only one window.
 fn writes_by<T>(rt: &T, report: &str, workers: u16) -> Result<(), Fail>
 where
     T: AllocGlobal + Files + Threads + Wait + RandomSource + Sync,

@@ -1,4 +1,4 @@
-//! Failing readers and writers.
+//! Readers and writers that fail.
 
 use super::{PRINTING, Trial, Way, tells};
 use std::random::RandomSource;
@@ -7,14 +7,15 @@ use std::sync::Wait;
 use std::test::Fail;
 use std::thread::Threads;
 
-/// Twelve calls of the reader give the bytes, and one more their end. The writer takes all 89 bytes of the report.
+/// Twelve calls of the reader return the bytes, and one more call reports the end. The writer takes all 89 bytes of
+/// the report.
 const ENOUGH: Trial<'static> = Trial {
     reads: 13,
     writes: 89,
     ..PRINTING
 };
 
-/// Fails unless a writer that fails after so many calls, or takes nothing, is reported.
+/// Fails unless the error is reported if the writer fails, or takes nothing, after so many calls.
 fn tells_the_writer<T>(rt: &T, writes: usize) -> Result<(), Fail>
 where
     T: AllocGlobal + Files + Threads + Wait + RandomSource + Sync,
@@ -32,7 +33,8 @@ where
     Ok(())
 }
 
-/// The last call that may fail is that at the end of the scenario, or that which takes the report's last byte.
+/// The last call of the reader that may fail is the one that reports the end. The last call of the writer that may
+/// fail is the one for the report's last byte.
 #[test]
 fn failing_reader_and_writer(rt: HostRuntime) -> Result<(), Fail> {
     for reads in 0..13usize {

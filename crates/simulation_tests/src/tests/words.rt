@@ -1,4 +1,4 @@
-//! The arguments of the command line, and what they ask for.
+//! The arguments of the command line, and the options that they mean.
 
 use super::{SENDING, Trial, Way, write_trial};
 use simulation::asked_by;
@@ -10,7 +10,8 @@ use std::test::Fail;
 use std::thread::Threads;
 use test_helpers::same_text;
 
-/// Writes down what these arguments ask for: file, number of workers, cut, and kind of synchronisation.
+/// Writes down the options that these arguments mean: the file, the number of workers, the partition, and the kind of
+/// synchronisation.
 fn write_asked(alloc: Global, text: &mut String, words: &[&str]) -> Result<(), AllocError> {
     let Some(asked) = asked_by(alloc, words).ok() else {
         return text.push_str("a fault|");
@@ -23,7 +24,7 @@ fn write_asked(alloc: Global, text: &mut String, words: &[&str]) -> Result<(), A
     )
 }
 
-/// Command lines.
+/// Command lines whose options are written down.
 static ASKED: [&[&str]; 10] = [
     &["motesim"],
     &["motesim", "--workers", "2"],
@@ -37,14 +38,14 @@ static ASKED: [&[&str]; 10] = [
     &["motesim", "--sync", "x"],
 ];
 
-/// Streams that give and take all bytes in one call.
+/// A trial whose streams read and write all bytes in one call.
 const WIDE: Trial<'static> = Trial {
     gives: usize::MAX,
     takes: usize::MAX,
     ..SENDING
 };
 
-/// Writes down the number of workers that these arguments ask for, and the result of a run by them.
+/// Writes down the number of workers that these arguments ask for, and the result of a run with these arguments.
 fn write_run<T>(rt: &T, text: &mut String, words: &[&str]) -> Result<(), AllocError>
 where
     T: AllocGlobal + Files + Threads + Wait + RandomSource + Sync,
@@ -56,7 +57,7 @@ where
     write_trial(rt, text, WIDE, Way::Asked(&asked))
 }
 
-/// Command lines without workers, then with joins, then with marks.
+/// Command lines that are run: first without workers, then with fork-join, then with null messages.
 static RUNS: [&[&str]; 9] = [
     &["motesim"],
     &["motesim", "--cut", "stripe"],
@@ -76,8 +77,9 @@ static RUNS: [&[&str]; 9] = [
     ],
 ];
 
-/// With joins each worker is started in each of two windows, with marks once. Of sixteen workers, blocks give the
-/// motes to 0, 5 and 10, and stripes to 0, 1 and 2; of three or four workers either cut gives them to 0, 1 and 2.
+/// With fork-join each worker is started in each of two windows, and with null messages once. Among 16 workers, the
+/// motes in blocks belong to workers 0, 5 and 10, and in stripes to workers 0, 1 and 2. Among three or four workers,
+/// they belong to workers 0, 1 and 2 in both cases.
 #[test]
 fn what_the_words_ask_for(rt: HostRuntime) -> Result<(), Fail> {
     let mut text = String::new(rt.alloc());

@@ -1,10 +1,11 @@
-//! Simulations by workers: who takes which turn, how many threads there are, and what happens when one isn't started.
+//! Simulations with workers: the worker that takes each turn, the number of threads, and the result if one thread
+//! isn't started.
 
 use super::{CUTS, OnRecord, PRINTING, SENDING, SYNCS, Trial, Trials, all_tell};
 use simulation::{CutKind, SyncKind};
 use std::test::Fail;
 
-/// Four motes that don't hear one another, with one turn each.
+/// Four motes that don't hear one another. Each has one turn.
 const FOUR_MOTES: OnRecord = OnRecord {
     scenario: "\
         version = 1\n\
@@ -38,9 +39,9 @@ const FOUR_MOTES: OnRecord = OnRecord {
         0 start etimer\n0 start ctimer\n0 start radio\n0 start a\n0 print a 1\nmedium\nleft 0\n",
 };
 
-/// Trials by workers, and the text that is written about each.
+/// Trials with workers, and the text that is written about each trial.
 static TRIALS: [Trials<'static>; 21] = [
-    // Each turn is taken by the worker of its mote, in one window with a start for each of two workers.
+    // The worker of a mote takes its turns. There is one window, and two starts, one for each of two workers.
     Trials {
         trial: Trial {
             on_record: FOUR_MOTES,
@@ -63,7 +64,7 @@ static TRIALS: [Trials<'static>; 21] = [
         syncs: SYNCS,
         want: "Ok(()) Some(314) 2 4 0|",
     },
-    // Without workers no start is asked for, and the gate sees no turn.
+    // Without workers no start is requested, and the gate is called in no turn.
     Trials {
         trial: SENDING,
         workers: &[None],
@@ -71,8 +72,8 @@ static TRIALS: [Trials<'static>; 21] = [
         syncs: SYNCS,
         want: "Ok(()) Some(405) 0 0 0|",
     },
-    // With joins each worker is started in each window, with marks once. The first runs have one mote with one turn,
-    // so they have one window; the later ones have two windows.
+    // With fork-join each worker is started in each window, and with null messages once. The first runs have one mote
+    // with one turn, so they have one window. The later runs have two windows.
     Trials {
         trial: PRINTING,
         workers: &[Some(1)],
@@ -148,8 +149,8 @@ static TRIALS: [Trials<'static>; 21] = [
         syncs: &[SyncKind::Marks],
         want: "Ok(()) Some(405) 3 4 0|",
     },
-    // One worker isn't allowed to start, and no start is asked for after that. With marks the workers that were
-    // started wait for one that wasn't, and still end.
+    // One worker isn't allowed to start, and no later start is requested. With null messages the workers that were
+    // started wait for the worker that wasn't, but they end.
     Trials {
         trial: Trial {
             shut: Some(0),
@@ -190,7 +191,7 @@ static TRIALS: [Trials<'static>; 21] = [
         syncs: SYNCS,
         want: "Err(Run(Thread)) Some(0) 3|",
     },
-    // A wrong number of workers is refused after the faults of reading the scenario.
+    // A number of workers that isn't allowed is refused. Errors in the scenario are reported first.
     Trials {
         trial: PRINTING,
         workers: &[Some(0), Some(17), Some(65535)],
@@ -218,7 +219,8 @@ static TRIALS: [Trials<'static>; 21] = [
         syncs: SYNCS,
         want: "Err(Scenario(Toml)) Some(0) 0|",
     },
-    // A failing reader is reported before anything is started, and a failing writer once the run is done.
+    // The error of a failing reader is reported before any worker is started, and that of a failing writer after the
+    // run.
     Trials {
         trial: Trial {
             reads: 3,
@@ -241,7 +243,7 @@ static TRIALS: [Trials<'static>; 21] = [
     },
 ];
 
-/// Each turn is taken by the worker of its mote, each thread is started, and each failure is reported.
+/// The worker of a mote takes each of its turns, each thread is started, and each error is reported.
 #[test]
 fn trials_by_workers(rt: HostRuntime) -> Result<(), Fail> {
     all_tell(&rt, TRIALS.as_slice())

@@ -13,7 +13,7 @@ use std::thread::Threads;
 use test_helpers::same_text;
 use window_workers::{Cut, NoGate, SyncKind};
 
-/// A runtime whose source of random bytes fails after `most` calls. An executor calls it once.
+/// A runtime whose source of random bytes fails after `most` calls. Each executor calls the source once.
 struct FewBytes<R> {
     rt: R,
     most: u64,
@@ -51,7 +51,8 @@ impl<R: RandomSource> RandomSource for FewBytes<R> {
     }
 }
 
-/// Writes down the results of runs by two workers in three windows, with executors that fail after 0 to 6 calls.
+/// Writes down the results of runs with two workers in three windows. The executors fail after 0, 1, 3, 5 or 6 calls
+/// of the source.
 fn write_failing<R>(
     rt: &R,
     scene: Scene<'_>,
@@ -73,7 +74,7 @@ where
     Ok(())
 }
 
-/// The same with both kinds of synchronisation.
+/// Makes these runs with both kinds of synchronisation.
 fn write_both<R>(rt: &R, net: &Net, one: &str, text: &mut String) -> Result<(), AllocError>
 where
     R: Threads + Wait + Sync + RandomSource + AllocGlobal,
@@ -88,7 +89,8 @@ where
     Ok(())
 }
 
-/// In whatever window an executor fails, the error is `Thread`, and with marks the other worker doesn't wait for ever.
+/// If an executor fails, the error is `Thread`, in whichever window it fails. With null messages the other worker
+/// doesn't wait for ever.
 #[test]
 fn executors_that_fail(rt: HostRuntime) -> Result<(), Fail> {
     let net = read_scenario(rt.alloc(), BUSY_PAIR)?;

@@ -1,5 +1,5 @@
-//! Tests that no window is longer than was asked for, with workers of either kind: no worker begins its next window
-//! before all others have ended the current one.
+//! Tests that no window is longer than the greatest length that was asked for, with both kinds of synchronisation: no
+//! worker begins its next window before all others have ended the current one.
 
 use super::{Scene, write_run};
 use std::alloc::{AllocError, AllocGlobal};
@@ -10,12 +10,12 @@ use std::sync::atomic::Ordering::SeqCst;
 use std::thread::Threads;
 use window_workers::{Cut, Gate};
 
-/// Worker 1 waits inside its turn at 0, for a while, until worker 0 comes to its turn at 1.
+/// A gate at which worker 1 waits inside its turn at 0, for a while, until worker 0 begins its turn at 1.
 #[derive(Drop)]
 struct Ahead {
-    /// 1 once worker 0 came to its turn at 1.
+    /// 1 once worker 0 has begun its turn at 1.
     came: AtomicU64,
-    /// 1 once worker 1 saw that inside its turn at 0.
+    /// 1 once worker 1, inside its turn at 0, has seen that worker 0 began its turn at 1.
     seen: AtomicU64,
 }
 
@@ -35,7 +35,7 @@ impl Gate for Ahead {
     }
 }
 
-/// Writes down the result of a run, and whether worker 0 got ahead.
+/// Writes down the result of a run, and whether worker 0 got ahead of worker 1.
 pub(super) fn write_ahead<R>(
     rt: &R,
     scene: Scene<'_>,

@@ -1,4 +1,4 @@
-//! The contents of the inboxes at the end.
+//! The contents of the inboxes at the end of a run.
 ghost use Rattle.std.specs.List.{AllByRecursion as Each};
 ghost use Rattle.copy_exchange.specs.Inboxes.{IsSettled};
 
@@ -11,7 +11,7 @@ use std::sync::Wait;
 use std::thread::Threads;
 use window_workers::{Cut, Gate, run_inboxes};
 
-/// Writes down how many copies are in an inbox, and which.
+/// Writes down the number of copies in an inbox, and the copies.
 fn write_closed<R: Wait>(
     rt: &R,
     inbox: Inbox,
@@ -26,7 +26,7 @@ fn write_closed<R: Wait>(
     Ok(())
 }
 
-/// Writes down how many copies are in each inbox, and which.
+/// Writes down the number of copies in each inbox, and the copies.
 fn write_all_closed<R: Wait>(
     rt: &R,
     pairs: Vec<(Inbox, Taker)>,
@@ -41,7 +41,7 @@ fn write_all_closed<R: Wait>(
     Ok(())
 }
 
-/// Writes down the result of a run over new inboxes, one for each worker, and the contents of each inbox at the end.
+/// Writes down the result of a run with new inboxes, one for each worker, and the contents of each inbox at the end.
 pub(super) fn write_inboxes<R, G>(
     rt: &R,
     scene: Scene<'_>,

@@ -1,4 +1,4 @@
-//! The windows of two motes of one worker.
+//! The windows of two motes that have the same worker.
 
 ghost use Rattle.std.specs.Prelude.{◌≡◌, ◌≤◌, ◌<◌, ◌^◌, ℕ, true, length, IfOk};
 ghost use Rattle.mote_net.specs.Meaning.{net_of};
@@ -20,7 +20,7 @@ use std::test::Fail;
 use test_helpers::{TWO_SENDERS, same_text, write_lines, write_sends};
 use worker_window::{Gate, LentMote, NoGate, Slot, run_slots};
 
-/// A new mote of a net, with the copies that come to it.
+/// A new mote of a net, with the copies that are on their way to it.
 fn lent_mote(
     alloc: Global,
     net: &Net,
@@ -44,7 +44,7 @@ fn lent_mote(
     })
 }
 
-/// The windows of motes 0 and 1 of a net, on one worker, and the copies that come to mote 1.
+/// The windows of motes 0 and 1 of a net on the same worker. These copies are on their way to mote 1.
 fn windows_of_two<'a, G: Gate>(
     alloc: Global,
     net: &'a Net,
@@ -65,7 +65,7 @@ fn windows_of_two<'a, G: Gate>(
     Ok(slots)
 }
 
-/// The copy that comes to mote 1.
+/// The copy that is on its way to mote 1.
 fn one_copy(alloc: Global) -> Result<Vec<RadioCopy>, AllocError>
     ensures rising { IfOk result (λ copies. is_rising copies.items ≡ true) }
 {
@@ -79,7 +79,7 @@ fn one_copy(alloc: Global) -> Result<Vec<RadioCopy>, AllocError>
     Ok(vec![in alloc; copy]?)
 }
 
-/// The two windows once they are done, if a copy comes to mote 1.
+/// The two windows once they are done. One copy is on its way to mote 1.
 fn done_with_a_copy<'a, R: Wait + RandomSource + AllocGlobal>(
     rt: &R,
     net: &'a Net,
@@ -104,14 +104,14 @@ fn write_outs(text: &mut String, slots: &[Slot<'_, NoGate>]) -> Result<(), Alloc
     Ok(())
 }
 
-/// Fails unless the text written about them is `want`.
+/// Fails unless the text that is written about these windows is `want`.
 fn outs_tell(alloc: Global, slots: &[Slot<'_, NoGate>], want: &str) -> Result<(), Fail> {
     let mut text = String::new(alloc);
     write_outs(&mut text, slots)?;
     same_text(text.as_str(), want)
 }
 
-/// Fails unless the first two motes of a net give `want`.
+/// Fails unless the windows of the first two motes of a net have the results `want`.
 fn give<R: Wait + RandomSource + AllocGlobal>(rt: &R, net: &Net, want: &str) -> Result<(), Fail> {
     if net.motes() < 2 {
         return Err(Fail::new(format_args!("not two motes")));
@@ -120,7 +120,7 @@ fn give<R: Wait + RandomSource + AllocGlobal>(rt: &R, net: &Net, want: &str) -> 
     outs_tell(rt.alloc(), done.as_slice(), want)
 }
 
-/// Writes down the motes in the order of their turns, each as a digit.
+/// A gate that records the motes in the order of their turns, each as a digit.
 #[derive(Drop)]
 struct Diary {
     motes: AtomicU64,
@@ -134,7 +134,7 @@ impl Gate for Diary {
     }
 }
 
-/// The motes in the order of their turns at 0, 1 and 2, and how many windows are done.
+/// The motes in the order of their turns at 0, 1 and 2, and the number of windows that are done.
 fn order_of_turns<R: Wait + RandomSource + AllocGlobal>(
     rt: &R,
     net: &Net,
@@ -149,7 +149,7 @@ fn order_of_turns<R: Wait + RandomSource + AllocGlobal>(
     Ok((diary.motes.load(SeqCst), done))
 }
 
-/// Fails unless the two motes of a net take their turns alternately, and both give a result.
+/// Fails unless the two motes of a net take their turns alternately, and both windows are done.
 fn alternate<R: Wait + RandomSource + AllocGlobal>(rt: &R, net: &Net) -> Result<(), Fail> {
     if net.motes() == 2 && order_of_turns(rt, net)? == (121212, 2) {
         return Ok(());
@@ -157,7 +157,8 @@ fn alternate<R: Wait + RandomSource + AllocGlobal>(rt: &R, net: &Net) -> Result<
     Err(Fail::new(format_args!("otherwise")))
 }
 
-/// The results of two motes of one worker if a copy comes to one of them, and that they take their turns alternately.
+/// The results of two motes of one worker if a copy is on its way to one of them; and two motes of one worker take
+/// their turns alternately.
 #[test]
 fn a_share_of_two_motes(rt: HostRuntime) -> Result<(), Fail> {
     let net = read_scenario(rt.alloc(), TWO_SENDERS)?;

@@ -1,4 +1,4 @@
-//! Runs of 200 motes, of which each worker takes the turns of its own.
+//! Runs of 200 motes. Each worker takes the turns of its own motes.
 
 use super::{Scene, text_of_one_thread, write_run};
 use net_scenario::{Net, read_scenario};
@@ -12,7 +12,8 @@ use std::thread::Threads;
 use test_helpers::same_text;
 use window_workers::{Cut, Gate, SyncKind};
 
-/// A net whose motes don't hear one another, each with a turn at each of the moments 0 to 9.
+/// The beginning of a scenario, before its motes. They don't hear one another, and each of them has a turn at each of
+/// the moments 0 to 9.
 const HEAD: &str = "\
     version = 1\n\
     end = 9\n\
@@ -33,14 +34,14 @@ fn scenario(alloc: Global) -> Result<String, AllocError> {
     Ok(text)
 }
 
-/// Counts the starts and the turns of each of four workers, 16 bits for each.
+/// A gate that counts the starts and the turns of each of four workers. Each count has 16 bits.
 #[derive(Drop)]
 struct Tally {
     starts: AtomicU64,
     turns: AtomicU64,
 }
 
-/// One, at the place of a worker.
+/// The number 1 in the 16 bits of a worker's count.
 fn one_of(worker: u16) -> u64 {
     match worker {
         0 => 1,
@@ -69,7 +70,8 @@ fn write_counts(text: &mut String, counts: u64) -> Result<(), AllocError> {
     text.push_str("|")
 }
 
-/// Writes down the result of a run by four workers, and how often each was started and took a turn.
+/// Writes down the result of a run with four workers, and how often each worker was started and how many turns it
+/// took.
 fn write_tally<R>(rt: &R, scene: Scene<'_>, cut: &Cut, text: &mut String) -> Result<(), AllocError>
 where
     R: Threads + Wait + Sync + RandomSource + AllocGlobal,
@@ -83,7 +85,7 @@ where
     write_counts(text, gate.turns.load(SeqCst))
 }
 
-/// The same with both kinds of synchronisation, by blocks and windows of five moments.
+/// Makes this run with both kinds of synchronisation, with the motes in blocks and windows of five moments.
 fn write_tallies<R>(rt: &R, net: &Net, one: &str, text: &mut String) -> Result<(), AllocError>
 where
     R: Threads + Wait + Sync + RandomSource + AllocGlobal,
@@ -100,8 +102,8 @@ where
     Ok(())
 }
 
-/// Each of four workers is started, in each of two windows or once, and takes the ten turns of each of its 50 motes,
-/// each once.
+/// Each of four workers is started, with fork-join in each of two windows, and with null messages once. Each worker
+/// takes the ten turns of each of its 50 motes, and no turn twice.
 #[test]
 fn starts_and_turns_of_many_motes(rt: HostRuntime) -> Result<(), Fail> {
     let scenario = scenario(rt.alloc())?;

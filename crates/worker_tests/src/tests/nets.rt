@@ -1,4 +1,4 @@
-//! The values of a net, and a text so long that `simulate` refuses it before a scenario is read.
+//! The values of a net, and a text so long that `simulate` refuses it before it reads a scenario.
 
 ghost use Rattle.std.specs.Prelude.{◌<◌, length};
 ghost use Rattle.mote_net.specs.Meaning.{net_of};
@@ -38,7 +38,7 @@ const THREE_MOTES: &str = "\
     to = 1\n\
     every = 2\n";
 
-/// Writes down the program of each mote, how many processes it has, and how long the mote's queue is.
+/// Writes down, for each mote, its program, the number of its processes, and the length of its queue.
 fn write_motes(text: &mut String, net: &Net) -> Result<(), AllocError> {
     for mote in 0..net.motes() {
         let name = net.program_name(mote);
@@ -48,7 +48,7 @@ fn write_motes(text: &mut String, net: &Net) -> Result<(), AllocError> {
     Ok(())
 }
 
-/// Writes down who hears a mote, and how long its packets take.
+/// Writes down the motes that hear a mote, and how long its packets are on their way to them.
 fn write_hearers(text: &mut String, net: &Net, sender: u16) -> Result<(), AllocError>
     requires mote_exists { sender < length (net_of net.now).motes }
 {
@@ -82,7 +82,8 @@ fn write_net(text: &mut String, net: &Net) -> Result<(), AllocError> {
     Ok(())
 }
 
-/// Writes down all values of a scenario's net, or, of a refused text, its number of bytes and its fault's number.
+/// Writes down all values of a scenario's net. If the text is refused, writes down its number of bytes and the number
+/// of the error.
 fn write_scenario(alloc: Global, scenario: &str, text: &mut String) -> Result<(), AllocError> {
     match read_scenario(alloc, scenario) {
         Ok(net) => write_net(text, &net),
@@ -90,7 +91,7 @@ fn write_scenario(alloc: Global, scenario: &str, text: &mut String) -> Result<()
     }
 }
 
-/// Fails unless the text written about a scenario is `want`.
+/// Fails unless the text that is written about a scenario is `want`.
 fn tells(alloc: Global, scenario: &str, want: &str) -> Result<(), Fail> {
     let mut text = String::new(alloc);
     write_scenario(alloc, scenario, &mut text)?;
@@ -106,7 +107,7 @@ fn long_comment(alloc: Global) -> Result<String, AllocError> {
     Ok(text)
 }
 
-/// Two nets, and a text that is one byte too long: it is refused for its length, before any other fault is found.
+/// Two nets, and a text that is one byte too long. It is refused for its length, before any other error is found.
 #[test]
 fn values_of_nets(rt: HostRuntime) -> Result<(), Fail> {
     tells(rt.alloc(), PRINT_THEN_YIELD, "1 5 false 6|p 1 32|")?;

@@ -1,5 +1,5 @@
-//! Tests that turns of workers overlap in time: the workers wait for one another at gates. The gate is called inside
-//! a turn, so with a lock held around each turn none of them would meet.
+//! Tests that turns of workers overlap in time: the workers wait for one another at gates. The gate is called inside a
+//! turn, so the workers could not meet if a lock were held during each turn.
 
 use super::inboxes::write_inboxes;
 use super::{BUSY_PAIR, BUSY_TRIO, Scene, Trials, Watch, all_tell, write_run};
@@ -12,15 +12,15 @@ use std::test::Fail;
 use std::thread::Threads;
 use window_workers::{Cut, Gate};
 
-/// Each worker waits inside its turn of a moment, for a while, until all came to theirs. The counts of the moments 0,
-/// 1 and 2 are bytes of one number.
+/// A gate at which each worker waits inside its turn of a moment, for a while, until all workers have begun their
+/// turns of that moment. The counts of the moments 0, 1 and 2 are bytes of one number.
 #[derive(Drop)]
 struct Rendezvous {
-    /// The number of workers, with a mote each.
+    /// The number of workers. Each of them has one mote.
     all: u64,
-    /// The number of workers that came to their turn of a moment.
+    /// For each moment, the number of workers that have begun their turn.
     came: AtomicU64,
-    /// The number of them that saw that all came.
+    /// For each moment, the number of workers that saw that all had begun their turns.
     met: AtomicU64,
 }
 
@@ -51,8 +51,8 @@ impl Gate for Rendezvous {
     }
 }
 
-/// Writes down the result of a run, perhaps over inboxes made for it, and the number of workers that saw all others
-/// inside their turns of each moment.
+/// Writes down the result of a run, and for each moment the number of workers that saw all others inside their turns.
+/// If `over_inboxes` is `true`, the run has inboxes that are made for it.
 pub(super) fn write_meetings<R>(
     rt: &R,
     scene: Scene<'_>,
@@ -80,19 +80,19 @@ where
     Ok(write!(text, "{first} {second} {third} ")?)
 }
 
-/// A run in which workers meet.
+/// A run in which the workers meet.
 const MEETINGS: Watch = Watch::Meetings {
     over_inboxes: false,
 };
 
-/// The same over inboxes that the caller makes.
+/// The same run with inboxes that the caller makes.
 const MEETINGS_OVER_INBOXES: Watch = Watch::Meetings { over_inboxes: true };
 
 const TWO: &str = "Same(0)|2 2 2 Same(0)|0 []|0 []|2 2 2 ";
 
 const THREE: &str = "Same(0)|3 3 3 Same(0)|0 []|0 []|0 []|3 3 3 ";
 
-/// Two workers with a mote each, and three.
+/// Runs of two workers and of three. Each worker has one mote.
 static MEETING: [Trials<'static>; 2] = [
     Trials {
         scenario: BUSY_PAIR,
@@ -114,7 +114,7 @@ static MEETING: [Trials<'static>; 2] = [
     },
 ];
 
-/// Two workers meet in each of three windows, and so do three.
+/// In each of three windows two workers meet, and so do three workers.
 #[test]
 fn turns_of_workers_overlap(rt: HostRuntime) -> Result<(), Fail> {
     all_tell(&rt, MEETING.as_slice())

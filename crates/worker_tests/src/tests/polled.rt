@@ -1,4 +1,4 @@
-//! Windows of motes polled by hand.
+//! Windows of motes. The tests poll them by hand.
 
 ghost use Rattle.std.specs.Prelude.{◌≡◌, true, IfOk};
 ghost use Rattle.worker_window.specs.MoteWindow.{is_rising};
@@ -16,23 +16,23 @@ use std::test::Fail;
 use test_helpers::{same_text, write_lines};
 use worker_window::{MoteWindow, NoGate};
 
-/// A process that prints, and yields for ever.
+/// A process that prints, and then yields for ever.
 const PRINT_THEN_YIELD: &str =
     "process a; autostart a; code a { body { print 1; yield; print 2; } }";
 
-/// Three timers that are due at 4.
+/// A process with three timers, all of which expire at 4.
 const THREE_TIMERS: &str = "\
     process a; autostart a; code a { etimer s; etimer t; etimer u; body { set s 2; set t 4; set u 4; reset \
     s; while 1 { yield; if is(timer) { print data; } } } }";
 
-/// The results of three polls of its window.
+/// The results of three polls of the window of this process's mote.
 const THREE_TIMERS_RESULTS: &str = "\
     pending|pending|0 Start(Etimer)|0 Start(Ctimer)|0 Start(Radio)|0 Start(Own(0))|\
     4 Post(0, One(Own(0)), 136, 2)|4 Post(1, One(Own(0)), 136, 1)|4 Post(2, One(Own(0)), 136, 0)|\
     4 Take(0, Own(0))|4 Print(Own(0), 2)|4 Take(1, Own(0))|4 Print(Own(0), 1)|4 Take(2, Own(0))|\
     4 Print(Own(0), 0)|";
 
-/// Polls a window once, and writes down its answer.
+/// Polls a window once, and writes down the result.
 fn write_poll(
     text: &mut String,
     task: &MockTask,
@@ -45,7 +45,7 @@ fn write_poll(
     }
 }
 
-/// Polls a mote's window up to 6 three times, and writes down its answers.
+/// Polls a mote's window up to 6 three times, and writes down the results.
 fn write_three_polls(
     text: &mut String,
     alloc: Global,
@@ -63,7 +63,7 @@ fn write_three_polls(
     Ok(())
 }
 
-/// A copy that comes at 3.
+/// A copy that arrives at 3.
 fn one_copy(alloc: Global) -> Result<Vec<RadioCopy>, AllocError>
     ensures rising { IfOk result (λ copies. is_rising copies.items ≡ true) }
 {
@@ -77,8 +77,8 @@ fn one_copy(alloc: Global) -> Result<Vec<RadioCopy>, AllocError>
     Ok(vec![in alloc; copy]?)
 }
 
-/// Writes down the results of three polls of a window: that of a new mote to which no copy comes, or that of a mote
-/// that had a turn at 5 and to which a copy comes too late.
+/// Writes down the results of three polls of a window. Either the mote is new, and no copy is on its way to it; or the
+/// mote had a turn at 5, and a copy arrives too late.
 fn write_mote(
     text: &mut String,
     alloc: Global,
@@ -97,7 +97,7 @@ fn write_mote(
     Ok(())
 }
 
-/// Fails unless the text written about a mote of this program is `want`.
+/// Fails unless the text that is written about a mote of this program is `want`.
 fn tells<R>(rt: &R, program: &str, is_late: bool, want: &str) -> Result<(), Fail>
 where
     R: RandomSource + AllocGlobal,
@@ -109,16 +109,17 @@ where
     same_text(text.as_str(), want)
 }
 
-/// A process that is polled in each kernel run, and prints after 192 of its calls.
+/// A process that is polled in each run of the kernel. It prints in its 192nd call after the first.
 const BUSY: &str = "\
     process a; autostart a; code a { var n = 0; body { poll a; while 1 { yield; n = (n + 1); poll a; \
     if (n == 192) { print n; } } } }";
 
-/// The results of the polls of its window up to 3.
+/// The results of the polls of the window of this process's mote up to 3.
 const BUSY_RESULTS: &str = "\
     pending|pending|pending|0 Start(Etimer)|0 Start(Ctimer)|0 Start(Radio)|0 Start(Own(0))|2 Print(Own(0), 192)|";
 
-/// Polls the windows of two new motes, up to 5 and up to 3, in this order, and writes down the answer of each.
+/// Polls the windows of two new motes, the first up to 5 and the second up to 3, in this order. Writes down the result
+/// of each poll.
 fn write_two_windows(
     texts: &mut (String, String),
     alloc: Global,
@@ -142,7 +143,7 @@ fn write_two_windows(
     Ok(())
 }
 
-/// Fails unless the two windows have the expected results when polled in this order.
+/// Fails unless the two windows have the expected results when they are polled in this order.
 fn tell_two<R>(rt: &R, programs: (&Program, &Program), is_second: &[bool]) -> Result<(), Fail>
 where
     R: RandomSource + AllocGlobal,
@@ -154,7 +155,7 @@ where
     same_text(texts.1.as_str(), BUSY_RESULTS)
 }
 
-/// The windows of two motes have the same results, polled alternately and one after the other.
+/// The windows of two motes have the same results whether they are polled alternately or one after the other.
 #[test]
 fn two_mote_futures(rt: HostRuntime) -> Result<(), Fail> {
     let timers = read(rt.alloc(), THREE_TIMERS)?;
@@ -166,11 +167,12 @@ fn two_mote_futures(rt: HostRuntime) -> Result<(), Fail> {
     tell_two(&rt, programs, &one_first)
 }
 
-/// The results of three polls of the window of a mote that has one turn: pending, then ready; polled again it fails.
+/// The results of three polls of the window of a mote that has one turn: first pending, then ready; the third poll
+/// fails.
 const ONE_TURN_RESULTS: &str =
     "pending|0 Start(Etimer)|0 Start(Ctimer)|0 Start(Radio)|0 Start(Own(0))|0 Print(Own(0), 1)|Failed|";
 
-/// The copy that comes before a mote's last turn is too late, so the turn is refused, and the window is given up.
+/// A copy that arrives before a mote's last turn is too late. So the turn is refused, and the window fails.
 #[test]
 fn windows_of_one_mote(rt: HostRuntime) -> Result<(), Fail> {
     tells(&rt, PRINT_THEN_YIELD, false, ONE_TURN_RESULTS)?;

@@ -1,4 +1,4 @@
-//! Runs with any partition: their results, the number of starts of threads, and the workers that take the turns.
+//! Runs with various partitions: their results, the number of starts of threads, and the workers that take the turns.
 
 use super::{
     BUSY_PAIR, BUSY_TRIO, COPY_PAST_THE_END, Case, PACKET_AFTER_TIMER, STARTS, Scene, Trials,
@@ -15,8 +15,8 @@ use std::thread::Threads;
 use test_helpers::{TWO_SENDERS, same_text};
 use window_workers::{Cut, Gate, SyncKind};
 
-/// A gate that lets no thread of one worker start. It counts the starts that it is asked for, and the turns that a
-/// mote's own worker takes.
+/// A gate that allows no start of one worker. It counts the starts that are requested, and the turns that a mote's own
+/// worker takes.
 #[derive(Drop)]
 struct Starts<'a> {
     /// The worker of each mote.
@@ -39,7 +39,7 @@ impl Gate for Starts<'_> {
     }
 }
 
-/// Writes down the result of a run in which this worker isn't allowed to start, the number of starts that were
+/// Writes down the result of a run in which the worker `shut` isn't allowed to start, the number of starts that were
 /// requested, and the number of turns that the motes' own workers took.
 pub(super) fn write_starts<R>(
     rt: &R,
@@ -64,7 +64,7 @@ where
     write!(text, " {asked} {turns}|")
 }
 
-/// Windows of any length, and of at most 1, 2 and 3 moments.
+/// Runs with windows of any length, and with windows of at most 1, 2 and 3 moments.
 const LENGTHS: [Case<'static>; 5] = [
     (STARTS, 2, &[0, 1], 0),
     (STARTS, 2, &[0, 1], 1),
@@ -73,13 +73,14 @@ const LENGTHS: [Case<'static>; 5] = [
     (STARTS, 3, &[2, 0], 2),
 ];
 
-/// Sixteen workers, of whom three have a mote, by windows of one moment.
+/// A run of 16 workers, three of which have a mote, in windows of one moment.
 const SPARSE: Case<'static> = (STARTS, 16, &[0, 5, 10], 1);
 
-/// Runs with any partition, with the observations in them.
+/// Runs with various partitions, and what is observed in them.
 static RUNS: [Trials<'static>; 11] = [
-    // Each of these cuts gives the report of one thread: in blocks and in stripes, with workers that have no mote, and
-    // with the motes the other way round. With joins each worker is started in each of two windows, with marks once.
+    // Each of these partitions leads to the same report as one thread: blocks, stripes, workers without a mote, and
+    // motes in reverse order. With fork-join each worker is started in each of two windows, and with null messages
+    // once.
     Trials {
         scenario: TWO_SENDERS,
         cases: &[
@@ -95,8 +96,8 @@ static RUNS: [Trials<'static>; 11] = [
         joins: "Same(0) 2 4|Same(0) 4 4|Same(0) 4 4|Same(0) 4 4|Same(0) 6 4|Same(0) 6 4|Same(0) 8 4|Same(0) 32 4|",
         marks: "Same(0) 1 4|Same(0) 2 4|Same(0) 2 4|Same(0) 2 4|Same(0) 3 4|Same(0) 3 4|Same(0) 4 4|Same(0) 16 4|",
     },
-    // Cuts of three motes, of which only the last fits. Of several faults the first is reported, in the order of the
-    // first three here, before anything is started.
+    // Partitions of three motes. Only the last one is accepted. If there are several errors, the first is reported, in
+    // the order of the first three runs here, and no worker is started.
     Trials {
         scenario: BUSY_TRIO,
         cases: &[
@@ -112,8 +113,8 @@ static RUNS: [Trials<'static>; 11] = [
         joins: REFUSED_CUTS,
         marks: REFUSED_CUTS,
     },
-    // A worker that isn't allowed to start is reported, and no worker after it is asked for. With marks the workers
-    // before it wait for it in vain, and still end.
+    // If a worker isn't allowed to start, the error is reported, and the start of no later worker is requested. With
+    // null messages the workers that were started before wait for that worker, but they end.
     Trials {
         scenario: TWO_SENDERS,
         cases: &[
@@ -126,8 +127,8 @@ static RUNS: [Trials<'static>; 11] = [
         joins: REFUSED_STARTS,
         marks: REFUSED_STARTS,
     },
-    // The same among 16 workers, of whom three have a mote and were started: each has run the first window, which is
-    // the only one, or the first of three.
+    // The same with 16 workers. The three that have a mote were started. Each of them has run the first window: the
+    // only one, or the first of three.
     Trials {
         scenario: BUSY_TRIO,
         cases: &[
@@ -138,30 +139,31 @@ static RUNS: [Trials<'static>; 11] = [
         joins: REFUSED_OF_SIXTEEN,
         marks: REFUSED_OF_SIXTEEN,
     },
-    // With joins each window starts all workers: turns at 0, 2 and 5 are in two windows of three moments, or in three
-    // shorter ones. With marks each worker is started once.
+    // With fork-join all workers are started in each window. Turns at 0, 2 and 5 are in two windows of three moments,
+    // or in three shorter windows. With null messages each worker is started once.
     Trials {
         scenario: PACKET_AFTER_TIMER,
         cases: &LENGTHS,
         joins: "Same(0) 4 4|Same(0) 6 4|Same(0) 6 4|Same(0) 4 4|Same(0) 9 4|",
         marks: "Same(0) 2 4|Same(0) 2 4|Same(0) 2 4|Same(0) 2 4|Same(0) 3 4|",
     },
-    // The same if the end comes before the packet, which is left: turns at 0 and 2 are in one window, or in two.
+    // The same with an end before the packet's arrival, so the packet is left. Turns at 0 and 2 are in one window, or
+    // in two.
     Trials {
         scenario: COPY_PAST_THE_END,
         cases: &LENGTHS,
         joins: "Same(1) 2 3|Same(1) 4 3|Same(1) 4 3|Same(1) 2 3|Same(1) 6 3|",
         marks: "Same(1) 2 3|Same(1) 2 3|Same(1) 2 3|Same(1) 2 3|Same(1) 3 3|",
     },
-    // Each of 16 workers is started, also the 13 that have no mote: with joins in each of three windows of one moment,
-    // or in the only window, and with marks once.
+    // Each of 16 workers is started, also the 13 that have no mote. With fork-join it is started in each of three
+    // windows of one moment, or in the only window; with null messages it is started once.
     Trials {
         scenario: BUSY_TRIO,
         cases: &[SPARSE, (STARTS, 16, &[0, 5, 10], 0)],
         joins: "Same(0) 48 9|Same(0) 16 9|",
         marks: "Same(0) 16 9|Same(0) 16 9|",
     },
-    // The first of these runs, ten times: with marks no worker stops because another has ended.
+    // The first of these two runs, ten times: with null messages no worker stops because another one has ended.
     Trials {
         scenario: BUSY_TRIO,
         cases: &[SPARSE; 10],
@@ -170,22 +172,22 @@ static RUNS: [Trials<'static>; 11] = [
         marks: "Same(0) 16 9|Same(0) 16 9|Same(0) 16 9|Same(0) 16 9|Same(0) 16 9|Same(0) 16 9|Same(0) 16 9|\
                 Same(0) 16 9|Same(0) 16 9|Same(0) 16 9|",
     },
-    // A run by windows of one moment. The motes don't hear one another, so one window would do for all.
+    // A run in windows of one moment. The motes don't hear one another, so a single window would be enough.
     Trials {
         scenario: BUSY_PAIR,
         cases: &[(Watch::Ahead, 2, &[0, 1], 1)],
         joins: "Same(0) 0|",
         marks: "Same(0) 0|",
     },
-    // The copy that would arrive after the end is in the inbox of its receiver's worker; with marks that worker has
-    // taken it out.
+    // The copy would arrive after the end. With fork-join it is in the inbox of its receiver's worker at the end; with
+    // null messages that worker has already taken it.
     Trials {
         scenario: COPY_PAST_THE_END,
         cases: &[(Watch::Inboxes, 2, &[0, 1], 0)],
         joins: "Same(1)|0 []|1 [RadioCopy { at: 5, to: 1, sender: 0, number: 0, value: 9 }]|",
         marks: "Same(1)|0 []|0 []|",
     },
-    // Each worker of the cut must have an inbox: of these cuts of three motes only the last fits.
+    // Each worker of a partition must have an inbox. Of these partitions of three motes only the last one is accepted.
     Trials {
         scenario: BUSY_TRIO,
         cases: &[
@@ -219,13 +221,13 @@ fn runs_by_any_cut(rt: HostRuntime) -> Result<(), Fail> {
     all_tell(&rt, RUNS.as_slice())
 }
 
-/// Fails if an error is reported that is neither the refused start of worker 1 nor a failed allocation.
+/// Fails if the reported error is neither the refused start of worker 1 nor a failed allocation.
 fn lowest_error<R>(rt: &R, net: &Net, sync: SyncKind) -> Result<(), Fail>
 where
     R: Threads + Wait + Sync + RandomSource + AllocGlobal,
 {
     let mut text = String::new(rt.alloc());
-    // No report is compared.
+    // The report is compared with nothing, because there is none.
     let scene = Scene { net, one: "", sync };
     write_case(
         rt,
@@ -239,9 +241,9 @@ where
     same_text(text.as_str(), "Fault(Thread) 2 3|")
 }
 
-/// The error of the worker with the lowest number is reported: that of worker 0, or, if it ended its three turns,
-/// the refused start of worker 1. This is checked with each allocation failing (`--fail-alloc`), one in each run; with
-/// ample memory the start is reported.
+/// The reported error is that of the worker with the lowest number: the error of worker 0, or, if worker 0 has taken
+/// its three turns, the refused start of worker 1. With `--fail-alloc` this test runs many times, and another
+/// allocation fails in each run. With enough memory the refused start is reported.
 #[test]
 fn the_lowest_workers_error(rt: HostRuntime) -> Result<(), Fail> {
     let net = read_scenario(rt.alloc(), BUSY_PAIR)?;
@@ -249,12 +251,13 @@ fn the_lowest_workers_error(rt: HostRuntime) -> Result<(), Fail> {
     lowest_error(&rt, &net, SyncKind::Marks)
 }
 
-/// Writes down the worker of each mote, and how long windows are at most.
+/// Writes down the worker of each mote, and the greatest length of a window.
 fn write_cut(text: &mut String, cut: Cut) -> Result<(), AllocError> {
     write!(text, "{:?} {}|", cut.of, cut.longest)
 }
 
-/// Writes down both cuts of five motes among two workers, and one of three motes among 16, most of which have none.
+/// Writes down both partitions of five motes among two workers, and one partition of three motes among 16 workers,
+/// most of which have no mote.
 fn write_cuts(alloc: Global, text: &mut String) -> Result<(), AllocError> {
     write_cut(text, Cut::block(alloc, 5, 2)?)?;
     write_cut(text, Cut::stripe(alloc, 5, 2)?)?;

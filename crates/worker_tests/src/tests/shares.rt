@@ -1,4 +1,4 @@
-//! A share by itself.
+//! A worker's share, tested by itself.
 
 ghost use Rattle.std.specs.Prelude.{◌≡◌, length};
 ghost use Rattle.mote_net.specs.Meaning.{net_of};
@@ -10,7 +10,7 @@ use std::alloc::{AllocError, Global};
 use std::test::Fail;
 use worker_window::Share;
 
-/// A packet of mote 0 on its way to mote 1.
+/// A copy of a packet of mote 0, on its way to mote 1.
 fn copy_at(at: u64, number: u64) -> RadioCopy {
     RadioCopy {
         at,
@@ -21,7 +21,7 @@ fn copy_at(at: u64, number: u64) -> RadioCopy {
     }
 }
 
-/// The number of pending copies once a share has taken in two for mote 1, and then one more.
+/// The number of pending copies after a share has taken in two copies for mote 1, and then a third.
 fn left_of_three(alloc: Global, net: &Net) -> Result<u64, AllocError>
     requires two_motes { length (net_of net.now).motes ≡ 2 }
 {

@@ -4,7 +4,7 @@ use Rattle.program_tree.specs.Meaning.{block_of}
 use Rattle.mote_program.proofs.Callers.{first_set}
 use Rattle.part_tests.proofs.tests.looked_up.first_set.Goals as goal
 
--- the place is that of a variable, and there is a value for each
+-- the place is that of a variable, and each variable has a first value
 pub bounds-starts-from : goal.bounds-starts-from
 bounds-starts-from c =
     let below =
