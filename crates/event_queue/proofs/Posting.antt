@@ -1,4 +1,4 @@
--- The queue as its waiting events show it, when an event is posted or taken.
+-- The view of the queue, made from its waiting events, after an event is posted or taken.
 use Rattle.std.proofs.Common.{ℕ, suc, ◌≡◌, ◌+◌, List, [], ◌∷◌, ◌++◌, length, refl, ap, ◌∙◌, arith}
 use Rattle.std.proofs.lemmas.List.{length-append}
 use Rattle.circular_buffer.specs.Buffer.{Buffer, buffer}
@@ -7,7 +7,7 @@ use Rattle.event_queue.specs.declared.queue.Posted.{Posted}
 use Rattle.event_queue.specs.declared.queue.Waiting.{Waiting}
 use Rattle.event_queue.specs.Posting.{posted_from, queue_of}
 
--- one more event has the serial after theirs
+-- one more event has the serial that follows theirs
 pub posted_one_more : (k : ℕ) (ws : List Waiting) (w : Waiting)
     → posted_from k (ws ++ w ∷ []) ≡ posted_from k ws ++ record { serial = k + length ws; target = w.target; event = w.event } ∷ []
 posted_one_more k [] w =
@@ -17,7 +17,7 @@ posted_one_more k (v ∷ ws) w =
     ap (λ (ps : List Posted). record { serial = k; target = v.target; event = v.event } ∷ ps)
     (posted_one_more (k + 1) ws w ∙ ap (λ n. posted_from (k + 1) ws ++ record { serial = n; target = w.target; event = w.event } ∷ []) same)
 
--- their number stays the same
+-- the number of events stays the same
 pub length_posted : (k : ℕ) (ws : List Waiting) → length (posted_from k ws) ≡ length ws
 length_posted k [] = refl
 length_posted k (w ∷ ws) = ap suc (length_posted (k + 1) ws)

@@ -1,4 +1,4 @@
-//! A queue of posted events, over a ring buffer that is allocated once.
+//! A queue of posted events, stored in a ring buffer that is allocated once.
 
 ghost use Rattle.std.specs.Prelude.{◌≡◌, ◌+◌, ◌^◌, ◌<◌, ◌≤◌, ◌↔◌, [], ◌∷◌, length, IsNone, IfNone, IfSome, IsErr};
 ghost use Rattle.std.specs.Prelude.{IfOk, OnOk, OnErr, Some, codes};
@@ -19,7 +19,7 @@ pub struct Posted {
     pub event: Event,
 }
 
-/// The error of a full queue (`PROCESS_ERR_FULL` of `process.h`). The posted event is refused.
+/// The error if the queue is full (`PROCESS_ERR_FULL` of `process.h`): the queue refuses the posted event.
 #[derive(Clone, Copy, Debug, PartialEq, Eq)]
 pub struct Full;
 
@@ -33,19 +33,19 @@ impl fmt::Display for Full {
 
 impl Error for Full {}
 
-/// An event that waits, and its target. It has no serial, because those that wait were accepted one after another.
+/// A waiting event and its target. Its serial isn't stored, because the serials of waiting events are consecutive.
 #[derive(Clone, Copy)]
 struct Waiting {
     target: Target,
     event: Event,
 }
 
-/// The events of a mote that were posted and not yet taken, the oldest first, and a count of all that were ever
-/// accepted (the ring `events` of `process.c`). `new` allocates all its memory.
+/// The events of a mote that were posted and not yet taken, the oldest first, and the number of all events that were
+/// ever accepted (the ring `events` of `process.c`). `new` allocates all memory of the queue.
 #[derive(Drop)]
 pub struct EventQueue {
     waiting: HeapCircularBuffer<Waiting>,
-    /// The number of events taken, which is the serial of the oldest that waits, or of the next if none does.
+    /// The number of events taken. It is the serial of the oldest waiting event or, if none waits, of the next event.
     taken: u64,
 }
 
@@ -62,8 +62,8 @@ impl Model for EventQueue {
         × (q.taken + length q.waiting.items ≤ 2 ^ 62) };
 }
 
-/// Takes the oldest that waits. If it is the only one, it is taken from the back, so a ring buffer that holds one
-/// event at a time stays at its first slot, which is likely to be in the cache.
+/// Takes the oldest waiting event. If only one event waits, it is taken from the back. A ring buffer that holds one
+/// event at a time then stays at its first slot, which is likely to be in the cache.
 #[inline(always)]
 #[tactic(auto, using(crate::proofs::Only::only_first))]
 fn take_oldest(waiting: &mut HeapCircularBuffer<Waiting>) -> Option<Waiting>
@@ -80,7 +80,7 @@ fn take_oldest(waiting: &mut HeapCircularBuffer<Waiting>) -> Option<Waiting>
 }
 
 impl EventQueue {
-    /// An empty queue with room for this many events, 1 to 128.
+    /// An empty queue with room for `capacity` events (1 to 128).
     ///
     /// # Errors
     /// `AllocError` if an allocation fails.
@@ -95,7 +95,7 @@ impl EventQueue {
         })
     }
 
-    /// The number of events that wait.
+    /// The number of waiting events.
     #[tactic(auto, using(crate::proofs::Posting::length_posted))]
     pub fn len(&self) -> usize
         ensures len { result ≡ length self.now.events }
@@ -112,10 +112,10 @@ impl EventQueue {
         self.taken + self.waiting.len() as u64
     }
 
-    /// Appends an event and returns its serial: 0 for the first that was ever accepted, one more for each after it.
+    /// Appends an event and returns its serial: the number of events that were accepted before it.
     ///
     /// # Errors
-    /// [`Full`] if the queue is full. It is unchanged then.
+    /// [`Full`] if the queue is full. The queue is then unchanged.
     #[tactic(auto, using(crate::proofs::Posting::length_posted))]
     pub fn post(&mut self, target: Target, event: Event) -> Result<u64, Full>
         requires count_bounded { self.old.accepted < 2 ^ 62 }
@@ -132,7 +132,7 @@ impl EventQueue {
         Ok(serial)
     }
 
-    /// Takes the oldest event, or nothing from an empty queue.
+    /// Takes the oldest event and returns it. Returns `None` if the queue is empty.
     pub fn take(&mut self) -> Option<Posted>
         ensures empty { IsNone result ↔ (self.old.events ≡ []) }
         ensures front { IfSome result (λ first. self.old.events ≡ first ∷ self.new.events) }

@@ -1,4 +1,4 @@
--- The properties of every timer list, which calls keep.
+-- The properties that every timer list has, and that each call preserves.
 use Rattle.std.proofs.Common.{◌≡◌, ◌≢◌, ℕ, ◌≤◌, ◌^◌, ◌==◌, Bool, true, not, List, [], ◌∷◌, set, ◌∙◌}
 use Rattle.std.specs.List.{AllByRecursion, filter}
 use Rattle.std.specs.Option.{IsSome}
@@ -22,7 +22,7 @@ owned_without ts id t (k ∷ ks) h =
     (λ other. let apart : k ≢ id = eqb-false k id (not-true (k == id) other) in (rw (get_or-set_other ts id k t _ apart) h.0, owned_without ts id t ks h.1))
     (λ _. owned_without ts id t ks h.1)
 
--- a timer is taken off the list, whatever becomes of its owner
+-- a timer is taken off the list, and may lose its owner
 pub AreTimers-without : (ts : List Timer) (listed : Numbers) (id : ℕ) (t : Timer) → AreTimers ts listed → t.start ≤ 2 ^ 62 → AreTimers (set ts id t) (numbers (without_member id listed.members) listed.limit)
 AreTimers-without ts listed id t are bounded = record {
   room = length-set ts id t ∙ are.room;

@@ -23,11 +23,11 @@ AreNumbers-cons k ks n are below new = record {
   within = All-cons (λ j. j < n) k ks below are.within;
 }
 
--- each number occurs once, so the list is no longer than there are numbers
+-- each number occurs at most once, so the list isn't longer than the number of numbers below the limit
 pub length-le_limit : (ks : List ℕ) (n : ℕ) → AreNumbers ks n → length ks ≤ n
 length-le_limit ks n are = length-le_from_distinct_below ks n are.once (λ q there. All-contains (λ j. j < n) ks q are.within (Contains-from_any eqb-true q ks there))
 
--- while a number below the limit is missing there is room for it
+-- if a number below the limit isn't on the list, the list has room for it
 pub length-lt_limit : (k : ℕ) (ks : List ℕ) (n : ℕ) → AreNumbers ks n → k < n → is_member k ks ≡ false → length ks < n
 length-lt_limit k ks n are below new = let most : length (k ∷ ks) ≤ n = length-le_limit (k ∷ ks) n (AreNumbers-cons k ks n are below new) in omega arith
 
@@ -61,7 +61,7 @@ module _ (n : ℕ) where
 pub same_numbers : (a b : Numbers) → a.members ≡ b.members → a.limit ≡ b.limit → a ≡ b
 same_numbers a b same_members same_limit = ap (λ ks. numbers ks a.limit) same_members ∙ ap (λ n. numbers b.members n) same_limit
 
--- a fact that the code found about a list is one of an equal list
+-- a number that the code found to be missing from a list is missing from an equal list
 pub lacks : (s t : Numbers) (k : ℕ) (answer : Bool) → s ≡ t → answer ≡ is_member k t.members → answer ≡ false → is_member k s.members ≡ false
 lacks s t k answer same matches missing = ap (λ (l : Numbers). is_member k l.members) same ∙ sym matches ∙ missing
 
@@ -71,7 +71,7 @@ takes s t k same below = let limit = ap (λ (l : Numbers). l.limit) same in omeg
 pub with_member-new : (k : ℕ) (ks : List ℕ) → is_member k ks ≡ false → k ∷ ks ≡ with_member k ks
 with_member-new k ks new = sym (cond-false (is_member k ks) ks (k ∷ ks) new)
 
--- with one more number, or by a filter, a list stays without repeats
+-- a list stays without repeats when a number is added, or when the list is filtered
 pub IsDistinct-with : (k : ℕ) (ks : List ℕ) → IsDistinct eqb ks → IsDistinct eqb (with_member k ks)
 unfolding IsDistinct
 IsDistinct-with k ks once = cond_both (is_member k ks) ks (k ∷ ks) (IsDistinct eqb) (λ _. once) (λ missing. (apart_from_rest k ks missing, once))
@@ -87,7 +87,7 @@ IsDistinct-filter p [] once = tt
 IsDistinct-filter p (k ∷ ks) once =
     cond_both (p k) (k ∷ filter p ks) (filter p ks) (IsDistinct eqb) (λ _. (filtered_apart p k ks once.0, IsDistinct-filter p ks once.1)) (λ _. IsDistinct-filter p ks once.1)
 
--- who is a member
+-- the members of a list after a change
 pub is_member-with : (k : ℕ) (ks : List ℕ) → is_member k (with_member k ks) ≡ true
 is_member-with k ks = cond_both (is_member k ks) ks (k ∷ ks) (λ (l : List ℕ). is_member k l ≡ true) (λ there. there) (λ _. or_left (eqb k k) _ (eq-eqb k k refl))
 

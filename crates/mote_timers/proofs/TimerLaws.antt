@@ -17,7 +17,7 @@ use Rattle.mote_timers.specs.DueTimers.{first_due}
 use Rattle.mote_timers.specs.TimerCalls.{TimerCall, Set, Reset, Restart, Stop, Fire, Purge, after_call, after_calls, TakesOff, Starts, NoneTakesOff, NoneStarts, ListedOnce, KeepsTimers, DueFromExpiration, DueFromSet, DueFromNextExpiration}
 use Rattle.mote_timers.proofs.NumberLists.{IsDistinct-with, IsDistinct-filter, is_member-with, is_member-kept, is_member-filter}
 
--- ---- each timer once
+-- ---- each timer is listed once
 
 listed_once_after : (s : TimerLists) (call : TimerCall) → IsDistinct eqb s.listed → IsDistinct eqb (after_call s call).listed
 unfolding after_call set_timer reset_timer restart_timer stop_timer purge_timers
@@ -118,7 +118,7 @@ due_from_set s id owner interval now calls within stays rests moment =
 
 -- ---- the next expiration
 
--- the least number of a list is at most a limit if its first is, or the least of the rest
+-- the least number of a list is at most a limit if the list's first number is, or the least of the rest is
 least_below : (x m : ℕ) (rest : Option ℕ) → IsSomeAnd rest (λ e. e ≤ m) → option_map_or (min x) rest x ≤ m
 least_below x m None h = absurd h
 least_below x m (Some y) h = omega arith

@@ -34,7 +34,7 @@ is_member-behind x a (k ∷ ks) there =
     (λ _ h. or_right (eqb x k) _ (is_member-behind x a ks h))
     (rw (after_first-cons a k ks) at there)
 
--- the front of a list without repeats isn't in the rest of it too
+-- the front of a list without repeats doesn't occur in the rest of the list
 apart : (k x : ℕ) (ks : List ℕ) → AllByRecursion (λ y. eqb k y ≡ false) ks → is_member x ks ≡ true → eqb k x ≡ false
 apart k x [] h there = absurd (false≢true there)
 apart k x (y ∷ ys) h there =
@@ -61,7 +61,7 @@ shorter_behind p a (k ∷ ks) x once found =
     (λ _ f. rw (behind_next k x ks once (is_member-behind x a ks (is_member-found p _ x f))) (shorter_behind p a ks x once.1 f))
     (rw (after_first-cons a k ks) at found))
 
--- the member that a walk finds after a member, or from the front on, is on the list, and nearer to its end
+-- the member that a walk finds (after a member, or from the front on) is on the list, and nearer to its end
 pub behind_found : (p : ℕ → Bool) (after : Option ℕ) (ks : List ℕ) (found : Option ℕ) → found ≡ find p (behind after ks) → IfSome found (λ x. is_member x ks ≡ true)
 behind_found p after ks None is = tt
 behind_found p None ks (Some x) is = is_member-found p ks x (sym is)

@@ -2,12 +2,12 @@
 use Rattle.std.specs.Prelude.{ℕ, ◌<◌, ◌==◌, nat_eq, Bool, not, if◌then◌else◌, List, ◌∷◌, All, filter}
 use Rattle.std.specs.List.{list_any, IsDistinct}
 
--- the numbers, the front first, and the limit below which they are
+-- the numbers, the front first, and the limit below which each of them is
 pub record Numbers : Type 0 where
   pub members : List ℕ
   pub limit : ℕ
 
--- no number is there twice, and each is below the limit
+-- no number occurs twice, and each is below the limit
 pub record AreNumbers (ks : List ℕ) (limit : ℕ) : Type 0 where
   pub once : IsDistinct nat_eq ks
   pub within : All (λ k. k < limit) ks
@@ -19,7 +19,7 @@ numbers ks n = record { members = ks; limit = n }
 abbrev pub is_member : ℕ → List ℕ → Bool
 is_member k ks = list_any (nat_eq k) ks
 
--- a new number goes to the front; one that is there keeps its place
+-- a new number is added at the front; a number that is already on the list keeps its place
 abbrev pub with_member : ℕ → List ℕ → List ℕ
 with_member k ks = if is_member k ks then ks else k ∷ ks
 

@@ -3,7 +3,7 @@ use Rattle.std.specs.Prelude.{ℕ, ◌+◌, ◌==◌, Bool}
 use Rattle.program_tree.specs.declared.event.Proc.{Proc}
 use Rattle.program_tree.specs.declared.event.Proc.TheVariants.{Own, Etimer, Ctimer, Radio}
 
--- the system processes come first, then those of the program in their order
+-- the places of the system processes are first, then those of the program's own processes in their order
 abbrev pub place_of : Proc → ℕ
 place_of Etimer = 0
 place_of Ctimer = 1

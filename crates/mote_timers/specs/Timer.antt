@@ -5,11 +5,11 @@ use Rattle.program_tree.specs.declared.event.Proc.{Proc}
 use Rattle.mote_timers.specs.declared.timer.Timer.{Timer}
 use Rattle.mote_timers.specs.Processes.{is_same}
 
--- a timer before it is first set
+-- a timer that was never set
 abbrev pub unset : Timer
 unset = record { start = 0; interval = 0; owner = None }
 
--- the moment from which on the timer is due
+-- the first moment at which the timer is due
 abbrev pub expiration : Timer → ℕ
 expiration t = t.start + t.interval
 

@@ -1,4 +1,4 @@
--- Calls of a `Timers`, one after another.
+-- Calls of the functions of a `Timers`, one after another.
 use Rattle.std.specs.Prelude.{◌≡◌, ℕ, ◌+◌, ◌≤◌, ◌<◌, ◌↔◌, nat_eq, List, [], ◌∷◌, length, Some, None, IsTrue, IsSome}
 use Rattle.std.specs.Prelude.{IsSomeAnd}
 use Rattle.std.specs.List.{IsDistinct}
@@ -9,7 +9,7 @@ use Rattle.mote_timers.specs.TimerLists.{TimerLists, timer_at, new_timers, set_t
 use Rattle.mote_timers.specs.TimerLists.{stop_timer, purge_timers, next_expiration_of}
 use Rattle.mote_timers.specs.DueTimers.{first_due}
 
--- a call that may change something, with its arguments
+-- a call that may change the timers, with its arguments
 pub data TimerCall : Type 0 where
   Set : (id : ℕ) (owner : Proc) (interval now : ℕ) → TimerCall
   Reset : (id : ℕ) (owner : Proc) → TimerCall
@@ -30,7 +30,7 @@ abbrev pub after_calls : TimerLists → List TimerCall → TimerLists
 after_calls s [] = s
 after_calls s (call ∷ calls) = after_calls (after_call s call) calls
 
--- the call takes this timer off the list: it stops or fires it, or purges its owner
+-- the call takes this timer off the list: it stops or fires the timer, or purges the timers of its owner
 abbrev pub TakesOff : TimerLists → ℕ → TimerCall → Type 0
 TakesOff s id (Stop other) = other ≡ id
 TakesOff s id (Fire other) = other ≡ id
@@ -54,7 +54,7 @@ abbrev pub NoneStarts : ℕ → List TimerCall → Type 0
 NoneStarts id [] = Unit {0}
 NoneStarts id (call ∷ calls) = (Starts id call → ⊥) × NoneStarts id calls
 
--- the timer is on the list, and its moment has come
+-- the timer is on the list, and its expiration is at this moment or earlier
 abbrev pub IsDue : TimerLists → ℕ → ℕ → Type 0
 IsDue s id moment = IsTrue (is_member id s.listed) × (expiration (timer_at s.timers id) ≤ moment)
 
@@ -62,11 +62,11 @@ IsDue s id moment = IsTrue (is_member id s.listed) × (expiration (timer_at s.ti
 abbrev pub ListedOnce : Type 0
 ListedOnce = (n : ℕ) (calls : List TimerCall) → IsDistinct nat_eq (after_calls (new_timers n) calls).listed
 
--- no call adds a timer or takes one away
+-- no call creates or removes a timer
 abbrev pub KeepsTimers : Type 0
 KeepsTimers = (s : TimerLists) (calls : List TimerCall) → length (after_calls s calls).timers ≡ length s.timers
 
--- a timer that was set and that no later call took off is due exactly from its start and interval on
+-- a timer that was set, and that no later call took off the list, is due exactly from its expiration on
 abbrev pub DueFromExpiration : Type 0
 DueFromExpiration =
     (s : TimerLists) (id : ℕ) (owner : Proc) (interval now : ℕ) (calls : List TimerCall)
@@ -74,7 +74,7 @@ DueFromExpiration =
     → let t : TimerLists = after_calls (set_timer s id owner interval now) calls in
     (moment : ℕ) → IsDue t id moment ↔ (expiration (timer_at t.timers id) ≤ moment)
 
--- and if no call set it again either, from the start and the interval that it was given
+-- if no later call set the timer again either, its expiration is the start plus the interval with which it was set
 abbrev pub DueFromSet : Type 0
 DueFromSet =
     (s : TimerLists) (id : ℕ) (owner : Proc) (interval now : ℕ) (calls : List TimerCall)

@@ -7,26 +7,26 @@ use Rattle.mote_timers.specs.declared.timer.Timer.{Timer}
 use Rattle.mote_timers.specs.Numbers.{with_member, without_member}
 use Rattle.mote_timers.specs.Timer.{unset, expiration, is_owned_by}
 
--- each timer by its number, and the numbers of those on the timer list, the front first
+-- the timers by number, and the numbers of the timers on the timer list, the front first
 pub record TimerLists : Type 0 where
   pub timers : List Timer
   pub listed : List ℕ
 
--- the timer with this number; any other number gives a timer that was never set
+-- the timer with this number, or a timer that was never set if there is no such timer
 abbrev pub timer_at : List Timer → ℕ → Timer
 timer_at ts id = slice_index_or ts id unset
 
 unfoldable pub new_timers : ℕ → TimerLists
 new_timers n = record { timers = replicate n unset; listed = [] }
 
--- the timer is now as given, and on the list
+-- the timer with this number is replaced by the given timer, and is on the list
 abbrev pub with_timer : TimerLists → ℕ → Timer → TimerLists
 with_timer s id t = record { timers = slice_set s.timers id t; listed = with_member id s.listed }
 
 unfoldable pub set_timer : TimerLists → ℕ → Proc → ℕ → ℕ → TimerLists
 set_timer s id owner interval now = with_timer s id (record { start = now; interval = interval; owner = Some owner })
 
--- the timer starts at the moment at which it was due, or at the latest start if that is sooner
+-- the timer starts at its expiration, or at the latest start if that is earlier
 unfoldable pub reset_timer : TimerLists → ℕ → Proc → TimerLists
 reset_timer s id owner = with_timer s id
     (record { start = min (expiration t) (2 ^ 62); interval = t.interval; owner = Some owner })
@@ -57,6 +57,6 @@ abbrev pub least : List ℕ → Option ℕ
 least [] = None
 least (x ∷ xs) = Some (option_map_or (min x) (least xs) x)
 
--- the least expiration on the list
+-- the earliest expiration of the timers on the list
 unfoldable pub next_expiration_of : TimerLists → Option ℕ
 next_expiration_of s = least (map (λ id. expiration (timer_at s.timers id)) s.listed)

@@ -1,4 +1,4 @@
-//! The callbacks that wait for their timer.
+//! The callbacks that wait for their timers.
 
 ghost use Rattle.std.specs.Prelude.{◌≡◌, ◌<◌, [], IfOk};
 ghost use Rattle.mote_timers.specs.Numbers.{numbers, is_member, with_member, without_member};
@@ -7,8 +7,8 @@ use crate::number_list::NumberList;
 use std::alloc::{AllocError, Global};
 use std::marker::Model;
 
-/// The callback list of a mote: the callback timers that are set and whose callback hasn't run (`ctimer_list` of
-/// `ctimer.c`). `new` allocates all its memory.
+/// The callback list of a mote: the callback timers that are set and whose callback hasn't run yet (`ctimer_list` of
+/// `ctimer.c`). `new` allocates all memory of the list.
 #[derive(Drop)]
 pub struct Callbacks {
     waiting: NumberList,
@@ -35,7 +35,7 @@ impl Callbacks {
         })
     }
 
-    /// Puts a timer's callback at the front of the list. One that is there keeps its place.
+    /// Inserts a timer's callback at the front of the list. A callback that is already on the list keeps its place.
     pub fn put(&mut self, id: u16)
         requires in_range { id < self.old.limit }
         ensures after { self.new ≡ numbers (with_member id self.old.members) self.old.limit }
@@ -43,7 +43,7 @@ impl Callbacks {
         self.waiting.add(id);
     }
 
-    /// Takes a timer's callback off the list, and returns whether it was there.
+    /// Takes a timer's callback off the list, and returns whether it was on the list.
     pub fn remove(&mut self, id: u16) -> bool
         requires in_range { id < self.old.limit }
         ensures was_there { result ≡ is_member id self.old.members }

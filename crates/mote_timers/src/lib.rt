@@ -1,4 +1,4 @@
-//! The timers of a mote: the timer list, and the list of the callbacks that wait for their timer.
+//! The timers of a mote: the timer list, and the list of the callbacks that wait for their timers.
 #![tactic(auto)]
 
 mod callbacks;

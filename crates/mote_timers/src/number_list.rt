@@ -8,7 +8,7 @@ ghost use Rattle.mote_timers.specs.Numbers.{AreNumbers, numbers, is_member, with
 use std::alloc::{AllocError, Global};
 use std::marker::Model;
 
-/// A list of numbers, each at most once and below the limit. `new` allocates all its memory.
+/// A list of numbers below a limit, in which each number occurs at most once. `new` allocates all memory of the list.
 #[derive(Drop)]
 pub struct NumberList {
     members: Vec<u16>,
@@ -38,7 +38,7 @@ impl NumberList {
         })
     }
 
-    /// The numbers, the front first.
+    /// The numbers, beginning at the front.
     pub fn as_slice(&self) -> &[u16]
         ensures value { result.now ≡ self.now.members }
         ensures numbers { AreNumbers self.now.members self.now.limit }
@@ -53,7 +53,7 @@ impl NumberList {
         self.members.contains(&number)
     }
 
-    /// Puts a number at the front. One that is on the list keeps its place.
+    /// Inserts a number at the front. A number that is already on the list keeps its place.
     pub fn add(&mut self, number: u16)
         requires in_range { number < self.old.limit }
         ensures after { self.new ≡ numbers (with_member number self.old.members) self.old.limit }
@@ -72,7 +72,7 @@ impl NumberList {
         self.members.retain(keep);
     }
 
-    /// Takes a number off the list, if it is there.
+    /// Takes a number off the list, if it is on the list.
     pub fn remove(&mut self, number: u16)
         ensures after { self.new ≡ numbers (without_member number self.old.members) self.old.limit }
     {

@@ -5,8 +5,8 @@ ghost use Rattle.mote_timers.specs.Timer.{expiration, is_due, is_owned_by};
 
 use program_tree::Proc;
 
-/// A timer: its start in moments, its interval in moments, and the process that gets an event when it is due (`struct
-/// timer` of `timer.h`, and `p` of `struct etimer`).
+/// A timer: its start in moments, its interval in moments, and the process that gets an event when the timer is due
+/// (`struct timer` of `timer.h`, and `p` of `struct etimer`).
 #[derive(Clone, Copy, Debug, PartialEq, Eq)]
 pub struct Timer {
     pub start: u64,
@@ -20,7 +20,7 @@ pub const LATEST_START: u64 = 1 << 62;
 impl Timer {
     ghost use Rattle.mote_timers.specs.Timer.{unset};
 
-    /// A timer before it is first set.
+    /// A timer that was never set.
     pub fn unset() -> Timer
         ensures value { result ≡ unset }
     {
@@ -31,7 +31,7 @@ impl Timer {
         }
     }
 
-    /// The moment from which on the timer is due.
+    /// The first moment at which the timer is due.
     pub fn expiration(&self) -> u64
         requires start_bounded { self.now.start ≤ 2 ^ 62 }
         ensures value { result ≡ expiration self.now }

@@ -17,8 +17,8 @@ use program_tree::Proc;
 use std::alloc::{AllocError, Global};
 use std::marker::Model;
 
-/// The timers of a mote, by number, and its timer list (`timerlist` of `etimer.c`). The list has those that are set,
-/// until their event is posted, or they are stopped or purged. `new` allocates all its memory.
+/// The timers of a mote, by number, and the mote's timer list (`timerlist` of `etimer.c`). A timer that is set stays
+/// on the list until its event is posted, or until it is stopped or purged. `new` allocates all memory.
 #[derive(Drop)]
 pub struct Timers {
     timers: Vec<Timer>,
@@ -52,8 +52,8 @@ impl Timers {
         })
     }
 
-    /// Sets a timer: it gets this interval in moments and this owner, and starts now. One that is off the list goes
-    /// to its front, and one that is there keeps its place.
+    /// Sets a timer: it gets this interval in moments and this owner, and starts now. A timer that isn't on the list
+    /// is added at its front; a timer that is on the list keeps its place.
     #[tactic(auto, unfolding(crate::specs::TimerLists::set_timer))]
     pub fn set(&mut self, id: u16, owner: Proc, interval: u16, now: u64)
         requires is_timer { id < length self.old.timers }
@@ -69,8 +69,8 @@ impl Timers {
         self.start(id, timer);
     }
 
-    /// Sets a timer again from the moment at which it was or is due: its start grows by its interval, up to 2 to the
-    /// 62. It gets this owner, and its place on the list is as in `set`.
+    /// Sets a timer again from its expiration: its start grows by its interval, up to 2 to the 62. The timer gets this
+    /// owner, and its place on the list is as in `set`.
     #[tactic(auto, unfolding(crate::specs::TimerLists::reset_timer))]
     pub fn reset(&mut self, id: u16, owner: Proc)
         requires is_timer { id < length self.old.timers }
@@ -86,8 +86,8 @@ impl Timers {
         self.start(id, again);
     }
 
-    /// Sets a timer again from now, with the interval that it has. It gets this owner, and its place on the list is
-    /// as in `set`.
+    /// Sets a timer again from now, with the interval that it has. The timer gets this owner, and its place on the
+    /// list is as in `set`.
     #[tactic(auto, unfolding(crate::specs::TimerLists::restart_timer, crate::specs::TimerLists::set_timer))]
     pub fn restart(&mut self, id: u16, owner: Proc, now: u64)
         requires is_timer { id < length self.old.timers }
@@ -99,7 +99,7 @@ impl Timers {
         self.set(id, owner, interval, now);
     }
 
-    /// Takes a timer off the list. It has no owner then, so it has expired.
+    /// Takes a timer off the list. The timer then has no owner, so it has expired.
     #[tactic(auto, unfolding(crate::specs::TimerLists::stop_timer))]
     pub fn stop(&mut self, id: u16)
         requires is_timer { id < length self.old.timers }
@@ -118,7 +118,7 @@ impl Timers {
         self.timers[usize::from(id)].owner.is_none()
     }
 
-    /// The first timer on the list that is due now, with its owner; if `after` is given, the first after that one.
+    /// The first timer on the list that is due now, with its owner. If `after` is given, only timers after it count.
     #[tactic(auto, unfolding(crate::specs::DueTimers::first_due))]
     pub fn next_due(&self, now: u64, after: Option<u16>) -> Option<(u16, Proc)>
         requires moment { now ≤ 2 ^ 40 }
@@ -134,7 +134,7 @@ impl Timers {
         Some((id, owner))
     }
 
-    /// Takes a timer off the list, because its event was posted. It has no owner then.
+    /// Takes a timer off the list, because its event was posted. The timer then has no owner.
     pub fn fire(&mut self, id: u16)
         requires is_timer { id < length self.old.timers }
         ensures after { self.new ≡ stop_timer self.old id }
@@ -153,7 +153,7 @@ impl Timers {
         self.listed.retain(|id| !is_owned(timers, *id, owner));
     }
 
-    /// The earliest moment at which a timer on the list is due, if there is one on it.
+    /// The earliest expiration of the timers on the list, or `None` if the list is empty.
     #[tactic(auto, unfolding(crate::specs::TimerLists::next_expiration_of))]
     pub fn next_expiration(&self) -> Option<u64>
         ensures value { result ≡ next_expiration_of self.now }
@@ -172,7 +172,7 @@ impl Timers {
     }
 }
 
-/// The first timer on the list, after the given one, that is due.
+/// The first due timer on the list after the timer `after`, or on the whole list if `after` is `None`.
 fn first_due_behind(timers: &[Timer], listed: &[u16], after: Option<u16>, now: u64) -> Option<u16>
     requires are_timers { All (λ id. id < length timers.now) listed.now }
     requires once { IsDistinct nat_eq listed.now }
@@ -184,7 +184,7 @@ fn first_due_behind(timers: &[Timer], listed: &[u16], after: Option<u16>, now: u
     first_due_of(timers, listed_behind(listed, after), now)
 }
 
-/// The part of the list after a member of it, or the whole list.
+/// The part of the list after the timer `after`, or the whole list if `after` is `None`.
 fn listed_behind(listed: &[u16], after: Option<u16>) -> &[u16]
     ensures value { result.now ≡ behind after listed.now }
 {
@@ -197,14 +197,14 @@ fn listed_behind(listed: &[u16], after: Option<u16>) -> &[u16]
     }
 }
 
-/// The place of a number on the list.
+/// The place of a number on the list, if the number is on it.
 fn place_of(listed: &[u16], id: u16) -> Option<usize>
     ensures position { result ≡ position (λ other. other == id) listed.now }
 {
     listed.iter().position(|other| *other == id)
 }
 
-/// The first of these timers that is due.
+/// The first of these timers that is due now.
 fn first_due_of(timers: &[Timer], ids: &[u16], now: u64) -> Option<u16>
     requires are_timers { All (λ id. id < length timers.now) ids.now }
     ensures first_due { result ≡ find (λ id. is_due now (timer_at timers.now id)) ids.now }
@@ -228,14 +228,14 @@ fn earliest(timers: &[Timer], ids: &[u16]) -> Option<u64>
     earliest
 }
 
-/// The sooner of the best moment so far, if there is one, and another.
+/// The earlier of the best moment so far, if there is one, and another moment.
 fn sooner(best: Option<u64>, moment: u64) -> u64
     ensures value { result ≡ option_map_or (λ earlier. min earlier moment) best moment }
 {
     best.map_or(moment, |earlier| earlier.min(moment))
 }
 
-/// Returns whether the process owns this timer. Nobody owns a number without a timer.
+/// Returns whether the process owns the timer with this number. Nobody owns a timer that doesn't exist.
 fn is_owned(timers: &[Timer], id: u16, owner: Proc) -> bool
     ensures value { result ≡ is_owned_by owner (timer_at timers.now id) }
 {

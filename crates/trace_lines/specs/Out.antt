@@ -1,4 +1,4 @@
--- The output of the runs of a kernel.
+-- The output of a kernel's runs.
 use Rattle.std.specs.Prelude.{◌≡◌, ◌++◌, List}
 use Rattle.radio_packet.specs.declared.sent.Sent.{Sent}
 use Rattle.trace_lines.specs.declared.line.Line.{Line}

@@ -1,4 +1,4 @@
-//! The lines of a trace, and the output of a run of a mote: its lines and the packets that it sent.
+//! The lines of a trace, and the output of a mote's run: its lines and the packets that the mote sent.
 #![tactic(auto)]
 
 mod line;

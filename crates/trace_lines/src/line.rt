@@ -9,13 +9,13 @@ pub enum What {
     Start(Proc),
     /// A process leaves the process list.
     Leave(Proc),
-    /// An event was accepted, with this serial: its target, its number and its word.
+    /// The queue accepted an event: the event's serial, target, number and word.
     Post(u64, Target, u8, u16),
-    /// The queue was full, so the event was refused.
+    /// The queue was full and refused an event: the event's target, number and word.
     Full(Target, u8, u16),
     /// The event with this serial reaches a process.
     Take(u64, Proc),
-    /// The event with this serial was for a process that isn't, or is no longer, on the process list.
+    /// The event with this serial is dropped, because this process isn't, or is no longer, on the process list.
     Drop(u64, Proc),
     /// A process prints a value.
     Print(Proc, u16),
@@ -23,19 +23,20 @@ pub enum What {
     Busy(Proc),
     /// The mote halts for good.
     Halt,
-    /// A packet with this number and value is sent.
+    /// The mote sends a packet with this number and value.
     Send(u64, u16),
-    /// A packet went into the receive ring: the mote that sent it, its number among that mote's packets, its value.
+    /// The receive ring stored a packet: the mote that sent it, the packet's number among that mote's packets, its
+    /// value.
     Recv(u16, u64, u16),
-    /// A packet found the receive ring full.
+    /// The receive ring was full when a packet arrived (an overflow).
     Lost(u16, u64),
     /// A packet arrived at a mote whose program has no receiver.
     Deaf(u16, u64),
-    /// A packet was lost by a collision.
+    /// A collision destroyed a packet.
     Collide(u16, u64),
 }
 
-/// A line of a trace: its moment (a tick of the simulated clock), and its event.
+/// A line of a trace: its moment (a tick of the simulated clock) and its event.
 #[derive(Clone, Copy, Debug, PartialEq, Eq)]
 pub struct Line {
     pub at: u64,

@@ -1,4 +1,4 @@
-//! The output of the runs of a kernel.
+//! The output of a kernel's runs.
 
 ghost use Rattle.std.specs.Prelude.{◌≡◌, []};
 
@@ -6,7 +6,7 @@ use crate::line::Line;
 use radio_packet::Sent;
 use std::alloc::Global;
 
-/// The output of the runs of a kernel, in order.
+/// The output of a kernel's runs: the lines and the sent packets, each in order.
 #[derive(Debug, Drop)]
 pub struct Out {
     pub lines: Vec<Line>,
@@ -14,7 +14,7 @@ pub struct Out {
 }
 
 impl Out {
-    /// No lines and no packets.
+    /// An output without lines and packets.
     pub fn new(alloc: Global) -> Out
         ensures lines { result.lines.items ≡ [] }
         ensures sends { result.sends.items ≡ [] }

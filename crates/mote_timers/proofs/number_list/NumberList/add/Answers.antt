@@ -4,14 +4,14 @@ use Rattle.mote_timers.specs.Numbers.{Numbers, with_member}
 use Rattle.mote_timers.proofs.NumberLists.{AreNumbers-cons, length-lt_limit, same_numbers, lacks, takes, with_member-new}
 use Rattle.mote_timers.proofs.number_list.NumberList.add.Goals as goal
 
--- a number that is missing has room
+-- there is room for a number that isn't on the list
 pub unwrap-requires : goal.unwrap-requires
 unwrap-requires c =
     let missing = lacks _ _ _ _ c.self.view_is c.contains.ensures.value c.if-not-contains.true in
     let below = takes _ _ _ c.self.view_is c.requires.in_range in
     c.insert.ensures.succeeds (omega (arith, c.self.inside.members.ok.0, length-lt_limit c.args.number c.self.inside.members.items _ c.self.invariant below missing))
 
--- it is inserted at the front, without reallocation
+-- the number is inserted at the front, without reallocation
 items : (c : goal.After-unwrap) → c.insert.new.self.items ≡ c.args.number ∷ c.self.inside.members.items
 items c = rw c.unwrap.ensures at c.insert.ensures.items
 

@@ -8,7 +8,7 @@ use Rattle.mote_timers.proofs.ListedTimers.{AreTimers-filtered, lists}
 use Rattle.mote_timers.proofs.NumberLists.{same_numbers}
 use Rattle.mote_timers.proofs.timers.Timers.purge.Goals as goal
 
--- those that the process doesn't own are left
+-- the timers that the process doesn't own stay on the list
 left : (c : goal.After-retain) → c.retain.new.self ≡ numbers (filter (λ id. not (is_owned_by c.args.owner (timer_at c.self.inside.timers.items id))) c.self.inside.listed.members) c.self.inside.listed.limit
 left c = same_numbers _ _ (filter_same _ (λ id. not (is_owned_by c.args.owner (timer_at c.self.inside.timers.items id))) _ (λ x b f h. search rules) _ _ c.retain.ensures.kept) c.retain.ensures.limit
 
