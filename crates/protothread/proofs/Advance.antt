@@ -22,7 +22,7 @@ use Rattle.protothread.specs.Places.{part_body, yielding, Caller, innermost, cal
 use Rattle.protothread.specs.Reach.{reached_at, GoesOnAt, OperatesSo, AnswersSo}
 use Rattle.protothread.proofs.CallLaws.{callers_in-push, length-callers_in}
 
--- how many spawns a call passes, and the answer of a thread that yields
+-- the number of spawns that a call passes, and the answer of a thread that yields
 passed-before : (y : Bool) (ss : List (Statement ℕ)) → passed (before y ss) ≡ 0
 passed-before y [] = refl
 passed-before y (s ∷ ss) = refl
@@ -96,7 +96,7 @@ settled-at [] y s rest = refl
 settled-at (c ∷ []) y s rest = refl
 settled-at (c ∷ d ∷ cs) y s rest = ap (λ p. spawner_place c.thread p c.rest) (settled-at (d ∷ cs) y s rest)
 
--- after the end of a thread its spawner continues
+-- after the end of a thread, its spawner continues
 settled-end : (cs : List Caller) (c : Caller) → settled (nested (cs ++ c ∷ []) ended) ≡ settled (nested cs (before false c.rest))
 settled-end [] c = before_settled c.rest
   where
@@ -219,7 +219,7 @@ module _ (code : Code) (part : Part) (event : Event) (looks : Looks) where
       ∙ ap (λ cs. continued code part event looks (nested (callers_in code (part_body code t.part) cs) ended) vars units) none
       ∙ ends_at vars units
 
-  -- the end of a thread that was spawned
+  -- the end of a spawned thread
   pub leaves : (t : Thread) (cs : List Call) (c : Call) (new : Thread) (vars : List ℕ) (units : ℕ)
       → rest_at (body_of_thread code t) t.position ≡ [] → t.calls ≡ cs ++ c ∷ [] → new ≡ record t { is_yielded = false; position = c.next; calls = cs }
       → continued code part event looks (thread_place code t) vars units ≡ continued code part event looks (thread_place code new) vars units

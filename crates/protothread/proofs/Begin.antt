@@ -44,7 +44,7 @@ is_empty_so b (i ∷ flat) whole r is same e =
     never : (n : ℕ) → (suc n == 0) ≡ false
     never n = grind (arith, nat_tests)
 
--- the block of a thread spawns only threads before it, also if it is empty
+-- the block of a thread spawns only threads before itself, even if it is empty
 pub found_earlier : {A : Type 0} (tree : A → Body ℕ) (o : Option A) (n : ℕ) (bs : List (Body ℕ)) → option_map tree o ≡ slice_get bs n
     → IfSome o (λ b. n < 7) → IfSome o (λ b. IsTrue (block_fits (earlier_threads n) (tree b))) → block_fits (earlier_threads (before_number n)) (body_or_end (slice_get bs n)) ≡ true
 found_earlier tree None n bs is few earlier =

@@ -1,4 +1,4 @@
--- The nested spawned threads, when one is added at the innermost end.
+-- The nested spawned threads, after one more is added as the innermost.
 use Rattle.std.proofs.Common.{◌≡◌, ℕ, suc, ◌+◌, ◌-◌, min, ◌<◌, ◌≤◌, true, List, [], ◌∷◌, ◌++◌, length, Option, None, Some, refl, ap, sym, ◌∙◌, subst, arith}
 use Rattle.std.specs.Prelude.{slice_get}
 use Rattle.program_tree.specs.Tree.{Body, listed}
@@ -28,7 +28,7 @@ pub length-callers_in : (code : Code) (b : Body ℕ) (cs : List Call) → length
 length-callers_in code b [] = refl
 length-callers_in code b (c ∷ cs) = ap (λ n. suc n) (length-callers_in code (thread_body code c.thread) cs)
 
--- the threads that the innermost one can spawn
+-- the threads that the innermost thread can spawn
 below_last-push : (n : ℕ) (cs : List Call) (c : Call) → below_last n (cs ++ c ∷ []) ≡ before_number c.thread
 below_last-push n [] c = refl
 below_last-push n (d ∷ cs) c = below_last-push (before_number d.thread) cs c
@@ -63,7 +63,7 @@ nested-room (c ∷ cs) t h low = omega (arith, fall-length (before_number c.thre
     at_most : (k : ℕ) → min 7 k ≤ 7
     at_most k = omega arith
 
--- the last one
+-- the last thread
 pub last_is : (cs : List Call) (o : Option Call) → slice_get cs (length cs - 1) ≡ o → IsLast cs o
 last_is [] None h = refl
 last_is [] (Some c) h = absurd (cc)
@@ -114,7 +114,7 @@ is_found_in_last code t flat cs c is h below =
     let R : List Call → Type 0 = λ ds. SpawnsSo ds (thread_body code c.thread) in
     record { flat_of = subst P (sym same) h; earlier = subst Q (sym same) (subst R (sym is) (spawns_last cs c (thread_body code c.thread) below)) }
 
--- and that of a part that has spawned nothing
+-- and the code of a part that has spawned nothing
 pub is_found_in_part : (code : Code) (t : Thread) (flat : List Instruction) → t.calls ≡ [] → IsFlat (part_body code t.part) flat → IsFoundIn code t flat
 is_found_in_part code t flat none h =
     let b : Body ℕ = part_body code t.part in

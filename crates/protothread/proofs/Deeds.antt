@@ -1,4 +1,4 @@
--- Deeds by their statements.
+-- The effects of actions, by their statements.
 use Rattle.std.proofs.Common.{◌≡◌, ℕ, Bool, true, false, ◌&&◌, if◌then◌else◌, List, ◌++◌, ◌∷◌, None, refl, ap, sym}
 use Rattle.std.proofs.Common.{◌∙◌, arith}
 use Rattle.std.proofs.lemmas.Grind.{common_steps}
@@ -33,7 +33,7 @@ takes_where : (s : Statement ℕ) (b : Bool) (o : Op) → IsDoneBy s (if b then 
 takes_where s true o = tt
 takes_where s false o = tt
 
--- a deed that spawns is that of a `spawn`
+-- an effect that spawns a thread is that of a `spawn`
 pub done_by_action : (process : ℕ) (y : Bool) (vars : List ℕ) (event : Event) (looks : Looks) (a : Action ℕ)
     → IsDoneBy (does a) (deed_of process y vars event looks a)
 done_by_action process y vars event looks (assign i e) = tt
@@ -60,7 +60,7 @@ done_by_action process y vars event looks (reset t) = tt
 done_by_action process y vars event looks (restart_timer t) = tt
 done_by_action process y vars event looks (stop t) = tt
 
--- any value but 0 is true
+-- any value except 0 is true
 pub holds_true : (n : ℕ) → (n ≡ 0 → ⊥) → holds n ≡ true
 holds_true n h = grind (arith, common_steps)
 

@@ -1,4 +1,4 @@
--- A run follows its text.
+-- Each run of a thread follows its text.
 use Rattle.std.proofs.Common.{◌≡◌, ℕ, suc, ◌+◌, ◌-◌, ◌<◌, Bool, true, false, if◌then◌else◌, nat_lt, List, [], ◌∷◌}
 use Rattle.std.proofs.Common.{◌++◌, Option, None, Some, slice_set, refl, ap, sym, ◌∙◌, arith, append_assoc, subst}
 use Rattle.std.proofs.Common.{◌==◌}
@@ -34,7 +34,7 @@ use Rattle.protothread.specs.Reading.{spawn_in_state, restarted, restarted_last,
 use Rattle.protothread.specs.Reading.{ReadsAll, nothing_left, in_turn, breaks_off, ReadsThread, once, block_again}
 use Rattle.protothread.specs.Runs.{Runs, operated, operated_last, gave_up, gave_up_last, has_exited, has_ended}
 
--- a run from a remainder whose next step, with this many more units, is the same
+-- a run from a remainder, if its next step is the same with this many more units
 later_run : (code : Code) (more : ℕ) (r next : Remainder) (vars changed : List ℕ) (now : Sight) (later : List Sight) (h : List Happening) (out : Completion)
     → ((units : ℕ) → advanced_of code now.event now.looks r vars (units + more) ≡ advanced_of code now.event now.looks next changed units)
     → Runs code next changed now later h out → Runs code r vars now later h out
@@ -126,7 +126,7 @@ module _ (code : Code) (part : Part) where
       (λ units. ap (λ u. continued code part now.event now.looks p vars u) (one_more units) ∙ steps p now vars units live ∙ ap (λ r. follows code part now.event now.looks vars units r) does_so)
       run
 
-  -- two places that settle to the same
+  -- two places that are settled to the same place
   same_place : (p q : Place) (now : Sight) (later : List Sight) (vars : List ℕ) (h : List Happening) (out : Completion)
       → settled p ≡ settled q → From q now later vars h out → From p now later vars h out
   unfolding advanced_of
@@ -151,7 +151,7 @@ module _ (code : Code) (part : Part) where
       ∙ ap (λ u. continued code part now.event now.looks p vars u) (less_again units (passed p)))
       run
 
-  -- control is given up
+  -- the thread gives up control
   gives : (p q : Place) (a : PtState) (now next : Sight) (later : List Sight) (vars : List ℕ) (h : List Happening) (out : Completion)
       → IsLive p → state_number a < 2 → reached code whole vars now.event now.looks p ≡ answers a q
       → From q next later vars h out → From p now (next ∷ later) vars (gives_up a ∷ h) out
@@ -171,7 +171,7 @@ module _ (code : Code) (part : Part) where
       (gave_up_last _ (record { part = part; mark = AtRest; place = q }) vars vars now a
       (1, 0, steps p now vars 0 live ∙ ap (λ r. follows code part now.event now.looks vars 0 r) does_so) low))
 
-  -- a run after an `exit`: that of the whole thread ends, that of a spawned one continues after its spawn
+  -- a run after an `exit`: the run of the whole thread ends, and that of a spawned thread continues after its spawn
   abbrev Left : Option Place → (now : Sight) → (later : List Sight) → List ℕ → List Happening → Completion → Type 0
   Left None now later vars h out = (h ≡ []) × (out ≡ exits now later vars)
   Left (Some p) now later vars h out = From p now later vars h out
@@ -219,7 +219,7 @@ module _ (code : Code) (part : Part) where
     leaving = exits_so;
   }
 
-  -- a thread that is spawned there
+  -- a thread that is spawned at this place
   abbrev child : {home : List (Statement ℕ)} {y : PtState} (c : Context home y) (t : ℕ) (rest : List (Statement ℕ)) → Context (thread_block code t) Waiting
   child c t rest = record {
     place = λ p. c.place (within t p rest);

@@ -1,4 +1,4 @@
--- A run, one statement at a time: the device by which a run is compared with the reading of its text.
+-- Runs, one statement at a time. In this form the proofs compare a run with the reading of its text.
 use Rattle.std.proofs.Common.{◌≡◌, ℕ, zero, suc, ◌-◌, ◌<◌, true, false, nat_lt, List, [], ◌∷◌, refl, sym, arith, subst}
 use Rattle.program_tree.specs.Code.{Code}
 use Rattle.protothread.specs.declared.answer.PtState.{PtState}
@@ -46,7 +46,7 @@ module _ (code : Code) (part : Part) where
   StepOf G (at y s rest) now later vars h out = Behind G (reached code (whole_of code part) vars now.event now.looks (at y s rest)) now later vars h out
   StepOf G (within t p rest) now later vars h out = Behind G (reached code (whole_of code part) vars now.event now.looks (within t p rest)) now later vars h out
 
-  -- a run goes so from this place on, within n statements
+  -- a run from this place on, within n statements
   abbrev pub Goes : (n : ℕ) → Place → (now : Sight) → (later : List Sight) → List ℕ → List Happening → Completion → Type 0
   Goes zero p now later vars h out = ⊥
   Goes (suc n) p now later vars h out = StepOf (λ q call calls v k o. Goes n q call calls v k o) (settled p) now later vars h out
@@ -213,7 +213,7 @@ behind_last code part Yielded m q now vars low = (refl, refl)
 behind_last code part Exited m q now vars low = absurd (omega arith)
 behind_last code part Ended m q now vars low = absurd (omega arith)
 
--- every run goes so
+-- each run has this form
 pub runs_go : (code : Code) {r : Remainder} {vars : List ℕ} {now : Sight} {later : List Sight} {h : List Happening} {out : Completion}
     → Runs code r vars now later h out → (n : ℕ) × Held (λ q call calls v k o. Goes code r.part n q call calls v k o) r.mark r.place now later vars h out
 runs_go code (operated r next vars changed now call later o h out s run) =

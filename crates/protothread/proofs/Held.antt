@@ -28,7 +28,7 @@ held_before : (code : Code) (whole : List (Statement ℕ)) → IsHeld code whole
 held_before code [] = refl
 held_before code (s ∷ rest) = inr refl
 
--- a thread that gives up control is held
+-- a thread that gives up control is held at its place
 abbrev HeldBy : Code → (whole : List (Statement ℕ)) → Reached → Type 0
 HeldBy code whole (operates o Pausing p) = IsHeld code whole p
 HeldBy code whole (answers Waiting p) = IsHeld code whole p

@@ -1,4 +1,4 @@
--- Membership as a test.
+-- Membership in a list as a test.
 use Rattle.std.proofs.Common.{◌≡◌, ℕ, Bool, true, false, List, refl}
 use Rattle.std.proofs.lemmas.Bool.{eqb-true}
 use Rattle.std.specs.Prelude.{IsTrue, nat_eq, ◌↔◌}

@@ -1,5 +1,5 @@
--- A program names only its own processes: no operation of a thread is for a system process, and no event for all is an
--- exit.
+-- A program names only its own processes: no operation of a thread is for a system process, and no broadcast event is
+-- EXIT.
 use Rattle.std.proofs.Common.{ℕ, zero, suc, ◌≡◌, ◌-◌, Bool, true, false, ◌&&◌, if◌then◌else◌, List, arith}
 use Rattle.std.specs.Prelude.{nat_lt, not, slice_index, ◌==◌}
 use Rattle.program_tree.specs.declared.event.Event.{Event}
@@ -164,7 +164,7 @@ own_from (UnderWay into) code event looks r vars units = own_step code r.part ev
 own_from Pausing code event looks r vars units = tt
 own_from RunAway code event looks r vars units = tt
 
--- each operation of a step names own processes alone
+-- each operation of a step names only the program's own processes
 pub step_names_own : (code : Code) (event : Event) (looks : Looks) (r : Remainder) (vars : List ℕ) (units : ℕ)
     → StepNamesOwn (advanced_of code event looks r vars units).step
 step_names_own code event looks r vars units = own_from r.mark code event looks r vars units

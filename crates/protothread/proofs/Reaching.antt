@@ -1,4 +1,4 @@
--- The effect of the innermost thread on those around it, which is that of the code.
+-- The effect of the innermost thread on the threads around it, and of the code on all of them.
 use Rattle.std.proofs.Common.{◌≡◌, ℕ, Bool, true, false, if◌then◌else◌, List, [], ◌∷◌, ◌++◌, length, refl, ap, sym}
 use Rattle.std.proofs.Common.{◌∙◌, subst}
 use Rattle.std.proofs.lemmas.Bool.{ltb-true}
@@ -51,7 +51,7 @@ pub made_of-waits : (cs : List Caller) (vars : List ℕ) (p : Place) → made_of
 made_of-waits [] vars p = refl
 made_of-waits (c ∷ cs) vars p = ap (λ r. spawner_reached c.thread c.rest vars r) (made_of-waits cs vars p)
 
--- one that yields
+-- a thread that yields
 pub made_of-yields : (cs : List Caller) (vars : List ℕ) (p : Place) → made_of cs vars (answers Yielded p) ≡ answers (yielding (length cs)) (nested cs p)
 made_of-yields [] vars p = refl
 made_of-yields (c ∷ []) vars p = refl
@@ -85,7 +85,7 @@ deed_can cs s (Spawns t) by can = can t by
 deed_can cs s Restarts by can = tt
 deed_can cs s Exits by can = tt
 
--- and a statement spawns only threads before its own
+-- a statement spawns only threads before its own thread
 pub spawn_there : (cs : List Call) (b : Body ℕ) (place t : ℕ) (rest : List (Statement ℕ)) → SpawnsSo cs b → rest_at b place ≡ does (spawn t) ∷ rest → CanSpawn cs t
 spawn_there [] b place t rest so here = tt
 spawn_there (c ∷ cs) b place t rest so here =
@@ -132,22 +132,22 @@ leads_to_rest left_at (Loop c body after) here h = by_cases _ here h
     by_cases e (s ∷ rest) k = (s, rest, refl)
 
 module _ (code : Code) (old : Thread) (s : Statement ℕ) (rest : List (Statement ℕ)) (here : rest_at (body_of_thread code old) old.position ≡ s ∷ rest) where
-  -- going on at a place
+  -- the thread continues at a place
   pub moves_so : (mark : Mark) (p : ℕ) (new : Thread) → new ≡ record old { mark = mark; is_yielded = false; position = p }
       → thread_place code new ≡ nested (callers_of code old) (before false (rest_at (body_of_thread code old) p))
   moves_so mark p new moved = ap (λ t. thread_place code t) moved
 
-  -- staying at the statement
+  -- the thread stays at the statement
   pub stays_so : (mark : Mark) (y : Bool) (new : Thread) → new ≡ record old { mark = mark; is_yielded = y }
       → thread_place code new ≡ nested (callers_of code old) (at y s rest)
   stays_so mark y new moved = ap (λ t. thread_place code t) moved ∙ ap (λ l. nested (callers_of code old) (before y l)) here
 
-  -- beginning again
+  -- the thread begins again
   pub restarts_so : (mark : Mark) (new : Thread) → new ≡ record old { mark = mark; is_yielded = false; position = 0 }
       → thread_place code new ≡ nested (callers_of code old) (before false (listed (body_of_thread code old)))
   restarts_so mark new moved = moves_so mark 0 new moved ∙ ap (λ l. nested (callers_of code old) (before false l)) (rest_at-start (body_of_thread code old))
 
-  -- going on in a thread that is spawned
+  -- the thread continues in a thread that is spawned
   pub enters_thread : (c : Call) (new : Thread) → new ≡ record old { is_yielded = false; position = 0; calls = old.calls ++ c ∷ [] }
       → rest_at (body_of_thread code old) c.next ≡ rest
       → thread_place code new ≡ nested (callers_of code old) (within c.thread (before false (thread_block code c.thread)) rest)

@@ -1,9 +1,9 @@
--- Takes and signals, one after another.
+-- Takes and signals of a semaphore, one after another.
 use Rattle.std.proofs.Common.{◌≡◌, ℕ, ◌+◌, ◌-◌, ◌%◌, ◌^◌, List, [], ◌∷◌, refl, ap, sym, ◌∙◌, arith}
 use Rattle.std.proofs.Math.Nat.{mod-add-mod}
 use Rattle.protothread.specs.Semaphores.{Use, takes, signals, Counts, taken, signalled, CountsAreSignalsLessTakes}
 
--- one more on both sides
+-- one more is added on both sides
 next_alike : (m a b : ℕ) → a % m ≡ b % m → (a + 1) % m ≡ (b + 1) % m
 next_alike m a b h = sym (mod-add-mod a m 1) ∙ ap (λ r. (r + 1) % m) h ∙ mod-add-mod b m 1
 

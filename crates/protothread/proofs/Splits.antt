@@ -1,4 +1,4 @@
--- A text says the actions of its runs.
+-- The text of a thread describes the actions of its runs.
 use Rattle.std.proofs.Common.{◌≡◌, ℕ, zero, suc, ◌<◌, ◌≤◌, Bool, true, false, not, if◌then◌else◌, List, [], ◌∷◌, ◌++◌}
 use Rattle.std.proofs.Common.{Option, None, Some, slice_set, slice_index, refl, ap, sym, ◌∙◌, arith, append_assoc}
 use Rattle.std.proofs.Common.{subst, ◌==◌}
@@ -33,7 +33,7 @@ use Rattle.protothread.proofs.Follows.{IsLive, behind_end, is_true, is_false, he
 use Rattle.protothread.proofs.Goes.{Again, Behind, StepOf, Goes, entering, runs_go}
 use Rattle.protothread.specs.Runs.{Runs}
 
--- a run in two parts: statements with this completion, and those after them, within m statements
+-- a run in two parts: the statements with this completion, and the statements after them, within m statements
 record Split (R : List Happening → Completion → Type 0) (N : ℕ → Completion → List Happening → Completion → Type 0) (n : ℕ) (h : List Happening) (out : Completion) : Type 0 where
   became : Completion
   m : ℕ
@@ -44,7 +44,7 @@ record Split (R : List Happening → Completion → Type 0) (N : ℕ → Complet
   reads : R first became
   goes : N m became next out
 
--- the same; a restart takes at least one statement
+-- the same; a restart needs at least one statement
 record SplitAll (R : List Happening → Completion → Type 0) (N : ℕ → Completion → List Happening → Completion → Type 0) (n : ℕ) (h : List Happening) (out : Completion) : Type 0 where
   split : Split R N n h out
   fewer : Restarts split.became → split.m < n
@@ -63,7 +63,7 @@ mapped R Q N n l h k out a low same f s = record {
   goes = s.goes;
 }
 
--- the deeds that the rules `passes`, `assigns`, `performs` and `waits` of a reading are for
+-- the effects for which a reading has the rules `passes`, `assigns`, `performs` and `waits`
 abbrev IsOrdinary : StatementEffect → Type 0
 IsOrdinary Passes = Unit {0}
 IsOrdinary (Assigns i v) = Unit {0}
@@ -90,7 +90,7 @@ module _ (code : Code) (part : Part) where
   LeavesTo None vars now p = (q : Place) × (reached code whole vars now.event now.looks p ≡ answers Exited q)
   LeavesTo (Some b) vars now p = reached code whole vars now.event now.looks p ≡ goes_on vars b
 
-  -- the position of a thread with this block in the whole one
+  -- the position of a thread with this block in the whole block
   record Inside (home : List (Statement ℕ)) (yields : PtState) : Type 0 where
     place : Place → Place
     behind : Option Place

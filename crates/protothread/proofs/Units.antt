@@ -84,7 +84,7 @@ module _ (code : Code) (part : Part) (event : Event) (looks : Looks) where
       ap (λ u. continued code part event looks p vars u) added
       ∙ settles p vars (suc (units + n)) ∙ there (settled p) (subst P (settles p vars (suc units)) h) ∙ ap (λ a. with_more a n) (sym (settles p vars (suc units)))
 
-  -- a step that ran away is marked so
+  -- a step that ran away leaves the mark of a thread that has run away
   away : (units : ℕ) (p : Place) (vars : List ℕ) → (continued code part event looks p vars units).step ≡ step.Runaway
       → (continued code part event looks p vars units).remainder.mark ≡ RunAway
   away zero p vars =
@@ -158,7 +158,7 @@ more_from RunAway code event looks r vars units n h = absurd (h refl)
 pub more_units : MoreUnitsChangeNothing
 more_units code event looks r vars units n h = more_from r.mark code event looks r vars units n h
 
--- a call of a thread at rest, by whether its units are too few for the spawns that it passes
+-- a call of a thread at rest, by whether it has enough units for the spawns that it passes
 abbrev pub called : Code → Event → Looks → Remainder → (vars : List ℕ) (units : ℕ) → Bool → Advanced
 called code event looks r vars units b =
     if b then record { step = step.Runaway; remainder = record r { mark = RunAway }; variables = vars; units = 0 } else continued code r.part event looks r.place vars (units - passed r.place)

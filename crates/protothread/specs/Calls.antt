@@ -4,21 +4,21 @@ use Rattle.program_tree.specs.Scope.{block_fits, earlier_threads}
 use Rattle.program_tree.specs.Tree.{Body}
 use Rattle.protothread.specs.declared.calls.Call.{Call}
 
--- A process has at most 7 threads, and each spawns only threads before itself, those below this number.
+-- A thread can spawn the threads below this number. A process has at most 7 threads, and each spawns only earlier ones.
 abbrev pub before_number : (thread : ℕ) → ℕ
 before_number t = min 7 t
 
--- each is one that the one around it can spawn
+-- each thread is one that the thread around it can spawn; the number of the first is below `n`
 abbrev pub Fall : (n : ℕ) → List Call → Type 0
 Fall n [] = Unit {0}
 Fall n (c ∷ cs) = (c.thread < n) × Fall (before_number c.thread) cs
 
--- a part may spawn any thread
+-- nested threads of a part, which may spawn any thread
 abbrev pub AreNested : List Call → Type 0
 AreNested [] = Unit {0}
 AreNested (c ∷ cs) = Fall (before_number c.thread) cs
 
--- the threads that the innermost one can spawn are those below this number
+-- the innermost thread can spawn the threads below this number
 abbrev pub below_last : (n : ℕ) → List Call → ℕ
 below_last n [] = n
 below_last n (c ∷ cs) = below_last (before_number c.thread) cs
@@ -27,7 +27,7 @@ abbrev pub CanSpawn : List Call → (thread : ℕ) → Type 0
 CanSpawn [] t = Unit {0}
 CanSpawn (c ∷ cs) t = t < below_last (before_number c.thread) cs
 
--- and its block spawns no others
+-- the block of the innermost thread spawns no other threads
 abbrev pub SpawnsSo : List Call → Body ℕ → Type 0
 SpawnsSo [] b = Unit {0}
 SpawnsSo (c ∷ cs) b = block_fits (earlier_threads (below_last (before_number c.thread) cs)) b ≡ true

@@ -11,7 +11,7 @@ use Rattle.protothread.specs.Looks.{Looks}
 use Rattle.protothread.specs.Remainder.{Place, ended, at, within, before, Remainder, thread_block, whole_of}
 use Rattle.protothread.specs.Step.{Advanced, advanced_of, PaysFor}
 
--- a step that didn't run away is the same with more units, and as many more are left
+-- a step that didn't run away is the same with more units, and leaves that many more units
 abbrev pub MoreUnitsChangeNothing : Type 0
 MoreUnitsChangeNothing =
     (code : Code) (event : Event) (looks : Looks) (r : Remainder) (variables : List ℕ) (units more : ℕ)
@@ -32,7 +32,7 @@ RunAwayIsForGood =
       units = more;
     }
 
--- an operation costs at least one unit, and no step makes units
+-- an operation costs at least one unit, and no step adds units
 abbrev pub OperationsCostWork : Type 0
 OperationsCostWork =
     (code : Code) (event : Event) (looks : Looks) (r : Remainder) (variables : List ℕ) (units : ℕ)
@@ -49,14 +49,14 @@ is_wait (does pause) = true
 is_wait (does (acquire s)) = true
 is_wait s = false
 
--- A place in a thread whose block is `whole`: the thread, or the innermost of those that it spawned, is at a waiting
--- statement, or has restarted.
+-- A place in a thread whose block is `whole`: the thread, or the innermost thread that it spawned, is at a waiting
+-- statement or has restarted.
 abbrev pub IsHeld : Code → (whole : List (Statement ℕ)) → Place → Type 0
 IsHeld code whole ended = whole ≡ []
 IsHeld code whole (at yielded s rest) = IsTrue (is_wait s) ⊎ (before false whole ≡ at yielded s rest)
 IsHeld code whole (within t p rest) = IsHeld code (thread_block code t) p
 
--- after the post of a `pause` a thread is at a wait
+-- after the post of a `pause`, a thread is held at its place
 abbrev pub IsSound : Code → Remainder → Type 0
 IsSound code r = r.mark ≡ Pausing → IsHeld code (whole_of code r.part) r.place
 
@@ -66,7 +66,7 @@ pub record GivesUpAtAWait (code : Code) (a : Advanced) : Type 0 where
       → (a.remainder.mark ≡ AtRest) × IsHeld code (whole_of code a.remainder.part) a.remainder.place
   pub stays_sound : IsSound code a.remainder
 
--- control is given up only at waits, from a fresh thread on
+-- a thread that was fresh at first gives up control only at waits
 abbrev pub ControlIsGivenUpAtWaits : Type 0
 ControlIsGivenUpAtWaits =
     (code : Code) (event : Event) (looks : Looks) (r : Remainder) (variables : List ℕ) (units : ℕ)

@@ -28,17 +28,17 @@ part_body code (part.Callback timer) = body_or_end (callback_at code timer)
 abbrev pub thread_body : Code → (thread : ℕ) → Body ℕ
 thread_body code thread = body_or_end (slice_get code.thread_bodies thread)
 
--- the block of the innermost thread, given that of the outermost
+-- the block of the innermost thread, given the block of the outermost
 abbrev pub innermost : Code → Body ℕ → List Call → Body ℕ
 innermost code b [] = b
 innermost code b (c ∷ cs) = innermost code (thread_body code c.thread) cs
 
--- a thread that is spawned, and the rest after its spawn
+-- a spawned thread, and the rest after its spawn
 pub record Caller : Type 0 where
   pub thread : ℕ
   pub rest : List (Statement ℕ)
 
--- the threads that are spawned, from the outermost on
+-- the spawned threads, from the outermost to the innermost
 abbrev pub callers_in : Code → Body ℕ → List Call → List Caller
 callers_in code b [] = []
 callers_in code b (c ∷ cs) = record {
@@ -46,12 +46,12 @@ callers_in code b (c ∷ cs) = record {
   rest = rest_at b c.next;
 } ∷ callers_in code (thread_body code c.thread) cs
 
--- the position of a thread, given that of the innermost of its spawned threads
+-- the position of a thread, given the position of its innermost spawned thread
 abbrev pub nested : List Caller → Place → Place
 nested [] p = p
 nested (c ∷ cs) p = within c.thread (nested cs p) c.rest
 
--- the answer of a thread that yields, with this many spawned threads nested
+-- the answer of a thread that yields while this many spawned threads are nested in it
 abbrev pub yielding : (spawns : ℕ) → PtState
 yielding zero = Yielded
 yielding (suc n) = Waiting
@@ -62,7 +62,7 @@ body_of_thread code t = innermost code (part_body code t.part) t.calls
 abbrev pub callers_of : Code → Thread → List Caller
 callers_of code t = callers_in code (part_body code t.part) t.calls
 
--- the position of a thread: before the rest at its place in the block of the innermost thread
+-- the position of a thread: in the block of the innermost thread, before the rest at its place
 abbrev pub thread_place : Code → Thread → Place
 thread_place code t = nested (callers_of code t) (before t.is_yielded (rest_at (body_of_thread code t) t.position))
 
@@ -70,6 +70,6 @@ thread_place code t = nested (callers_of code t) (before t.is_yielded (rest_at (
 abbrev pub remainder_of : Code → Thread → Remainder
 remainder_of code t = record { part = t.part; mark = t.mark; place = thread_place code t }
 
--- the place to which a test leads
+-- the place at which a thread continues after a test
 abbrev pub place_by : (variables : List ℕ) → Event → Looks → Expression ℕ → (held failed : ℕ) → ℕ
 place_by vars event looks c held failed = if holds (value vars event looks c) then held else failed

@@ -1,4 +1,4 @@
--- The effect of the code of a thread at one statement.
+-- The effect of a thread's code at one statement.
 use Rattle.std.specs.Prelude.{ℕ, ◌≡◌, ◌≤◌, List, [], ◌∷◌, Option, None, Some}
 use Rattle.program_tree.specs.declared.event.Event.{Event}
 use Rattle.program_tree.specs.declared.instruction.Instruction.{Instruction}
@@ -22,29 +22,29 @@ use Rattle.protothread.specs.Step.{Reached, goes_on, operates, answers, spawner_
 use Rattle.protothread.specs.Step.{advanced_of, continued, PaysFor}
 use Rattle.protothread.specs.Places.{Caller, nested, body_of_thread, callers_of, thread_place, remainder_of}
 
--- the block of the innermost of the threads
+-- the block of the innermost thread
 abbrev pub home_of : Code → (whole : List (Statement ℕ)) → List Caller → List (Statement ℕ)
 home_of code whole [] = whole
 home_of code whole (c ∷ cs) = home_of code (thread_block code c.thread) cs
 
--- the effect of the innermost of the threads on the outermost
+-- the effect of the innermost thread on the outermost
 abbrev pub made_of : List Caller → (variables : List ℕ) → Reached → Reached
 made_of [] vars r = r
 made_of (c ∷ cs) vars r = spawner_reached c.thread c.rest vars (made_of cs vars r)
 
--- the effect of an action at the statement `s`, before the rest, on the thread
+-- the effect of an action on the thread, at the statement `s`, which is before the rest
 abbrev pub performed_at : Code → Thread → (variables : List ℕ) → (s : Statement ℕ) → (rest : List (Statement ℕ))
     → StatementEffect → Reached
 performed_at code t vars s rest d =
     made_of (callers_of code t) vars (performed code (listed (body_of_thread code t)) vars s rest d)
 
--- the effect of the statement `s`, before the rest, on the thread
+-- the effect of the statement `s`, which is before the rest, on the thread
 abbrev pub reached_at : Code → Thread → (variables : List ℕ) → Event → Looks → (s : Statement ℕ)
     → (rest : List (Statement ℕ)) → Reached
 reached_at code t vars event looks s rest =
     reached code (whole_of code t.part) vars event looks (nested (callers_of code t) (at t.is_yielded s rest))
 
--- a deed of a statement spawns the thread that the statement names
+-- if the effect spawns a thread, it is the thread that the statement names
 abbrev pub IsDoneBy : Statement ℕ → StatementEffect → Type 0
 IsDoneBy s (Spawns t) = s ≡ does (spawn t)
 IsDoneBy s d = Unit {0}
@@ -54,7 +54,7 @@ abbrev pub DeedCanSpawn : List Call → StatementEffect → Type 0
 DeedCanSpawn cs (Spawns t) = CanSpawn cs t
 DeedCanSpawn cs d = Unit {0}
 
--- a thread is in this flat code, that of its innermost thread, which spawns only threads before itself
+-- this flat code is that of the thread's innermost thread, which spawns only threads before itself
 pub record IsFoundIn (code : Code) (t : Thread) (flat : List Instruction) : Type 0 where
   pub flat_of : IsFlat (body_of_thread code t) flat
   pub earlier : SpawnsSo t.calls (body_of_thread code t)
@@ -80,7 +80,7 @@ pub record AnswersSo (code : Code) (made : Reached) (answer : PtState) (old new 
   pub variables : after ≡ vars
   pub made_so : made ≡ answers answer (thread_place code new)
 
--- the fate of the statement at which a thread is
+-- the outcome of the statement at the thread's position
 abbrev pub Reaches : Code → (made : Reached) → Reach → (old new : Thread) → (vars after : List ℕ) → Type 0
 Reaches code made (GoesOn flat) old new vars after = GoesOnAt code flat.now made old new after
 Reaches code made (Operates o) old new vars after = OperatesSo code made o old new vars after
@@ -94,7 +94,7 @@ pub record GoesOnFrom (old new : Thread) (units left : ℕ) : Type 0 where
       → advanced_of code event looks (remainder_of code old) vars units
       ≡ continued code old.part event looks (thread_place code old) vars left
 
--- a call that stops before it gets there
+-- a call that stops before it reaches the thread's position
 pub record StopsAtOnce (answer : Step) (old new : Thread) (units left : ℕ) : Type 0 where
   pub pays : PaysFor answer units left
   pub stops_so : (code : Code) (event : Event) (looks : Looks) (vars : List ℕ)

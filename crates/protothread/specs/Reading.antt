@@ -1,5 +1,5 @@
--- The meaning of a thread's block, read by its structure: the reading knows statements, blocks, threads and sights, and
--- nothing of how a thread keeps its place.
+-- The meaning of a thread's block, read by the structure of the block. The reading refers to statements, blocks,
+-- threads and sights, but not to the way in which a thread stores its place.
 use Rattle.std.specs.Prelude.{ℕ, ◌≡◌, true, false, List, [], ◌∷◌, ◌++◌, slice_set, Option, None, Some, if◌then◌else◌}
 use Rattle.program_tree.specs.declared.event.Event.{Event}
 use Rattle.program_tree.specs.declared.event.Proc.TheVariants.{Own}
@@ -21,20 +21,21 @@ use Rattle.protothread.specs.Value.{value, holds}
 use Rattle.protothread.specs.Remainder.{thread_block}
 use Rattle.protothread.specs.Step.{deed_of, other_block}
 
--- The sight of a thread each time that it is advanced: the answer to its last operation, the event, and its view of its
--- mote, which each operation may change.
+-- The sight of a thread each time it is advanced: the answer to its last operation, the event, and its view of its
+-- mote. Each operation may change this view.
 pub record Sight : Type 0 where
   pub answer : ℕ
   pub event : Event
   pub looks : Looks
 
--- a thread as its caller sees it, in order: operations, and each time that it yields control
+-- the actions of a thread that its caller sees, in order: its operations, and its answers when it yields control
 pub data Happening : Type 0 where
   operates : Op → Happening
   gives_up : PtState → Happening
 
--- The fate of statements: they were executed, or were left because the thread restarts or exits, and the thread
--- continues in the sight `now`, with the later ones after it; or the thread is still in them, and no sight is left.
+-- The outcome of statements. Either they were executed, or the thread left them because it restarts or exits. In both
+-- cases the thread continues in the sight `now`, with the later ones after it. Or the thread is still in the
+-- statements, and no sight is left.
 pub data Completion : Type 0 where
   done : (now : Sight) → (later : List Sight) → (variables : List ℕ) → Completion
   restarts : (now : Sight) → (later : List Sight) → (variables : List ℕ) → Completion
@@ -49,12 +50,12 @@ abbrev pub Restarts : Completion → Type 0
 Restarts (restarts now later vars) = Unit {0}
 Restarts out = ⊥
 
--- the variable after `into` gets the answer
+-- the variable after `into`, if there is one, gets the answer
 abbrev pub with_answer : (into : Option ℕ) → (variables : List ℕ) → (answer : ℕ) → List ℕ
 with_answer None vars answer = vars
 with_answer (Some i) vars answer = slice_set vars i answer
 
--- a statement that continues in the next sight
+-- the outcome of a statement after which the thread continues in the next sight
 abbrev pub resumed : (into : Option ℕ) → (later : List Sight) → (variables : List ℕ) → Completion
 resumed into [] vars = in_state vars
 resumed into (next ∷ later) vars = done next later (with_answer into vars next.answer)
@@ -66,7 +67,7 @@ deed code a now vars = deed_of code.number false vars now.event now.looks a
 abbrev pub meaning : Expression ℕ → Sight → (variables : List ℕ) → ℕ
 meaning e now vars = value vars now.event now.looks e
 
--- once it has yielded, a thread continues in the first sight in which the condition holds, and yields in each before
+-- a thread that has yielded continues in the first sight in which the condition holds, and yields in each sight before
 pub data Awaits (yields : PtState) (c : Expression ℕ) : (now : Sight) → (later : List Sight) → (variables : List ℕ)
     → List Happening → Completion → Type 0 where
   met : (now : Sight) (later : List Sight) (vars : List ℕ) → holds (meaning c now vars) ≡ true
@@ -91,14 +92,14 @@ mutual
         (vars : List ℕ)
         → deed code a now vars ≡ Operates o into
         → Reads code y (does a) now later vars (operates o ∷ []) (resumed into later vars)
-    -- WAITING, and then the statement again in the next sight: `wait_until`, `wait_while` and `acquire`
+    -- `wait_until`, `wait_while` and `acquire`: the answer WAITING, and then the statement again in the next sight
     waits : (y : PtState) (a : Action ℕ) (now next : Sight) (later : List Sight) (vars : List ℕ) (h : List Happening)
         (out : Completion)
         → deed code a now vars ≡ Waits → Reads code y (does a) next later vars h out
         → Reads code y (does a) now (next ∷ later) vars (gives_up Waiting ∷ h) out
     waits_last : (y : PtState) (a : Action ℕ) (now : Sight) (vars : List ℕ)
         → deed code a now vars ≡ Waits → Reads code y (does a) now [] vars (gives_up Waiting ∷ []) (in_state vars)
-    -- control is given up once
+    -- the thread gives up control once
     yields : (y : PtState) (now : Sight) (later : List Sight) (vars : List ℕ)
         → Reads code y (does yield) now later vars (gives_up y ∷ []) (resumed None later vars)
     yields_until : (y : PtState) (c : Expression ℕ) (now next : Sight) (later : List Sight) (vars : List ℕ)
@@ -107,7 +108,7 @@ mutual
         → Reads code y (does (yield_until c)) now (next ∷ later) vars (gives_up y ∷ h) out
     yields_until_last : (y : PtState) (c : Expression ℕ) (now : Sight) (vars : List ℕ)
         → Reads code y (does (yield_until c)) now [] vars (gives_up y ∷ []) (in_state vars)
-    -- CONTINUE to its own process, and then as `yield_until is(continue)`
+    -- a post of CONTINUE to the thread's own process, and then the same as for `yield_until is(continue)`
     pauses : (y : PtState) (now next second : Sight) (later : List Sight) (vars : List ℕ) (h : List Happening)
         (out : Completion)
         → Awaits y (is (sent (cast continue))) second later vars h out
@@ -119,7 +120,7 @@ mutual
     posts_last : (y : PtState) (now : Sight) (vars : List ℕ)
         → Reads code y (does pause) now [] vars
         (operates (Post (One (Own code.number)) (system_number Continue) 0) ∷ []) (in_state vars)
-    -- the block of the thread, in the same call; its spawner continues after the spawn if the thread ends or exits
+    -- the block of the spawned thread, in the same call; if that thread ends or exits, its spawner continues
     spawn_ends : (y : PtState) (t : ℕ) (now : Sight) (later : List Sight) (vars : List ℕ) (h : List Happening)
         (call : Sight) (calls : List Sight) (changed : List ℕ)
         → ReadsThread code Waiting (thread_block code t) now later vars h (done call calls changed)
@@ -165,7 +166,7 @@ mutual
         (vars : List ℕ) (h : List Happening) (out : Completion)
         → (IsDone out → ⊥) → Reads code y s now later vars h out → ReadsAll code y (s ∷ ss) now later vars h out
 
-  -- the effect of a thread with this block: after a `restart` the whole block again
+  -- the effect of a thread with this block; after a `restart`, the whole block is read again
   pub data ReadsThread (code : Code) : (yields : PtState) → List (Statement ℕ) → (now : Sight) → (later : List Sight)
       → (variables : List ℕ) → List Happening → Completion → Type 0 where
     once : (y : PtState) (block : List (Statement ℕ)) (now : Sight) (later : List Sight) (vars : List ℕ)

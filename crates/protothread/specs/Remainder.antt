@@ -7,19 +7,20 @@ use Rattle.protothread.specs.declared.part.Part.TheVariants as part
 use Rattle.protothread.specs.declared.thread.Mark.{Mark}
 use Rattle.protothread.specs.declared.thread.Mark.TheVariants.{AtRest}
 
--- The position of a thread: at its end; at a statement, which may have yielded, with the others that are left after it,
--- those of the innermost block first; or at the spawn of a thread, which has a position of its own, with the others.
+-- The position of a thread. The thread is at its end; or at a statement, which may have yielded, with the rest after
+-- it (the statements of the innermost block first); or at the spawn of a thread, which has a position of its own, with
+-- the rest after the spawn.
 pub data Place : Type 0 where
   ended : Place
   at : (is_yielded : Bool) → Statement ℕ → (rest : List (Statement ℕ)) → Place
   within : (thread : ℕ) → Place → (rest : List (Statement ℕ)) → Place
 
--- before these statements
+-- the position before these statements
 abbrev pub before : (is_yielded : Bool) → List (Statement ℕ) → Place
 before yielded [] = ended
 before yielded (s ∷ rest) = at yielded s rest
 
--- the spawner of a thread that is at its end continues after the spawn
+-- the position of a spawner; if the spawned thread is at its end, the spawner continues after the spawn
 abbrev pub spawner_place : (thread : ℕ) → Place → (rest : List (Statement ℕ)) → Place
 spawner_place thread ended rest = before false rest
 spawner_place thread p rest = within thread p rest
@@ -49,6 +50,6 @@ whole_of code part.OnPoll = statements_of code.on_poll
 whole_of code part.OnExit = statements_of code.on_exit
 whole_of code (part.Callback timer) = statements_of (callback_at code timer)
 
--- the whole block, at rest
+-- a fresh thread: it is at rest, before the whole block
 abbrev pub fresh_of : Code → Part → Remainder
 fresh_of code part = record { part = part; mark = AtRest; place = before false (whole_of code part) }

@@ -1,4 +1,4 @@
--- Runs of a thread: it is advanced once for each sight, with enough units of work, up to an answer 2 or 3.
+-- Runs of a thread. The thread is advanced once for each sight, with enough units of work, until it answers 2 or 3.
 use Rattle.std.specs.Prelude.{ℕ, ◌≡◌, ◌<◌, ◌↔◌, List, [], ◌∷◌}
 use Rattle.program_tree.specs.Code.{Code}
 use Rattle.protothread.specs.declared.answer.PtState.{PtState}
@@ -26,7 +26,8 @@ Steps code now r vars answer next changed =
 
 pub data Runs (code : Code) : Remainder → (variables : List ℕ) → (now : Sight) → (later : List Sight) → List Happening
     → Completion → Type 0 where
-  -- An operation. The thread gets its answer before it is advanced again; only a variable after `into` keeps it.
+  -- An operation. The thread gets the answer before it is advanced again, and keeps it only in a variable after
+  -- `into`.
   operated : (r next : Remainder) (vars changed : List ℕ) (now resumed : Sight) (later : List Sight) (o : Op)
       (h : List Happening) (out : Completion)
       → Steps code now r vars (step.Op o) next changed
@@ -51,7 +52,7 @@ pub data Runs (code : Code) : Remainder → (variables : List ℕ) → (now : Si
   has_ended : (r next : Remainder) (vars changed : List ℕ) (now : Sight) (later : List Sight)
       → Steps code now r vars (step.Done Ended) next changed → Runs code r vars now later [] (done now later changed)
 
--- the runs of a fresh thread are those of the text of its part
+-- the runs of a fresh thread are the runs of the text of its part
 abbrev pub RunsAreTheText : Type 0
 RunsAreTheText =
     (code : Code) (part : Part) (vars : List ℕ) (now : Sight) (later : List Sight) (h : List Happening)

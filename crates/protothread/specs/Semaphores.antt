@@ -1,11 +1,11 @@
--- The count of a semaphore over its uses.
+-- The count of a semaphore after its uses.
 use Rattle.std.specs.Prelude.{ℕ, ◌≡◌, ◌+◌, ◌-◌, ◌%◌, ◌^◌, ◌<◌, List, [], ◌∷◌}
 
 pub data Use : Type 0 where
   takes : Use
   signals : Use
 
--- a semaphore goes from one count to another by these uses, all of which can happen: nothing is taken at 0
+-- these uses take a semaphore from one count to another; all of them are possible: nothing is taken at 0
 abbrev pub Counts : (start : ℕ) → List Use → (count : ℕ) → Type 0
 Counts start [] count = start ≡ count
 Counts start (takes ∷ us) count = (0 < start) × Counts (start - 1) us count
@@ -21,7 +21,7 @@ signalled [] = 0
 signalled (takes ∷ us) = signalled us
 signalled (signals ∷ us) = 1 + signalled us
 
--- the count is the first one plus the signals minus those taken, modulo 65,536
+-- the count is the first count plus the number of signals minus the number of takes, modulo 65,536
 abbrev pub CountsAreSignalsLessTakes : Type 0
 CountsAreSignalsLessTakes =
     (start : ℕ) (uses : List Use) (count : ℕ) → Counts start uses count

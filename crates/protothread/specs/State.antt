@@ -1,4 +1,4 @@
--- The answer of a protothread, by its number in `pt.h`.
+-- The number of each answer of a protothread in `pt.h`.
 use Rattle.std.specs.Prelude.{ℕ}
 use Rattle.protothread.specs.declared.answer.PtState.{PtState}
 use Rattle.protothread.specs.declared.answer.PtState.TheVariants.{Waiting, Yielded, Exited, Ended}

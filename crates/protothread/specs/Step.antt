@@ -37,12 +37,13 @@ pub record Advanced : Type 0 where
   pub variables : List ℕ
   pub units : ℕ
 
--- continues after the statement if the test holds, and otherwise does the other action
+-- `Passes` if the test holds, and otherwise the other effect
 abbrev pub passes_where : Bool → (other : StatementEffect) → StatementEffect
 passes_where test other = if test then Passes else other
 
--- The effect of a statement without blocks in a process of this number, when it is reached, or when the thread is
--- resumed at it because it has yielded. A `pause` posts CONTINUE to its own process, and then waits for a CONTINUE.
+-- The effect of a statement without blocks in the process with this number. The thread has just reached the statement,
+-- or is resumed at it because it has yielded. A `pause` posts CONTINUE to its own process, and then waits for a
+-- CONTINUE.
 abbrev pub deed_of : (process : ℕ) → (is_yielded : Bool) → (variables : List ℕ) → Event → Looks → Action ℕ
     → StatementEffect
 deed_of process yielded vars event looks (assign i e) = Assigns i (value vars event looks e)
@@ -76,14 +77,14 @@ deed_of process yielded vars event looks (reset t) = Operates (op.Reset t) None
 deed_of process yielded vars event looks (restart_timer t) = Operates (op.RestartTimer t) None
 deed_of process yielded vars event looks (stop t) = Operates (op.Stop t) None
 
--- the effect of one statement on a thread: it continues with these variables from a place, stops with an operation and
--- this mark, or yields control
+-- the effect of one statement on a thread: the thread continues with these variables from a place, stops with an
+-- operation and this mark, or yields control
 pub data Reached : Type 0 where
   goes_on : (variables : List ℕ) → Place → Reached
   operates : Op → Mark → Place → Reached
   answers : PtState → Place → Reached
 
--- the effect of an action on the thread whose block is `whole`, at the statement `s` before the rest
+-- the effect of an action on the thread whose block is `whole`, at the statement `s`, which is before the rest
 abbrev pub performed : Code → (whole : List (Statement ℕ)) → (variables : List ℕ) → (s : Statement ℕ)
     → (rest : List (Statement ℕ)) → StatementEffect → Reached
 performed code whole vars s rest Passes = goes_on vars (before false rest)
@@ -92,7 +93,7 @@ performed code whole vars s rest (Operates o into) = operates o (UnderWay into) 
 performed code whole vars s rest (Pauses o) = operates o Pausing (at true s rest)
 performed code whole vars s rest Waits = answers Waiting (at false s rest)
 performed code whole vars s rest Yields = answers Yielded (at true s rest)
--- the thread is fresh, and called at once
+-- the spawned thread is fresh, and is called at once
 performed code whole vars s rest (Spawns t) = goes_on vars (within t (before false (thread_block code t)) rest)
 performed code whole vars s rest Restarts = answers Waiting (before false whole)
 performed code whole vars s rest Exits = answers Exited (before false whole)
@@ -106,8 +107,8 @@ statement_reached code whole yielded vars event looks (branch c a o) rest =
 statement_reached code whole yielded vars event looks (while c a) rest =
     goes_on vars (before false (if holds (value vars event looks c) then listed a ++ while c a ∷ rest else rest))
 
--- the effect of the spawned thread on its spawner: while it answers 0 or 1 the spawner answers 0, and on 2 or 3 the
--- spawner continues after the spawn
+-- the effect of the spawned thread on its spawner: while the thread answers 0 or 1, the spawner answers 0; after 2 or
+-- 3 the spawner continues after the spawn
 abbrev pub spawner_reached : (thread : ℕ) → (rest : List (Statement ℕ)) → (variables : List ℕ) → Reached → Reached
 spawner_reached thread rest vars (goes_on changed p) = goes_on changed (within thread p rest)
 spawner_reached thread rest vars (operates o mark p) = operates o mark (within thread p rest)
@@ -116,15 +117,15 @@ spawner_reached thread rest vars (answers Yielded p) = answers Waiting (within t
 spawner_reached thread rest vars (answers Exited p) = goes_on vars (before false rest)
 spawner_reached thread rest vars (answers Ended p) = goes_on vars (before false rest)
 
--- the effect of the statement at which a thread is; its block is `whole`
+-- the effect of the statement at the thread's position; the block of the thread is `whole`
 abbrev pub reached : Code → (whole : List (Statement ℕ)) → (variables : List ℕ) → Event → Looks → Place → Reached
 reached code whole vars event looks ended = answers Ended ended
 reached code whole vars event looks (at yielded s rest) = statement_reached code whole yielded vars event looks s rest
 reached code whole vars event looks (within t p rest) =
     spawner_reached t rest vars (reached code (thread_block code t) vars event looks p)
 
--- A thread that continues from this place: each statement that is reached costs a unit, and the end of a block or of a
--- spawned thread costs none.
+-- The step of a thread that continues from this place. Each statement that the thread reaches costs a unit. The end of
+-- a block or of a spawned thread costs none.
 abbrev pub continued : Code → Part → Event → Looks → Place → (variables : List ℕ) → (units : ℕ) → Advanced
 continued code part event looks place vars zero =
     elim (settled place) [
@@ -161,13 +162,13 @@ abbrev pub passed : Place → ℕ
 passed (within t p rest) = suc (passed p)
 passed p = 0
 
--- the answer of a thread that yields at this place: a spawner waits for the thread that it spawned
+-- the answer of a thread that yields at this place; a spawner answers WAITING
 abbrev pub yield_answer : Place → PtState
 yield_answer (within t p rest) = Waiting
 yield_answer p = Yielded
 
 -- A step of a thread with this remainder. A call of a thread at rest pays a unit for each spawn that it passes. After
--- the post of a `pause` the thread gives up control, and one that has run away stays so.
+-- the post of a `pause`, the thread gives up control. A thread that has run away runs away again.
 unfoldable pub advanced_of : Code → Event → Looks → Remainder → (variables : List ℕ) → (units : ℕ) → Advanced
 advanced_of code event looks r vars units =
     elim r.mark [
@@ -189,12 +190,12 @@ advanced_of code event looks r vars units =
       | RunAway ↦ record { step = step.Runaway; remainder = r; variables = vars; units = units }
     ]
 
--- a remainder and the variables once a thread knows the answer to a post
+-- the remainder and the variables of a thread that has got the answer to a post
 pub record Answered : Type 0 where
   pub remainder : Remainder
   pub variables : List ℕ
 
--- the variable named after `into`, if any, gets this answer, and no later one
+-- only the first answer counts: a variable named after `into` doesn't get a later one
 abbrev pub marked_answered : Mark → Mark
 marked_answered (UnderWay into) = UnderWay None
 marked_answered m = m
@@ -207,7 +208,7 @@ abbrev pub answered_of : Remainder → (variables : List ℕ) → (answer : ℕ)
 answered_of r vars answer =
     record { remainder = record r { mark = marked_answered r.mark }; variables = variables_answered r.mark vars answer }
 
--- an operation has cost a unit of work, and no step makes units
+-- an operation has cost at least one unit of work, and no step adds units
 abbrev pub PaysFor : Step → (before after : ℕ) → Type 0
 PaysFor (step.Op o) before after = after < before
 PaysFor (step.Done a) before after = after ≤ before

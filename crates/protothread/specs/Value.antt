@@ -13,7 +13,7 @@ use Rattle.program_tree.specs.Tree.{Expression, number, variable, word, sender, 
 use Rattle.program_tree.specs.Tree.{running, count, negation, binary}
 use Rattle.protothread.specs.Looks.{Looks}
 
--- the answer of a test as a value
+-- the result of a test as a value
 abbrev pub truth : Bool → ℕ
 truth b = if b then 1 else 0
 
@@ -41,7 +41,7 @@ applied Or a b = truth (holds a || holds b)
 abbrev pub is_event : Event → (number : ℕ) → (word : ℕ) → Bool
 is_event event n w = event.number == n && event.word == w
 
--- A variable is one of the code's, which the list has if it was made from that code.
+-- Each variable is one of the code, and the list has its value if the list was made from that code.
 abbrev pub value : (variables : List ℕ) → Event → Looks → Expression ℕ → ℕ
 value variables event looks (number n) = n
 value variables event looks (variable i) = slice_index variables i
@@ -50,7 +50,7 @@ value variables event looks sender = event.sender
 value variables event looks moment = looks.moment % 2 ^ 16
 value variables event looks mote = looks.mote
 value variables event looks (is e) = truth (event.number == any_number e)
--- TIMER of the timer, and EXITED of the process
+-- the event is TIMER of this timer, or EXITED of this process
 value variables event looks (fired t) = truth (is_event event (system_number system.Timer) t)
 value variables event looks (gone p) = truth (is_event event (system_number system.Exited) p)
 value variables event looks (expired t) = truth (list_any (λ u. t == u) looks.expired)

@@ -5,13 +5,13 @@ ghost use Rattle.protothread.specs.State.{state_number};
 /// The answer of a protothread when it yields control, as in Contiki's `pt.h`.
 #[derive(Clone, Copy, Debug, PartialEq, Eq)]
 pub enum PtState {
-    /// It waits for a condition (`PT_WAITING`).
+    /// The protothread waits for a condition (`PT_WAITING`).
     Waiting,
-    /// It yielded the processor once (`PT_YIELDED`).
+    /// The protothread yielded the processor once (`PT_YIELDED`).
     Yielded,
-    /// It left by itself (`PT_EXITED`).
+    /// The protothread exited (`PT_EXITED`).
     Exited,
-    /// It reached the end of its block (`PT_ENDED`).
+    /// The protothread reached the end of its block (`PT_ENDED`).
     Ended,
 }
 
@@ -28,7 +28,7 @@ impl PtState {
         }
     }
 
-    /// Returns whether the protothread is to be called again (`PT_SCHEDULE` of `pt.h`).
+    /// Returns whether the caller must call the protothread again (`PT_SCHEDULE` of `pt.h`).
     pub fn scheduled(self) -> bool
         ensures decides { IsTrue result ↔ (state_number self < 2) }
     {

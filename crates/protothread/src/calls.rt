@@ -5,18 +5,18 @@ ghost use Rattle.protothread.specs.Calls.{CanSpawn, IsLast};
 use arrayvec::ArrayVec;
 use std::marker::Model;
 
-/// The greatest depth to which spawned threads can be nested. A part may spawn any of the process's 7 threads, and a
-/// thread only those with a number below its own.
+/// The greatest depth of nested spawned threads. A part may spawn any of the process's 7 threads, and a thread may
+/// spawn only threads with a lower number than its own.
 const DEPTH: usize = 8;
 
-/// A thread that was spawned, and the place from which its spawner continues after the spawn.
+/// A spawned thread, and the place from which its spawner continues after the spawn.
 #[derive(Clone, Copy, Default)]
 pub(crate) struct Call {
     pub(crate) thread: u8,
     pub(crate) next: u16,
 }
 
-/// The threads that a thread has spawned, from the outermost on.
+/// The threads that a thread has spawned, from the outermost to the innermost.
 #[derive(Drop)]
 pub(crate) struct Calls {
     calls: ArrayVec<Call, DEPTH>,
@@ -35,7 +35,7 @@ impl Model for Calls {
 }
 
 impl Calls {
-    /// No threads.
+    /// An empty list of threads.
     pub(crate) fn new() -> Calls
         ensures empty { result ≡ [] }
     {
@@ -44,21 +44,21 @@ impl Calls {
         }
     }
 
-    /// The number of these threads.
+    /// The number of spawned threads.
     pub(crate) fn len(&self) -> usize
         ensures length { result ≡ length self.now }
     {
         self.calls.len()
     }
 
-    /// The innermost one.
+    /// The innermost thread, if any thread is spawned.
     pub(crate) fn last(&self) -> Option<Call>
         ensures is_last { IsLast self.now result }
     {
         self.calls.as_slice().last().copied()
     }
 
-    /// Adds one that the innermost one spawns.
+    /// Adds a thread that the innermost thread spawns.
     pub(crate) fn push(&mut self, call: Call)
         requires can_spawn { CanSpawn self.old call.thread }
         ensures appended { self.new ≡ self.old ++ call ∷ [] }
@@ -66,7 +66,7 @@ impl Calls {
         self.calls.push(call);
     }
 
-    /// Takes the innermost one away, if there is one.
+    /// Removes the innermost thread, if there is one, and returns it.
     pub(crate) fn pop(&mut self) -> Option<Call>
         ensures items { self.old ≡ self.new ++ option_to_list result }
         ensures variant { IsSome result ↔ (0 < length self.old) }

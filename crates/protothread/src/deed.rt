@@ -12,7 +12,7 @@ use program_tree::{Action, Event, Proc, SystemEvent, Target};
 /// The effect of a statement on the thread that has reached it.
 #[derive(Clone, Copy)]
 pub(crate) enum StatementEffect {
-    /// Nothing; the thread continues after it.
+    /// No effect: the thread continues after the statement.
     Passes,
     /// A variable gets a value.
     Assigns(u8, u16),
@@ -32,14 +32,14 @@ pub(crate) enum StatementEffect {
     Exits,
 }
 
-/// Continues if the test holds, and otherwise does the other action.
+/// Returns `Passes` if the test holds, and otherwise the other effect.
 fn passes_where(test: bool, other: StatementEffect) -> StatementEffect
     ensures value { result ≡ by_test test other }
 {
     if test { StatementEffect::Passes } else { other }
 }
 
-/// The effect of a statement in a process of this number.
+/// The effect of a statement in the process with this number.
 pub(crate) fn done_by<L: Look>(
     action: &Action,
     process: u8,

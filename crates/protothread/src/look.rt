@@ -2,11 +2,11 @@
 ghost use Rattle.std.specs.Prelude.{◌≡◌, ◌%◌, ◌^◌, ◌↔◌, IsTrue, Contains, slice_index};
 ghost use Rattle.protothread.specs.Looks.{Looks};
 
-/// A protothread's view of its mote. All five answers are of one fixed state of the kernel, the record `looks`.
+/// A protothread's view of its mote. All five functions answer for one fixed state of the kernel, the record `looks`.
 pub trait Look {
     ghost looks: { Self → Looks };
 
-    /// The moment, modulo 65,536.
+    /// The current moment, modulo 65,536.
     fn now(&self) -> u16
         ensures value { result ≡ (looks self.now).moment % 2 ^ 16 };
 
@@ -14,7 +14,7 @@ pub trait Look {
     fn mote(&self) -> u16
         ensures value { result ≡ (looks self.now).mote };
 
-    /// Returns whether a timer has expired: nobody owns it.
+    /// Returns whether a timer has expired, which means that nobody owns it.
     fn expired(&self, timer: u16) -> bool
         ensures decides { IsTrue result ↔ Contains (looks self.now).expired timer };
 

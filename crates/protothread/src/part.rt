@@ -9,7 +9,7 @@ ghost use Rattle.protothread.specs.Places.{body_or_end, part_body, thread_body};
 
 use program_tree::{FlatBlock, Instruction, ProcessText};
 
-/// A block of a process's text that a thread runs. One that the text lacks is empty.
+/// A block of a process's text that a thread runs. A block that the text lacks counts as empty.
 #[derive(Clone, Copy, Debug, PartialEq, Eq)]
 pub enum Part {
     Body,
@@ -41,7 +41,7 @@ pub(crate) fn thread_code(text: &ProcessText, thread: u8) -> &[Instruction]
 impl Part {
     ghost use Rattle.protothread.specs.Remainder.{whole_of};
 
-    /// The flat code of the part. The body is asked for most often, so it is looked for first.
+    /// The flat code of the part. Callers ask for the body most often, so this function tests for it first.
     #[inline(always)]
     pub(crate) fn code(self, text: &ProcessText) -> &[Instruction]
         ensures is_flat { IsFlat (part_body (code_of text.now) self) result.now }
@@ -66,7 +66,7 @@ impl Part {
         }
     }
 
-    /// Returns whether the part has no statement.
+    /// Returns whether the part has no statements.
     pub fn is_empty(self, text: &ProcessText) -> bool
         ensures decides { IsTrue result ↔ (whole_of (code_of text.now) self ≡ []) }
     {

@@ -3,7 +3,7 @@ ghost use Rattle.std.specs.Prelude.{◌≡◌, ◌+◌, ◌-◌, ◌%◌, ◌^�
 
 use std::marker::Model;
 
-/// A counting semaphore, as `pt-sem.h` of Contiki has it, with a count of 16 bits.
+/// A counting semaphore as in Contiki's `pt-sem.h`, with a count of 16 bits.
 #[derive(Clone, Copy, Debug, PartialEq, Eq)]
 pub struct Semaphore {
     count: u16,
@@ -34,10 +34,10 @@ impl Semaphore {
         self.count
     }
 
-    /// Subtracts one if the count is above 0. Returns whether it was.
+    /// Subtracts one if the count is above 0, and returns whether it was above 0.
     pub fn take(&mut self) -> bool
         ensures took { IsTrue result ↔ (0 < self.old) }
-        // At 0 nothing changes.
+        // A count of 0 stays 0.
         ensures count { self.new ≡ self.old - 1 }
     {
         if self.count == 0 {

@@ -2,24 +2,24 @@
 use crate::answer::PtState;
 use program_tree::{Proc, Target};
 
-/// An operation that the caller performs for the thread, with its operands evaluated.
+/// An operation, with evaluated operands, that the caller performs for the thread.
 #[derive(Clone, Copy, Debug, PartialEq, Eq)]
 pub enum Op {
-    /// Posts the event of this number with this word. The caller then calls `answer`.
+    /// Posts an event with this number and this word. The caller then calls `answer`.
     Post(Target, u8, u16),
-    /// Calls a process with the event of this number and this word, at once.
+    /// Calls a process at once, with an event of this number and this word.
     Synch(Proc, u8, u16),
     /// Requests a poll of a process.
     Poll(Proc),
     /// Starts a process.
     Start(Proc),
-    /// Exits a process.
+    /// Makes a process exit.
     Kill(Proc),
     /// Sets a timer to this interval.
     Set(u16, u16),
-    /// Lets a timer run its interval again from the time when it expired.
+    /// Sets a timer again with its interval, from the moment at which it expired.
     Reset(u16),
-    /// Lets a timer run its interval again from now.
+    /// Sets a timer again with its interval, from now.
     RestartTimer(u16),
     /// Stops a timer.
     Stop(u16),
@@ -27,19 +27,19 @@ pub enum Op {
     Send(u16),
     /// Prints a value.
     Print(u16),
-    /// Takes one from a semaphore, whose count is above 0.
+    /// Subtracts one from the count of a semaphore, which is above 0.
     Take(u8),
-    /// Adds one to a semaphore.
+    /// Adds one to the count of a semaphore.
     Signal(u8),
 }
 
 /// The answer of a thread that is advanced.
 #[derive(Clone, Copy, Debug, PartialEq, Eq)]
 pub enum Step {
-    /// An operation, after which it is advanced again with the same event.
+    /// An operation. After it, the caller advances the thread again with the same event.
     Op(Op),
-    /// It gave up control.
+    /// The thread gave up control.
     Done(PtState),
-    /// It needed a unit of work when none was left, and has run away for good.
+    /// The thread needed a unit of work when none was left. It has run away for good.
     Runaway,
 }

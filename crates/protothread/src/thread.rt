@@ -24,18 +24,19 @@ use program_tree::{Event, Expr, Instruction, ProcessText};
 /// The last action of a thread.
 #[derive(Clone, Copy)]
 enum Mark {
-    /// It answered `Done`, or is fresh.
+    /// The thread answered `Done`, or is fresh.
     AtRest,
-    /// It answered an operation. If that is a post whose answer this variable gets, it hasn't got it yet.
+    /// The thread answered an operation. If a variable is given, it hasn't got the answer to the post yet.
     UnderWay(Option<u8>),
-    /// It answered the post of a `pause`, and now gives up control.
+    /// The thread answered the post of a `pause`, and now gives up control.
     Pausing,
-    /// It answered `Runaway`.
+    /// The thread answered `Runaway`.
     RunAway,
 }
 
-/// A thread: the part that it runs, and its position. The position is a place in the flat code of the innermost of the
-/// threads that it has spawned, and each of these keeps the place from which its spawner continues.
+/// A thread: the part that it runs, and its position. The position is a place in the flat code of the innermost
+/// spawned thread or, if no thread is spawned, of the part. Each spawned thread keeps the place from which its spawner
+/// continues.
 #[derive(Drop)]
 pub struct Thread {
     part: Part,
@@ -45,7 +46,7 @@ pub struct Thread {
     calls: Calls,
 }
 
-/// The fate of a statement: the thread continues in this code, or stops.
+/// The outcome of a statement: the thread continues in this code, or stops.
 #[derive(Clone, Copy)]
 enum Reach<'a> {
     GoesOn(&'a [Instruction]),
@@ -53,7 +54,7 @@ enum Reach<'a> {
     Answers(PtState),
 }
 
-/// The place to which a test leads.
+/// The place at which a thread continues after a test.
 #[inline(always)]
 fn chosen<L: Look>(test: &Expr, vars: &Vars, event: &Event, look: &L, holds: u16, fails: u16) -> u16
     ensures value { result ≡ place_by vars.now event.now (L.looks look.now) (expression_of test.now) holds fails }
@@ -66,7 +67,7 @@ fn chosen<L: Look>(test: &Expr, vars: &Vars, event: &Event, look: &L, holds: u16
 }
 
 impl Thread {
-    /// A thread that has the whole part to do.
+    /// A thread that has yet to execute the whole part.
     pub fn fresh(part: Part) -> Thread
         ensures fresh { (code : Code) → remainder_of code result ≡ fresh_of code part }
     {
@@ -89,7 +90,8 @@ impl Thread {
         }
     }
 
-    /// The answer when the thread yields here: a spawner waits for the thread that it spawned.
+    /// The answer when the thread yields here. A spawner answers `Waiting`, because it waits for the thread that it
+    /// spawned.
     fn yield_answer(&self) -> PtState
         ensures value { result ≡ yielding (length self.now.calls) }
     {
@@ -99,7 +101,7 @@ impl Thread {
         }
     }
 
-    /// Continues at a place.
+    /// Makes the thread continue at a place.
     fn go_on(&mut self, position: u16)
         ensures after { self.new ≡ record self.old { is_yielded = false; position = position } }
     {
@@ -117,7 +119,7 @@ impl Thread {
         self.position = 0;
     }
 
-    /// Gives up control at the statement, which has yielded or not.
+    /// Gives up control at the statement, and records whether the statement has yielded.
     fn give_up(&mut self, is_yielded: bool)
         ensures after { self.new ≡ record self.old { mark = Mark.AtRest; is_yielded = is_yielded } }
     {
@@ -125,7 +127,7 @@ impl Thread {
         self.is_yielded = is_yielded;
     }
 
-    /// Executes the statement without blocks at the thread's position, after which the thread continues at `next`.
+    /// Executes the statement without blocks at the thread's position. `next` is the place after the statement.
     fn perform<'a>(
         &mut self,
         text: &'a ProcessText,
@@ -197,7 +199,7 @@ impl Thread {
         }
     }
 
-    /// Does the statement at the thread's position.
+    /// Executes the statement at the thread's position.
     fn reach<'a, L: Look>(
         &mut self,
         text: &'a ProcessText,
@@ -234,9 +236,9 @@ impl Thread {
         }
     }
 
-    /// Returns to the thread's position, and pays for the spawns that a new call passes. The step ends here if they
-    /// can't be paid for, if the post of a `pause` was the last action, or if the thread has run away. A thread that
-    /// continues after an operation, or is called without spawned threads, has nothing to pay: the most frequent case.
+    /// Returns to the thread's position, and pays for the spawns that a new call passes. The step ends here if too few
+    /// units are left for them, if the post of a `pause` was the last action, or if the thread has run away. Most
+    /// often there is nothing to pay, because the thread continues after an operation or has no spawned threads.
     #[inline(always)]
     #[tactic(auto, unfolding(crate::specs::Step::advanced_of))]
     fn resume(&mut self, fuel: &mut Fuel) -> Option<Step>
@@ -276,12 +278,12 @@ impl Thread {
         }
     }
 
-    /// Continues up to the next operation or answer. Each statement that the thread reaches costs a unit of work; so
-    /// do each further test of a `while`, each spawn that a call passes on its way to the thread's position, and, each
-    /// time the thread is resumed, the statement at that position. After the answers `Exited` and `Ended` the thread
-    /// is fresh; once it has run away, it always answers `Runaway`.
+    /// Continues up to the next operation or answer. The thread pays a unit of work for each statement that it
+    /// reaches, for each further test of a `while`, and for each spawn that a call passes on its way to the thread's
+    /// position. Each time it is resumed, it also pays one for the statement at that position. After the answers
+    /// `Exited` and `Ended` the thread is fresh. A thread that has run away always answers `Runaway`.
     ///
-    /// The text is the same at each call, and the variables are made from it.
+    /// Each call gets the same text, and the variables that were made from it.
     #[inline(always)]
     #[tactic(auto, unfolding(crate::specs::Step::advanced_of))]
     pub fn advance<L: Look>(
@@ -300,7 +302,7 @@ impl Thread {
               units = fuel.new;
             } }
         ensures pays { PaysFor result fuel.old fuel.new }
-        // There are as many variables as before, so `Vars::get` can read the same ones.
+        // The number of variables stays the same, so `Vars::get` can read the same variables.
         ensures kept { length vars.new ≡ length vars.old }
     {
         if let Some(step) = self.resume(fuel) {
@@ -334,8 +336,8 @@ impl Thread {
         }
     }
 
-    /// Tells the thread the answer of its post: 0 if the event was accepted, 1 if the queue was full. The variable
-    /// named after `into` gets it, if there is one.
+    /// Gives the thread the answer to its post: 0 if the queue accepted the event, 1 if the queue was full. The
+    /// variable named after `into`, if there is one, gets the answer.
     pub fn answer(&mut self, vars: &mut Vars, answer: u16)
         ensures exact { (code : Code)
             → answered_of (remainder_of code self.old) vars.old answer

@@ -11,7 +11,7 @@ use crate::look::Look;
 use crate::vars::Vars;
 use program_tree::{Event, Expr, Operator, SystemEvent};
 
-/// The value of an operator between two values.
+/// The value of an operator applied to two values.
 #[inline(always)]
 fn apply(operator: Operator, left: u16, right: u16) -> u16
     ensures value { result ≡ applied operator left right }
@@ -33,28 +33,28 @@ fn apply(operator: Operator, left: u16, right: u16) -> u16
     }
 }
 
-/// Returns whether this is the event with this word.
+/// Returns whether the event is this system event with this word.
 fn is_event(event: &Event, system: SystemEvent, word: u8) -> bool
     ensures value { result ≡ has_number_and_word event.now (system_number system) word }
 {
     event.number == system.number() && event.word == u16::from(word)
 }
 
-/// Returns whether a timer has expired; the contract states it by the list of those that have.
+/// Returns whether a timer has expired. The contract refers to the list of the expired timers.
 fn has_expired<L: Look>(look: &L, timer: u8) -> bool
     ensures value { result ≡ list_any (λ t. timer == t) (L.looks look.now).expired }
 {
     look.expired(u16::from(timer))
 }
 
-/// Returns whether a process is running or called; the contract states it by the list of those that are.
+/// Returns whether a process is running or called. The contract refers to the list of these processes.
 fn is_running<L: Look>(look: &L, process: u8) -> bool
     ensures value { result ≡ list_any (λ p. process == p) (L.looks look.now).running }
 {
     look.running(process)
 }
 
-/// The value of a number or a variable, which most operands are.
+/// The value of an operand, if it is a number or a variable. Most operands are.
 #[inline(always)]
 fn plain_value(operand: &Expr, vars: &Vars) -> Option<u16>
     ensures value { (event : Event) (looks : Looks)
@@ -67,7 +67,7 @@ fn plain_value(operand: &Expr, vars: &Vars) -> Option<u16>
     }
 }
 
-/// The value of a number, a variable or the event's word.
+/// The value of an operand, if it is a number, a variable or the event's word.
 #[inline(always)]
 fn plain_or_word(operand: &Expr, vars: &Vars, event: &Event) -> Option<u16>
     ensures value { (looks : Looks) → IfSome result
@@ -81,8 +81,8 @@ fn plain_or_word(operand: &Expr, vars: &Vars, event: &Event) -> Option<u16>
     }
 }
 
-/// The value of an expression with at most one operator, only by the variables and the event. It is inlined, so that
-/// the tests and assignments of most statements cost little.
+/// The value of an expression, if it has at most one operator and needs only the variables and the event. The function
+/// is inlined, so that the tests and assignments of most statements cost little.
 #[inline(always)]
 fn short_value(expression: &Expr, vars: &Vars, event: &Event) -> Option<u16>
     ensures value { (looks : Looks) → IfSome result
@@ -103,7 +103,7 @@ fn short_value(expression: &Expr, vars: &Vars, event: &Event) -> Option<u16>
     }
 }
 
-/// The same, but not inlined.
+/// The same as `short_value`, but not inlined.
 #[inline(never)]
 fn short_value_by_call(expression: &Expr, vars: &Vars, event: &Event) -> Option<u16>
     ensures value { (looks : Looks) → IfSome result
@@ -144,7 +144,7 @@ fn evaluate_tree<L: Look>(expression: &Expr, vars: &Vars, event: &Event, look: &
     }
 }
 
-/// The value of an expression, for statements that are common: no call is made if the expression is short.
+/// The value of an expression, for frequent statements: a short expression needs no call.
 #[inline(always)]
 pub(crate) fn evaluate<L: Look>(expression: &Expr, vars: &Vars, event: &Event, look: &L) -> u16
     ensures value { result ≡ value vars.now event.now (L.looks look.now) (expression_of expression.now) }
@@ -155,7 +155,7 @@ pub(crate) fn evaluate<L: Look>(expression: &Expr, vars: &Vars, event: &Event, l
     }
 }
 
-/// The value of an expression.
+/// The value of an expression, for less frequent statements: a short expression needs a call too.
 #[inline(always)]
 pub(crate) fn evaluate_by_call<L: Look>(
     expression: &Expr,

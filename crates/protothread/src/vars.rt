@@ -9,7 +9,8 @@ use std::marker::Model;
 /// The greatest number of variables of a process.
 const ROOM: usize = 64;
 
-/// The values of a process's variables, by the numbers of their declarations. They outlive each run of the body.
+/// The values of a process's variables, by the numbers of their declarations. They persist from one run of the body to
+/// the next.
 #[derive(Drop)]
 pub struct Vars {
     values: ArrayVec<u16, ROOM>,
@@ -24,7 +25,7 @@ impl Model for Vars {
 }
 
 impl Vars {
-    /// The variables of a text with the values of their declarations.
+    /// The variables of a text, with their first values.
     pub fn new(text: &ProcessText) -> Vars
         ensures starts { result ≡ (code_of text.now).starts }
     {
@@ -43,7 +44,7 @@ impl Vars {
         self.values[usize::from(variable)]
     }
 
-    /// The value of a variable of the text that these are made from. (There is no other variable; it would be 0.)
+    /// The value of a variable of the text from which these were made. (The value of any other number would be 0.)
     pub(crate) fn value(&self, variable: u8) -> u16
         ensures value { result ≡ slice_index self.now variable }
     {
@@ -55,7 +56,7 @@ impl Vars {
         }
     }
 
-    /// Gives a variable a value, if there is such a variable.
+    /// Assigns a value to a variable, if there is such a variable.
     pub(crate) fn set(&mut self, variable: u8, value: u16)
         ensures after { self.new ≡ slice_set self.old variable value }
     {
