@@ -13,7 +13,7 @@ use Rattle.program_tree.specs.Meaning.{expression_of, action_of, body_of, statem
 use Rattle.program_tree.specs.Flat.{rests, statement_rests, other_rests, rest_in, rest_at, Leads, Branches, Loops, IsFlat}
 use Rattle.program_tree.specs.Emits.{entry_of, other_entry_of, LeadFrom, Emits, EmitsStatement, EmitsOther, EmitsFirst}
 
--- there are as many rests as statements
+-- there are as many rests as there are statements
 mutual
   pub length-rests : (b : Body ℕ) (rest : List (Statement ℕ)) → length (rests b rest) ≡ size b
   length-rests end rest = refl
@@ -36,13 +36,13 @@ lead_both all n m (i ∷ a) b e h g = (h.0, lead_both all (n + 1) m a b (omega a
 rest_there : (all left right : List (List (Statement ℕ))) (x : List (Statement ℕ)) (n : ℕ) → all ≡ left ++ x ∷ right → length left ≡ n → rest_in all n ≡ x
 rest_there all left right x n is e = ap (λ l. rest_in l n) is ∙ get_or_at left x right [] n e
 
--- the first rest of a statement is its own
+-- the first rest of a statement is that of the statement itself
 statement_enters : (s : Statement ℕ) (all left right : List (List (Statement ℕ))) (rest : List (Statement ℕ)) (n : ℕ) → all ≡ left ++ (statement_rests s rest ++ right) → length left ≡ n → rest_in all n ≡ s ∷ rest
 statement_enters (does a) all left right rest n is e = rest_there all left right (does a ∷ rest) n is e
 statement_enters (branch c a o) all left right rest n is e = rest_there all left (rests a rest ++ other_rests o rest ++ right) (branch c a o ∷ rest) n is e
 statement_enters (while c a) all left right rest n is e = rest_there all left (rests a (while c a ∷ rest) ++ right) (while c a ∷ rest) n is e
 
--- a block is entered at its first statement
+-- a thread enters a block at its first statement
 pub enters : (b : Body ℕ) (all left right : List (List (Statement ℕ))) (rest : List (Statement ℕ)) (n after : ℕ)
     → all ≡ left ++ rests b rest ++ right → length left ≡ n → rest_in all after ≡ rest → rest_in all (entry_of b n after) ≡ listed b ++ rest
 enters end all left right rest n after is e follows = follows
@@ -206,7 +206,7 @@ first_more b s later after then old mid new p then_is q =
 pub first_all : (b : Body ℕ) (after : ℕ) (old new : List Instruction) → EmitsFirst b end after old new → Emits b after old new
 first_all b after old new p = record { more = p.more; extends = p.extends; counts = omega (arith, p.counts); leads = p.leads }
 
--- code to which a whole block was added is flat
+-- code is flat after a whole block was added to it
 each_leads : (all : List (List (Statement ℕ))) (n : ℕ) (code : List Instruction) (k : ℕ) (i : Instruction) → LeadFrom all n code → slice_get code k ≡ Some i → Leads (rest_in all) i (rest_in all (n + k))
 each_leads all n [] k i h found = absurd (cc)
 each_leads all n (j ∷ code) zero i h found =
@@ -220,7 +220,7 @@ each_leads all n (j ∷ code) (suc k) i h found =
     let Q : ℕ → Type 0 = λ m. Leads (rest_in all) i (rest_in all m) in
     subst Q there (each_leads all (n + 1) code k i h.1 found)
 
--- a block is entered at place 0
+-- a thread enters a block at place 0
 pub rest_at-start : (b : Body ℕ) → rest_at b 0 ≡ listed b
 unfolding rest_at
 rest_at-start end = refl

@@ -1,4 +1,4 @@
--- Places of names, as they are looked up in the set that holds the names.
+-- Places of names, as the set that stores the names finds them.
 use Rattle.std.proofs.Common.{◌≡◌, ℕ, suc, ◌+◌, ◌≤◌, ◌<◌, slice_index_or, List, [], ◌∷◌, ◌++◌, map, length, cond, not, ◌||◌, nat_lt, Bool, true, false, Option, Some, None, is_some, refl, ap, sym, ◌∙◌, arith, if◌then◌else◌}
 use Rattle.std.specs.List.{position, position_or_len, list_any}
 use Rattle.std.specs.Prelude.{string_bytes, String}
@@ -39,7 +39,7 @@ none_at n false h = refl
 absent : {X : Type 0} (p : X → Bool) (xs : List X) → position p xs ≡ None → list_any p xs ≡ false
 absent p xs h = none_before p xs (ltb-false _ _ (none_at (position_or_len p xs) (nat_lt (position_or_len p xs) (length xs)) h))
 
--- a new name goes last
+-- a new name is the last
 pub added : (keys keys' : List (String Global)) (names : List (List ℕ)) (name : String Global) (x : List ℕ) → map string_bytes keys ≡ names → string_bytes name ≡ x → place_of names x ≡ None
     → keys' ≡ (if list_any (λ k. bytes_eq (string_bytes name) (string_bytes k)) keys then keys else keys ++ name ∷ []) → map string_bytes keys' ≡ names ++ x ∷ []
 added keys keys' names name x is same new after =
@@ -54,7 +54,7 @@ same_bytes x y e = (bytes_eq-Decides x y).0 e
 pub bytes_same : (x : List ℕ) → bytes_eq x x ≡ true
 bytes_same x = (bytes_eq-Decides x x).1 refl
 
--- the name at the place of a name
+-- the name at the place where a name was found
 pub name_at : (names : List (List ℕ)) (x : List ℕ) (i : ℕ) → place_of names x ≡ Some i → slice_index_or names i [] ≡ x
 unfolding place_of
 name_at names x i e = sym (same_bytes _ _ (position-Some (λ y. bytes_eq x y) names i [] e).1)

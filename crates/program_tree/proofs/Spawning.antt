@@ -1,4 +1,4 @@
--- The threads spawned in a block, and in the rests of its flat code.
+-- The threads that are spawned in a block, and in the rests of its flat code.
 use Rattle.std.proofs.Common.{◌<◌, ◌≤◌}
 use Rattle.std.specs.List.{All}
 use Rattle.std.proofs.lemmas.Bool.{ltb-false}
@@ -63,7 +63,7 @@ rest_in_fits w [] place h = tt
 rest_in_fits w (r ∷ all) zero h = h.0
 rest_in_fits w (r ∷ all) (suc place) h = rest_in_fits w all place h.1
 
--- if a block fits, so does each statement at a place of its flat code
+-- if a block fits, each statement at a place of its flat code fits
 pub action_fits_there : (w : Within) (b : Body ℕ) (place : ℕ) (a : Action ℕ) (rest : List (Statement ℕ)) → block_fits w b ≡ true → rest_at b place ≡ does a ∷ rest → action_fits w a ≡ true
 unfolding rest_at
 action_fits_there w b place a rest h is =
@@ -78,7 +78,7 @@ none_flat = record { each = λ k i found. absurd (none k i found); outside = λ 
     none : (k : ℕ) (i : Instruction) → slice_get [] k ≡ Some i → ⊥
     none k i found = cc
 
--- a thread spawns earlier ones
+-- a thread spawns only earlier threads
 thread_fits : (w : ℕ → Within) (k : ℕ) (bs : List (Body ℕ)) (i : ℕ) (b : Body ℕ) → threads_fit w k bs ≡ true → slice_get bs i ≡ Some b → block_fits (w (k + i)) b ≡ true
 thread_fits w k [] i b f h = absurd (cc)
 thread_fits w k (c ∷ bs) zero b f h =
@@ -108,7 +108,7 @@ found_earlier now tree xs i None f is = tt
 found_earlier now tree xs i (Some b) f is =
     spawns_earlier (map tree xs) i (tree (now b)) f (slice_get-map tree xs i ∙ ap (option_map tree) (slice_get_read xs (length xs) i (now b) refl is.3.0 is.1))
 
--- the block itself, that there are at most seven, and that it is within the limits
+-- the block itself is found, there are at most seven threads, and the block is within the limits
 pub found_block : {R X : Type 0} (now : R → X) (tree : X → Body ℕ) (xs : List X) (i : ℕ) (o : Option R)
     → ItemBy now xs i i o → option_map (λ b. tree (now b)) o ≡ slice_get (map tree xs) i
 found_block now tree xs i None is =

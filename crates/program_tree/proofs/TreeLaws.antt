@@ -44,7 +44,7 @@ while_of-While e a =
 pub does_of-Do : (a : Action) → statement_of (Do a) ≡ does (action_of a)
 does_of-Do a = ap statement_of (sym (rolls-Do a)) ∙ fold-roll-Stmt (Statement ℕ) (Body ℕ) statement_layer block_layer (open_stmt.Do a)
 
--- how many statements there are in each
+-- the number of statements in each variant
 pub size_of-If : (s : Stmt) (e : Expr) (a : Block) (b : Option Block) → s ≡ If e a b
     → statement_size (statement_of s) ≡ suc (size (block_of a) + other_size (otherwise_of (option_map block_of b)))
 size_of-If s e a b is = ap statement_size (ap statement_of is ∙ branch_of-If e a b)

@@ -1,4 +1,4 @@
--- The canonical text of tokens: the spelling of each, and the space between it and the next.
+-- The canonical text of tokens: the spelling of each token, and the space between it and the next token.
 use Rattle.std.specs.Prelude.{ℕ, zero, suc, ◌+◌, ◌-◌, Bool, true, false, List, [], ◌∷◌, ◌++◌, codes, if◌then◌else◌}
 use Rattle.std.specs.Fmt.{decimal}
 use Rattle.program_tree.specs.Tokens as token
@@ -83,7 +83,7 @@ operator_sign operator.AtLeast = codes ">="
 operator_sign operator.And = codes "&&"
 operator_sign operator.Or = codes "||"
 
--- a bad token, which no program has, has an empty spelling
+-- a bad token has an empty spelling; no program has one
 abbrev pub spelling : Token → List ℕ
 spelling (token.Keyword k) = keyword_word k
 spelling token.Semicolon = codes ";"
@@ -99,13 +99,13 @@ spelling (token.Name x) = x
 spelling (token.Number n) = decimal n
 spelling token.Bad = []
 
--- how many braces are open after a token, from how many are open before it
+-- the number of open braces after a token, given the number before it
 abbrev pub braces_behind : (braces : ℕ) → Token → ℕ
 braces_behind braces token.OpenBrace = braces + 1
 braces_behind braces token.CloseBrace = braces - 1
 braces_behind braces t = braces
 
--- the words that are followed by `(` without a space
+-- the keywords that have a `(` after them without a space
 abbrev pub tells : Keyword → Bool
 tells word.Is = true
 tells word.Fired = true
@@ -115,7 +115,7 @@ tells word.Running = true
 tells word.Count = true
 tells k = false
 
--- Each of these takes a token and the tokens after it.
+-- Each of these definitions has two arguments: a token, and the tokens after it.
 
 -- the token ends its line
 abbrev pub ends_line : Token → List Token → Bool
@@ -135,7 +135,7 @@ is_close t (token.Close ∷ rest) = true
 is_close (token.Keyword k) (token.Open ∷ rest) = tells k
 is_close t rest = false
 
--- the depth of a line that begins with these tokens: a closing brace is indented as the line that opened it
+-- the depth of a line that begins with these tokens; a closing brace has the depth of the line that opened it
 abbrev pub line_depth : (braces : ℕ) → List Token → ℕ
 line_depth braces (token.CloseBrace ∷ rest) = braces - 1
 line_depth braces rest = braces

@@ -5,7 +5,7 @@ use Rattle.program_tree.specs.declared.timer.Timer.{Timer}
 
 -- The code of a process: its number; the names and first values of its variables, in order; the number of its first
 -- timer, the names of its event timers and, after them, of its callback timers with their blocks; its threads with
--- their blocks; the blocks that are run before the body at POLL and EXIT, if it has them; and the body.
+-- their blocks; the blocks that run before the body at POLL and EXIT, if the process has them; and the body.
 pub record Code : Type 0 where
   pub number : ℕ
   pub variables : List (List ℕ)
@@ -20,9 +20,9 @@ pub record Code : Type 0 where
   pub on_exit : Option (Body ℕ)
   pub body : Body ℕ
 
--- The names of the declared events; those of the semaphores and their first counts; the processes in order, those that
--- start at boot, and the one that radio packets go to; the code of each process; and the timers of both kinds, in
--- order.
+-- The names of the declared events; the names and the first counts of the semaphores; the processes in order, the
+-- processes that start at boot, and the process that gets the radio packets; the code of each process; and the timers
+-- of both kinds, in order.
 pub record Tree : Type 0 where
   pub events : List (List ℕ)
   pub semaphores : List (List ℕ)
@@ -33,12 +33,12 @@ pub record Tree : Type 0 where
   pub codes : List Code
   pub timers : List Timer
 
--- the block of a callback timer, by its number in the program
+-- the block of a callback timer, by the timer's number in the program
 abbrev pub callback_at : Code → (timer : ℕ) → Option (Body ℕ)
 callback_at c timer =
     if nat_le (c.first_timer + length c.etimers) timer then slice_get c.callbacks
     (timer - (c.first_timer + length c.etimers)) else None
 
--- the name of a declared event, by its number
+-- the name of a declared event, by the event's number
 abbrev pub declared_name : Tree → (number : ℕ) → Option (List ℕ)
 declared_name t number = if nat_le 0x8b number then slice_get t.events (number - 0x8b) else None

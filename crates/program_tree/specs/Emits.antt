@@ -14,13 +14,13 @@ abbrev pub other_entry_of : Otherwise ℕ → (place after : ℕ) → ℕ
 other_entry_of nothing place after = after
 other_entry_of (otherwise b) place after = entry_of b place after
 
--- the instructions from a place on have the local property
+-- the instructions from this place on have the local property
 abbrev pub LeadFrom : (all : List (List (Statement ℕ))) → (place : ℕ) → List Instruction → Type 0
 LeadFrom all place [] = Unit {0}
 LeadFrom all place (i ∷ is) = Leads (rest_in all) i (rest_in all place) × LeadFrom all (place + 1) is
 
--- `new` is `old` with instructions added: wherever their rests are among all rests, they have the local property,
--- provided that the rest at `after` is the one that follows.
+-- `new` is `old` with instructions added. If all rests contain the rests of these instructions at their places, and
+-- the rest at `after` is the one that follows, then the instructions have the local property.
 pub record Adds (added : (rest : List (Statement ℕ)) → List (List (Statement ℕ))) (count after : ℕ)
     (old new : List Instruction) : Type 0 where
   pub more : List Instruction
@@ -39,7 +39,7 @@ EmitsStatement s after old new = Adds (λ rest. statement_rests s rest) (stateme
 abbrev pub EmitsOther : Otherwise ℕ → (after : ℕ) → (old new : List Instruction) → Type 0
 EmitsOther o after old new = Adds (λ rest. other_rests o rest) (other_size o) after old new
 
--- the same for the first statements of a block, which these follow
+-- the same for the first statements of a block; the statements `later` follow them
 pub record EmitsFirst (b later : Body ℕ) (after : ℕ) (old new : List Instruction) : Type 0 where
   pub more : List Instruction
   pub extends : new ≡ old ++ more

@@ -1,5 +1,5 @@
--- Events as programs name them: by a keyword, or by the name of a declaration. The types say which of them is allowed
--- at which place.
+-- Events as programs name them: by a keyword, or by the name of a declaration. The types determine which events are
+-- allowed in which place.
 use Rattle.std.specs.Prelude.{ℕ, ◌+◌}
 use Rattle.program_tree.specs.Events.{system_number}
 use Rattle.program_tree.specs.declared.event.SystemEvent.TheVariants as event
@@ -25,7 +25,7 @@ pub data TestedEvent (Name : Type 0) : Type 0 where
   exited : TestedEvent Name
   timer : TestedEvent Name
 
--- the number of each; declared events follow the packet, in the order of their declaration
+-- the number of each event; declared events follow the packet, in the order of their declaration
 abbrev pub cast_number : BroadcastEvent ℕ → ℕ
 cast_number continue = system_number event.Continue
 cast_number msg = system_number event.Msg
@@ -44,7 +44,7 @@ any_number poll = system_number event.Poll
 any_number exited = system_number event.Exited
 any_number timer = system_number event.Timer
 
--- the same with each name changed
+-- the same event with its name changed
 abbrev pub cast_map : {A B : Type 0} → (A → B) → BroadcastEvent A → BroadcastEvent B
 cast_map f continue = continue
 cast_map f msg = msg

@@ -15,7 +15,7 @@ system_number Timer = 0x88
 system_number Com = 0x89
 system_number Packet = 0x8a
 
--- the word for it in programs and reports
+-- the word for the event in programs and reports
 abbrev pub system_word : SystemEvent → List ℕ
 system_word Init = codes "init"
 system_word Poll = codes "poll"

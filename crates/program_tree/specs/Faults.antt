@@ -1,4 +1,4 @@
--- The tokens of programs, and the first fault of tokens that are not a program.
+-- The tokens of programs, and the first error of tokens that don't form a program.
 use Rattle.std.specs.Prelude.{◌≡◌, ℕ, ◌+◌, ◌<◌, nat_lt, nat_le, List, [], ◌∷◌, ◌++◌, length, Bool, true, false, not}
 use Rattle.std.specs.Prelude.{◌&&◌, ◌||◌, IsTrue, Option, Some, None, ◌⊎◌}
 use Rattle.std.specs.Str.{bytes_eq}
@@ -16,7 +16,7 @@ use Rattle.program_tree.specs.declared.error.ReadErrorKind.TheVariants.{BadToken
 use Rattle.program_tree.specs.declared.error.ReadErrorKind.TheVariants.{NumberTooLarge, WaitInSimpleBlock, TooDeep}
 use Rattle.program_tree.specs.declared.error.ReadErrorKind.TheVariants.{TooMany, NoProcess, BadTarget}
 
--- the names in scope after some marks, those that `autostart` lists, and how many statements have begun
+-- the names in scope after some marks, the names that `autostart` lists, and the number of statements that have begun
 pub record Scope : Type 0 where
   pub names : NamesInScope
   pub starting : List Name
@@ -35,7 +35,7 @@ abbrev pub with_begun : Scope → Begun → Scope
 with_begun s none_begins = s
 with_begun s b = record s { statements = s.statements + 1 }
 
--- with one more mark
+-- the scope after one more mark
 abbrev pub scope_after : Scope → Mark → Scope
 scope_after s m = with_begun (with_role s m.role) m.begins
 
@@ -46,7 +46,7 @@ scope_from s (m ∷ ms) = scope_from (scope_after s m) ms
 abbrev pub scope_of : List Mark → Scope
 scope_of ms = scope_from nothing_yet ms
 
--- no further name of this class may be declared
+-- no more names of this class may be declared
 abbrev pub is_full : NamesInScope → Class → Bool
 is_full n an_event = nat_le 117 (length n.events)
 is_full n a_semaphore = nat_le 64 (length n.semaphores)
@@ -55,7 +55,7 @@ is_full n a_variable = nat_le 64 (length n.variables)
 is_full n a_timer = nat_le 64 (n.first_timer + length n.timers)
 is_full n a_thread = nat_le 7 (length n.threads)
 
--- a name in scope, but of another class than is expected
+-- a name that is in scope, but belongs to another class than the expected one
 abbrev pub is_other : NamesInScope → Class → Name → Bool
 is_other n c x = is_in_scope n x && not (is_a n c x)
 
@@ -63,7 +63,7 @@ abbrev pub is_own : Option Name → Name → Bool
 is_own None x = false
 is_own (Some own) x = bytes_eq own x
 
--- the token's part breaks this rule in this scope, that of the marks before it
+-- the role of the token breaks this rule in this scope, which is that of the marks before it
 abbrev pub role_breaks : ReadErrorKind → Scope → Role → Bool
 role_breaks UnknownName s (uses c x) = not (is_in_scope s.names x)
 role_breaks UnknownName s (spawns own x) = not (is_in_scope s.names x)
@@ -78,7 +78,7 @@ role_breaks BadTarget s (spawns own x) = is_other s.names a_thread x || is_own o
 role_breaks BadTarget s (starts x) = is_other s.names a_process x
 role_breaks k s r = false
 
--- the statement that begins breaks this rule
+-- the statement that begins here breaks this rule
 abbrev pub begun_breaks : ReadErrorKind → Scope → Begun → Bool
 begun_breaks WaitInSimpleBlock s wait = true
 begun_breaks TooMany s statement = nat_le 4096 s.statements
@@ -88,18 +88,18 @@ begun_breaks k s b = false
 abbrev pub breaks : ReadErrorKind → Scope → Mark → Bool
 breaks k s m = role_breaks k s m.role || begun_breaks k s m.begins
 
--- some program begins with the tokens before and the next of rest; at the end of the text, some program ends there
+-- some program begins with the tokens `before` and the first of `rest`; if `rest` is empty, some program ends there
 abbrev pub CanFollow : (before rest : List Token) → Type 0
 CanFollow before [] = (p : ProgramShape) × (tokens (program_marks p []) ≡ before)
 CanFollow before (t ∷ rest) =
     (p : ProgramShape) × (more : List Token) × (tokens (program_marks p []) ≡ before ++ (t ∷ more))
 
--- the text ends at a place at which `process` is allowed
+-- the text ends at a place where `process` is allowed
 abbrev pub LacksProcess : (before rest : List Token) → Type 0
 LacksProcess before [] = CanFollow before (token.Keyword Process ∷ [])
 LacksProcess before (t ∷ rest) = ⊥
 
--- in some program that begins with the tokens before and the next of rest, the latter breaks the rule
+-- in some program that begins with the tokens `before` and the first of `rest`, that first token breaks the rule
 pub record Breach (k : ReadErrorKind) (before rest : List Token) : Type 0 where
   pub shape : ProgramShape
   pub marks : List Mark
@@ -111,21 +111,21 @@ pub record Breach (k : ReadErrorKind) (before rest : List Token) : Type 0 where
   pub at : rest ≡ mark.token ∷ after
   pub broken : IsTrue (breaks k (scope_of marks) mark)
 
--- a fault at the first token of rest, or at the end of the text if rest is empty
+-- an error at the first token of `rest`, or at the end of the text if `rest` is empty
 abbrev pub IsFault : ReadErrorKind → (before rest : List Token) → Type 0
 IsFault BadToken before rest = (after : List Token) × (rest ≡ token.Bad ∷ after)
 IsFault Unexpected before rest = (CanFollow before rest ⊎ LacksProcess before rest) → ⊥
 IsFault NoProcess before rest = LacksProcess before rest
 IsFault k before rest = Breach k before rest
 
--- the fault at the earliest token; of several there, the one with the least number
+-- the error at the earliest token; if there are several at this token, the one with the least number
 pub record IsFirstFault (k : ReadErrorKind) (before rest : List Token) : Type 0 where
   pub here : IsFault k before rest
   pub least : (j : ReadErrorKind) → kind_number j < kind_number k → IsFault j before rest → ⊥
   pub earliest : (b r : List Token) (j : ReadErrorKind) → before ++ rest ≡ b ++ r → length b < length before
       → IsFault j b r → ⊥
 
--- the tokens of a program, at which no rule is broken
+-- the tokens of a program, none of which breaks a rule
 pub record IsProgram (p : ProgramShape) (text : List Token) : Type 0 where
   pub spelled : tokens (program_marks p []) ≡ text
   pub sound : (b r : List Token) (j : ReadErrorKind) → text ≡ b ++ r → IsFault j b r → ⊥

@@ -6,9 +6,9 @@ use Rattle.program_tree.specs.Tree.{Expression, Statement, Body, Otherwise, does
 use Rattle.program_tree.specs.Tree.{otherwise, listed, other_block}
 use Rattle.program_tree.specs.Meaning.{expression_of, action_of}
 
--- Each statement has a place, in the order of the text: the statements of an inner block come after the one that it
--- belongs to. The rest at a place is its remainder: its statement, those after it in its block, and those that follow
--- that block.
+-- Each statement has a place, in the order of the text: the statements of an inner block are after the statement that
+-- has the block. The rest at a place is all that remains there: the statement, the statements after it in its block,
+-- and the statements that follow that block.
 abbrev mutual
   pub rests : Body ℕ → (after : List (Statement ℕ)) → List (List (Statement ℕ))
   rests end after = []
@@ -23,7 +23,7 @@ abbrev mutual
   other_rests nothing after = []
   other_rests (otherwise b) after = rests b after
 
--- the rest at a place, given all rests; nothing is left at any other place
+-- the rest at a place, given all rests; at any other place nothing is left
 abbrev pub rest_in : List (List (Statement ℕ)) → (place : ℕ) → List (Statement ℕ)
 rest_in all place = slice_index_or all place []
 
@@ -31,7 +31,7 @@ rest_in all place = slice_index_or all place []
 unfoldable pub rest_at : Body ℕ → (place : ℕ) → List (Statement ℕ)
 rest_at b place = rest_in (rests b []) place
 
--- an `if` is here, and leads to the rests of its two outcomes
+-- the rest here begins with an `if`; the places `then` and `other` have the rests of its two outcomes
 abbrev pub Branches : (at : ℕ → List (Statement ℕ)) → Expression ℕ → (then other : ℕ) → (here : List (Statement ℕ))
     → Type 0
 Branches at c then other (branch d inner else ∷ after) =
@@ -45,14 +45,14 @@ Loops at c body after (while d inner ∷ rest) =
     (d ≡ c) × (at after ≡ rest) × (at body ≡ listed inner ++ while d inner ∷ rest)
 Loops at c body after here = ⊥
 
--- The local property of an instruction: it is that of the first statement of the rest here, and it leads to the rests
--- that this statement leaves.
+-- The local property of an instruction: it is the instruction of the first statement of the rest here, and it leads to
+-- the rests that remain after this statement.
 abbrev pub Leads : (at : ℕ → List (Statement ℕ)) → Instruction → (here : List (Statement ℕ)) → Type 0
 Leads at (Act a after) here = here ≡ does (action_of a) ∷ at after
 Leads at (Branch c then other) here = Branches at (expression_of c) then other here
 Leads at (Loop c body after) here = Loops at (expression_of c) body after here
 
--- Flat code of a block: each of its instructions has the local property, and there is one for each rest.
+-- Flat code of a block: each instruction has the local property, and there is one instruction for each rest.
 pub record IsFlat (b : Body ℕ) (code : List Instruction) : Type 0 where
   pub each : (k : ℕ) (i : Instruction) → slice_get code k ≡ Some i → Leads (rest_at b) i (rest_at b k)
   pub outside : (k : ℕ) → length code ≤ k → rest_at b k ≡ []

@@ -9,8 +9,8 @@ use Rattle.program_tree.specs.declared.keyword.Keyword.TheVariants.{Start, Kill,
 use Rattle.program_tree.specs.declared.keyword.Keyword.TheVariants.{From, Now, Own, Is, Fired, Expired, Gone, Running}
 use Rattle.program_tree.specs.declared.keyword.Keyword.TheVariants.{Count}
 
--- one token: a name of a class, or an event. `cast` is one that may be broadcast, `sent` one that may be sent to a
--- process, and `any` one that a process may get.
+-- One token: a name of a class, or an event. `cast` is an event that may be broadcast, `sent` is an event that may be
+-- sent to a process, and `any` is an event that a process may get.
 pub data Operand : Type 0 where
   name : Class → Operand
   cast : Operand
@@ -24,7 +24,7 @@ pub data Form : Type 0 where
   -- `;`, or `into`, a variable and `;`
   tells : Form
   takes : Operand → Form → Form
-  -- an expression, and more
+  -- an expression, and the operands after it
   values : Form → Form
 
 -- the role of a keyword at the beginning of a statement
@@ -64,7 +64,7 @@ beginning RestartTimer = action (takes (name a_timer) ends)
 beginning Stop = action (takes (name a_timer) ends)
 beginning k = no_statement
 
--- the statements that a simple block may not have
+-- the statements that are not allowed in a simple block
 abbrev pub waits : Keyword → Bool
 waits WaitUntil = true
 waits WaitWhile = true
@@ -77,7 +77,7 @@ waits Pause = true
 waits Acquire = true
 waits k = false
 
--- the role of a keyword in an expression: none, a value by itself, or a question about something in parentheses
+-- the role of a keyword in an expression: none, a value by itself, or a question about the thing in parentheses
 pub data Word : Type 0 where
   no_value : Word
   alone : Word

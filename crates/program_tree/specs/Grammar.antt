@@ -1,4 +1,4 @@
--- The grammar: how each shape is spelled, as tokens with the parts that they play.
+-- The grammar: each shape is spelled as tokens, and each token has a role.
 use Rattle.std.specs.Prelude.{ℕ, ◌+◌, List, [], ◌∷◌, map, Bool, true, false, Option, Some, None, if◌then◌else◌, ◌&&◌}
 use Rattle.program_tree.specs.Forms as form
 use Rattle.program_tree.specs.Forms.{Operand, Form, ends, tells, takes, values, Beginning, action, beginning, waits}
@@ -19,18 +19,18 @@ use Rattle.program_tree.specs.Tree.{Body, end, next, Otherwise, nothing, otherwi
 use Rattle.program_tree.specs.declared.keyword.Keyword.{Keyword}
 use Rattle.program_tree.specs.declared.keyword.Keyword.TheVariants as word
 
--- the context of a block or an expression: how many levels deep, in a simple block or not, and in the block of which
--- thread
+-- the context of a block or an expression: the number of levels around it, whether it is in a simple block, and the
+-- thread whose block it is in
 pub record Context : Type 0 where
   pub level : ℕ
   pub simple : Bool
   pub thread : Option Name
 
--- one level deeper
+-- the context one level deeper
 abbrev pub inner : Context → Context
 inner c = record c { level = c.level + 1 }
 
--- the blocks of a body, of a callback, `onpoll` or `onexit`, and of a thread
+-- the contexts of a body; of a callback, `onpoll` or `onexit`; and of a thread
 abbrev pub at_body : Context
 at_body = record { level = 0; simple = false; thread = None }
 
@@ -40,16 +40,16 @@ at_simple = record { level = 0; simple = true; thread = None }
 abbrev pub at_thread : Name → Context
 at_thread x = record { level = 0; simple = false; thread = Some x }
 
--- the part that a token plays
+-- the role of a token
 pub data Role : Type 0 where
   plain : Role
   -- a new name of this class
   new : Class → Name → Role
-  -- a name of something of this class
+  -- the name of something of this class
   uses : Class → Name → Role
-  -- the thread that is spawned, in the block of a thread or not
+  -- the name of a thread in a `spawn`, which may be in the block of a thread
   spawns : (own : Option Name) → Name → Role
-  -- a process in `autostart`
+  -- the name of a process in `autostart`
   starts : Name → Role
   value : (number : ℕ) → Role
   -- the sign that opens a level
@@ -57,11 +57,11 @@ pub data Role : Type 0 where
   -- the last brace of a code
   leaves : Role
 
--- the part that begins with a token
+-- the part of a program that begins with a token
 pub data Begun : Type 0 where
   none_begins : Begun
   statement : Begun
-  -- one that waits, in a simple block
+  -- a statement that waits, in a simple block
   wait : Begun
 
 pub record Mark : Type 0 where
@@ -98,7 +98,7 @@ begins_with c k = record {
   begins = if c.simple && waits k then wait else statement;
 }
 
--- The marks of each part in its context, followed by the marks `after` it.
+-- The marks of each part in its context, and then the marks `after` the part.
 
 abbrev pub used : Context → Class → Name → Role
 used c a_thread x = spawns c.thread x
@@ -128,7 +128,7 @@ operand_mark c form.cast e = cast_mark e
 operand_mark c form.sent e = sent_mark e
 operand_mark c form.any e = any_mark e
 
--- the operands after a keyword of an expression; its parentheses don't count as a level
+-- the operands after a keyword of an expression; their parentheses don't count as a level
 abbrev pub word_marks : Context → (w : Word) → WordShape w → (after : List Mark) → List Mark
 word_marks c no_value v after = absurd v
 word_marks c alone v after = after
@@ -208,7 +208,7 @@ abbrev mutual
       begins_with c word.While ∷ expression_marks c e
       (opening token.OpenBrace (c.level + 1) ∷ items_marks (inner c) a after)
 
-  -- the statements of a block, and its closing brace
+  -- the statements of a block, and the block's closing brace
   pub items_marks : Context → Body Name → (after : List Mark) → List Mark
   items_marks c end after = sign token.CloseBrace ∷ after
   items_marks c (next s b) after = statement_marks c s (items_marks c b after)
@@ -221,7 +221,7 @@ abbrev mutual
 abbrev pub block_marks : Context → Body Name → (after : List Mark) → List Mark
 block_marks c b after = opening token.OpenBrace (c.level + 1) ∷ items_marks (inner c) b after
 
--- The parts of a code.
+-- The marks of the parts of a code.
 
 abbrev pub variable_marks : List Valued → (after : List Mark) → List Mark
 variable_marks [] after = after
@@ -260,7 +260,7 @@ content_marks c after =
     variable_marks c.variables (etimer_marks c.etimers (ctimer_marks c.ctimers (thread_marks c.threads
     (handler_marks word.OnPoll c.on_poll (handler_marks word.OnExit c.on_exit (body_marks c.body after))))))
 
--- a code's own braces don't count as a level
+-- the braces around a code don't count as a level
 abbrev pub code_marks : Name × CodeShape → (after : List Mark) → List Mark
 code_marks p after = key word.Code ∷ (sign (token.Name p.0) ∷ (sign token.OpenBrace ∷ content_marks p.1 after))
 
@@ -268,7 +268,7 @@ abbrev pub codes_marks : List (Name × CodeShape) → (after : List Mark) → Li
 codes_marks [] after = after
 codes_marks (p ∷ ps) after = code_marks p (codes_marks ps after)
 
--- The text before the codes.
+-- The marks of the text before the codes.
 
 abbrev pub event_marks : List Name → (after : List Mark) → List Mark
 event_marks [] after = after
@@ -280,7 +280,7 @@ semaphore_marks (v ∷ vs) after =
     key word.Semaphore ∷ (named v.0 (new a_semaphore v.0)
     ∷ (sign token.Equals ∷ (valued v.1 ∷ (sign token.Semicolon ∷ semaphore_marks vs after))))
 
--- the further names of the process line, each after a comma, and its semicolon
+-- the names of the process line after the first, each after a comma, and the semicolon of the line
 abbrev pub process_marks : List (Name × CodeShape) → (after : List Mark) → List Mark
 process_marks [] after = sign token.Semicolon ∷ after
 process_marks (p ∷ ps) after = sign token.Comma ∷ (named p.0 (new a_process p.0) ∷ process_marks ps after)

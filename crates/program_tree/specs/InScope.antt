@@ -5,12 +5,12 @@ use Rattle.program_tree.specs.Shapes.{Name}
 use Rattle.program_tree.specs.Tree.{Class, an_event, a_semaphore, a_process, a_variable, a_timer, a_thread}
 use Rattle.std.specs.Str.{bytes_eq}
 
--- the place of a name among these, if it is one of them
+-- the place of a name on this list, if the name is on it
 unfoldable pub place_of : List (List ℕ) → List ℕ → Option ℕ
 place_of names x = position (λ y. bytes_eq x y) names
 
--- Each list is in the order of declaration. Variables, timers and threads are those of one code; `first_timer` is how
--- many timers the program has before them.
+-- Each list is in the order of declaration. Variables, timers and threads are those of one code; `first_timer` is the
+-- number of timers that the program has before them.
 pub record NamesInScope : Type 0 where
   pub events : List Name
   pub semaphores : List Name
@@ -39,7 +39,7 @@ names_of n a_variable = n.variables
 names_of n a_timer = n.timers
 names_of n a_thread = n.threads
 
--- with one more name
+-- the names in scope after one more declaration
 abbrev pub with_new : NamesInScope → Class → Name → NamesInScope
 with_new n an_event x = record n { events = n.events ++ x ∷ [] }
 with_new n a_semaphore x = record n { semaphores = n.semaphores ++ x ∷ [] }
@@ -48,7 +48,7 @@ with_new n a_variable x = record n { variables = n.variables ++ x ∷ [] }
 with_new n a_timer x = record n { timers = n.timers ++ x ∷ [] }
 with_new n a_thread x = record n { threads = n.threads ++ x ∷ [] }
 
--- after a code, whose own names are no longer in scope
+-- the names in scope after a code: the code's own names no longer are
 abbrev pub outside : NamesInScope → NamesInScope
 outside n = record n { variables = []; first_timer = n.first_timer + length n.timers; timers = []; threads = [] }
 
@@ -62,8 +62,8 @@ abbrev pub is_in_scope : NamesInScope → Name → Bool
 is_in_scope n x = is_a n an_event x || is_a n a_semaphore x || is_a n a_process x || is_a n a_variable x
     || is_a n a_timer x || is_a n a_thread x
 
--- The number of a name: its place among those of its class, but timers are numbered through the program. Only names
--- that are there are looked up.
+-- The number of a name: its place among the names of its class, except that timers are numbered through the whole
+-- program. Only names that are in scope are looked up.
 abbrev pub or_zero : Option ℕ → ℕ
 or_zero None = 0
 or_zero (Some i) = i
@@ -72,7 +72,7 @@ abbrev pub number_in : NamesInScope → Class → Name → ℕ
 number_in n a_timer x = n.first_timer + or_zero (place_of n.timers x)
 number_in n c x = or_zero (place_of (names_of n c) x)
 
--- the name with a number
+-- the name with this number
 abbrev pub name_in : NamesInScope → Class → ℕ → Name
 name_in n a_timer i = slice_index_or n.timers (i - n.first_timer) []
 name_in n c i = slice_index_or (names_of n c) i []

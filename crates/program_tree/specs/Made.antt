@@ -9,24 +9,24 @@ use Rattle.program_tree.specs.ShapeOf.{shape_of}
 use Rattle.program_tree.specs.Text.{IsLexed}
 use Rattle.program_tree.specs.Tokens.{Token}
 
--- the tokens of some text
+-- these are the tokens of some text
 pub record AreLexed (tokens : List Token) : Type 0 where
   pub text : List ℕ
   pub lines : List ℕ
   pub lexed : IsLexed text tokens lines
 
--- the tree of some text, whose shape is that of the tree with its names put back
+-- this is the tree of some text, and the text's shape is that of the tree with its names put back
 pub record IsOfText (tree : Tree) : Type 0 where
   pub tokens : List Token
   pub lexed : AreLexed tokens
   pub program : IsProgram (shape_of tree) tokens
   pub numbered : tree ≡ tree_of_shape (shape_of tree)
 
--- a program is made of some text
+-- the program is made from some text
 abbrev pub WasRead : Tree → Type 0
 WasRead tree = ∥ IsOfText tree ∥₁
 
--- a tree of some text, within the bounds of programs
+-- the tree is that of some text, and is within the limits of programs
 pub record IsMade (tree : Tree) : Type 0 where
   pub few_events : length tree.events ≤ 117
   pub few_semaphores : length tree.semaphores ≤ 64

@@ -1,4 +1,4 @@
--- The meaning of the types of sources: their trees.
+-- The meaning of the types in `src`: the trees that they represent.
 use Rattle.std.specs.Prelude.{ℕ, List, [], ◌∷◌, map, Option, Some, None}
 use Rattle.program_tree.specs.declared.event_name.BroadcastEvent.{BroadcastEvent as CastRead}
 use Rattle.program_tree.specs.declared.event_name.BroadcastEvent.TheVariants as cast_read
@@ -93,7 +93,7 @@ abbrev pub otherwise_of : {N : Type 0} → Option (Body N) → Otherwise N
 otherwise_of None = nothing
 otherwise_of (Some b) = otherwise b
 
--- one layer of a statement or a block, each inner one replaced by its meaning
+-- one layer of a statement or a block, with each inner statement or block replaced by its meaning
 abbrev pub statement_layer : Stmt-F (Statement ℕ) (Body ℕ) → Statement ℕ
 statement_layer (open_stmt.Do a) = does (action_of a)
 statement_layer (open_stmt.If e a b) = branch (expression_of e) a (otherwise_of b)

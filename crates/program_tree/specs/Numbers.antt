@@ -1,4 +1,4 @@
--- The tree of a shape: each name replaced by its number.
+-- The tree of a shape: the shape with each name replaced by its number.
 use Rattle.std.specs.Prelude.{ℕ, ◌+◌, List, [], ◌∷◌, ◌++◌, map, option_map, Bool, true, false}
 use Rattle.program_tree.specs.Code.{Code, Tree}
 use Rattle.program_tree.specs.InScope.{NamesInScope, no_names, number_in, outside}
@@ -18,11 +18,11 @@ values_of ps = map (λ p. p.1) ps
 abbrev pub timers_of : CodeShape → List Name
 timers_of c = c.etimers ++ named_of c.ctimers
 
--- the names of the program, with all names of a code
+-- the names of the program, together with all names of a code
 abbrev pub inside : NamesInScope → CodeShape → NamesInScope
 inside n c = record n { variables = named_of c.variables; timers = timers_of c; threads = named_of c.threads }
 
--- the tree of the code of a process, over these names
+-- the tree of a process's code, over these names
 abbrev pub code_in : (process : ℕ) → NamesInScope → CodeShape → Code
 code_in k n c = record {
   number = k;

@@ -1,4 +1,4 @@
--- The statements of the ghost fields have at most one proof.
+-- Each statement of a ghost field has at most one proof.
 use Rattle.std.specs.Prelude.{ℕ, List, [], ◌∷◌}
 use Rattle.std.proofs.Props.{props}
 use Rattle.program_tree.specs.EventNames.{BroadcastEvent, PostedEvent, TestedEvent}

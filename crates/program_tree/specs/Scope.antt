@@ -1,4 +1,4 @@
--- Trees in which each number has a meaning, given the numbers of each class that have one.
+-- Trees in which each number has a meaning. For each class, the numbers that have one are given.
 use Rattle.std.specs.Prelude.{ℕ, ◌+◌, nat_lt, Bool, true, ◌&&◌, List, [], ◌∷◌, Option, None, Some}
 use Rattle.program_tree.specs.EventNames as event
 use Rattle.program_tree.specs.EventNames.{BroadcastEvent, PostedEvent, TestedEvent}
@@ -80,12 +80,12 @@ abbrev mutual
   other_fits w nothing = true
   other_fits w (otherwise b) = block_fits w b
 
--- of threads those before this one, and any number of the other classes
+-- threads before this one have a meaning, and so has any number of the other classes
 abbrev pub earlier_threads : (thread : ℕ) → Within
 earlier_threads k a_thread i = nat_lt i k
 earlier_threads k c i = true
 
--- each of them fits, thread k within `w k`
+-- each thread fits: the block of thread k is within `w k`
 abbrev pub threads_fit : (ℕ → Within) → (k : ℕ) → List (Body ℕ) → Bool
 threads_fit w k [] = true
 threads_fit w k (b ∷ bs) = block_fits (w k) b && threads_fit w (k + 1) bs

@@ -1,4 +1,4 @@
--- The shape of a tree: each number replaced by its name.
+-- The shape of a tree: the tree with each number replaced by its name.
 use Rattle.std.specs.Prelude.{ℕ, List, [], ◌++◌, map, drop, None, option_map, slice_index_or}
 use Rattle.std.specs.List.{zip}
 use Rattle.program_tree.specs.Canonical.{canonical_text}
@@ -24,7 +24,7 @@ names_of_code n c = record n {
 abbrev pub block_with : NamesInScope → Body ℕ → Body Name
 block_with n b = body_map (name_in n) b
 
--- the shape of a code, over all names that are in scope in it
+-- the shape of a code, given all names that are in scope in it
 abbrev pub code_with : NamesInScope → Code → CodeShape
 code_with n c = record {
   variables = zip c.variables c.starts;
@@ -42,7 +42,7 @@ code_shape n c = code_with (names_of_code n c) c
 abbrev pub codes_of_tree : Tree → List (Name × CodeShape)
 codes_of_tree t = zip t.processes (map (code_shape (names_of_tree t)) t.codes)
 
--- the default for a tree without processes, which no program has
+-- the default for a tree without processes; no program has such a tree
 abbrev pub no_code : Name × CodeShape
 no_code = (
   [],
@@ -67,7 +67,7 @@ shape_of t = record {
   receiver = option_map (name_in (names_of_tree t) a_process) t.receiver;
 }
 
--- the tokens of the program that a tree is, and their text
+-- the tokens of the program with this tree, and their text
 abbrev pub tokens_of_tree : Tree → List Token
 tokens_of_tree t = tokens (program_marks (shape_of t) [])
 

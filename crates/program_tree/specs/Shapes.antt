@@ -1,11 +1,11 @@
--- The shapes of programs: their trees, over names as they are written.
+-- The shapes of programs: their trees, with names as they are written.
 use Rattle.std.specs.Prelude.{ℕ, List, Option}
 use Rattle.program_tree.specs.Forms.{Operand, name, cast, sent, any, Form, ends, tells, takes, values, Beginning}
 use Rattle.program_tree.specs.Forms.{action, Word, no_value, alone, tells_of}
 use Rattle.program_tree.specs.EventNames.{BroadcastEvent, PostedEvent, TestedEvent}
 use Rattle.program_tree.specs.Tree.{Expression, Body}
 
--- a name as it is written, by its bytes
+-- a name as it is written, as its bytes
 abbrev pub Name : Type 0
 Name = List ℕ
 
@@ -17,7 +17,7 @@ Valued = Name × ℕ
 abbrev pub Named : Type 0
 Named = Name × (Body Name)
 
--- the part between the braces of a code
+-- the text between the braces of a code
 pub record CodeShape : Type 0 where
   pub variables : List Valued
   pub etimers : List Name
@@ -27,7 +27,8 @@ pub record CodeShape : Type 0 where
   pub on_exit : Option (Body Name)
   pub body : Body Name
 
--- Each process of the line has its code; the list of those that start at boot is empty if there is no `autostart`.
+-- Each process of the process line has its code. The list of processes that start at boot is empty if there is no
+-- `autostart`.
 pub record ProgramShape : Type 0 where
   pub events : List Name
   pub semaphores : List Valued
@@ -36,7 +37,7 @@ pub record ProgramShape : Type 0 where
   pub autostart : List Name
   pub receiver : Option Name
 
--- the parts at the places that the tables mention
+-- the parts at the places that the tables of the grammar mention
 abbrev pub OperandShape : Operand → Type 0
 OperandShape (name c) = Name
 OperandShape cast = BroadcastEvent Name

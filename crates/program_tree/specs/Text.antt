@@ -1,4 +1,4 @@
--- A text cut into its pieces, and their tokens.
+-- The pieces of a text, and their tokens.
 use Rattle.std.specs.Prelude.{◌≡◌, ◌≢◌, ℕ, ◌+◌, Bool, true, false, ◌||◌, ◌==◌, nat_eq, List, [], ◌∷◌, ◌++◌, codes}
 use Rattle.std.specs.Prelude.{count_by, find, filter_map, Option, Some, None, option_map}
 use Rattle.std.specs.List.{list_all, list_any, starts_with, cons_option}
@@ -8,7 +8,7 @@ use Rattle.program_tree.specs.Tokens.{Token, Semicolon, Comma, Equals, Bang, Ope
 use Rattle.program_tree.specs.Tokens.{Bad}
 use Rattle.program_tree.specs.Words.{begins, is_word_byte, word_token}
 
--- LF
+-- the line feed (LF)
 abbrev pub is_feed : ℕ → Bool
 is_feed b = b == 10
 
@@ -16,7 +16,7 @@ is_feed b = b == 10
 abbrev pub is_blank : ℕ → Bool
 is_blank b = b == 32 || b == 9 || b == 13 || b == 10
 
--- the signs, the longer first
+-- the signs, longer signs first
 unfoldable pub signs : List (List ℕ × Token)
 signs =
     (codes "==", Op Equal)
@@ -49,18 +49,18 @@ sign_at text = find (λ sign. starts_with nat_eq text sign.0) signs
 abbrev pub begins_comment : List ℕ → Bool
 begins_comment text = starts_with nat_eq text (codes "//")
 
--- the line ends here: with LF, or with the text
+-- the line ends here, because the text continues with LF or has ended
 abbrev pub ends_line : List ℕ → Bool
 ends_line [] = true
 ends_line (b ∷ bs) = is_feed b
 
 pub data Piece : Type 0 where
   Blank : (byte : ℕ) → Piece
-  -- the bytes after its `//`
+  -- the bytes after `//`
   Comment : (bytes : List ℕ) → Piece
   Word : (bytes : List ℕ) → Piece
   Sign : (bytes : List ℕ) → (token : Token) → Piece
-  -- a byte that begins none of these
+  -- a byte that begins no other kind of piece
   Other : (byte : ℕ) → Piece
 
 abbrev pub bytes_of : Piece → List ℕ
@@ -70,7 +70,7 @@ bytes_of (Word bytes) = bytes
 bytes_of (Sign bytes token) = bytes
 bytes_of (Other byte) = byte ∷ []
 
--- the token of a piece, if it is one
+-- the token of a piece, if the piece is a token
 abbrev pub token_at : Piece → Option Token
 token_at (Blank byte) = None
 token_at (Comment bytes) = None
@@ -78,7 +78,7 @@ token_at (Word bytes) = Some (word_token bytes)
 token_at (Sign bytes token) = Some token
 token_at (Other byte) = Some Bad
 
--- a piece is of its kind and as long as possible, given that this text comes after it
+-- the piece is of its kind and as long as possible, if this text is after it
 abbrev pub FitsBefore : List ℕ → Piece → Type 0
 FitsBefore rest (Blank byte) = is_blank byte ≡ true
 FitsBefore rest (Comment bytes) = (list_any is_feed bytes ≡ false) × (ends_line rest ≡ true)
@@ -99,14 +99,14 @@ AllFit (piece ∷ pieces) = FitsBefore (text_of pieces) piece × AllFit pieces
 abbrev pub tokens_of : List Piece → List Token
 tokens_of pieces = filter_map token_at pieces
 
--- the line of each token and of the end, if the pieces begin on this line: each LF begins another one
+-- the line of each token and of the end, if the pieces begin on this line; each LF begins another line
 abbrev pub lines_from : ℕ → List Piece → List ℕ
 lines_from line [] = line ∷ []
 lines_from line (piece ∷ pieces) =
     cons_option (option_map (λ token. line) (token_at piece))
     (lines_from (line + count_by is_feed (bytes_of piece)) pieces)
 
--- a text has these tokens, on these lines; the last line is that of its end
+-- the text has these tokens, on these lines; the last line is the line of its end
 pub record IsLexed (text : List ℕ) (tokens : List Token) (lines : List ℕ) : Type 0 where
   pub pieces : List Piece
   pub spelled : text ≡ text_of pieces

@@ -1,10 +1,10 @@
--- The meaning of the tokens of sources.
+-- The meaning of the type `Token` of `src/token.rt`.
 use Rattle.program_tree.specs.declared.token.Token.{Token as TokenRead}
 use Rattle.program_tree.specs.declared.token.Token.TheVariants as read
 use Rattle.program_tree.specs.Tokens.{Token, Keyword, Semicolon, Comma, Equals, Bang, Open, Close, OpenBrace}
 use Rattle.program_tree.specs.Tokens.{CloseBrace, Op, Name, Number, Bad}
 
--- the token that was read
+-- the meaning of a token that was read
 abbrev pub token_of : TokenRead → Token
 token_of (read.Keyword k) = Keyword k
 token_of read.Semicolon = Semicolon

@@ -1,4 +1,4 @@
--- The tokens of a text, a name with its bytes.
+-- The tokens of a text. A name is represented by its bytes.
 use Rattle.std.specs.Prelude.{ℕ, List}
 use Rattle.program_tree.specs.declared.keyword.Keyword.{Keyword as KeywordRead}
 use Rattle.program_tree.specs.declared.tree.Operator.{Operator}
@@ -15,6 +15,6 @@ pub data Token : Type 0 where
   CloseBrace : Token
   Op : Operator → Token
   Name : (name : List ℕ) → Token
-  -- a number; all above 65,535 count as 65,536
+  -- a number; all numbers above 65,535 count as 65,536
   Number : (value : ℕ) → Token
   Bad : Token

@@ -1,5 +1,5 @@
--- The trees of a program over its names: names as they are written, or their numbers. The types of `src/tree.rt` mean
--- trees over numbers.
+-- The trees of a program, with names as they are written or with their numbers. The types of `src/tree.rt` represent
+-- trees with numbers.
 use Rattle.std.specs.Prelude.{ℕ, suc, ◌+◌, ◌≤◌, max, List, [], ◌∷◌, Option, option_map}
 use Rattle.program_tree.specs.EventNames.{BroadcastEvent, PostedEvent, TestedEvent, cast_map, sent_map, any_map}
 use Rattle.program_tree.specs.declared.tree.Operator.{Operator}
@@ -47,7 +47,7 @@ pub data Action (Name : Type 0) : Type 0 where
   pause : Action Name
   acquire : Name → Action Name
   signal : Name → Action Name
-  -- the last of them the variable that gets the answer
+  -- the last operand of `post` and `broadcast` is the variable that gets the answer
   post : Name → PostedEvent Name → Expression Name → Option Name → Action Name
   broadcast : BroadcastEvent Name → Expression Name → Option Name → Action Name
   synch : Name → PostedEvent Name → Expression Name → Action Name
@@ -78,17 +78,17 @@ mutual
     otherwise : Body Name → Otherwise Name
     deriving IsSet as Otherwise-set
 
--- the statements of a block as a list, and back
+-- the statements of a block as a list
 abbrev pub listed : {N : Type 0} → Body N → List (Statement N)
 listed end = []
 listed (next s b) = s ∷ listed b
 
--- the statements of the other block of an `if`
+-- the statements of the `else` block of an `if`
 abbrev pub other_block : Otherwise ℕ → List (Statement ℕ)
 other_block nothing = []
 other_block (otherwise b) = listed b
 
--- how deep blocks are nested, this one included
+-- the depth to which blocks are nested, with this block included
 abbrev mutual
   pub height : {N : Type 0} → Body N → ℕ
   height end = 1
@@ -103,7 +103,7 @@ abbrev mutual
   other_height nothing = 0
   other_height (otherwise b) = height b
 
--- the number of statements in a block, those of inner blocks included
+-- the number of statements in a block, with the statements of inner blocks
 abbrev mutual
   pub size : {N : Type 0} → Body N → ℕ
   size end = 0
@@ -118,16 +118,16 @@ abbrev mutual
   other_size nothing = 0
   other_size (otherwise b) = size b
 
--- how many statements a statement counts as: itself and those of its blocks
+-- the number of statements that a statement counts as: itself and the statements of its blocks
 abbrev pub statement_size : {N : Type 0} → Statement N → ℕ
 statement_size s = suc (inner_size s)
 
--- a block within the limits: blocks are nested at most 32 deep, with at most 4,096 statements in all
+-- a block within the limits: blocks are nested at most 32 deep, and have at most 4,096 statements in all
 pub record IsWithinLimits {N : Type 0} (b : Body N) : Type 0 where
   pub shallow : height b ≤ 32
   pub small : size b ≤ 4096
 
--- the same tree with each name changed, by its meaning
+-- the same tree, with each name changed according to its class
 abbrev pub expression_map : {A B : Type 0} → (Class → A → B) → Expression A → Expression B
 expression_map f (number n) = number n
 expression_map f (variable x) = variable (f a_variable x)

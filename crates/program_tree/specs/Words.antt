@@ -1,4 +1,4 @@
--- Words: the token of a run of letters, digits and `_`.
+-- Words (runs of letters, digits and `_`), and their tokens.
 use Rattle.std.specs.Prelude.{ℕ, Bool, false, not, ◌&&◌, ◌||◌, ◌==◌, nat_le, min, if◌then◌else◌, List, [], ◌∷◌, length}
 use Rattle.std.specs.Prelude.{codes, bytes_eq, Option, Some, None, unwrap_or}
 use Rattle.std.specs.Char.{is_ascii_digit, is_ascii_lowercase}
@@ -7,7 +7,7 @@ use Rattle.std.specs.Str.Parse.{digits_value}
 use Rattle.program_tree.specs.Tokens.{Token, Keyword, Name, Number, Bad}
 use Rattle.program_tree.specs.declared.keyword.Keyword.TheVariants as keyword
 
--- whether the first byte is one of these
+-- whether the first byte passes this test
 abbrev pub begins : (ℕ → Bool) → List ℕ → Bool
 begins test [] = false
 begins test (b ∷ bs) = test b
@@ -16,7 +16,7 @@ begins test (b ∷ bs) = test b
 abbrev pub is_word_byte : ℕ → Bool
 is_word_byte b = is_ascii_lowercase b || is_ascii_digit b || b == 95
 
--- only digits, without a leading zero unless it is `0` itself
+-- only digits, without a leading zero, except for `0` itself
 abbrev pub is_number : List ℕ → Bool
 is_number word = list_all is_ascii_digit word && (not (begins (λ b. b == 48) word) || length word == 1)
 
@@ -24,12 +24,12 @@ is_number word = list_all is_ascii_digit word && (not (begins (λ b. b == 48) wo
 abbrev pub is_name : List ℕ → Bool
 is_name word = begins is_ascii_lowercase word && nat_le (length word) 16
 
--- the token that a table has for a text
+-- the token that a table has for a word
 abbrev pub lookup : List (List ℕ × Token) → List ℕ → Option Token
 lookup [] word = None
 lookup (entry ∷ table) word = if bytes_eq entry.0 word then Some entry.1 else lookup table word
 
--- the words that no program can have as names
+-- the words that a program can't use as names
 unfoldable pub keywords : List (List ℕ × Token)
 keywords =
     (codes "event", Keyword keyword.Event)
@@ -92,7 +92,7 @@ keywords =
     ∷ (codes "all", Keyword keyword.All)
     ∷ []
 
--- the token of a word; all numbers above 65,535 have the same
+-- the token of a word; all numbers above 65,535 have the same token
 unfoldable pub word_token : List ℕ → Token
 word_token word =
     if is_number word then Number (min (digits_value 10 word) 65536)

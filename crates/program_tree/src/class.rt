@@ -1,6 +1,6 @@
-//! The classes of names.
+//! The classes of the things that names refer to.
 
-/// The kinds of things that a name can refer to.
+/// The classes of things that a name can refer to.
 #[derive(Clone, Copy)]
 pub enum Class {
     Event,

@@ -4,17 +4,17 @@ ghost use Rattle.program_tree.specs.declared.error.ReadErrorKind.TheVariants.{Me
 
 use std::alloc::{AllocError, AllocFailed};
 
-/// The kinds of faults of a text, with the numbers that are printed.
+/// The kinds of errors of a text, with the numbers that reports print.
 #[derive(Clone, Copy, Debug, PartialEq, Eq)]
 pub enum ReadErrorKind {
-    /// Not a token.
+    /// A piece of text that isn't a token.
     BadToken = 1,
-    /// This token can't follow those before it in any program, whatever the names and numbers. At the end of a text:
-    /// no program ends there, and none has `process` there.
+    /// A token that can't follow the tokens before it in any program, whatever the names and numbers. At the end of a
+    /// text: no program ends at this place, and none has `process` at this place.
     Unexpected = 2,
-    /// A name that hasn't been declared yet.
+    /// A name that isn't declared yet.
     UnknownName = 3,
-    /// A name that is declared already, or that `autostart` lists already.
+    /// A name that is already declared, or that `autostart` already lists.
     NameTwice = 4,
     /// A number above 65,535.
     NumberTooLarge = 5,
@@ -22,22 +22,22 @@ pub enum ReadErrorKind {
     WaitInSimpleBlock = 6,
     /// A brace, `!` or `(` that opens the 33rd level.
     TooDeep = 7,
-    /// The 65th process, semaphore or timer, the 118th event, the 65th variable or 8th thread of a process, or the
-    /// first token of the 4,097th statement.
+    /// The 65th process, semaphore or timer of a program, the 118th event, the 65th variable or the 8th thread of a
+    /// process, or the first token of the 4,097th statement.
     TooMany = 8,
-    /// The text ends before `process`.
+    /// A text that ends before `process`.
     NoProcess = 9,
-    /// A name of another class than is expected, such as a process's for a variable, or the name of a thread in a
-    /// `spawn` of its own block.
+    /// A name of another class than the expected one, such as a process's name for a variable, or the name of a thread
+    /// in a `spawn` of that thread's own block.
     BadTarget = 10,
-    /// Out of memory: an allocation failed. The line is 0.
+    /// Out of memory: an allocation failed. The line of the error is 0.
     Memory = 11,
 }
 
 impl ReadErrorKind {
     ghost use Rattle.program_tree.specs.Kinds.{kind_number};
 
-    /// The number that is printed.
+    /// The number of the kind, as reports print it.
     pub fn number(self) -> u8
         ensures number { result ≡ kind_number self }
     {

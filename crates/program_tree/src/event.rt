@@ -1,7 +1,7 @@
-//! Processes, targets and events, as the calls of the kernel name them.
+//! Processes, targets and events, as the functions of the kernel use them.
 ghost use Rattle.std.specs.Prelude.{◌≡◌};
 
-/// A process of a mote: one of the program's own, numbered in the order of its `process` line, or one of the
+/// A process of a mote: one of the program's own processes, numbered in the order of the `process` line, or one of the
 /// three system processes that each mote starts first.
 #[derive(Clone, Copy, Debug, PartialEq, Eq)]
 pub enum Proc {
@@ -11,15 +11,15 @@ pub enum Proc {
     Radio,
 }
 
-/// The receivers of an event: one process, or all on the process list (`PROCESS_BROADCAST` of `process.h`).
+/// The receivers of an event: one process, or all processes on the process list (`PROCESS_BROADCAST` of `process.h`).
 #[derive(Clone, Copy, Debug, PartialEq, Eq)]
 pub enum Target {
     One(Proc),
     All,
 }
 
-/// An event as a process is called with it: its number (`process_event_t`), its word of 16 bits, and the mote that
-/// sent it, which is 0 except for a packet from the radio.
+/// The event with which a process is called: its number (`process_event_t`), its word of 16 bits, and the number of
+/// the mote that sent it, which is 0 except for a packet from the radio.
 #[derive(Clone, Copy, Debug, PartialEq, Eq)]
 pub struct Event {
     pub number: u8,
@@ -27,8 +27,8 @@ pub struct Event {
     pub sender: u16,
 }
 
-/// An event that every kernel knows, with its number: those of `process.h` (`PROCESS_EVENT_INIT` is 0x81), and the
-/// packet that the radio hands over.
+/// An event that every kernel knows, with its number: the events of `process.h` (`PROCESS_EVENT_INIT` is 0x81), and
+/// the packet that the radio delivers.
 #[derive(Clone, Copy, Debug, PartialEq, Eq)]
 pub enum SystemEvent {
     Init = 0x81,
@@ -52,7 +52,7 @@ impl SystemEvent {
         self as u8
     }
 
-    /// The word for it in programs and reports.
+    /// The word for the event in programs and reports.
     pub fn word(self) -> &'static str
         ensures word { result.now ≡ system_word self }
     {

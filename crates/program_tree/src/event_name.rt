@@ -1,9 +1,9 @@
-//! Events as programs name them. The types say which of them may be used in which place.
+//! Events as programs name them. The types determine which events may be used in which place.
 ghost use Rattle.std.specs.Prelude.{◌≡◌, ◌<◌};
 
 use crate::event::SystemEvent;
 
-/// The number of a program's first declared event; the others follow in the order of their declaration.
+/// The number of a program's first declared event. The others follow in the order of their declaration.
 pub const FIRST_DECLARED: u8 = 0x8b;
 
 /// An event that a program declares, numbered from 0 in the order of declaration. A program declares at most 117.

@@ -10,7 +10,7 @@ use crate::instruction::Instruction;
 use crate::tree::Block;
 use std::alloc::{AllocError, Global};
 
-/// A block with its flat code. Programs are read and printed by the tree; a thread follows the code.
+/// A block with its flat code. Programs are read and printed as trees; a thread follows the flat code.
 #[derive(Drop)]
 pub struct FlatBlock {
     block: Block,
@@ -21,10 +21,10 @@ pub struct FlatBlock {
 impl FlatBlock {
     ghost use Rattle.program_tree.specs.FlatBlock.{tree_in};
 
-    /// A block, with the flat code that this call makes from it.
+    /// Makes the flat code of a block, and returns both together.
     ///
     /// # Errors
-    /// If an allocation failed.
+    /// `AllocError` if an allocation fails.
     pub fn new(alloc: Global, block: Block) -> Result<FlatBlock, AllocError>
         requires size_bounded { size (block_of block) < 2 ^ 16 }
         ensures tree { IfOk result (λ b. tree_in b ≡ block_of block) }
@@ -40,7 +40,7 @@ impl FlatBlock {
         &self.block
     }
 
-    /// Its flat code, which is entered at place 0.
+    /// The flat code of the block. A thread enters it at place 0.
     pub fn code(&self) -> &[Instruction]
         ensures is_flat { IsFlat (tree_in self.now) result.now }
     {

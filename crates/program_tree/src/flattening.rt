@@ -1,4 +1,4 @@
-//! Flat code made of a block's tree.
+//! The flat code of a block, made from the block's tree.
 ghost use Rattle.std.specs.Prelude.{◌≡◌, ◌+◌, ◌<◌, ◌^◌, length, IfOk, OnOk, option_map};
 ghost use Rattle.program_tree.specs.Meaning.{block_of, statement_of, otherwise_of};
 ghost use Rattle.program_tree.specs.Tree.{size, statement_size, other_size};
@@ -9,7 +9,7 @@ use crate::instruction::{END, Instruction};
 use crate::tree::{Block, Stmt};
 use std::alloc::{AllocError, Global};
 
-/// The number of statements in a block, those of inner blocks included.
+/// The number of statements in a block, with the statements of inner blocks.
 #[cycle(count)]
 fn count(block: &Block) -> u16
     requires size_bounded { size (block_of block.now) < 2 ^ 16 }
@@ -22,7 +22,7 @@ fn count(block: &Block) -> u16
     total
 }
 
-/// The number of statements in the `else` block of an `if`, or 0 without one.
+/// The number of statements in the `else` block of an `if`, or 0 if there is none.
 #[cycle(count)]
 fn count_other(other: &Option<Block>) -> u16
     requires size_bounded { other_size (otherwise_of (option_map block_of other.now)) < 2 ^ 16 }
@@ -34,7 +34,7 @@ fn count_other(other: &Option<Block>) -> u16
     }
 }
 
-/// The number of statements that a statement counts as: itself and those of its blocks.
+/// The number of statements that a statement counts as: itself and the statements of its blocks.
 #[cycle(count)]
 fn count_statement(statement: &Stmt) -> u16
     requires size_bounded { statement_size (statement_of statement.now) < 2 ^ 16 }
@@ -47,7 +47,7 @@ fn count_statement(statement: &Stmt) -> u16
     }
 }
 
-/// The place where a block is entered: that of its first statement, or `after` if it has none.
+/// The place at which a thread enters a block: the place of its first statement, or `after` if it has no statements.
 fn entry(block: &Block, place: u16, after: u16) -> u16
     ensures value { result ≡ entry_of (block_of block.now) place after }
 {
@@ -58,7 +58,7 @@ fn entry(block: &Block, place: u16, after: u16) -> u16
     }
 }
 
-/// The same for the `else` block of an `if`.
+/// The place at which a thread enters the `else` block of an `if`, or `after` if there is none.
 fn other_entry(other: &Option<Block>, place: u16, after: u16) -> u16
     ensures value { result ≡ other_entry_of (otherwise_of (option_map block_of other.now)) place after }
 {
@@ -68,7 +68,7 @@ fn other_entry(other: &Option<Block>, place: u16, after: u16) -> u16
     }
 }
 
-/// Adds the statements of a block, after which a thread continues at `after`.
+/// Adds the statements of a block. After them, a thread continues at `after`.
 #[cycle(flatten)]
 fn add_block(
     block: &Block,
@@ -143,10 +143,10 @@ fn add_statement(
     }
 }
 
-/// The flat code of a block. It is entered at place 0.
+/// The flat code of a block. A thread enters it at place 0.
 ///
 /// # Errors
-/// If an allocation failed.
+/// `AllocError` if an allocation fails.
 pub fn flatten(alloc: Global, block: &Block) -> Result<Vec<Instruction>, AllocError>
     requires size_bounded { size (block_of block.now) < 2 ^ 16 }
     ensures is_flat { IfOk result (λ code. IsFlat (block_of block.now) code.items) }

@@ -1,6 +1,6 @@
 //! The keywords of the notation.
 
-/// A word that no program can have as a name. `Own` is `self`.
+/// A word that a program can't use as a name. `Own` is the keyword `self`.
 #[derive(Clone, Copy, PartialEq, Eq)]
 pub enum Keyword {
     Event,

@@ -1,4 +1,4 @@
-//! The programs of motes: the trees of texts, the names that they share with the kernel, and the words of the
+//! The programs of motes: the trees of their texts, the names that programs and the kernel share, and the words of the
 //! notation.
 #![tactic(auto)]
 

@@ -7,13 +7,13 @@ use indexmap::IndexSet;
 use std::alloc::{AllocError, Global};
 use std::marker::Model;
 
-/// Names, each once, numbered from 0 in the order in which they were declared.
+/// Distinct names, numbered from 0 in the order in which they were declared.
 #[derive(Debug)]
 pub struct Names {
     set: IndexSet<String>,
 }
 
-/// Implemented by hand: the check of a function that owns names then sees only one call for their drop.
+/// Implemented by hand, so that the check of a function that owns names sees only one call for their drop.
 impl Drop for Names {
     fn drop(self) {
         let Names { set: _ } = self;
@@ -29,7 +29,7 @@ impl Model for Names {
 }
 
 impl Names {
-    /// No names.
+    /// An empty list of names.
     pub fn new(alloc: Global) -> Names
         ensures empty { result ≡ [] }
     {
@@ -60,7 +60,7 @@ impl Names {
         self.set.get_index_of(name)
     }
 
-    /// The name with a number.
+    /// The name with this number.
     pub fn get(&self, place: usize) -> &str
         requires in_range { place < length self.now }
         ensures name { result.now ≡ slice_index_or self.now place [] }
@@ -71,7 +71,7 @@ impl Names {
     /// Declares a name that hasn't been declared yet.
     ///
     /// # Errors
-    /// If an allocation failed.
+    /// `AllocError` if an allocation fails.
     pub fn add(&mut self, alloc: Global, name: &str) -> Result<(), AllocError>
         requires not_yet_listed { place_of self.old name.now ≡ None }
         ensures ok { OnOk result (self.new ≡ self.old ++ name.now ∷ []) }

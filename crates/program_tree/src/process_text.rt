@@ -1,6 +1,6 @@
 //! The text of each process of a program.
 //!
-//! Its fields are public for the crates that read and print programs. Its ghost fields hold for each value.
+//! The fields are public for the crates that read and print programs. The ghost fields hold for each value.
 ghost use Rattle.std.specs.Prelude.{◌≡◌, ◌+◌, ◌<◌, ◌≤◌, length, map, slice_get, IsTrue, IfSome, option_map};
 ghost use Rattle.std.specs.Option.{ForSome};
 ghost use Rattle.std.specs.List.{All};
@@ -58,7 +58,7 @@ impl ProcessText {
         &self.variables
     }
 
-    /// The first values of the variables, in the same order.
+    /// The first values of the variables, in the order of their declaration.
     pub fn starts(&self) -> &[u16]
         ensures value { result.now ≡ (code_of self.now).starts }
         ensures paired { length result.now ≡ length (code_of self.now).variables }
@@ -67,7 +67,7 @@ impl ProcessText {
         &self.starts
     }
 
-    /// The body. Its blocks are nested at most 32 deep, as in each block of a process.
+    /// The body. Its blocks are nested at most 32 deep, like those of each block of a process.
     pub fn body(&self) -> &FlatBlock
         ensures value { tree_in result.now ≡ (code_of self.now).body }
         ensures within { IsWithinLimits (tree_in result.now) }
@@ -91,7 +91,7 @@ impl ProcessText {
         self.on_exit.as_ref()
     }
 
-    /// The number of threads. A process has at most 7, and each spawns only threads before itself.
+    /// The number of threads. A process has at most 7, and each thread spawns only threads before itself.
     pub fn threads(&self) -> u8
         ensures value { result ≡ length (code_of self.now).thread_bodies }
         ensures bounded { result ≤ 7 }
@@ -101,7 +101,8 @@ impl ProcessText {
         self.thread_blocks.len() as u8
     }
 
-    /// The block of a thread, by its number, if there is such a thread. It spawns only threads before itself.
+    /// The block of a thread, by the thread's number, if there is such a thread. It spawns only threads before this
+    /// one.
     pub fn thread(&self, number: u8) -> Option<&FlatBlock>
         ensures value { option_map (λ b. tree_in b.now) result ≡ slice_get (code_of self.now).thread_bodies number }
         ensures number_bounded { IfSome result (λ b. number < 7) }
@@ -111,7 +112,7 @@ impl ProcessText {
         self.thread_blocks.get(usize::from(number))
     }
 
-    /// The block of a callback timer, by its number in the program, if it is one of this process.
+    /// The block of a callback timer, by the timer's number in the program, if the timer is one of this process.
     pub fn callback(&self, timer: u8) -> Option<&FlatBlock>
         ensures value { option_map (λ b. tree_in b.now) result ≡ callback_at (code_of self.now) timer }
         ensures within { IfSome result (λ b. IsWithinLimits (tree_in b.now)) }

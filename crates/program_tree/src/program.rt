@@ -1,7 +1,7 @@
 //! A program.
 //!
-//! Its fields are public for the crates that read and print programs. Its ghost fields hold for each value, so a
-//! value is always the program of a text.
+//! The fields are public for the crates that read and print programs. The ghost fields hold for each value, so a value
+//! is always the program of a text.
 ghost use Rattle.std.specs.Prelude.{◌≡◌, ◌<◌, ◌≤◌, length, map, slice_get, Some, IfSome, option_map};
 ghost use Rattle.std.specs.Option.{ForSome};
 ghost use Rattle.std.specs.List.{All};
@@ -15,8 +15,8 @@ use crate::timer::Timer;
 use std::fmt;
 use std::fmt::{Debug, Formatter};
 
-/// A program: its declared events and semaphores, its processes in the order of its `process` line, those that start
-/// at boot, the one that packets go to, what each runs, and the timers of all of them.
+/// A program: its declared events and semaphores, its processes in the order of the `process` line, the processes that
+/// start at boot, the process that gets packets, the text of each process, and the timers of all processes.
 pub struct Program {
     pub events: Names,
     pub semaphores: Names,
@@ -47,7 +47,7 @@ pub struct Program {
     }) },
 }
 
-/// Implemented by hand: the check of a function that owns a program then sees only one call for its drop.
+/// Implemented by hand, so that the check of a function that owns a program sees only one call for its drop.
 impl Drop for Program {
     fn drop(self) {
         let Program {
@@ -63,7 +63,7 @@ impl Drop for Program {
     }
 }
 
-/// Implemented by hand, without the code of the processes: `mote_program::print_program` writes the whole text.
+/// Implemented by hand, without the code of the processes. `mote_program::print_program` returns the whole text.
 impl Debug for Program {
     fn fmt<W: fmt::Write>(&self, f: &mut Formatter<W>) -> fmt::Result {
         f.debug_struct("Program")
@@ -76,7 +76,7 @@ impl Program {
     ghost use Rattle.program_tree.specs.Code.{declared_name};
     ghost use Rattle.program_tree.specs.Program.{tree_of};
 
-    /// A program of these parts, whose numbers refer to one another.
+    /// Makes a program of these parts. The numbers in each part refer to the other parts.
     pub fn new(
         events: Names,
         semaphores: Names,
@@ -144,7 +144,7 @@ impl Program {
         &self.codes[usize::from(process)]
     }
 
-    /// The name of a declared event, by its number, which is 0x8b or above.
+    /// The name of a declared event, by the event's number (0x8b or above).
     pub fn event_name(&self, number: u8) -> Option<&str>
         ensures name { option_map (λ n. n.now) result ≡ declared_name (tree_of self.now) number }
     {
@@ -164,7 +164,7 @@ impl Program {
         &self.autostart
     }
 
-    /// The process that packets from the radio go to.
+    /// The process that gets the packets from the radio.
     pub fn receiver(&self) -> Option<u8>
         ensures value { result ≡ (tree_of self.now).receiver }
         ensures within { IfSome result (λ i. i < length (tree_of self.now).processes) }
@@ -172,7 +172,7 @@ impl Program {
         self.receiver
     }
 
-    /// The number of timers of both kinds together.
+    /// The number of timers, with both kinds counted together.
     pub fn timers(&self) -> u16
         ensures value { result ≡ length (tree_of self.now).timers }
         ensures bounded { result ≤ 64 }
@@ -188,7 +188,7 @@ impl Program {
         self.timers[usize::from(timer)].is_callback
     }
 
-    /// The process of a timer.
+    /// The number of the process that has this timer.
     pub fn timer_process(&self, timer: u16) -> u8
         requires is_timer { timer < length (tree_of self.now).timers }
         ensures value { IfSome (slice_get (tree_of self.now).timers timer) (λ t. result ≡ t.process) }

@@ -1,6 +1,6 @@
 //! The timers of a program.
 
-/// A timer of a program: whose it is, and whether it is a callback timer (`ctimer.h`) or an event timer (`etimer.h`).
+/// A timer of a program: its process, and whether it is a callback timer (`ctimer.h`) or an event timer (`etimer.h`).
 #[derive(Clone, Copy, Debug, PartialEq, Eq)]
 pub struct Timer {
     pub process: u8,

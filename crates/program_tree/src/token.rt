@@ -17,7 +17,7 @@ pub enum Token<'a> {
     CloseBrace,
     Op(Operator),
     Name(&'a str),
-    /// A number; all above 65,535 count as 65,536.
+    /// A number. All numbers above 65,535 count as 65,536.
     Number(u32),
     Bad,
 }

@@ -6,7 +6,7 @@ ghost use Rattle.program_tree.specs.Tree.{listed};
 use crate::event_name::{BroadcastEvent, PostedEvent, TestedEvent};
 use std::alloc::{AllocError, Global};
 
-/// An operator of two values of 16 bits.
+/// An operator that takes two values of 16 bits.
 #[derive(Clone, Copy, Debug, PartialEq, Eq)]
 pub enum Operator {
     Add,
@@ -24,8 +24,8 @@ pub enum Operator {
     Or,
 }
 
-/// An expression. Variables have the numbers of their declarations in the process, processes and semaphores those of
-/// their declarations in the program, and timers of both kinds are numbered together through the program.
+/// An expression. Variables have the numbers of their declarations in the process; processes and semaphores have those
+/// of their declarations in the program. Timers of both kinds are numbered together through the whole program.
 #[derive(Drop)]
 pub enum Expr {
     Number(u16),
@@ -34,17 +34,17 @@ pub enum Expr {
     Word,
     /// The mote that sent the event.
     Sender,
-    /// The moment.
+    /// The current moment.
     Moment,
     /// The number of the mote itself.
     Mote,
-    /// 1 if the event is this one, otherwise 0.
+    /// 1 if the current event is this one, otherwise 0.
     Is(TestedEvent),
-    /// 1 if the event is TIMER of this timer, otherwise 0.
+    /// 1 if the current event is TIMER of this timer, otherwise 0.
     Fired(u8),
     /// 1 if no process owns the timer, otherwise 0.
     Expired(u8),
-    /// 1 if the event is EXITED of this process, otherwise 0.
+    /// 1 if the current event is EXITED of this process, otherwise 0.
     Gone(u8),
     /// 1 if the process is running or called, otherwise 0.
     Running(u8),
@@ -65,14 +65,14 @@ pub enum Action {
     WaitWhile(Expr),
     Yield,
     YieldUntil(Expr),
-    /// Runs a thread of the same process, declared earlier.
+    /// Runs an earlier thread of the same process.
     Spawn(u8),
     Restart,
     Exit,
     Pause,
     Acquire(u8),
     Signal(u8),
-    /// Posts an event with this word to a process; the variable, if any, gets the result.
+    /// Posts an event with this word to a process. If a variable is given, it gets the result.
     Post(u8, PostedEvent, Expr, Option<u8>),
     Broadcast(BroadcastEvent, Expr, Option<u8>),
     Synch(u8, PostedEvent, Expr),
@@ -103,7 +103,7 @@ pub struct Block {
 }
 
 impl Block {
-    /// A block of these statements.
+    /// Makes a block of these statements.
     #[tactic(auto, using(crate::proofs::TreeLaws::listed_block))]
     pub fn new(statements: Vec<Stmt>) -> Block
         ensures statements { listed (block_of result) ≡ map statement_of statements.items }
@@ -121,7 +121,7 @@ impl Block {
 }
 
 impl Expr {
-    /// A copy of the expression. It fails only if an allocation does.
+    /// Returns a copy of the expression, or an error if an allocation fails.
     pub(crate) fn clone_in(&self, alloc: Global) -> Result<Expr, AllocError>
         ensures same_expression { IfOk result (λ e. expression_of e ≡ expression_of self.now) }
     {
@@ -152,7 +152,7 @@ impl Expr {
 }
 
 impl Action {
-    /// A copy of the action. It fails only if an allocation does.
+    /// Returns a copy of the action, or an error if an allocation fails.
     pub(crate) fn clone_in(&self, alloc: Global) -> Result<Action, AllocError>
         ensures same_action { IfOk result (λ a. action_of a ≡ action_of self.now) }
     {

@@ -4,7 +4,7 @@ use Rattle.program_tree.specs.Scope.{block_fits, earlier_threads}
 use Rattle.program_tree.specs.Tree.{Body}
 use Rattle.protothread.specs.declared.calls.Call.{Call}
 
--- A thread can spawn the threads below this number. A process has at most 7 threads, and each spawns only earlier ones.
+-- A thread can spawn the threads below this number. A process has at most 7, and each spawns only earlier ones.
 abbrev pub before_number : (thread : ℕ) → ℕ
 before_number t = min 7 t
 

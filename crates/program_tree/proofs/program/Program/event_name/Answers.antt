@@ -7,13 +7,13 @@ use Rattle.program_tree.specs.Code.{Tree, declared_name}
 use Rattle.program_tree.specs.Program.{tree_of}
 use Rattle.program_tree.proofs.program.Program.event_name.Goals as goal
 
--- a number below those of declared events has no name
+-- a number below the numbers of declared events has no name
 none_below : (t : Tree) (n : ℕ) → (139 ≤ n → ⊥) → None ≡ declared_name t n
 none_below t n h =
     let no : leb 139 n ≡ false = grind (arith, nat_tests) in
     rw no refl
 
--- any other has the element at its place, if any
+-- any other number has the name at its place, if there is one
 name_of : (t : Tree) (n place i : ℕ) (o : Option (List ℕ)) → (139 ≤ n) × (place ≡ n - 139)
     → i ≡ place → slice_get t.events i ≡ o → o ≡ declared_name t n
 name_of t n place i o h e is =
