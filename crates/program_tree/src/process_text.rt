@@ -101,8 +101,8 @@ impl ProcessText {
         self.thread_blocks.len() as u8
     }
 
-    /// The block of a thread, by the thread's number, if there is such a thread. It spawns only threads before this
-    /// one.
+    /// The block of a thread, by the thread's number, if there is such a thread. The block spawns only threads before
+    /// that thread.
     pub fn thread(&self, number: u8) -> Option<&FlatBlock>
         ensures value { option_map (λ b. tree_in b.now) result ≡ slice_get (code_of self.now).thread_bodies number }
         ensures number_bounded { IfSome result (λ b. number < 7) }
