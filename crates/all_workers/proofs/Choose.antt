@@ -1,4 +1,4 @@
--- If for each number below n there is something with a property, a function chooses it.
+-- If there is something with a property for each number below n, a function chooses it.
 use Rattle.std.proofs.Common.{◌≡◌, ◌⊎◌, ℕ, zero, suc, ◌<◌, cond, eqb, sym, subst, inl, inr, arith}
 use Rattle.std.proofs.lemmas.Bool.{cases_eq, eq-eqb, ne_eqb}
 

@@ -1,4 +1,4 @@
--- The copies of the agenda are those that the workers hold together with those in the inboxes.
+-- The copies of the agenda are those that the workers hold and those in the inboxes.
 use Rattle.std.proofs.Common.{◌≡◌, ℕ, zero, suc, ◌+◌, ◌<◌, Bool, true, false, not, ◌&&◌, ◌||◌, ltb, eqb, List, [], ◌∷◌}
 use Rattle.std.proofs.Common.{◌++◌, length, get_or, refl, sym, ap, ap₂, ◌∙◌, subst, arith, zero-le, append-nil, Option}
 use Rattle.std.proofs.Common.{Some, None}
@@ -38,7 +38,7 @@ use Rattle.all_workers.proofs.Waiting.{same_copies, waiting, gathered_is, to_com
 beyond : (end u k : ℕ) → (ltb (suc end) u || (eqb u (suc end) && not (ltb k 0))) ≡ not (ltb u (suc end))
 beyond end u k = grind (arith, nat_tests)
 
--- after a run the agenda has of each sender the copies that are on their way after the windows
+-- for each sender, the copies in the agenda after a run are those that are on their way after the windows
 module _ {S L : Type 0} (system : System S L) (fine : RunsForward system) (end : ℕ) (motes : ℕ → LoneMote S L) (led : LedTo system fine (suc end) motes) where
   as_history : (k : ℕ) → k < system.motes → mix system fine (suc end) 0 k ≡ motes k
   as_history k h = mix_from system fine (suc end) 0 k zero-le ∙ sym (is_history system fine (suc end) motes led k h)
@@ -63,7 +63,7 @@ lower w k e = grind (arith, nat_tests)
 just_at : (w k : ℕ) → eqb w k ≡ (ltb w (suc k) && not (ltb w k))
 just_at w k = grind (arith, nat_tests)
 
--- the copies for motes of the first workers are those for each of these workers
+-- the copies for motes of the first workers are the copies for motes of each of these workers
 module _ (of : List ℕ) where
   -- the copy is for a mote of one of the first k workers
   abbrev is_to_first : ℕ → RadioCopy → Bool

@@ -5,7 +5,7 @@ use Rattle.std.proofs.lemmas.List.FromFn.{get_or-range_with_len}
 use Rattle.copy_exchange.specs.declared.endpoint.Endpoint.{Endpoint}
 use Rattle.all_workers.proofs.Lookups.{read, mapped}
 
--- each endpoint is that of the worker at its place
+-- each endpoint belongs to the worker at its place
 pub numbered : (workers : ℕ) (endpoints : List Endpoint) → map (λ (c : Endpoint). c.worker) endpoints ≡ range_with_len 0 workers → (v : ℕ) → v < workers → (c : Endpoint) → slice_get endpoints v ≡ Some c → c.worker ≡ v
 numbered workers endpoints e v h c f =
     sym (read (map (λ (x : Endpoint). x.worker) endpoints) v c.worker 0 (mapped (λ (x : Endpoint). x.worker) endpoints v c f))

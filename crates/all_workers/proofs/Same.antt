@@ -1,4 +1,4 @@
--- The contents of a share depend only on its worker's motes.
+-- The contents of a share depend only on the motes of its worker.
 use Rattle.std.proofs.Common.{◌≡◌, ℕ, true, false, cond, ltb, List, [], refl, ap, ◌∙◌, subst, inl, inr, Some}
 use Rattle.std.specs.List.{filter, flat_map}
 use Rattle.std.proofs.lemmas.Bool.{cases_Bool}

@@ -1,4 +1,5 @@
--- Outgoing copies are for motes of other workers; and a property of each sender's copies is one of all copies.
+-- Outgoing copies are for motes of other workers; and a property of the copies of each sender is a property of all
+-- copies.
 use Rattle.std.proofs.Common.{◌≡◌, ℕ, zero, suc, ◌<◌, true, eqb, List, [], ◌∷◌, length, refl, sym, subst, arith, inl}
 use Rattle.std.proofs.Common.{inr}
 use Rattle.std.specs.Prelude.{slice_index}

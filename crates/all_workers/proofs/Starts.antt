@@ -22,7 +22,7 @@ use Rattle.all_workers.specs.WorkerGroup.{IsAt, IsWorkerAt}
 use Rattle.all_workers.specs.Start.{AreFirst}
 use Rattle.all_workers.specs.WorkerGroup.{IsCut}
 
--- if no sender has a part, there is nothing
+-- if no sender has items in a list, the list is empty
 no_parts : (rest : List Item) → ((s : ℕ) → part s rest ≡ []) → rest ≡ []
 no_parts [] h = refl
 no_parts (x ∷ rest) h = let e = rw (eq-eqb x.sender x.sender refl) at (h x.sender) in cc

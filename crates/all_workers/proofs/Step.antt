@@ -1,4 +1,4 @@
--- A window of all workers is one of the law's windows.
+-- A window of all workers is one of the windows in the law of windows.
 use Rattle.std.proofs.Common.{◌≡◌, ◌⊎◌, ℕ, zero, suc, ◌+◌, ◌-◌, ◌<◌, ◌≤◌, true, false, cond, ltb, eqb, List, [], ◌∷◌}
 use Rattle.std.proofs.Common.{◌++◌, length, refl, sym, ap, ◌∙◌, subst, inl, inr, arith, Option, Some, None, append-nil}
 use Rattle.std.specs.List.{filter, slice_get, AllByRecursion as Each}
@@ -22,7 +22,7 @@ use Rattle.all_workers.specs.WorkerGroup.{IsCut}
 use Rattle.all_workers.proofs.Same.{own_copies_same}
 use Rattle.all_workers.proofs.Sent.{every_of_each}
 
--- a worker's own mote has that worker in the cut
+-- the partition gives a worker's own mote to this worker
 pub own_of : (of : List ℕ) (v k : ℕ) → is_own of v k ≡ true → slice_get of k ≡ Some v
 own_of of v k = at (slice_get of k)
   where
@@ -60,7 +60,7 @@ module _ (n : NetModel) (fine : RunsForward (system_of n)) (of : List ℕ) (work
     (runs : (v : ℕ) → v < workers → (k : ℕ) → is_own of v k ≡ true → RunsOwnMote n (is_own of v) from until motes (nexts v) (taken v) k)
     (out : (v : ℕ) → v < workers → (s : ℕ) → outgoing_by n (is_own of v) (nexts v) s ≡ outgoing_by n (is_own of v) motes s ++ filter (is_from_sender s) (outgoing v))
     (goes : (v : ℕ) → v < workers → Each (IsOutgoing n of v) (outgoing v)) where
-  -- all motes after the window
+  -- the state of all motes after the window
   abbrev pub next : Motes
   next k = option_map_or (λ w. nexts w k) (slice_get of k) (motes k)
 
@@ -84,11 +84,11 @@ module _ (n : NetModel) (fine : RunsForward (system_of n)) (of : List ℕ) (work
       each : (k : ℕ) → k < length n.motes → RunsAlone (system_of n) from until motes next k
       each k h = let w = some_worker (length n.motes) workers of cut k h in of_worker k w.0 w.1 w.2
 
-  -- of this mote, the copies that its worker sent to another worker
+  -- the copies of this mote that its worker sent to another worker
   abbrev pub out_of : (v s : ℕ) → List RadioCopy
   out_of v s = option_map_or (λ u. filter (is_from_sender s) (filter (is_to of v) (outgoing u))) (slice_get of s) []
 
-  -- the copies to one other worker were for its motes
+  -- the copies to one other worker were for the motes of that worker
   out_copies : (u : ℕ) → u < workers → (s : ℕ) → is_own of u s ≡ true
       → filter (is_for_others (is_own of u)) (copies_by (system_of n) next s) ≡ filter (is_for_others (is_own of u)) (copies_by (system_of n) motes s) ++ filter (is_from_sender s) (outgoing u)
   out_copies u h s e =

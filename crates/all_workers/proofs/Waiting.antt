@@ -40,7 +40,7 @@ ends_of : {X : Type 0} (P : X → Type 0) (xs ys : List X) → Each P (xs ++ ys)
 ends_of P [] ys h = (tt, h)
 ends_of P (x ∷ xs) ys h = let e = ends_of P xs ys h.1 in ((h.0, e.0), e.1)
 
--- lists with the same copies of each sender, in order, have the same copies
+-- two lists that have, for each sender, the same copies in order have the same copies
 pub same_copies : (xs ys : List RadioCopy) → ((s : ℕ) → filter (is_from_sender s) xs ≡ filter (is_from_sender s) ys) → IsPermutation xs ys
 same_copies xs ys h =
     IsPermutation-trans _ _ _ (sorted_permutes (λ copy. copy.sender) (λ copy. copy.number) xs)
@@ -48,7 +48,7 @@ same_copies xs ys h =
 
 module _ (n : NetModel) (fine : RunsForward (system_of n)) (of : List ℕ) (from : ℕ) (motes : Motes) (led : Windows (system_of n) 0 from (first_mote (system_of n)) motes) (first : Option ℕ) (starts : NoneBefore from first)
     (v : ℕ) (share : Share) (taker : TakerView) (here : IsWorkerAt n of from motes first v share taker) where
-  -- of one sender, the copies in the inbox
+  -- the copies of one sender in the inbox
   abbrev rest_of : ℕ → List RadioCopy
   rest_of s = (here.waits s).rest
 
@@ -65,7 +65,7 @@ module _ (n : NetModel) (fine : RunsForward (system_of n)) (of : List ℕ) (from
   no_rest : (s : ℕ) → filter (is_from_sender s) (gathered_by taker) ≡ [] → rest_of s ≡ []
   no_rest s e = second_none (taken_of s) (rest_of s) (sym (here.waits s).all ∙ e)
 
-  -- nothing crosses from a mote past the last, nor from the worker's own
+  -- no copies cross from a mote past the last, or from the worker's own motes
   none_beyond : (s : ℕ) → ltb s (length n.motes) ≡ false → crossed (system_of n) of motes v s ≡ []
   unfolding system_of
   none_beyond s e = elim (cases_Bool (is_own of v s)) [ inl t ↦ rw t refl | inr t ↦ rw (t, e) refl ]
@@ -73,7 +73,7 @@ module _ (n : NetModel) (fine : RunsForward (system_of n)) (of : List ℕ) (from
   none_own : (s : ℕ) → is_own of v s ≡ true → crossed (system_of n) of motes v s ≡ []
   none_own s e = rw e refl
 
-  -- all that is in the inbox
+  -- all copies in the inbox
   abbrev pub waiting : List RadioCopy
   waiting = flat_map rest_of (up_to (length n.motes))
 
@@ -91,7 +91,7 @@ module _ (n : NetModel) (fine : RunsForward (system_of n)) (of : List ℕ) (from
   pub gathered_is : IsPermutation (gathered_by taker) (taken_by taker ++ waiting)
   gathered_is = same_copies (gathered_by taker) (taken_by taker ++ waiting) gathered_each
 
-  -- of one sender, the pending copies and those in the inbox are the copies to this worker from this moment on
+  -- for one sender, the pending copies and those in the inbox are the copies to this worker from this moment on
   of_sender : (s : ℕ) → filter (is_to_come (is_own of v) from) (copies_seen (system_of n) (is_own of v) motes (taken_by taker) s) ++ rest_of s ≡ filter (comes_from from) (filter (is_to of v) (copies_by (system_of n) motes s))
   of_sender s = of_case (cases_Bool (is_own of v s))
     where
@@ -128,6 +128,6 @@ module _ (n : NetModel) (fine : RunsForward (system_of n)) (of : List ℕ) (from
       ∙ (ap (filter (is_to of v)) (sym (coming_pending (system_of n) fine from motes led s))
       ∙ sym (filter_filter (is_from_sender s) (is_to of v) (coming (system_of n) fine from motes))))))
 
-  -- the copies on their way to this worker are those pending for its motes, and those in its inbox
+  -- the copies on their way to this worker are the copies pending for its motes and those in its inbox
   pub to_come_is : (rest : List RadioCopy) → AreToCome rest → IsPermutation (filter (is_to of v) (coming (system_of n) fine from motes)) (rest ++ waiting)
   to_come_is rest matches = same_copies (filter (is_to of v) (coming (system_of n) fine from motes)) (rest ++ waiting) (λ s. sym (to_come_each rest matches s))

@@ -16,7 +16,7 @@ use Rattle.worker_window.specs.declared.share.Share.{Share}
 use Rattle.all_workers.specs.declared.workers.WorkerGroup.{WorkerGroup}
 use Rattle.all_workers.specs.WorkerGroup.{IsAt}
 
--- the copies that one worker holds, together with those in its inbox that are gathered and not taken yet
+-- the copies that one worker holds, together with the copies in its inbox that are gathered and not taken yet
 pub record AreWith (share : Share) (taker : TakerView) (copies : List RadioCopy) : Type 0 where
   pub items : List Item
   pub holds : Holds share.agenda.buckets items
@@ -24,8 +24,8 @@ pub record AreWith (share : Share) (taker : TakerView) (copies : List RadioCopy)
   pub gathered : IsPermutation (gathered_by taker) (taken_by taker ++ waiting)
   pub both : IsPermutation copies (packets items ++ waiting)
 
--- If the workers are ready before a moment, the copies of the net's agenda after all turns before it are those that
--- the workers hold and those in the inboxes, each exactly once.
+-- If the workers are ready before a moment, the copies of the net's agenda after all turns before this moment are
+-- those that the workers hold and those in the inboxes, each exactly once.
 abbrev pub AgendaIsHeld : Type 0
 AgendaIsHeld = (n : NetModel) → RunsForward (system_of n) → (of : List ℕ) (end : ℕ) (group : WorkerGroup)
     → IsAt n of (suc end) group

@@ -1,4 +1,4 @@
--- The workers before their threads, and after them.
+-- The workers before their threads and after them.
 use Rattle.std.specs.Prelude.{◌≡◌, true, List, map}
 use Rattle.std.specs.List.{zip, AllByRecursion as Each, AllZip}
 use Rattle.copy_inbox.specs.Handles.{InboxId, TakerView}
@@ -8,7 +8,7 @@ use Rattle.worker_window.specs.declared.share.Share.{Share}
 use Rattle.all_workers.specs.declared.worker.Worker.{Worker}
 use Rattle.all_workers.specs.Worker.{make_worker}
 
--- the workers of these shares, with the endpoints that were made together of these takers
+-- the workers with these shares, and with the endpoints that were made together for these takers
 pub record AreMade (inboxes : List InboxId) (takers : List TakerView) (shares : List Share) (workers : List Worker)
     : Type 0 where
   pub endpoints : List Endpoint
@@ -18,11 +18,11 @@ pub record AreMade (inboxes : List InboxId) (takers : List TakerView) (shares : 
   pub nothing : Each HasPushedNothing endpoints
   pub marked : Each (λ (taker : TakerView). taker.state.marked ≡ true) takers → Each HasMarks endpoints
 
--- each of them has this property, whichever endpoints are made
+-- each of the workers has this property, with any endpoints that can be made
 abbrev pub AllMade : List InboxId → List TakerView → List Share → (Worker → Type 0) → Type 0
 AllMade inboxes takers shares P = (workers : List Worker) → AreMade inboxes takers shares workers → Each P workers
 
--- they were made, and then each worked
+-- the workers were made, and then each of them worked
 pub record HaveWorked (inboxes : List InboxId) (takers : List TakerView) (shares : List Share)
     (makes : Worker → Worker → Type 0) (done : List Worker) : Type 0 where
   pub first : List Worker

@@ -3,14 +3,14 @@ use Rattle.std.specs.Prelude.{ℕ, ◌≡◌, ◌+◌, min, nat_lt, ◌&&◌, if
 use Rattle.radio_medium.specs.Medium.{medium_fault}
 use Rattle.mote_net.specs.Net.{NetModel}
 
--- the medium of a net is sound: it has no fault, and a place for each mote
+-- the medium of a net is sound: it has no error, and it has a place for each mote
 abbrev pub IsSound : NetModel → Type 0
 IsSound n = (medium_fault n.radio ≡ None) × (length n.radio.places ≡ length n.motes)
 
--- a window lasts as long as the lookahead, or less if that is asked for
+-- a window is as long as the lookahead, or as `longest` if that is shorter and not 0
 abbrev pub length_of_window : (lookahead longest : ℕ) → ℕ
 length_of_window lookahead longest = if nat_lt 0 longest && nat_lt longest lookahead then longest else lookahead
 
--- the moment before which it ends
+-- the moment before which the window ends
 abbrev pub end_of_window : (end width from : ℕ) → ℕ
 end_of_window end width from = min (from + width) (end + 1)

@@ -1,9 +1,9 @@
--- One worker, made of its share and its endpoint.
+-- One worker, made from its share and its endpoint.
 use Rattle.std.specs.Prelude.{None}
 use Rattle.copy_exchange.specs.declared.endpoint.Endpoint.{Endpoint}
 use Rattle.worker_window.specs.declared.share.Share.{Share}
 use Rattle.all_workers.specs.declared.worker.Worker.{Worker}
 
--- nothing that it delivered is in an inbox
+-- no copy that the worker delivered is in an inbox
 abbrev pub make_worker : Share × Endpoint → Worker
 make_worker p = record { share = p.0; endpoint = p.1; first_out = None }

@@ -1,4 +1,4 @@
-//! The common part of fork-join and null messages: the group between windows, a window's length, one worker, the
+//! The common part of fork-join and null messages: the workers between windows, a window's length, one worker, and the
 //! threads of all workers.
 #![tactic(auto)]
 

@@ -14,11 +14,11 @@ use std::sync::Wait;
 use std::thread::Threads;
 use worker_window::Share;
 
-/// Makes each worker of its share and an endpoint, with a sender on the inbox of each other worker, and has it work in
-/// a thread of its own. The workers come back in their order.
+/// Makes each worker from its share and an endpoint, with a sender on the inbox of each other worker, and has it work
+/// in a thread of its own. The workers are returned in their order.
 ///
 /// # Errors
-/// That of [`fork_join`], or `Memory` if an allocation fails. It is never `Stopped`.
+/// The errors of [`fork_join`], except `Stopped`; also `Memory` if an allocation fails.
 pub fn run_threads<R, W>(
     rt: &R,
     alloc: Global,

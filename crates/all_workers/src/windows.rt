@@ -9,7 +9,8 @@ ghost use Rattle.all_workers.specs.WindowLength.{IsSound, end_of_window, length_
 
 use mote_net::Net;
 
-/// The lookahead of a net. Every net runs forward: its wakes and copies come later than the turns that make them.
+/// Returns the lookahead of a net. Every net runs forward: its wakes and copies are later than the turns that make
+/// them.
 pub fn lookahead_of(net: &Net) -> u64
     ensures value { result ≡ (system_of (net_of net.now)).lookahead }
     ensures forward { RunsForward (system_of (net_of net.now)) }
@@ -18,7 +19,7 @@ pub fn lookahead_of(net: &Net) -> u64
     net.medium().lookahead(net.end())
 }
 
-/// The length of a window: the lookahead, or `longest` if that is above 0 and below the lookahead.
+/// Returns the length of a window: the lookahead, or `longest` if that is above 0 and below the lookahead.
 pub fn window_length(lookahead: u64, longest: u32) -> u64
     requires positive { 0 < lookahead }
     ensures value { result ≡ length_of_window lookahead longest }
@@ -33,7 +34,7 @@ pub fn window_length(lookahead: u64, longest: u32) -> u64
     longest
 }
 
-/// The exclusive end of a window that begins at `from`: `from + width`, cut off at `end + 1`.
+/// Returns the exclusive end of a window that begins at `from`: the lesser of `from + width` and `end + 1`.
 pub fn window_end(from: u64, width: u64, end: u64) -> u64
     requires above_zero { 0 < width }
     requires end_bounded { end ≤ latest_end }

@@ -1,4 +1,4 @@
-//! One worker, as its thread has it.
+//! One worker with its share and its endpoint.
 
 ghost use Rattle.std.specs.Prelude.{◌≡◌, map, IfErr, IfOk};
 ghost use Rattle.std.specs.List.{zip};
@@ -15,14 +15,14 @@ use worker_window::Share;
 pub struct Worker {
     pub share: Share,
     pub endpoint: Endpoint,
-    /// The moment of the earliest arrival, of the copies that it delivered and that are still in an inbox.
+    /// The moment at which the first of the copies arrives that the worker delivered and that are still in an inbox.
     pub first_out: Option<u64>,
 }
 
 /// Makes each worker from its share and its endpoint.
 ///
 /// # Errors
-/// `Memory` if an allocation fails. It is the only error.
+/// `Memory` if an allocation fails. There is no other error.
 pub fn workers_of(
     alloc: Global,
     shares: Vec<Share>,
@@ -45,7 +45,7 @@ pub fn workers_of(
 /// Separates the workers' shares from their endpoints.
 ///
 /// # Errors
-/// `Memory` if an allocation fails. It is the only error.
+/// `Memory` if an allocation fails. There is no other error.
 pub fn split_workers(
     alloc: Global,
     workers: Vec<Worker>,

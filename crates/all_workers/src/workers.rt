@@ -1,4 +1,4 @@
-//! All workers between two windows, and before the first.
+//! All workers between two windows, and before the first window.
 
 ghost use Rattle.std.specs.Prelude.{◌≡◌, ◌≤◌, length, IfOk, IfErr};
 ghost use Rattle.std.specs.List.{AllZip};
@@ -14,8 +14,8 @@ use mote_net::Net;
 use std::alloc::Global;
 use worker_window::Share;
 
-/// The workers of a net: their shares, their inboxes with the takers, and `first_out`, the moment at which the
-/// earliest of the copies in the inboxes arrives.
+/// The workers of a net: their shares, their inboxes with the takers, and `first_out`, the moment at which the first
+/// of the copies in the inboxes arrives.
 #[derive(Drop)]
 pub struct WorkerGroup {
     pub shares: Vec<Share>,
@@ -24,7 +24,7 @@ pub struct WorkerGroup {
     pub first_out: Option<u64>,
 }
 
-/// The shares of this many workers before the motes' first turns: each mote wakes at 0.
+/// Makes the shares of this many workers before the motes' first turns: each mote wakes at 0.
 fn first_shares(
     alloc: Global,
     net: &Net,
@@ -44,11 +44,11 @@ fn first_shares(
 }
 
 impl WorkerGroup {
-    /// The workers before the motes' first turns: each mote wakes at 0, and nothing is in the inboxes. `of` is the
+    /// Makes the workers before the motes' first turns: each mote wakes at 0, and the inboxes are empty. `of` is the
     /// worker of each mote.
     ///
     /// # Errors
-    /// Only `Memory`.
+    /// `Memory` if an allocation fails. There is no other error.
     pub fn new(
         alloc: Global,
         net: &Net,

@@ -89,7 +89,7 @@ open_same ss us d e h numbers made gathered =
       newer = λ i le. ap (λ g. is_gathered g i) gathered ∙ h.newer i le;
     }
 
--- which senders are open doesn't change while the endpoints stay the same
+-- the set of open senders doesn't change while the endpoints stay the same
 pub open_staying : (old new : List Endpoint) → AllZip Stays old new → Each (λ (c : Endpoint). AreOpen (senders_to old c.worker) c.taker.state) old → Each (λ (c : Endpoint). AreOpen (senders_to new c.worker) c.taker.state) new
 open_staying old new stays are_open =
     each_staying (λ c. AreOpen (senders_to old c.worker) c.taker.state) (λ c. AreOpen (senders_to new c.worker) c.taker.state)
@@ -126,11 +126,11 @@ module _ (inboxes : List InboxId) (cs : List Endpoint) (back : AllReturn inboxes
   one : (s v : ℕ) → OneOf s (senders_to cs v)
   one s v = one_of back.worker_of s v 0 cs (workers ∙ ap (range_with_len 0) (sym count)) owns
 
-  -- the taker with all senders of its inbox gathered
+  -- the taker after it gathered all senders of its inbox
   abbrev pub with_all : Endpoint → TakerView
   with_all c = gather_senders c.taker (senders_to cs c.worker)
 
-  -- it had taken all that it knew of, and its inbox has no marks
+  -- the taker had taken all items that it knew of, and its inbox has no marks
   abbrev IsDone : Endpoint → Type 0
   IsDone c = IsCollected c × IsPlain c.taker
 

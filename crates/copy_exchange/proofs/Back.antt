@@ -39,7 +39,7 @@ row_fits inboxes cs rows k row on_inboxes e lt is =
     let P : Row → Type 0 = λ r. AreSendersOn inboxes r.items in
     subst P (sym is) (each_at P rows k row (subst (λ (l : List Row). Each P l) (sym e) (each_row inboxes cs on_inboxes)) lt)
 
--- ---- the takers that they are gathered by
+-- ---- the takers that gather them
 module _ (inboxes : List InboxId) (cs : List Endpoint) (workers : workers_of cs ≡ range_with_len 0 (length inboxes)) (on_inboxes : Each (IsOnInboxes inboxes) cs) where
   long : length cs ≡ length inboxes
   long = sym (length-map cs (λ (c : Endpoint). c.worker)) ∙ (ap length workers ∙ length-range_with_len 0 (length inboxes))
@@ -56,7 +56,7 @@ module _ (inboxes : List InboxId) (cs : List Endpoint) (workers : workers_of cs 
         ap (λ (u : TakerView). u.inbox) (p.2 t) ∙ sym (ap (λ k. get_or inboxes k id) same ∙ get_or_from_slice_get inboxes p.0.worker p.0.taker.inbox id p.4.taker);
   }
 
--- ---- the items that they have gathered
+-- ---- the items that the takers have gathered
 found_taker : (cs : List Endpoint) (v : ℕ) (c : Endpoint) (t : TakerView) → slice_get cs v ≡ Some c → get_or (map (λ (x : Endpoint). x.taker) cs) v t ≡ c.taker
 found_taker cs v c t e = get_or_from_slice_get (map (λ (x : Endpoint). x.taker) cs) v c.taker t (slice_get-map (λ (x : Endpoint). x.taker) cs v ∙ ap (option_map (λ (x : Endpoint). x.taker)) e)
 

@@ -1,4 +1,4 @@
--- A drain of all that is known.
+-- A drain of all known items.
 use Rattle.std.proofs.Common.{◌≡◌, List, ◌++◌, Some, Result, Ok, Err, IfOk, OnOk, Vec, refl, sym, ap, ◌∙◌, subst, append_assoc}
 use Rattle.std.specs.declared.alloc.Global.{Global}
 use Rattle.radio_packet.specs.declared.copy.RadioCopy.{RadioCopy}
@@ -53,7 +53,7 @@ now_in_order old new copies h takes none whole s =
     let whole' : Whole old.state.gathered (old.state.taken ++ items) = subst (λ (t : TakerView). Whole t.state.gathered t.state.taken) e whole in
     ap (λ (t : TakerView). from s (taken_by t)) e ∙ h.in_order items (whole', none') s
 
--- ---- the endpoint after it
+-- ---- the endpoint after the drain
 abbrev pub with_taker : Endpoint → TakerView → Endpoint
 with_taker c t = record { worker = c.worker; taker = t; senders = c.senders }
 

@@ -1,4 +1,4 @@
--- How many copies were gathered.
+-- The number of copies that were gathered.
 use Rattle.std.proofs.Common.{◌≡◌, ◌≢◌, ℕ, ◌+◌, Bool, true, false, cond, eqb, List, [], ◌∷◌, length, filter, drop, refl, ap, ◌∙◌, subst, ⊎_elim, arith, length-append}
 use Rattle.std.specs.List.{AllByRecursion as Each, cons_option}
 use Rattle.std.proofs.lemmas.Bool.{true_from_ne_false}
@@ -34,7 +34,7 @@ all_packets (w ∷ ws) h =
     let one = one_more w (copies_in ws) ∙ ap (λ (b : Bool). cond b 1 0 + length (copies_in ws)) h.0 in
     omega arith
 
--- by cases of a bool
+-- a proof by the two cases of a bool
 either : {P : Type 0} (b : Bool) → (b ≡ true → P) → (b ≡ false → P) → P
 either true f g = f refl
 either false f g = g refl
@@ -49,7 +49,7 @@ copies_count (x ∷ xs) =
     (λ no. rw no (let one' = one ∙ ap (λ (b : Bool). cond b 1 0 + length (copies_of xs)) no in omega arith))
 
 module _ (s : ℕ) where
-  -- those of one sender
+  -- the packets from one sender
   abbrev kept : List Item → ℕ
   kept items = length (part s (packets_in items))
 

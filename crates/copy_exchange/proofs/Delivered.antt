@@ -58,7 +58,7 @@ module _ (inboxes : List InboxId) (of : List ℕ) (c : Endpoint) (copy : RadioCo
       let Q : Option SenderView → Type 0 = λ t. IsSenderOn id false t in
       subst Q same (subst P to_other (endpoint.each to id found))
 
--- ---- the endpoint after it
+-- ---- the endpoint after the delivery
 sender_on : (id : InboxId) (own : Bool) (s t : SenderView) → t.inbox ≡ s.inbox → IsSenderOn id own (Some s) → IsSenderOn id own (Some t)
 sender_on id true s t e h = absurd cc
 sender_on id false s t e h = e ∙ h
@@ -152,7 +152,7 @@ delivers_none of c = record {
   pushes = λ v. sym (append-nil (pushed_to c v));
 }
 
--- packets appended to packets
+-- packets that are appended to packets are packets
 packets_on : (of : List ℕ) (v : ℕ) (old : List Carried) (xs ys : List RadioCopy) → (old ++ map Packet (filter (is_to of v) xs)) ++ map Packet (filter (is_to of v) ys) ≡ old ++ map Packet (filter (is_to of v) (xs ++ ys))
 packets_on of v old xs ys =
     append_assoc old (map Packet (filter (is_to of v) xs)) (map Packet (filter (is_to of v) ys))
@@ -166,7 +166,7 @@ delivers_more of a b c xs ys h k = record {
   pushes = λ v. k.pushes v ∙ (ap (λ l. l ++ map Packet (filter (is_to of v) ys)) (h.pushes v) ∙ packets_on of v (pushed_to a v) xs ys);
 }
 
--- ---- an endpoint of joins stays one when it delivers
+-- ---- an endpoint of a window of fork-join is still one after a delivery
 pub endpoint_again : (inboxes : List InboxId) (of : List ℕ) (a b : Endpoint) (copies : List RadioCopy) → IsEndpoint inboxes a → Delivers of a b copies → IsOnInboxes inboxes b → IsEndpoint inboxes b
 endpoint_again inboxes of a b copies h d s =
     let P : TakerView → Type 0 = λ t. IsOrderly t.state in

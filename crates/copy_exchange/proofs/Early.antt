@@ -1,4 +1,4 @@
--- Copies that came early can't be seen.
+-- Copies that arrived early can't be seen.
 use Rattle.std.proofs.Common.{◌≡◌, ℕ, zero, suc, ◌+◌, ◌-◌, ◌<◌, ◌≤◌, Bool, true, false, List, [], ◌∷◌, ◌++◌, map, filter, refl, sym, ap, ◌∙◌, arith, subst, append_assoc, append-nil}
 use Rattle.std.specs.List.{AllByRecursion as Each}
 use Rattle.std.proofs.lemmas.List.Elements.{filter-append}
@@ -41,7 +41,7 @@ abbrev rest_of : List Carried → List Carried
 rest_of [] = []
 rest_of (y ∷ ys) = ys
 
--- of two prefixes of one list, the one with at least as many marks begins with the other, if that ends in a mark
+-- of two prefixes of one list, the one with at least as many marks begins with the other, if the other ends in a mark
 goes_on : (xs ys taken rest : List Carried) → xs ++ ys ≡ taken ++ rest → closed xs ≡ true → marks_in xs ≤ marks_in taken → (more : List Carried) × (taken ≡ xs ++ more) × (ys ≡ more ++ rest)
 goes_on [] ys taken rest e h m = (taken, refl, e)
 goes_on (x ∷ xs) ys [] rest e h m = absurd (let n = none_closed (x ∷ xs) (omega arith) h in cc)

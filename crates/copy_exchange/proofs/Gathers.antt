@@ -1,4 +1,4 @@
--- All senders of an inbox that were open are gathered, one after another.
+-- All open senders of an inbox are gathered, one after another.
 use Rattle.std.proofs.Common.{◌≡◌, ◌≢◌, ◌⊎◌, ℕ, zero, suc, ◌+◌, ◌<◌, ◌≤◌, Bool, true, false, eqb, List, [], ◌∷◌, ◌++◌, length, map, drop, refl, sym, ap, ◌∙◌, subst, inl, inr, ⊎_elim, arith, append_assoc, append-nil, eq-eqb, ne_eqb}
 use Rattle.std.specs.List.{AllByRecursion as Each, flat_map, range_with_len}
 use Rattle.std.proofs.lemmas.Bool.{cases_lt}
@@ -129,7 +129,7 @@ gathers_all : (ss : List SenderView) (d : TakerState) → Gathering ss d → Gat
 gathers_all [] d h = h
 gathers_all (s ∷ ss) d h = gathers_all ss (with_joined (s ∷ []) d) (gathers_one s ss d h)
 
--- ---- the copies of one mote are all of one sender
+-- ---- all copies of one mote are from one sender
 pub record OneOf (s : ℕ) (ss : List SenderView) : Type 0 where
   pub number : ℕ
   pub each : Each (λ (a : SenderView). (a.state.number ≡ number) ⊎ (from s (copies_by a) ≡ [])) ss
@@ -175,7 +175,7 @@ module _ (P Q R : SenderView → Type 0) where
   each_two [] f h k = tt
   each_two (a ∷ as') f h k = (f a h.0 k.0, each_two as' f h.1 k.1)
 
--- nothing was taken of senders numbered from `first` on
+-- nothing was taken from senders numbered from `first` on
 fresh_parts : (taken rest : List Item) (first : ℕ) (ss : List SenderView) → numbers_of ss ≡ range_with_len first (length ss) → ((i : ℕ) → first ≤ i → part i taken ≡ [])
     → Each (λ (a : SenderView). part a.state.number (taken ++ rest) ≡ a.state.pushed) ss → Each (λ (a : SenderView). part a.state.number rest ≡ a.state.pushed) ss
 fresh_parts taken rest first [] e none h = tt
@@ -196,7 +196,7 @@ module _ (ss : List SenderView) (d : TakerState) (orderly : IsOrderly d) (whole 
   pub all_gathered : AllGathered (with_joined ss d)
   all_gathered i lt = let made = end.are_open.made in end.are_open.older i (omega arith)
 
-  -- nothing more comes of a sender that was gathered before
+  -- nothing more arrives from a sender that was gathered before
   module _ (rest : List Item) (is_rest : IsRest (with_joined ss d) rest) where
     old_whole : Whole d.gathered (d.taken ++ rest)
     old_whole = each_old (λ g. part g.number (d.taken ++ rest) ≡ g.pushed) d.made ss d.gathered is_rest.0
@@ -264,7 +264,7 @@ none_untaken taken g whole =
     let none : untaken_of taken g ≡ [] = ap (drop (length mine)) (sym whole ∙ sym (append-nil mine)) ∙ drop-append_seam mine [] in
     subst P (sym none) tt
 
--- all items that were gathered before are taken, and those that are gathered now are packets
+-- all items that were gathered before are taken, and the items that are gathered now are packets
 pub packets_then : (ss : List SenderView) (d : TakerState) → Whole d.gathered d.taken → Each (λ (s : SenderView). Packets s.state.pushed) ss → PacketsLeft (with_joined ss d)
 packets_then ss d whole new = each_joined (λ g. Packets (untaken_of d.taken g)) d.made ss d.gathered
     (each_map (λ (g : Gathered). part g.number d.taken ≡ g.pushed) (λ (g : Gathered). Packets (untaken_of d.taken g)) d.gathered (none_untaken d.taken) whole)

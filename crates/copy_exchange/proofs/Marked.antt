@@ -80,7 +80,7 @@ module _ (c : Endpoint) (to window : ℕ) (inside : to < length c.senders.items)
     others = λ v n. get_or-set_other c.senders.items to v (Some t) None n;
   }
 
--- ---- worker by worker
+-- ---- one worker after another
 -- the mark was pushed to the workers before this one
 pub record MarkedTo (to window : ℕ) (old new : Endpoint) : Type 0 where
   pub stays : Stays old new

@@ -97,7 +97,7 @@ module _ (p : Position) where
         expected = subst P (sym a.adds) (each_join (IsExpectedAt p) copies (copies_of (x ∷ [])) h.expected a.expected);
       }
 
--- ---- counts one by one
+-- ---- the counts, one by one
 pub past_more : (marks : List ℕ) (window k m : ℕ) → ((s none : ℕ) → s < k → window < get_or marks s none) → k < length marks → m ≡ get_or marks k m → window < m
     → (s none : ℕ) → s < k + 1 → window < get_or marks s none
 past_more marks window k m before lt at low s none less = ⊎_elim

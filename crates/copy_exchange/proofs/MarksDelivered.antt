@@ -11,7 +11,7 @@ use Rattle.copy_exchange.proofs.Marked.{on_inboxes_stays}
 use Rattle.copy_exchange.specs.Delivers.{PushesWindow}
 use Rattle.copy_exchange.specs.Expected.{TakesExpected, position}
 
--- first the copies, and then the mark
+-- the copies were pushed first, and then the mark
 pub pushes_window : (of : List ℕ) (workers window : ℕ) (a b c : Endpoint) (copies : List RadioCopy) → Delivers of a b copies → PushesMarks workers window b c → PushesWindow of workers window a c copies
 pushes_window of workers window a b c copies out marks = record {
   stays = stays_on a b c out.stays marks.stays;
@@ -21,7 +21,7 @@ pushes_window of workers window a b c copies out marks = record {
       ∙ (ap (λ l. l ++ Mark window ∷ []) (out.pushes v) ∙ append_assoc (pushed_to a v) (map Packet (filter (is_to of v) copies)) (Mark window ∷ []));
 }
 
--- taking items changes the identity of no sender
+-- the identities of the senders are the same after items are taken
 pub takes_stays : (of : List ℕ) (from : ℕ) (old new : Endpoint) (copies : List RadioCopy) → TakesExpected (position of old.worker from) old.taker new.taker copies → new.worker ≡ old.worker → new.senders ≡ old.senders → Stays old new
 takes_stays of from old new copies took worker senders = record {
   worker = worker;

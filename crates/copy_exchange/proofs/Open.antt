@@ -57,9 +57,9 @@ module _ {A B : Type 0} (f : A → Option B) where
   of_filter_map [] j y at = absurd (let none : None ≡ Some y = at in cc)
   of_filter_map (a ∷ xs) j y at = of_first a xs y (f a) refl (λ i found. of_filter_map xs i y found) j at
 
--- ---- how many senders there are on an inbox
+-- ---- the number of senders on an inbox
 module _ (id : InboxId) (v : ℕ) where
-  -- on the inbox of worker v each other one has a sender
+  -- each other worker has a sender on the inbox of worker v
   abbrev On : Endpoint → Type 0
   On c = IsSenderOn id (v == c.worker) (sender_to c v)
 
@@ -124,7 +124,7 @@ module _ (inboxes : List InboxId) (cs : List Endpoint) (workers : workers_of cs 
       let found : slice_get inboxes v ≡ Some id = slice_get-get_or inboxes v c.taker.inbox (omega arith) in
       one_missing id v 0 cs (omega arith) (omega arith) (workers ∙ ap (range_with_len 0) (sym long)) (each_map (IsOnInboxes inboxes) (On id v) cs (λ x h. h.each v id found) each_on_inboxes) ∙ long
 
--- on the inbox of each worker, if none is gathered yet, there is a sender of each other one
+-- if no sender is gathered yet, each worker's inbox has a sender of each other worker
 pub made_for_others : (inboxes : List InboxId) (endpoints : List Endpoint) → Together inboxes endpoints → (v : ℕ) (c : Endpoint) → slice_get endpoints v ≡ Some c → c.taker.state.gathered ≡ [] → suc c.taker.state.made ≡ length inboxes
 made_for_others inboxes endpoints h v c at none =
     let each_on_inboxes = each_map (IsEndpoint inboxes) (IsOnInboxes inboxes) endpoints (λ c e. e.on_inboxes) h.each in
@@ -146,7 +146,7 @@ sender_is cs inbox worker c at = ap (λ (o : Option Endpoint). option_map_or (λ
 found_as : (ss : List SenderView) (i j : ℕ) (s : SenderView) → i ≡ j → slice_get ss j ≡ Some s → slice_get ss i ≡ Some s
 found_as ss i j s e at = ap (slice_get ss) e ∙ at
 
--- one sender of each other worker on the inbox of this one, numbered from 0, and no others
+-- the senders on the inbox of this worker are one of each other worker, numbered from 0, and no others
 pub record SendersOfOthers (workers worker : ℕ) (sender : (other : ℕ) → Option SenderView) (made : ℕ) (senders : List SenderView) : Type 0 where
   pub numbered : map (λ (s : SenderView). s.state.number) senders ≡ range_with_len 0 (length senders)
   pub made_is : made ≡ length senders

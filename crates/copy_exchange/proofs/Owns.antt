@@ -31,7 +31,7 @@ module _ (worker_of : ℕ → ℕ) (s v : ℕ) where
   abbrev None' : Endpoint → Type 0
   None' c = from s (delivered c v) ≡ []
 
-  -- no endpoint from here on is that of the mote
+  -- no endpoint from here on belongs to the mote's worker
   pub none_of_them : (first : ℕ) (cs : List Endpoint) → workers_of cs ≡ range_with_len first (length cs) → worker_of s < first → Each (DeliversOwn worker_of) cs → Each None' cs
   none_of_them first [] e lt own = tt
   none_of_them first (c ∷ cs) e lt own =

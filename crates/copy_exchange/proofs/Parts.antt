@@ -27,7 +27,7 @@ copies_in-append xs ys = filter_map-append carried_copy xs ys
 pub from-cons : (s : ℕ) (x : RadioCopy) (xs : List RadioCopy) → from s (x ∷ xs) ≡ cond (is_from_sender s x) (x ∷ from s xs) (from s xs)
 from-cons s x xs = refl
 
--- neither the first copy nor the rest is of mote s
+-- neither the first copy nor the rest is from mote s
 from_tail : (s : ℕ) (x : RadioCopy) (xs : List RadioCopy) → from s (x ∷ xs) ≡ [] → (is_from_sender s x ≡ false) × (from s xs ≡ [])
 from_tail s x xs e = cases (is_from_sender s x) refl
   where
@@ -35,7 +35,7 @@ from_tail s x xs e = cases (is_from_sender s x) refl
     cases true t = absurd (let h : x ∷ from s xs ≡ [] = ap (λ (c : Bool). cond c (x ∷ from s xs) (from s xs)) (sym t) ∙ e in cc)
     cases false f = (f, ap (λ (c : Bool). cond c (x ∷ from s xs) (from s xs)) (sym f) ∙ e)
 
--- the same if the first item is a copy, or is a mark and has none
+-- the same for a first item that is a copy, or that is a mark and so has no copy
 option_tail : (s : ℕ) (o : Option RadioCopy) (xs : List RadioCopy) → from s (cons_option o xs) ≡ [] → from s xs ≡ []
 option_tail s None xs e = e
 option_tail s (Some x) xs e = (from_tail s x xs e).1
@@ -48,7 +48,7 @@ option_none : (s : ℕ) (o : Option RadioCopy) (xs ys : List RadioCopy) → from
 option_none s None xs ys e = refl
 option_none s (Some x) xs ys e = ap (λ (b : Bool). cond b (x ∷ from s ys) (from s ys)) (from_tail s x xs e).0
 
--- mote s has copies in the items of sender j alone
+-- only the items of sender j have copies of mote s
 abbrev pub OnlyIn : (s j : ℕ) → List Item → Type 0
 OnlyIn s j items = (i : ℕ) → i ≢ j → from s (copies_in (part i items)) ≡ []
 
@@ -71,7 +71,7 @@ of_one_sender s j (x ∷ xs) h =
     option_none s p (copies_in (part x.sender xs)) (copies_of xs) none ∙ (r ∙ ap (λ l. from s (copies_in l)) (sym (part-else j x xs t.1))))
     (eqb_tells x.sender j)
 
--- ---- nothing follows a prefix that is the whole list
+-- ---- if a prefix is the whole list, nothing follows it
 pub nothing_more : (xs ys : List Carried) → xs ++ ys ≡ xs → ys ≡ []
 nothing_more [] ys e = e
 nothing_more (x ∷ xs) ys e = nothing_more xs ys (let t : xs ++ ys ≡ xs = cc in t)

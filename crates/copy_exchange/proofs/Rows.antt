@@ -53,7 +53,7 @@ gathers_next k old new senders was now sender h lt at_was at_sender is matches =
 pub gathers_row : (k : ℕ) (old new : List TakerView) (senders : List (Option SenderView)) → GathersTo k old new senders → k ≡ length senders → length senders ≡ length old → GathersRow old new senders
 gathers_row k old new senders h end same = record { takers = h.count; taker = λ v t lt. h.done v t (omega arith) lt; matches = λ v t s lt found. h.matches v t s (omega arith) lt found }
 
--- each is still the taker of its inbox
+-- each taker is still the taker of its inbox
 pub into_inbox : (t : TakerView) (s : Option SenderView) → (gather_into t s).inbox ≡ t.inbox
 into_inbox t None = refl
 into_inbox t (Some s) = refl

@@ -51,7 +51,7 @@ pub record IsRow (inboxes : List InboxId) (u : ℕ) (row : Row) : Type 0 where
   pub each : (v : ℕ) (id : InboxId) → slice_get inboxes v ≡ Some id → IsSenderOn id (v == u) (at_place row.items v)
   pub nothing : (v : ℕ) → pushed_list (at_place row.items v) ≡ []
 
--- each of a worker's new senders is of an inbox with marks, if the inbox's taker is
+-- a worker's new sender on an inbox and the inbox's taker agree on whether there are marks
 abbrev pub HasMarksOf : List InboxId → List TakerView → Row → Type 0
 HasMarksOf inboxes takers row = (v : ℕ) (t : TakerView) (s : SenderView) → v < length inboxes → at_place row.items v ≡ Some s → s.state.marked ≡ (get_or takers v t).state.marked
 
@@ -111,7 +111,7 @@ opening_marked false t s e =
     let same : opened ≡ s = cc in
     ap (λ (x : SenderView). x.state.marked) (sym same)
 
--- a default value, if the list isn't empty
+-- a default value, taken from a list that isn't empty
 first_of : (xs : List TakerView) (v : ℕ) → v < length xs → TakerView
 first_of [] v lt = absurd (omega arith)
 first_of (x ∷ xs) v lt = x
@@ -149,7 +149,7 @@ rows_more inboxes u (x ∷ xs) row h r =
 range_more : (a n : ℕ) → range_with_len a (n + 1) ≡ range_with_len a n ++ (a + n) ∷ []
 range_more a n = sym (map-id (range_with_len a (n + 1))) ∙ (map-range_with_len_more (λ x. x) a n (a + n) refl ∙ ap (λ l. l ++ (a + n) ∷ []) (map-id (range_with_len a n)))
 
--- one more sender of a taker
+-- a taker that made one more sender
 opened_more : (own : Bool) (t : TakerView) (n : ℕ) (ss : List SenderView) → n ≡ length ss → opened_taker own (with_more t n) ≡ with_more t (length (ss ++ cons_option (opened_sender own (with_more t n)) []))
 opened_more true t n ss e = ap (with_more t) (e ∙ ap length (sym (append-nil ss)))
 opened_more false t n ss e =
@@ -270,7 +270,7 @@ module _ (inboxes : List InboxId) (olds ts : List TakerView) (rows : List Row) (
   row_long : length rows ≡ length ts
   row_long = long ∙ sym h.takers.count
 
-  -- the inbox, and the taker that it had
+  -- the inbox, and the taker that it had before
   inbox_at : (i : ℕ) (id : InboxId) → i < length inboxes → slice_get inboxes i ≡ Some (get_or inboxes i id)
   inbox_at i id lt = slice_get-get_or inboxes i id lt
 

@@ -1,4 +1,4 @@
--- A prefix that has a mark of each window is all that was pushed.
+-- A prefix with a mark of each window is the list of all items pushed.
 use Rattle.std.proofs.Common.{◌≡◌, ℕ, zero, suc, ◌+◌, Bool, true, false, ◌&&◌, List, [], ◌∷◌, ◌++◌, map, refl, sym, ap, ◌∙◌, arith, append_assoc, append-nil}
 use Rattle.std.proofs.lemmas.Bool.{and_parts, false≢true}
 use Rattle.radio_packet.specs.declared.copy.RadioCopy.{RadioCopy}
@@ -25,7 +25,7 @@ marks_pushes (suc k) sent =
     let c = marks_copies (sent k) in
     omega arith
 
--- a mark comes after each copy: the list is empty or ends in a mark
+-- there is a mark after each copy: the list is empty or ends in a mark
 abbrev is_some : List Carried → Bool
 is_some [] = false
 is_some (x ∷ xs) = true

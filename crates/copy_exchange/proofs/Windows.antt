@@ -68,7 +68,8 @@ filter_none p s (x ∷ xs) h = cases (is_from_sender s x) (p x) refl refl (filte
         let k : from s xs ≡ [] = ap (λ (q : Bool). cond q (x ∷ from s xs) (from s xs)) (sym e) ∙ h in
         ap (λ (q : Bool). from s (cond q (x ∷ filter p xs) (filter p xs))) f ∙ rest k
 
--- an endpoint that was made, has collected, and has delivered copies of its own worker's motes, is at the window's end
+-- an endpoint that was made, has collected, and has delivered copies from its own worker's motes is at the end of the
+-- window
 pub returns_from : (inboxes : List InboxId) (of : List ℕ) (worker_of : ℕ → ℕ) (t : TakerView) (a b c : Endpoint) (arrived out : List RadioCopy) → StartsAs t a → Collects a b arrived → Delivers of b c out → IsEndpoint inboxes c
     → ((s : ℕ) → (worker_of s == a.worker) ≡ false → filter (is_from_sender s) out ≡ []) → Returns inboxes worker_of a c
 returns_from inboxes of worker_of t a b c arrived out starts collects delivers endpoint own =
@@ -93,7 +94,7 @@ numbers : (x y : ℕ) (xs ys : List ℕ) → x ∷ xs ≡ y ∷ ys → (x ≡ y)
 numbers x y xs ys e = (cc, cc)
 
 module _ (worker_of : ℕ → ℕ) (s v : ℕ) where
-  -- all that these delivered is all that this one delivered, if it is the endpoint of the mote's worker
+  -- all copies that these endpoints delivered are those that this one delivered, if it belongs to the mote's worker
   abbrev Alone : List Endpoint → Endpoint → Type 0
   Alone cs c = c.worker ≡ worker_of s → from s (delivered_to cs v) ≡ from s (delivered c v)
 
@@ -120,7 +121,7 @@ module _ (worker_of : ℕ → ℕ) (s v : ℕ) where
         with_first first c cs cs n.0 own.0 (first + 1) (omega arith) n.1 (alone (first + 1) cs n.1 own.1),
       )
 
--- of one mote, worker v was delivered the items of the endpoint of the mote's worker
+-- the items of one mote that were delivered to worker v are those of the endpoint of the mote's worker
 pub only_one : (inboxes : List InboxId) (cs : List Endpoint) (back : AllReturn inboxes cs) (s v : ℕ)
     → Each (λ (c : Endpoint). c.worker ≡ back.worker_of s → filter (is_from_sender s) (delivered_to cs v) ≡ filter (is_from_sender s) (delivered c v)) cs
 only_one inboxes cs back s v = alone back.worker_of s v 0 cs (workers inboxes cs back ∙ ap (range_with_len 0) (sym (count inboxes cs back))) (owns inboxes cs back)

@@ -6,8 +6,8 @@ use Rattle.copy_inbox.specs.declared.items.Carried.TheVariants.{Packet, Mark}
 use Rattle.copy_exchange.specs.declared.endpoint.Endpoint.{Endpoint}
 use Rattle.copy_exchange.specs.Endpoints.{Stays, pushed_to}
 
--- to each other worker it pushed those of the copies that are for that worker's motes, in order, and after them the
--- mark of the window
+-- the worker pushed to each other worker the copies for that worker's motes, in order, and after them the mark of the
+-- window
 pub record PushesWindow (of : List ℕ) (workers window : ℕ) (old new : Endpoint) (copies : List RadioCopy) : Type 0 where
   pub stays : Stays old new
   pub taker : new.taker ≡ old.taker

@@ -11,8 +11,8 @@ use Rattle.copy_exchange.specs.declared.take.MarkError.{MarkError}
 use Rattle.copy_exchange.specs.declared.take.WindowPosition.{WindowPosition}
 use Rattle.copy_exchange.specs.declared.take.MarkError.TheVariants.{Memory, Stopped, Unexpected}
 
--- a worker's position between two windows (`WindowPosition` in the code): the worker of each mote, its own number, and
--- when its next window begins
+-- a worker's position between two windows (`WindowPosition` in the code): the worker of each mote, the worker's own
+-- number, and the moment at which its next window begins
 pub record Position : Type 0 where
   pub of : List ℕ
   pub worker : ℕ
@@ -31,19 +31,20 @@ IsExpectedAt p copy = IsExpected p.of p.worker p.from copy
 abbrev pub IsUnexpected : Position → Item → Type 0
 IsUnexpected p x = (copy : RadioCopy) × (x.what ≡ Packet copy) × (IsExpectedAt p copy → ⊥)
 
--- why a worker stopped at an item that it took: an allocation failed for a copy that is expected, or the copy isn't
--- expected
+-- the reason why a worker stopped at an item that it took: an allocation failed for a copy that is expected, or the
+-- copy isn't expected
 abbrev pub Refuses : Position → Item → MarkError → Type 0
 Refuses p x Memory = (copy : RadioCopy) × (x.what ≡ Packet copy) × IsExpectedAt p copy
 Refuses p x Stopped = ⊥
 Refuses p x Unexpected = IsUnexpected p x
 
--- the copy of the item, if it has one, is expected, and was appended to the others
+-- if the item is a copy, the copy is expected and was appended to the others
 pub record AddsCopy (p : Position) (x : Item) (old new : List RadioCopy) : Type 0 where
   pub adds : new ≡ old ++ copies_of (x ∷ [])
   pub expected : Each (IsExpectedAt p) (copies_of (x ∷ []))
 
--- items of senders that the taker made were taken; these are their copies, in order, and each copy is expected
+-- items from senders that the taker made were taken; these are the copies among them, in order, and each copy is
+-- expected
 pub record TakesExpected (p : Position) (old new : TakerView) (copies : List RadioCopy) : Type 0 where
   pub items : List Item
   pub made : Each (λ (x : Item). x.sender < old.state.made) items

@@ -5,7 +5,7 @@ use Rattle.copy_inbox.specs.Views.{make_taker_state}
 use Rattle.copy_inbox.specs.Handles.{InboxId, TakerView, AllGathered, PacketsLeft}
 use Rattle.copy_exchange.specs.Takers.{IsOrderly}
 
--- an inbox and its taker, as `Inbox::make` or `Inbox::make_marked` returns them
+-- an inbox and its taker that were just made by `Inbox::make` or `Inbox::make_marked`
 abbrev pub IsFresh : InboxId → TakerView → Type 0
 IsFresh inbox t = (t.inbox ≡ inbox) × (t.state ≡ make_taker_state t.state.marked 0 [] [])
 

@@ -7,13 +7,14 @@ use Rattle.copy_inbox.specs.Items.{BeginsWith}
 use Rattle.copy_exchange.specs.Takers.{copies_in}
 use Rattle.copy_exchange.specs.Pushes.{marks_in, pushes, sent_before}
 
--- the items taken of a sender, a prefix of those that it pushed, are all of them once a mark of each window was taken
+-- the items taken from a sender are a prefix of those that it pushed; they are all of those once a mark of each window
+-- was taken
 abbrev pub AllIsTaken : Type 0
 AllIsTaken = (windows : ℕ) (sent : ℕ → List RadioCopy) (taken : List Carried) → BeginsWith (pushes windows sent) taken
     → windows ≤ marks_in taken → taken ≡ pushes windows sent
 
--- If a test passes no copy of this window or of a later one, and the marks of all windows before this one were taken,
--- then the test passes the same copies of those taken as of those sent before the window.
+-- Suppose that no copy of this window or a later one passes a test, and that the marks of all windows before this one
+-- were taken. Then the same copies pass the test among those taken as among those sent before the window.
 abbrev pub EarlyIsUnseen : Type 0
 EarlyIsUnseen = (sees : RadioCopy → Bool) (windows window : ℕ) (sent : ℕ → List RadioCopy) (taken : List Carried)
     → window ≤ windows → BeginsWith (pushes windows sent) taken → window ≤ marks_in taken

@@ -5,11 +5,11 @@ use Rattle.copy_inbox.specs.declared.rule.TakerState.{TakerState}
 use Rattle.copy_inbox.specs.Items.{part}
 use Rattle.copy_exchange.specs.Pushes.{marks_in}
 
--- how many marks were taken of the sender numbered s
+-- the number of marks taken from the sender numbered s
 abbrev pub marks_of : ℕ → List Item → ℕ
 marks_of s taken = marks_in (part s taken)
 
--- these are the counts for each sender that the taker made
+-- these are the numbers of marks from each sender that the taker made
 pub record Counts (marks : List ℕ) (d : TakerState) : Type 0 where
   pub all : length marks ≡ d.made
   pub each : (s none : ℕ) → s < d.made → slice_index_or marks s none ≡ marks_of s d.taken
@@ -18,6 +18,6 @@ pub record Counts (marks : List ℕ) (d : TakerState) : Type 0 where
 abbrev pub AreNone : List ℕ → Type 0
 AreNone marks = (s none : ℕ) → s < length marks → slice_index_or marks s none ≡ 0
 
--- each count is greater than the number of a window
+-- each count is greater than the number of the window
 abbrev pub AllPast : (window : ℕ) → List ℕ → Type 0
 AllPast window marks = (s none : ℕ) → s < length marks → window < slice_index_or marks s none

@@ -1,4 +1,4 @@
--- The steps before a window and after it, inbox by inbox.
+-- The steps before a window and those after it, inbox by inbox.
 use Rattle.std.specs.Prelude.{◌≡◌, ◌≢◌, ℕ, ◌<◌, ◌==◌, Bool, false, cond, List, [], ◌∷◌, ◌++◌, length, slice_get}
 use Rattle.std.specs.Prelude.{slice_index_or, Option, Some, None}
 use Rattle.std.specs.List.{AllByRecursion as Each}
@@ -12,7 +12,7 @@ use Rattle.copy_inbox.specs.Handles.{InboxId, TakerView, SenderView, after_sende
 use Rattle.copy_exchange.specs.declared.endpoint.Endpoint.{Endpoint}
 use Rattle.copy_exchange.specs.Endpoints.{Stays, sender_to, senders_to, pushed_to}
 
--- each taker is that of the inbox at its place
+-- each taker is the taker of the inbox at its place
 pub record AreTakersOf (inboxes : List InboxId) (takers : List TakerView) : Type 0 where
   pub count : length takers ≡ length inboxes
   pub its : (v : ℕ) (id : InboxId) (t : TakerView) → v < length inboxes
@@ -49,8 +49,8 @@ pub record AreSendersOn (inboxes : List InboxId) (senders : List (Option SenderV
   pub its : (v : ℕ) (id : InboxId) (s : SenderView) → v < length inboxes → at_place senders v ≡ Some s
       → s.inbox ≡ slice_index_or inboxes v id
 
--- a taker learns of a sender that it gathers: the items that it took of it are a prefix of those that the sender
--- pushed, all of them packets if there are no marks
+-- the facts that a taker learns about a sender that it gathers: the items that it took from the sender are a prefix of
+-- those that the sender pushed; if there are no marks, all items pushed are packets
 pub record TellsOf (d : TakerState) (p : SenderState) : Type 0 where
   pub begun : BeginsWith p.pushed (part p.number d.taken)
   pub plain : d.marked ≡ false → Packets p.pushed
@@ -62,7 +62,7 @@ pub record GathersRow (old new : List TakerView) (senders : List (Option SenderV
   pub matches : (v : ℕ) (t : TakerView) (s : SenderView) → v < length old → at_place senders v ≡ Some s
       → TellsOf (slice_index_or old v t).state s.state
 
--- the taker has gathered these senders, one after another
+-- the taker after it has gathered these senders, one after another
 abbrev pub gather_senders : TakerView → List SenderView → TakerView
 gather_senders t [] = t
 gather_senders t (s ∷ senders) = gather_senders (after_gather t s.state) senders

@@ -11,7 +11,7 @@ use Rattle.copy_inbox.specs.Items.{copies_of, carried_copy, part}
 use Rattle.copy_inbox.specs.Gathered.{is_gathered, Apart, TookFronts, Whole, Later, NoOthers}
 use Rattle.copy_inbox.specs.Handles.{TakerView}
 
--- of each mote the two lists have the same copies, in the same order
+-- for each mote, the two lists have the same copies, in the same order
 abbrev pub SameOfEach : List RadioCopy → List RadioCopy → Type 0
 SameOfEach xs ys = (s : ℕ) → filter (is_from_sender s) xs ≡ filter (is_from_sender s) ys
 
@@ -32,13 +32,13 @@ taken_by t = copies_of t.state.taken
 abbrev pub gathered_by : TakerView → List RadioCopy
 gathered_by t = copies_gathered t.state.gathered
 
--- these items are all that was gathered and isn't taken yet, however interleaved
+-- these items are all that were gathered and aren't taken yet, interleaved in any way
 abbrev pub IsRest : TakerState → List Item → Type 0
 IsRest d rest = Whole d.gathered (d.taken ++ rest) × NoOthers d.gathered d.taken (d.taken ++ rest)
 
--- The properties of each taker, between windows and in them.
+-- The properties of each taker, between windows and during windows.
 pub record IsOrderly (d : TakerState) : Type 0 where
-  -- however the rest is interleaved, each mote's copies are taken in the order in which they were gathered
+  -- each mote's copies are taken in the order in which they were gathered, in whatever way the rest is interleaved
   pub in_order : (rest : List Item) → IsRest d rest
       → SameOfEach (copies_of (d.taken ++ rest)) (copies_gathered d.gathered)
   pub begun : TookFronts d.gathered d.taken

@@ -1,4 +1,4 @@
-//! A worker's endpoint of the exchange: its taker, and its senders on the inboxes of the others.
+//! The endpoint of a worker in the exchange: its taker, and its senders on the inboxes of the others.
 
 ghost use Rattle.std.specs.Prelude.{[], ◌∷◌, ◌<◌, true, length, IfOk, IfSome, OnOk, OnErr, ◌≡◌};
 ghost use Rattle.std.specs.List.{AllByRecursion as Each};
@@ -11,17 +11,17 @@ use copy_inbox::{Inbox, InboxError, Sender, Taker};
 use radio_packet::RadioCopy;
 use std::sync::Wait;
 
-/// The means by which a worker takes and delivers copies while its thread runs: its taker, and a sender on the inbox of
-/// each other worker.
+/// The endpoint with which a worker takes and delivers copies in its thread: the taker of its own inbox, and a sender
+/// on the inbox of each other worker.
 pub struct Endpoint {
-    /// The number of its worker.
+    /// The number of the worker.
     pub worker: u16,
     pub taker: Taker,
-    /// For each worker, the sender on its inbox; none for the endpoint's own worker.
+    /// For each worker, the sender on its inbox; `None` for the endpoint's own worker.
     pub senders: Vec<Option<Sender>>,
 }
 
-/// Implemented by hand: the check of a function that owns an endpoint then sees only one call for its drop.
+/// Implemented by hand, so that the check of a function that owns an endpoint sees only one call for the drop.
 impl Drop for Endpoint {
     fn drop(self) {
         let Endpoint {
@@ -33,7 +33,7 @@ impl Drop for Endpoint {
 }
 
 impl Endpoint {
-    /// Its taker and its senders.
+    /// Separates the taker from the senders.
     pub fn into_parts(self) -> (Taker, Vec<Option<Sender>>)
         ensures parts { (result.0 ≡ self.taker) × (result.1 ≡ self.senders) }
     {
@@ -45,11 +45,11 @@ impl Endpoint {
         (taker, senders)
     }
 
-    /// Takes all copies that other workers delivered in earlier windows, while they may already deliver more. The
-    /// inbox has no marks.
+    /// Takes all copies that other workers delivered in earlier windows. The other workers may already deliver copies
+    /// of this window. The inbox has no marks.
     ///
     /// # Errors
-    /// `Memory` if an allocation fails. Nothing has changed then.
+    /// `Memory` if an allocation fails. Then nothing has changed.
     pub fn collect<R: Wait>(
         &mut self,
         rt: &R,
@@ -66,10 +66,10 @@ impl Endpoint {
         inbox.drain(rt, &mut self.taker, known)
     }
 
-    /// Delivers each copy, in order, to the worker of its receiver; `of` is the worker of each mote.
+    /// Delivers each copy, in order, to the worker of its receiver. `of` is the worker of each mote.
     ///
     /// # Errors
-    /// [`InboxError::Memory`] if a push fails. The copies delivered before it stay.
+    /// [`InboxError::Memory`] if a push fails. The copies before it have been delivered.
     pub fn deliver<R: Wait>(
         &mut self,
         rt: &R,
@@ -88,10 +88,10 @@ impl Endpoint {
         Ok(())
     }
 
-    /// Pushes the mark of a window to each other worker. The inboxes have marks.
+    /// Pushes the mark of a window to each other worker. The inboxes must have marks.
     ///
     /// # Errors
-    /// [`InboxError::Memory`] if a push fails. The marks pushed before it stay.
+    /// [`InboxError::Memory`] if a push fails. The marks before it have been pushed.
     pub fn push_marks<R: Wait>(
         &mut self,
         rt: &R,

@@ -5,7 +5,7 @@ ghost use Rattle.copy_exchange.specs.Marks.{AllPast, AreNone};
 
 use std::alloc::{AllocError, Global};
 
-/// A count of 0 for each of the senders.
+/// Returns a count of 0 for each sender.
 ///
 /// # Errors
 /// `AllocError` if an allocation fails.
@@ -20,8 +20,8 @@ pub fn no_marks(alloc: Global, senders: usize) -> Result<Vec<u64>, AllocError>
     Ok(marks)
 }
 
-/// Returns whether the mark of window number `window` (from 0) has arrived from each sender, that is, whether more
-/// than `window` marks have: those of the windows up to this one.
+/// Returns whether the mark of the window numbered `window`, counted from 0, has arrived from each sender: that is,
+/// whether more than `window` marks have arrived from each sender.
 pub fn all_past(marks: &[u64], window: u64) -> bool
     ensures decides { IsTrue result ↔ AllPast window marks.now }
 {
@@ -33,7 +33,7 @@ pub fn all_past(marks: &[u64], window: u64) -> bool
     true
 }
 
-/// The number of marks that will have been pushed once each sender that lacks the window's mark has pushed it.
+/// Returns the total number of marks after each sender that lacks the window's mark has pushed one more.
 pub fn marks_wanted(marks: &[u64], window: u64) -> u64 {
     let mut wanted: u64 = 0;
     for count in marks {

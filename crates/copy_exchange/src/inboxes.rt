@@ -28,7 +28,7 @@ pub fn make_inboxes(
     Ok(pairs)
 }
 
-// A new inbox with its taker, with marks or without.
+// Makes an inbox and its taker, with marks or without.
 fn make_inbox(alloc: Global, marked: bool) -> Result<(Inbox, Taker), InboxError>
     ensures fresh { IfOk result (λ pair. IsFresh pair.0 pair.1) }
     ensures marked { IfOk result (λ pair. pair.1.state.marked ≡ marked) }
@@ -43,7 +43,7 @@ fn make_inbox(alloc: Global, marked: bool) -> Result<(Inbox, Taker), InboxError>
 /// Separates the inboxes from their takers.
 ///
 /// # Errors
-/// `Memory` if an allocation fails. The inboxes and takers are dropped then.
+/// `Memory` if an allocation fails. Then the inboxes and takers are dropped.
 pub fn split_pairs(
     alloc: Global,
     pairs: Vec<(Inbox, Taker)>,
@@ -63,7 +63,7 @@ pub fn split_pairs(
 /// Pairs each inbox with its taker.
 ///
 /// # Errors
-/// `Memory` if an allocation fails. The inboxes and takers are dropped then.
+/// `Memory` if an allocation fails. Then the inboxes and takers are dropped.
 pub fn pair_inboxes(
     alloc: Global,
     inboxes: Vec<Inbox>,
@@ -78,7 +78,7 @@ pub fn pair_inboxes(
     Ok(pairs)
 }
 
-/// The number of copies, between windows, that were delivered to a worker and that it has not taken yet.
+/// Returns, between windows, the number of copies that were delivered to a worker and that it hasn't taken yet.
 pub fn known(inbox: &Inbox, taker: &Taker) -> u64
     requires is_settled { IsSettled inbox.now taker.now }
     ensures count { length (gathered_by taker.now) ≡ length (taken_by taker.now) + result }

@@ -2,13 +2,13 @@
 
 ghost use Rattle.copy_exchange.specs.Laws.{AllIsTaken, EarlyIsUnseen};
 
-/// Once every mark of a sender has been taken, all that it pushed has been taken.
+/// If all marks of a sender have been taken, all items that it pushed have been taken.
 pub fn all_is_taken()
     ensures all_is_taken { AllIsTaken }
 {}
 
-/// Copies that are taken early do no harm if a window can't see them. The items taken of a sender, once they have the
-/// mark of each window before this one, show the window the copies that were sent before it, and no others.
+/// Copies that are taken early don't change a window. Once the items taken from a sender include the mark of each
+/// window before this one, the window sees exactly the copies that the sender sent before this window.
 pub fn early_is_unseen()
     ensures early_is_unseen { EarlyIsUnseen }
 {}

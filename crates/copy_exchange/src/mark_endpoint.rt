@@ -1,4 +1,4 @@
-//! The endpoint of a worker with marks, for the whole run.
+//! The endpoint of a worker in a run with marks, for the whole run.
 
 ghost use Rattle.std.specs.Prelude.{◌≡◌, true, [], length, IfErr, IfOk, OnOk};
 ghost use Rattle.std.specs.List.{AllByRecursion as Each};
@@ -19,18 +19,19 @@ use std::alloc::Global;
 use std::sync::Wait;
 use std::sync::ledger::Ledger;
 
-/// The endpoint of a worker for the whole run, and how many marks it took of each sender on its inbox.
+/// The endpoint of a worker for the whole run, and the number of marks that the worker took from each sender on its
+/// inbox.
 #[derive(Drop)]
 pub struct MarkEndpoint {
     pub base: Endpoint,
-    /// The numbers of marks, by the senders' numbers.
+    /// The number of marks from each sender, by the sender's number.
     pub marks: Vec<u64>,
-    /// The state of waiting for marks.
+    /// The state of the wait for marks.
     pub waiting: Waiting,
 }
 
 impl MarkEndpoint {
-    /// The endpoint of a worker that has taken nothing yet, and on whose inbox this many senders were made.
+    /// Makes the endpoint of a worker that has taken nothing yet, and on whose inbox this many senders were made.
     ///
     /// # Errors
     /// `Memory` if the allocation for the counts of marks fails.
@@ -48,11 +49,11 @@ impl MarkEndpoint {
         })
     }
 
-    /// Pushes the copies of a window, each to the worker of its receiver, and then the window's mark to each other
-    /// worker; `of` is the worker of each mote.
+    /// Pushes the copies of a window, each to the worker of its receiver, and then the mark of the window to each
+    /// other worker. `of` is the worker of each mote.
     ///
     /// # Errors
-    /// [`InboxError::Memory`] if a push fails. The items pushed before it stay.
+    /// [`InboxError::Memory`] if a push fails. The items before it have been pushed.
     pub fn deliver_window<R: Wait>(
         &mut self,
         rt: &R,
@@ -73,12 +74,13 @@ impl MarkEndpoint {
         self.base.push_marks(rt, inboxes, window)
     }
 
-    /// Takes items until the mark of the window has arrived from each sender, and returns their copies; items of a
-    /// later window that arrive sooner are taken too. `watch` looks at the flag that a failing worker sets.
+    /// Takes items until the mark of the window has arrived from each sender, and returns the copies among them. It
+    /// also takes items of a later window that arrive earlier. `watch` reads the flag that a failing worker sets.
     ///
     /// # Errors
-    /// `Memory`; `Stopped` if the flag was seen set while a mark was missing; `Unexpected` if a copy arrived that
-    /// isn't for a mote of this worker from a mote of another, or that arrives before this worker's next window.
+    /// `Memory` if an allocation fails; `Stopped` if the flag was set while a mark was missing; `Unexpected` if a copy
+    /// arrived that isn't from a mote of another worker to a mote of this worker, or that arrives before this worker's
+    /// next window.
     pub fn take_window<R: Wait, L: Ledger>(
         &mut self,
         rt: &R,

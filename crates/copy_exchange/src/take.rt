@@ -25,7 +25,7 @@ pub enum MarkError {
     Memory = 1,
     /// The flag was set: another worker failed, or wasn't started.
     Stopped = 2,
-    /// A copy arrived that isn't expected. There is none in a run in which all workers follow the protocol.
+    /// A copy arrived that isn't expected. This can't happen in a run in which all workers follow the protocol.
     Unexpected = 3,
 }
 
@@ -49,18 +49,18 @@ impl<T: Drop> From<AllocFailed<T>> for MarkError {
     }
 }
 
-/// The position of a worker between two windows; `Position` in definitions.
+/// The position of a worker between two windows. Definitions call it `Position`.
 #[derive(Clone, Copy)]
 pub struct WindowPosition<'a> {
     pub worker: u16,
     /// The worker of each mote.
     pub of: &'a [u16],
-    /// The moment at which its next window begins.
+    /// The moment at which the worker's next window begins.
     pub from: u64,
 }
 
-/// Returns whether the copy is for a mote of the worker, isn't from one of its motes, and arrives no sooner than the
-/// worker's next window begins.
+/// Returns whether the copy is expected: it is for a mote of the worker, isn't from one of the worker's motes, and
+/// doesn't arrive before the worker's next window begins.
 fn is_expected(window_position: &WindowPosition<'_>, copy: RadioCopy) -> bool
     ensures decides { IsTrue result ↔ IsExpectedAt (position_of window_position.now) copy }
 {
@@ -73,7 +73,8 @@ fn is_expected(window_position: &WindowPosition<'_>, copy: RadioCopy) -> bool
     window_position.from <= copy.at
 }
 
-/// Receives an item that was taken: counts a mark; appends a copy to those that arrived, if it is expected.
+/// Receives an item that was taken. It counts a mark; it appends a copy to those that arrived, if the copy is
+/// expected.
 fn hear(
     window_position: &WindowPosition<'_>,
     marks: &mut Vec<u64>,
@@ -100,7 +101,7 @@ fn hear(
     Ok(())
 }
 
-/// As [`take_marks`], in a wait that has begun.
+/// Continues a wait of [`take_marks`] that has begun.
 fn take_waiting<R: Wait, L: Ledger>(
     rt: &R,
     alloc: Global,
@@ -135,12 +136,12 @@ fn take_waiting<R: Wait, L: Ledger>(
     unreachable!()
 }
 
-/// Takes items until the mark of window number `window` (from 0) has arrived from each sender, that is, until more
-/// marks than `window` have; returns the copies taken on the way.
+/// Takes items until the mark of the window numbered `window`, counted from 0, has arrived from each sender: that is,
+/// until more than `window` marks have arrived from each sender. It returns the copies among the items.
 ///
 /// # Errors
-/// `Memory`; `Stopped` if the flag was seen set while a mark was missing; `Unexpected` if a copy arrived that isn't
-/// expected.
+/// `Memory` if an allocation fails; `Stopped` if the flag was set while a mark was missing; `Unexpected` if a copy
+/// arrived that isn't expected.
 pub fn take_marks<R: Wait, L: Ledger>(
     rt: &R,
     alloc: Global,

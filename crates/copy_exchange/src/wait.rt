@@ -1,4 +1,4 @@
-//! A worker's wait for the marks of a window.
+//! The wait of a worker for the marks of a window.
 
 ghost use Rattle.std.specs.Prelude.{◌≡◌, true, IfErr, OnErr};
 ghost use Rattle.copy_exchange.specs.declared.take.MarkError.TheVariants.{Stopped};
@@ -11,25 +11,25 @@ use std::sync::Wait;
 use std::sync::ledger::Ledger;
 use std::time::Duration;
 
-// Bounds of the spin budget: fruitless looks per window before the worker sleeps.
+// The bounds of the spin budget: the number of attempts in a window that find nothing before the worker sleeps.
 const LEAST_LOOKS: u32 = 32;
 
 const MOST_LOOKS: u32 = 4096;
 
-// The longest that it sleeps before it reads the flag again.
+// The longest time that a worker sleeps before it reads the flag again.
 const NAP_MILLIS: u64 = 10;
 
 /// The state of a worker that waits for its next item.
 #[derive(Clone, Copy)]
 pub struct Waiting {
-    /// The number of looks in vain in this window before it sleeps.
+    /// The number of attempts without an item in this window before the worker sleeps.
     looks: u32,
-    /// The number of these looks that are left.
+    /// The number of these attempts that are left.
     left: u32,
 }
 
 impl Waiting {
-    /// The state before the first window, in which the worker may look 4,096 times before it sleeps.
+    /// Returns the state before the first window, in which the worker may try 4,096 times before it sleeps.
     pub fn new() -> Waiting {
         Waiting {
             looks: MOST_LOOKS,
@@ -37,8 +37,8 @@ impl Waiting {
         }
     }
 
-    /// Begins the wait of a window. The worker may look twice as often as in the previous window if some looks were
-    /// left there, and otherwise half as often.
+    /// Begins the wait of a window. The number of attempts is twice that of the previous window if some were left
+    /// there, and half of it otherwise.
     pub fn begin(&mut self) {
         self.looks = if self.left > 0 {
             self.looks.saturating_mul(2).min(MOST_LOOKS)
@@ -49,10 +49,10 @@ impl Waiting {
     }
 }
 
-/// After a look that found nothing: gives up if the flag is set, and otherwise lets some time pass.
+/// Waits after an attempt that found nothing: gives up if the flag is set, and otherwise lets some time pass.
 ///
 /// # Errors
-/// `Stopped` if the flag is set. It is the only error.
+/// `Stopped` if the flag is set. There is no other error.
 pub fn wait<R: Wait, L: Ledger>(
     rt: &R,
     inbox: &Inbox,

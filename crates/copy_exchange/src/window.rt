@@ -1,4 +1,4 @@
-//! The steps before a window and after it.
+//! The steps before a window, and those after it.
 
 ghost use Rattle.std.specs.Prelude.{◌≡◌, ◌≤◌, ◌^◌, true, length, map, IfOk, IfSome, OnOk};
 ghost use Rattle.std.specs.List.{AllByRecursion as Each, AllZip, range_with_len};
@@ -13,7 +13,7 @@ use copy_inbox::{Inbox, InboxError, Sender, Taker};
 use std::alloc::Global;
 use std::sync::Wait;
 
-/// Before a window: makes an endpoint for each worker, with a new sender on the inbox of each other worker.
+/// Makes an endpoint for each worker before a window, with a new sender on the inbox of each other worker.
 ///
 /// # Errors
 /// `Memory` if an allocation fails.
@@ -46,7 +46,7 @@ pub fn endpoints(
     Ok(endpoints)
 }
 
-// The senders of one worker, one on the inbox of each other worker.
+// Makes the senders of one worker, one on the inbox of each other worker.
 fn senders_of(
     alloc: Global,
     inboxes: &[Inbox],
@@ -64,7 +64,7 @@ fn senders_of(
     Ok(senders)
 }
 
-// Makes a sender on an inbox; none on the worker's own.
+// Makes a sender on an inbox, or `None` for the worker's own inbox.
 fn sender_on(inbox: &Inbox, taker: &mut Taker, own: bool) -> Result<Option<Sender>, InboxError>
     requires inbox { taker.old.inbox ≡ inbox.now }
     ensures sender { IfOk result (λ sender. sender ≡ opened_sender own taker.old) }
@@ -77,8 +77,8 @@ fn sender_on(inbox: &Inbox, taker: &mut Taker, own: bool) -> Result<Option<Sende
     Ok(Some(sender))
 }
 
-/// The end of a window: [`gather_back`], with a contract on the copies delivered to each worker. The inboxes have no
-/// marks.
+/// Ends a window as [`gather_back`] does; its contract is about the copies delivered to each worker. The inboxes have
+/// no marks.
 ///
 /// # Errors
 /// `Memory` if an allocation fails.
@@ -96,8 +96,8 @@ pub fn gather_window<R: Wait>(
     gather_back(rt, alloc, inboxes, endpoints)
 }
 
-/// After the workers have run: each worker's taker gathers the senders on its inbox, one after another, in the order
-/// of the workers.
+/// Has the taker of each worker gather the senders on its inbox after the workers have run, one sender after another,
+/// in the order of the workers.
 ///
 /// # Errors
 /// `Memory` if an allocation fails.
@@ -118,7 +118,7 @@ pub fn gather_back<R: Wait>(
     Ok(takers)
 }
 
-/// The senders of all workers, each worker's in a row.
+/// The senders of all workers; each worker's senders are a row.
 type Rows = Vec<Vec<Option<Sender>>>;
 
 // Separates the takers of the endpoints from their senders.
@@ -139,7 +139,7 @@ fn split_endpoints(
     Ok((takers, rows))
 }
 
-// Gathers one worker's senders, each by the taker of its inbox.
+// Gathers one worker's senders. The taker of each inbox gathers the sender on it.
 fn gather_all<R: Wait>(
     rt: &R,
     inboxes: &[Inbox],

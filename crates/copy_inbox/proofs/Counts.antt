@@ -1,4 +1,4 @@
--- How much is known: as many items as the queue holds of gathered senders.
+-- The number of known items is the number of items in the queue from gathered senders.
 use Rattle.std.proofs.Common.{◌≡◌, ◌≢◌, ℕ, ◌+◌, ◌≤◌, ◌<◌, Bool, true, false, cond, eqb, Option, List, [], ◌∷◌, ◌++◌, length, drop, refl, sym, ap, ◌∙◌, ⊎_elim, arith, sum_by, append-nil, subst}
 use Rattle.std.specs.List.{AllByRecursion as Each}
 use Rattle.std.proofs.lemmas.Bool.Decides.{eqb_tells}
@@ -18,7 +18,7 @@ each_zip : {P Q R : Gathered → Type 0} (gs : List Gathered) → ((g : Gathered
 each_zip [] f h k = tt
 each_zip (g ∷ gs) f h k = (f g h.0 k.0, each_zip gs f h.1 k.1)
 
--- how many of the items are of gathered senders
+-- the number of items from gathered senders
 abbrev pub tally : List Gathered → List Item → ℕ
 tally gs items = sum_by (λ (g : Gathered). length (part g.number items)) gs
 
@@ -28,7 +28,7 @@ known-cons g gs taken = sum_by-cons (λ (k : Gathered). length (untaken_of taken
 tally-cons : (g : Gathered) (gs : List Gathered) (items : List Item) → tally (g ∷ gs) items ≡ length (part g.number items) + tally gs items
 tally-cons g gs items = sum_by-cons (λ (k : Gathered). length (part k.number items)) g gs
 
--- ---- the rule about each gathered sender
+-- ---- the rule for each gathered sender
 abbrev pub Adds : List Item → List Item → Gathered → Type 0
 Adds taken items g = part g.number (taken ++ items) ≡ g.pushed
 
@@ -86,8 +86,8 @@ pub tally-le : (gs : List Gathered) (items : List Item) → Apart gs → tally g
 tally-le gs [] apart = omega (arith, tally-nil gs)
 tally-le gs (x ∷ xs) apart = omega (arith, front_counts gs x xs apart, tally-le gs xs apart, cond-le (is_gathered gs x.sender))
 
--- ---- the head while something is known
--- an item of a sender that isn't gathered comes after all that is known
+-- ---- the head of the queue, while an item is known
+-- an item of a sender that isn't gathered is after all known items
 pub front_known : (made : ℕ) (gs : List Gathered) (x : Item) (items : List Item) → Each (λ (g : Gathered). Behind g.number g.made (x ∷ items)) gs
     → Later made gs → x.sender < made → 0 < tally gs (x ∷ items) → is_gathered gs x.sender ≡ true
 front_known made gs x items behind later lt some = cases (is_gathered gs x.sender) refl
@@ -111,7 +111,7 @@ whole_of (g ∷ gs) taken none b =
     let z : rest ≡ [] = nil_of_length rest (omega arith) in
     (sym (b.0.1 ∙ (ap (λ r. part g.number taken ++ r) z ∙ append-nil (part g.number taken))), whole_of gs taken (omega arith) b.1)
 
--- so the remaining items, of which there are none, are packets
+-- so there are no remaining items, and all of them are packets
 pub none_left : (gs : List Gathered) (taken : List Item) → known_of gs taken ≡ 0 → Each (λ (g : Gathered). Packets (untaken_of taken g)) gs
 none_left [] taken none = tt
 none_left (g ∷ gs) taken none =

@@ -1,4 +1,4 @@
--- The counts that a taker keeps, once it has dropped the first ones.
+-- The counts that a taker keeps after it has dropped the first ones.
 use Rattle.std.proofs.Common.{◌≡◌, ◌≢◌, ℕ, zero, suc, ◌+◌, ◌-◌, ◌^◌, ◌≤◌, ◌<◌, Bool, true, false, cond, eqb, List, [], ◌∷◌, ◌++◌, length, drop, set, get_or, refl, sym, ap, ◌∙◌, subst, ⊎_elim, arith, length-append}
 use Rattle.std.proofs.lemmas.Bool.{cases_lt, true≢false}
 use Rattle.std.proofs.lemmas.Bool.Decides.{eqb_tells}
@@ -27,7 +27,7 @@ kept_set first s counts c le =
     let e : first + (s - first) ≡ s = omega arith in
     sym (drop-set-add first counts (s - first) c) ∙ ap (λ j. drop first (set counts j c)) e
 
--- as many counts are kept, if there are as many senders as before
+-- the number of counts kept is the same, if the number of senders is the same
 still_made : (first : ℕ) (old new kept now : List Count) → first + length kept ≡ length old → length new ≡ length old → now ≡ drop first new → first + length now ≡ length new
 still_made first old new kept now made same rest =
     let long = ap length rest in
@@ -129,7 +129,7 @@ module _ (v : View) (first : ℕ) (kept : List Count) (k : ℕ) (x : Item) (rest
 -- ---- a sender gathered
 module _ (v u w : View) (first : ℕ) (kept : List Count) (k pushed number : ℕ) (items : List Item) (t : KeepsCounts v first kept k) (r : IsSender u pushed) (num : number ≡ (sender_state_in u).number)
     (e : w ≡ with_gathered v u) (seen : SeenBy w items) where
-  -- it wasn't gathered before, so its count was not dropped
+  -- the sender wasn't gathered before, so its count wasn't dropped
   pub joined_first : first ≤ number
   joined_first = ⊎_elim
       (λ (lt : number < first).

@@ -1,4 +1,4 @@
--- Each move keeps the rule.
+-- Each step preserves the rule.
 use Rattle.std.proofs.Common.{Bool, ◌≡◌, ◌≢◌, ◌⊎◌, ℕ, zero, suc, ◌+◌, ◌^◌, ◌≤◌, ◌<◌, true, false, cond, eqb, Option, Some, None, List, [], ◌∷◌, ◌++◌, length, set, refl, sym, ap, ◌∙◌, subst, inl, inr, ⊎_elim, arith, eq-eqb, ne_eqb, length-append}
 use mathlib.Core.Option.{some, some-injective, some-ne-none}
 use lib.ListN.{get_elem?}
@@ -208,7 +208,7 @@ at_other pass_of n o s e = ap (λ b. cond b o (pass_of s)) (ne_eqb s n e)
 at_this : (pass_of : ℕ → Option ℕ) (n : ℕ) (o : Option ℕ) (s : ℕ) → s ≡ n → cond (eqb s n) o (pass_of s) ≡ o
 at_this pass_of n o s e = ap (λ b. cond b o (pass_of s)) (eq-eqb s n e)
 
--- a sender with a pass isn't the one without
+-- a sender with a pass isn't the sender without a pass
 pass_tells_apart : (pass_of : ℕ → Option ℕ) (s n pass : ℕ) → pass_of s ≡ Some pass → pass_of n ≡ None → s ≢ n
 pass_tells_apart pass_of s n pass a b e = let k : pass_of s ≡ pass_of n = ap pass_of e in absurd cc
 

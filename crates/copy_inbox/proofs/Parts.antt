@@ -52,7 +52,7 @@ pub behind-snoc : (s made : ℕ) (items : List Item) (x : Item) → x.sender ≢
 behind-snoc s made [] x n b = ((λ _. part-else s x [] n), tt)
 behind-snoc s made (y ∷ ys) x n b = ((λ h. part-snoc_else s [] (y ∷ ys) x n ∙ b.0 h), behind-snoc s made ys x n b.1)
 
--- trivially, if no item is of a sender numbered `made` or above
+-- the items are in this order if no item is from a sender numbered `made` or above
 pub behind-fresh : (s made : ℕ) (items : List Item) → ((u : ℕ) → made ≤ u → part u items ≡ []) → Behind s made items
 behind-fresh s made [] none = tt
 behind-fresh s made (x ∷ xs) none = ((λ h. absurd (part-not_nil x xs (none x.sender h))), behind-fresh s made xs (λ u h. part-nil_right u (x ∷ []) xs (none u h)))

@@ -106,7 +106,7 @@ module _ (d : TakerState) (x : Item) (rest : List Item) (pass_of : ℕ → Optio
   adds : Each (Adds d.taken (x ∷ rest)) d.gathered
   adds = adds_of d pass_of pushed (x ∷ rest) s
 
-  -- all that the sender pushed is packets, so the head of the queue is one
+  -- the sender pushed only packets, so the head of the queue is a packet
   plain_next : d.marked ≡ false → is_packet x.what ≡ true
   plain_next plain =
       let P : List Carried → Type 0 = Packets in
@@ -193,7 +193,7 @@ known_joined d p =
     let g = make_gathered p.number d.made p.pushed in
     omega (arith, sum_by-cons (λ (k : Gathered). length (untaken_of d.taken k)) g d.gathered, length-drop (length (part p.number d.taken)) p.pushed)
 
--- the queue holds at least as many items as are then known
+-- the queue holds at least the items that are known afterwards
 pub joined_few : (d : TakerState) (p : SenderState) (items : List Item) → SoundWith (joined_state d p) items → known_of d.gathered d.taken + (length p.pushed - length (part p.number d.taken)) ≤ length items
 joined_few d p items s =
     let w = joined_state d p in
@@ -245,7 +245,7 @@ gather_as v u w items counts k n pushed number c seen t r e num is sum =
     let sum' : n ≡ k + (length p.pushed - length (part p.number d.taken)) = sum ∙ (λ i. k + (r.counted i - length (part (num i) d.taken))) in
     subst (λ (y : View × ℕ × Count × ℕ). IsTaker y.0 (set counts y.1 y.2) y.3) (λ i. (sym w' i, sym num i, sym is' i, sym sum' i)) end
 
--- ---- lemmas for the answers of the functions
+-- ---- lemmas for the proofs about the functions
 pub byte_is : (b : Bool) → bool_byte b ≡ cond b 1 0
 byte_is true = refl
 byte_is false = refl
@@ -285,7 +285,7 @@ next_down v counts k x rest c n t seen at is =
 pub next_less : (v : View) (counts : List Count) (k : ℕ) (x : Item) (rest : List Item) (c : Count) (n : ℕ) → IsTaker v counts k → SeenBy v (x ∷ rest) → c ≡ get_or counts x.sender c → n ≡ bool_byte c.gathered → n ≤ k
 next_less v counts k x rest c n t seen at is = let d = next_down v counts k x rest c n t seen at is in omega arith
 
--- the count of the items taken of one sender doesn't overflow
+-- the number of items taken from one sender doesn't overflow
 pub next_fits : (v : View) (counts : List Count) (k : ℕ) (x : Item) (rest : List Item) (c : Count) → IsTaker v counts k → SeenBy v (x ∷ rest) → c ≡ get_or counts x.sender c → c.taken + 1 < 2 ^ 64
 next_fits v counts k x rest c t seen at =
     let d = taker_state_in v in
@@ -352,7 +352,7 @@ joined_begins v u w y counts k pushed items t r e seen same =
     let b = joined_begun (taker_state_in v) (sender_state_in u) items (joined_seen v u w counts k pushed items t r e seen) in
     subst (λ (z : View). BeginsWith (sender_state_in u).pushed (part (sender_state_in u).number (taker_state_in z).taken)) (sym (same ∙ joined_is v u w t.is r.is e)) b
 
--- if there are no marks, the sender pushed none
+-- if the inbox has no marks, the sender pushed none
 pub joined_packets : (v u w : View) (counts : List Count) (k pushed : ℕ) (items : List Item) → IsTaker v counts k → IsSender u pushed → w ≡ with_gathered v u → SeenBy w items
     → (taker_state_in v).marked ≡ false → Packets (sender_state_in u).pushed
 joined_packets v u w counts k pushed items t r e seen none =

@@ -1,4 +1,4 @@
--- The views of an inbox, its taker and its senders that contracts use, and the properties of each taker and sender.
+-- The views of an inbox, its taker and its senders in contracts, and the properties of each taker and sender.
 use Rattle.std.specs.Prelude.{◌≡◌, ℕ, ◌+◌, ◌<◌, ◌≤◌, ◌^◌, true, false, cond, ◌⊎◌, List, [], ◌∷◌, ◌++◌, length}
 use Rattle.std.specs.Prelude.{slice_index_or}
 use Rattle.std.specs.List.{AllByRecursion as Each}
@@ -21,13 +21,13 @@ use Rattle.copy_inbox.specs.Views.{make_taker_state, make_sender_state, make_gat
 abbrev pub InboxId : Type 0
 InboxId = SegId Global
 
--- its inbox, whether that has marks, the number of senders that it made, the items that it took, and the senders that
--- it gathered
+-- a taker's inbox, whether that has marks, the number of senders that the taker made, the items that it took, and the
+-- senders that it gathered
 pub record TakerView : Type 0 where
   pub inbox : InboxId
   pub state : TakerState
 
--- its inbox, whether that has marks, its number, and the items that it pushed
+-- a sender's inbox, whether that has marks, the sender's number, and the items that it pushed
 pub record SenderView : Type 0 where
   pub inbox : InboxId
   pub state : SenderState
@@ -55,11 +55,11 @@ after_taking t xs = record {
   state = make_taker_state t.state.marked t.state.made (t.state.taken ++ xs) t.state.gathered;
 }
 
--- packets, of which these are the copies, were appended to the items taken
+-- packets with these copies were appended to the items taken
 abbrev pub TakesCopies : TakerView → TakerView → List RadioCopy → Type 0
 TakesCopies old new copies = (items : List Item) × ArePackets items copies × (new ≡ after_taking old items)
 
--- n items are known, and no item of a sender that isn't gathered can come before one of them
+-- n items are known, and no item of a sender that isn't gathered can be before one of them
 abbrev pub IsAllKnown : TakerState → ℕ → Type 0
 IsAllKnown state n = (n ≡ known_of state.gathered state.taken) × Later state.made state.gathered
 
@@ -71,17 +71,17 @@ AllGathered d = (s : ℕ) → s < d.made → is_gathered d.gathered s ≡ true
 abbrev pub PacketsLeft : TakerState → Type 0
 PacketsLeft d = Each (λ (g : Gathered). Packets (untaken_of d.taken g)) d.gathered
 
--- the inbox has no marks, or they were all taken
+-- the inbox has no marks, or all marks were taken
 abbrev pub NoMarkLeft : TakerState → Type 0
 NoMarkLeft d = (d.marked ≡ false) ⊎ PacketsLeft d
 
--- the remaining items are packets, of which these are the copies: appended to the items taken, they complete those that
--- each gathered sender pushed, and there are no others
+-- the remaining items are packets with these copies: together with the items taken before, they are all items that the
+-- gathered senders pushed, and there are no others
 abbrev pub Empties : TakerState → List RadioCopy → Type 0
 Empties d copies = (rest : List Item) × ArePackets rest copies × Whole d.gathered (d.taken ++ rest)
     × OfMade d.made (d.taken ++ rest)
 
--- ---- properties of every taker and sender: of the knowledge of its pass, and of its counts
+-- ---- properties of each taker and sender: of the knowledge of its pass, and of its counts
 abbrev pub taker_state_in : View → TakerState
 taker_state_in (Taking d) = d
 taker_state_in (Sending p) = make_taker_state false 0 [] []
@@ -92,7 +92,7 @@ sender_state_in (Sending p) = p
 sender_state_in (Taking d) = make_sender_state false 0 []
 sender_state_in Spent = make_sender_state false 0 []
 
--- a taker's record of the sender numbered s
+-- the taker's count of the sender numbered s
 abbrev pub count_of : TakerState → ℕ → Count
 count_of d s = record { taken = length (part s d.taken); gathered = is_gathered d.gathered s }
 
@@ -114,8 +114,8 @@ pub record IsSender (v : View) (count : ℕ) : Type 0 where
   pub counted : count ≡ length (sender_state_in v).pushed
   pub few : count ≤ 2 ^ 62
 
--- all that the taker may take is packets: the inbox has no marks, or all senders are gathered and their remaining items
--- are packets
+-- the taker may take only packets: the inbox has no marks, or all senders are gathered and their remaining items are
+-- packets
 abbrev pub TakesPackets : TakerState → Type 0
 TakesPackets d = (d.marked ≡ false) ⊎ (AllGathered d × PacketsLeft d)
 
@@ -124,13 +124,14 @@ state_with d x = make_taker_state d.marked d.made (d.taken ++ x ∷ []) d.gather
 
 -- x is the next item that the taker takes
 pub record IsNextTaken (d : TakerState) (x : Item) : Type 0 where
-  -- it is of a sender that was made, and no more is taken of that than a sender may push
+  -- the item is from a sender that was made, and no more items are taken from this sender than a sender may push
   pub number : x.sender < d.made
   pub few : length (part x.sender (d.taken ++ x ∷ [])) ≤ 2 ^ 62
-  -- one item fewer is known, if its sender was gathered
+  -- one item less is known, if the item's sender was gathered
   pub known : known_of d.gathered d.taken
       ≡ cond (is_gathered d.gathered x.sender) 1 0 + known_of d.gathered (d.taken ++ x ∷ [])
-  -- it is a packet if only packets can come, and then only packets come after it
+  -- the item is a packet if the taker may take only packets, and then the next items are packets too
   pub packet : TakesPackets d → (is_packet x.what ≡ true) × TakesPackets (state_with d x)
-  -- its sender was gathered, if something is known and no item of a sender that isn't gathered can come before that
+  -- the item's sender was gathered, if an item is known and no item of a sender that isn't gathered can be before a
+  -- known one
   pub first : Later d.made d.gathered → 0 < known_of d.gathered d.taken → is_gathered d.gathered x.sender ≡ true

@@ -1,4 +1,4 @@
--- The rule of an inbox: a property of its queue and of its passes between any two atomic steps.
+-- The rule of an inbox: a property of its queue and its passes that holds between any two atomic steps.
 use Rattle.std.specs.Prelude.{◌≡◌, ℕ, ◌^◌, ◌<◌, ◌≤◌, false, List, [], ◌∷◌, ◌++◌, length, Option, Some, None}
 use Rattle.std.specs.List.{AllByRecursion as Each}
 use mathlib.Core.Option.{some}
@@ -13,12 +13,12 @@ use Rattle.copy_inbox.specs.Items.{part, Packets}
 use Rattle.copy_inbox.specs.Gathered.{is_gathered, Apart}
 use Rattle.copy_inbox.specs.Views.{make_sender_state, with_pushed, with_taken}
 
--- each item of a sender numbered `made` or above comes after all items of the sender s
+-- each item from a sender numbered `made` or above is after all items from the sender s
 abbrev pub Behind : ℕ → ℕ → List Item → Type 0
 Behind s made [] = Unit {0}
 Behind s made (x ∷ xs) = (made ≤ x.sender → part s (x ∷ xs) ≡ []) × Behind s made xs
 
--- a pass with the taker's view is the taker's, and one with a sender's view is that sender's; they agree on
+-- a pass with a taker's view is the taker's pass, and a pass with a sender's view is that sender's pass; they agree on
 -- whether there are marks
 abbrev pub PassFits : ℕ → (ℕ → Option ℕ) → TakerState → (ℕ → List Carried) → ℕ → View → Type 0
 PassFits taker pass_of d pushed pass (Taking e) = (pass ≡ taker) × (e ≡ d)
@@ -26,8 +26,8 @@ PassFits taker pass_of d pushed pass (Sending p) =
     (pass_of p.number ≡ Some pass) × (p.pushed ≡ pushed p.number) × (p.marked ≡ d.marked)
 PassFits taker pass_of d pushed pass Spent = Unit {0}
 
--- of a gathered sender: it was made, its pass is spent, the taker knows all that it pushed, and in the queue no item
--- of a sender that was made later comes before one of its own
+-- a gathered sender was made, its pass is spent, and the taker knows all items that it pushed; in the queue, no item
+-- of a sender that was made later is before one of its items
 pub record Joined (made : ℕ) (pass_of : ℕ → Option ℕ) (pushed : ℕ → List Carried) (items : List Item)
     (g : Gathered) : Type 0 where
   pub was_made : g.number < made
@@ -35,9 +35,9 @@ pub record Joined (made : ℕ) (pass_of : ℕ → Option ℕ) (pushed : ℕ → 
   pub all : pushed g.number ≡ g.pushed
   pub behind : Behind g.number g.made items
 
--- The items of each sender among those taken, followed by those in the queue, are the ones that it pushed, in order,
--- and there are no other items. Each sender that was made has a pass, or is gathered. If there are no marks, only
--- packets were pushed.
+-- For each sender, the items taken, followed by those in the queue, are the items that it pushed, in order; and there
+-- are no other items. Each sender that was made has a pass or is gathered. If there are no marks, only packets were
+-- pushed.
 pub record Sound (d : TakerState) (pass_of : ℕ → Option ℕ) (pushed : ℕ → List Carried)
     (items : List Item) : Type 0 where
   pub parts : (s : ℕ) → part s (d.taken ++ items) ≡ pushed s
@@ -48,9 +48,9 @@ pub record Sound (d : TakerState) (pass_of : ℕ → Option ℕ) (pushed : ℕ �
   pub apart : Apart d.gathered
   pub plain : d.marked ≡ false → (s : ℕ) → Packets (pushed s)
 
--- The rule, on the items in the queue, the oldest first, and the view of each pass. One pass is the taker's, and its
--- view is the items taken and the senders gathered; `pass_of` gives the pass of each sender that isn't gathered, whose
--- view is the items that it pushed.
+-- The rule for the items in the queue, the oldest first, and the view of each pass. One pass is the taker's: its view
+-- is the items taken and the senders gathered. `pass_of` maps each sender that isn't gathered to its pass, whose view
+-- is the items that the sender pushed.
 pub record InboxRule (items : List Item) (views : List View) : Type 0 where
   pub taker : ℕ
   pub pass_of : ℕ → Option ℕ
@@ -62,12 +62,12 @@ pub record InboxRule (items : List Item) (views : List View) : Type 0 where
       → get_elem? views pass ≡ some (Sending (make_sender_state taker_state.marked s (pushed s)))
   pub fits : (pass : ℕ) (v : View) → get_elem? views pass ≡ some v → PassFits taker pass_of taker_state pushed pass v
 
--- ---- the knowledge that a pass gains from its step: the rule held while the queue had these items and a pass had this
--- view
+-- ---- the knowledge that a pass gains from its step
+-- the rule held while the queue had these items and a pass had this view
 abbrev pub SeenBy : View → List Item → Type 0
 SeenBy v items = (views : List View) × (pass : ℕ) × InboxRule items views × (get_elem? views pass ≡ some v)
 
--- at some moment the rule held while the queue was empty and the taker knew this
+-- at some moment, the rule held while the queue was empty and the taker had this knowledge
 abbrev pub WasEmpty : TakerState → Type 0
 WasEmpty d = SeenBy (Taking d) []
 

@@ -22,7 +22,7 @@ make_gathered s made pushed = record { number = s; made = made; pushed = pushed 
 abbrev pub new_taker : View
 new_taker = Taking (make_taker_state false 0 [] [])
 
--- a split: the taker has made one more sender, and the new pass is that sender's
+-- a split: the taker makes one more sender, and the new pass belongs to this sender
 abbrev pub with_one_more : View → View
 with_one_more (Taking d) = Taking (make_taker_state d.marked (d.made + 1) d.taken d.gathered)
 with_one_more (Sending p) = Sending p
@@ -33,7 +33,7 @@ next_sender (Taking d) = Sending (make_sender_state d.marked d.made [])
 next_sender (Sending p) = Spent
 next_sender Spent = Spent
 
--- a split before any sender is made: the inbox has marks from then on, and the new pass belongs to nobody
+-- a split before any sender is made: from then on the inbox has marks, and the new pass belongs to nobody
 abbrev pub with_marks : View → View
 with_marks (Taking d) = Taking (make_taker_state true d.made d.taken d.gathered)
 with_marks (Sending p) = Sending p
@@ -42,7 +42,7 @@ with_marks Spent = Spent
 abbrev pub no_sender : View → View
 no_sender v = Spent
 
--- a join: the taker gathers the sender, whose pass is spent
+-- a join: the taker gathers the sender, and the sender's pass is spent
 abbrev pub with_gathered : View → View → View
 with_gathered (Taking d) (Sending p) =
     Taking (make_taker_state d.marked d.made d.taken (make_gathered p.number d.made p.pushed ∷ d.gathered))
@@ -51,13 +51,13 @@ with_gathered (Taking d) Spent = Taking d
 with_gathered (Sending p) w = Sending p
 with_gathered Spent w = Spent
 
--- a push: the item is the sender's last
+-- a push: the item is the last that the sender pushed
 abbrev pub with_pushed : View → Item → View
 with_pushed (Sending p) x = Sending (make_sender_state p.marked p.number (p.pushed ++ x.what ∷ []))
 with_pushed (Taking d) x = Taking d
 with_pushed Spent x = Spent
 
--- a pop: the item is the last that was taken
+-- a pop: the item is the last that the taker took
 abbrev pub with_taken : View → Item → View
 with_taken (Taking d) x = Taking (make_taker_state d.marked d.made (d.taken ++ x ∷ []) d.gathered)
 with_taken (Sending p) x = Sending p

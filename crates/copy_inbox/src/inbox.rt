@@ -27,7 +27,7 @@ use std::marker::Model;
 use std::sync::Wait;
 use std::time::Duration;
 
-// The most that one sender may push.
+// The largest number of items that one sender may push.
 const MOST: u64 = 1 << 62;
 
 /// The reason why a call gave up.
@@ -55,9 +55,9 @@ impl From<AllocError> for InboxError {
     }
 }
 
-/// An inbox. Its senders push copies of packets from any thread, and marks if it has marks; its one taker takes them.
-/// No contract can name the contents of an inbox, since another thread may push at any moment; contracts name the items
-/// that a sender has pushed, and those that the taker has taken and gathered.
+/// An inbox. Its senders push copies of packets from any thread, and marks if it has marks; its only taker takes them.
+/// No contract can name the contents of an inbox, because another thread may push at any moment. So contracts name the
+/// items that a sender has pushed, and those that the taker has taken and gathered.
 pub struct Inbox {
     queue: RuledSegQueue<Item, View, Ruled>,
     mark_count: MarkCount,
@@ -73,7 +73,7 @@ impl Model for Inbox {
 /// Makes and gathers the senders of an inbox, and takes the items that they push.
 pub struct Taker {
     pass: SegPass<Item, View>,
-    /// The number of its senders, the first ones, that are no longer counted.
+    /// The number of its first senders that are no longer counted.
     first: u64,
     /// The counts of its other senders.
     counts: Vec<Count>,
@@ -112,7 +112,7 @@ impl Model for Sender {
         × (s.pass.me.hand ≡ None) × (s.pass.me.spare ≡ None) };
 }
 
-/// Implemented by hand: the check of a function that owns a taker then sees only one call for its drop.
+/// Implemented by hand, so that the check of a function that owns a taker sees only one call for the drop.
 impl Drop for Taker {
     fn drop(self) {
         let Taker {
@@ -136,7 +136,7 @@ impl Drop for Sender {
 }
 
 impl Sender {
-    // Joins the pass to the taker's, which then knows all that the sender pushed.
+    // Joins the sender's pass to the taker's. The taker then knows all items that the sender pushed.
     fn join<R: Wait>(self, rt: &R, inbox: &Inbox, taker: &mut Taker)
         requires taker { taker.old.inbox ≡ inbox.now }
         requires sender { self.inbox ≡ inbox.now }
@@ -150,7 +150,7 @@ impl Sender {
             pushed,
         } = self;
         inbox.queue.absorb::<Gathers>(&mut taker.pass, pass);
-        // Reading the queue's length gives the proof that the rule holds, and that the counts fit.
+        // The call that reads the queue's length yields the proof that the rule holds, and that the counts fit.
         let _held = inbox.queue.len_as::<Takes, R>(rt, &mut taker.pass);
         let index = (number - taker.first) as usize;
         let count = taker.counts[index];
@@ -164,7 +164,7 @@ impl Sender {
 }
 
 impl Inbox {
-    /// A new inbox, into which nothing was pushed, and its taker, which has made no sender.
+    /// Makes an inbox into which nothing was pushed, and its taker, which has made no sender.
     ///
     /// # Errors
     /// `Memory` if an allocation fails.
@@ -187,7 +187,7 @@ impl Inbox {
         Ok((inbox, taker))
     }
 
-    /// As [`Inbox::make`], for an inbox with marks.
+    /// Makes an inbox with marks, and its taker, as [`Inbox::make`] does without marks.
     ///
     /// # Errors
     /// `Memory` if an allocation fails.
@@ -196,15 +196,15 @@ impl Inbox {
         ensures empty { IfOk result (λ made. made.1.state ≡ make_taker_state true 0 [] []) }
     {
         let (inbox, mut taker) = Inbox::make(alloc)?;
-        // Records, for the proof, that there are marks. The pass that this splits off belongs to nobody.
+        // Records for the proof that the inbox has marks. The pass that this splits off belongs to nobody.
         let _nobody = inbox.queue.another::<Marks>(&mut taker.pass);
         Ok((inbox, taker))
     }
 
-    /// A new sender, which has pushed nothing. Senders are numbered from 0, in the order in which they are made.
+    /// Makes a sender, which has pushed nothing. Senders are numbered from 0, in the order in which they are made.
     ///
     /// # Errors
-    /// `Memory` if an allocation fails. The taker is unchanged then.
+    /// `Memory` if an allocation fails. Then the taker is unchanged.
     pub fn sender(&self, taker: &mut Taker) -> Result<Sender, InboxError>
         requires inbox { taker.old.inbox ≡ self.now }
         ensures inbox { IfOk result (λ sender. sender.inbox ≡ self.now) }
@@ -230,7 +230,7 @@ impl Inbox {
     /// Pushes a copy.
     ///
     /// # Errors
-    /// The copy, if an allocation fails, or after 2^62 pushes. Nothing has changed then.
+    /// The copy, if an allocation fails, or after 2^62 pushes. Then nothing has changed.
     pub fn push_copy<R: Wait>(
         &self,
         rt: &R,
@@ -250,7 +250,7 @@ impl Inbox {
     /// Pushes the mark of a window.
     ///
     /// # Errors
-    /// The window's number, if an allocation fails, or after 2^62 pushes. Nothing has changed then.
+    /// The window's number, if an allocation fails, or after 2^62 pushes. Then nothing has changed.
     pub fn push_mark<R: Wait>(&self, rt: &R, sender: &mut Sender, window: u64) -> Result<(), u64>
         requires inbox { sender.old.inbox ≡ self.now }
         requires marked { sender.old.state.marked ≡ true }
@@ -265,13 +265,13 @@ impl Inbox {
         Ok(())
     }
 
-    /// Lets the taker sleep until `marks` marks have been pushed in all, but no longer than `longest`; it may wake
+    /// Lets the taker sleep until `marks` marks have been pushed in all, but at most for `longest`; it may wake
     /// sooner.
     pub fn wait_for_marks<R: Wait>(&self, rt: &R, marks: u64, longest: Duration) {
         self.mark_count.sleep(rt, marks, longest);
     }
 
-    // Pushes a copy or a mark; a mark only if the inbox has marks.
+    // Pushes a copy or a mark. A mark may be pushed only if the inbox has marks.
     fn push<R: Wait>(&self, rt: &R, sender: &mut Sender, what: Carried) -> Result<(), Carried>
         requires inbox { sender.old.inbox ≡ self.now }
         requires plain { sender.old.state.marked ≡ false → is_packet what ≡ true }
@@ -293,7 +293,7 @@ impl Inbox {
         Ok(())
     }
 
-    /// Takes back a sender, which can push no more; the taker then knows all that was pushed through it.
+    /// Takes back a sender, which can't push any more. The taker then knows all items that the sender pushed.
     pub fn gather<R: Wait>(&self, rt: &R, taker: &mut Taker, sender: Sender)
         requires taker { taker.old.inbox ≡ self.now }
         requires sender { sender.inbox ≡ self.now }
@@ -304,7 +304,7 @@ impl Inbox {
         sender.join(rt, self, taker);
     }
 
-    /// The number of copies and marks of gathered senders that have not been taken yet.
+    /// Returns the number of copies and marks of gathered senders that haven't been taken yet.
     pub fn known(&self, taker: &Taker) -> u64
         requires inbox { taker.now.inbox ≡ self.now }
         ensures count { result ≡ known_of taker.now.state.gathered taker.now.state.taken }
@@ -313,9 +313,9 @@ impl Inbox {
         *known
     }
 
-    /// Takes the oldest copy or mark, with the number of its sender, without allocating. It returns `None` only if the
-    /// queue was found empty and nothing is known, and then nothing has changed. The items taken of a gathered sender
-    /// stay a prefix of those that it pushed.
+    /// Takes the oldest copy or mark, and returns it with the number of its sender. This allocates nothing. It returns
+    /// `None` only if the queue was found empty and no item is known; then nothing has changed. The items taken from a
+    /// gathered sender are still a prefix of those that it pushed.
     pub fn take_next<R: Wait>(&self, rt: &R, taker: &mut Taker) -> Option<Item>
         requires inbox { taker.old.inbox ≡ self.now }
         ensures still { (taker.new.inbox ≡ taker.old.inbox) × (taker.new.state.made ≡ taker.old.state.made)
@@ -337,7 +337,8 @@ impl Inbox {
     /// Takes the `n` oldest copies of an inbox without marks.
     ///
     /// # Errors
-    /// `Memory` if an allocation fails. It allocates before it takes, so nothing has changed then.
+    /// `Memory` if an allocation fails. The memory is allocated before the first copy is taken, so then nothing has
+    /// changed.
     pub fn drain<R: Wait>(
         &self,
         rt: &R,
@@ -355,7 +356,7 @@ impl Inbox {
         self.take_packets(rt, taker, n)
     }
 
-    // Takes the `n` oldest copies, provided that no mark can come before them.
+    // Takes the `n` oldest copies, if no mark can be before them.
     fn take_packets<R: Wait>(
         &self,
         rt: &R,
@@ -384,10 +385,10 @@ impl Inbox {
         Ok(copies)
     }
 
-    /// Ends the inbox, and returns all that is left in it.
+    /// Ends the inbox, and returns everything that is left in it.
     ///
     /// # Errors
-    /// `Memory` if an allocation fails. The inbox is given up then, with all that is left in it.
+    /// `Memory` if an allocation fails. Then everything that is left in the inbox is dropped with it.
     pub fn close<R: Wait>(self, rt: &R, taker: Taker) -> Result<Vec<RadioCopy>, InboxError>
         requires inbox { taker.inbox ≡ self }
         requires gathered { AllGathered taker.state }

@@ -1,19 +1,20 @@
-//! The rule of an inbox's queue, and the knowledge of each pass of the queue. No values of these types exist at run
+//! The rule of an inbox's queue, and the knowledge of each pass of the queue. Values of these types don't exist at run
 //! time: they are for contracts and proofs.
 
 use crate::items::{Carried, Item};
 use crossbeam_queue::protocol::{Join, Lesson, Outcome, Protocol, Split};
 use std::collections::LinkedList;
 
-/// A sender that was gathered: its number, how many senders had been made by then, and all that it pushed.
+/// A sender that was gathered: its number, the number of senders that had been made by then, and all items that it
+/// pushed.
 pub struct Gathered {
     pub number: u64,
     pub made: u64,
     pub pushed: LinkedList<Carried>,
 }
 
-/// The taker's knowledge: whether the inbox has marks, the number of senders that it has made, the items that it has
-/// taken, and the senders that it gathered, the newest first.
+/// The taker's knowledge: whether the inbox has marks, the number of senders that the taker has made, the items that
+/// it has taken, and the senders that it has gathered, the newest first.
 pub struct TakerState {
     pub marked: bool,
     pub made: u64,
@@ -21,14 +22,14 @@ pub struct TakerState {
     pub gathered: LinkedList<Gathered>,
 }
 
-/// A sender's knowledge: whether the inbox has marks, its number, and the items that it has pushed.
+/// A sender's knowledge: whether the inbox has marks, the sender's number, and the items that the sender has pushed.
 pub struct SenderState {
     pub marked: bool,
     pub number: u64,
     pub pushed: LinkedList<Carried>,
 }
 
-/// The knowledge of a pass of the queue. A spent pass was joined to the taker's, or never was a sender's.
+/// The knowledge of a pass of the queue. A spent pass was joined to the taker's pass, or never belonged to a sender.
 pub enum View {
     Taking(TakerState),
     Sending(SenderState),

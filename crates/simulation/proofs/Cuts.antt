@@ -1,4 +1,4 @@
--- Cuts in blocks and in turn fit, whatever the number of motes.
+-- Partitions in blocks and in stripes fit any number of motes.
 use Rattle.std.proofs.Common.{◌≡◌, ℕ, zero, suc, ◌*◌, ◌/◌, ◌%◌, ◌<◌, true, List, [], ◌∷◌, length, None, refl, ◌∙◌, arith}
 use Rattle.std.specs.Prelude.{nat_lt}
 use Rattle.std.specs.List.{list_all, AllByRecursion}
@@ -21,7 +21,7 @@ all_there : (workers : ℕ) (of : List ℕ) → AllByRecursion (λ worker. worke
 all_there workers [] h = refl
 all_there workers (w ∷ of) h = rw (lt-ltb w workers h.0, all_there workers of h.1) refl
 
--- a cut as long as the list of motes fits if all its workers exist
+-- a partition as long as the list of motes fits if all its workers exist
 fits : (motes workers : ℕ) (of : List ℕ) → MayWork workers → length of ≡ motes → AllByRecursion (λ worker. worker < workers) of → cut_fault motes workers of ≡ None
 fits motes workers of may long there = rw (ne_eqb workers 0 (λ e. absurd (let h = may.0 in omega arith)), le-ltb 16 workers may.1, long, eq-eqb motes motes refl, all_there workers of there) refl
 

@@ -20,11 +20,11 @@ use Rattle.simulation.specs.Simulation.{IsScenario, Reported, RefusesText, Way, 
 abbrev pub scenario_of : (bytes : List ℕ) (n : NetModel) → IsText bytes → TellsNet bytes n → IsScenario bytes
 scenario_of bytes n short matches = record { is_text = short; net = n; matches = matches }
 
--- whatever is written of the report's text is written of the bytes' report
+-- if `written` holds for the report's text, it holds for the report of the bytes
 pub reported : (written : List ℕ → Type 0) (bytes : List ℕ) (n : NetModel) (r : ReportModel) → IsText bytes → TellsNet bytes n → IsReportOf n r → written (report_text n r) → Reported bytes written
 reported written bytes n r short matches ran h = record { from = scenario_of bytes n short matches; report = r; run = ran; got = h }
 
--- a fault that a text is refused with is its first, or out of memory
+-- the error of a refused text is the first error in it, or out of memory
 pub refused : (bytes : List ℕ) (e : ScenarioError) → Answers bytes (Err e) → RefusesText bytes e
 refused bytes scenario.Memory h = tt
 refused bytes scenario.Toml h = h
@@ -36,7 +36,7 @@ refused bytes scenario.UnknownProgram h = h
 refused bytes (scenario.Program name e) h = h
 refused bytes (scenario.Medium e) h = h
 
--- an answer to a text is one to some bytes
+-- a result for a text is a result for some bytes
 pub some_bytes : (way : Way) (bytes : List ℕ) (old new : Option (List ℕ)) (r : Result (Unit {0}) SimError) → SimulatedWith way bytes old new r → SimulatedSome way old new r
 some_bytes way bytes old new (Ok u) h = (bytes, h)
 some_bytes way bytes old new (Err (fault.Scenario e)) h = (bytes, h)
@@ -53,6 +53,6 @@ same_report : OneNet → ReportIsOne → (bytes old a b : List ℕ) → Reported
 same_report one_net one_run bytes old a b x y =
     x.got ∙ ap (λ text. old ++ text) (same_text one_run x.from.net y.from.net x.report y.report (one_net bytes x.from.net y.from.net x.from.matches y.from.matches) x.run y.run) ∙ sym y.got
 
--- two runs on the same bytes that write a whole report write the same, whatever made them
+-- two runs on the same bytes that write a complete report write the same one, in whichever way they run
 pub one_report : OneNet → ReportIsOne → OneReport
 one_report one_net one_run bytes old a b v w x y = same_report one_net one_run bytes old a b x.1 y.1

@@ -1,4 +1,4 @@
--- The words that are written for a request ask for just that request.
+-- The arguments that are written for a request ask for exactly that request.
 use Rattle.std.proofs.Common.{◌≡◌, ◌∙◌, ◌==◌, ◌<◌, ◌≤◌, ◌^◌, ◌∷◌, [], ℕ, Bool, List, Option, Some, None, true, false, cond, ap, refl, sym, subst, arith}
 use Rattle.std.proofs.Common.{codes, map, pos, decimal, option_map, get_or, rules, IfSome, ◌||◌, inl, inr}
 use Rattle.std.proofs.lemmas.Bool.{ne_eqb}
@@ -29,7 +29,7 @@ use Rattle.simulation.specs.Words.{AskedIn, AsksFor, Choices, FaultOf, ReadsCoun
 use Rattle.simulation.specs.Written.{cut_value, sync_value, words_of}
 use Rattle.simulation.proofs.WordWalk.{Good, Plain, at_end, faultless, found, matches}
 
--- ---- words that are written out
+-- ---- arguments that are written out
 
 abbrev four_with_marks : (name : Text) → Asked
 four_with_marks name = record {

@@ -1,4 +1,4 @@
--- The meaning of clap's matches and errors for the command.
+-- The meaning of the matches and errors of `clap` for the command.
 use Rattle.std.proofs.Common.{◌≡◌, ◌==◌, ℕ, List, [], ◌∷◌, Option, Some, None, true, false, ap, refl, codes, option_map, subst, ◌∙◌}
 use Rattle.clap.specs.Words.{App, Row, Rule, Text, one_of, first_of, fault_of, is_simple, matches_of}
 use Rattle.clap.specs.Faults.{is_simple_and_free}
@@ -25,7 +25,7 @@ pub workers_read : (o : Option Text) (r : Option ℕ) → (o ≡ None → r ≡ 
 workers_read None r none value = none refl
 workers_read (Some text) r none value = value text refl
 
--- ---- words that are written out
+-- ---- arguments that are written out
 
 abbrev words : List Text
 words = codes "./motesim" ∷ codes "--workers" ∷ codes "4" ∷ codes "net.toml" ∷ codes "--sync=marks" ∷ []
@@ -49,7 +49,7 @@ cut_found : (cuts syncs : Choices) → cut_of (first_of (codes "cut") (rows cuts
 unfolding clap_on_literals
 cut_found cuts syncs = refl
 
--- these words ask for nothing else
+-- these arguments ask for nothing else
 pub asks_one : (asked : Asked) → AsksFor words asked → (option_map (λ s. s.now) asked.file ≡ Some (codes "net.toml"))
     × ReadsCount (codes "4") asked.options.workers × (asked.options.cut ≡ cut.Block) × (asked.options.sync ≡ sync.Marks)
 asks_one asked h =
@@ -60,17 +60,17 @@ asks_one asked h =
       at.sync ∙ sync_found h.is.0 h.is.1,
     )
 
--- help
+-- the arguments ask for help
 help_asked : (cuts syncs : Choices) (prog : Text) → fault_of (app_with cuts syncs) (prog ∷ codes "--help" ∷ []) ≡ kind.DisplayHelp ∷ []
 unfolding clap_on_literals
 help_asked cuts syncs prog = refl
 
--- 17 workers
+-- 17 workers are an error
 too_many : (cuts syncs : Choices) (prog : Text) → fault_of (app_with cuts syncs) (prog ∷ codes "--workers=17" ∷ []) ≡ kind.ValueValidation ∷ []
 unfolding clap_on_literals
 too_many cuts syncs prog = refl
 
--- ---- a word that begins with no hyphen
+-- ---- a word that doesn't begin with a hyphen
 
 pub no_dashes : (b : ℕ) (bs : Text) → (b == 45) ≡ false → bytes_eq (b ∷ bs) (45 ∷ 45 ∷ []) ≡ false
 no_dashes b bs not_hyphen = rw not_hyphen refl
@@ -81,7 +81,7 @@ no_long b bs not_hyphen = rw not_hyphen refl
 pub no_short : (b : ℕ) (bs : Text) → (b == 45) ≡ false → short_of (b ∷ bs) ≡ None
 no_short b bs not_hyphen = ap (λ (t : Bool). option_and_then short_of_rest (cond t (Some bs) None)) not_hyphen
 
--- is no flag
+-- the word isn't a flag
 pub plain_met : (c : List Rule) (waiting : Waiting) (position : ℕ) (h : Held) (b : ℕ) (bs : Text) → (b == 45) ≡ false
     → subcommand_or_other c None waiting position (b ∷ bs) h ≡ plain_word c waiting (b ∷ bs) h
 plain_met c waiting position h b bs not_hyphen =

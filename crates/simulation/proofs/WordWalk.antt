@@ -1,4 +1,4 @@
--- clap's walk over the words that are written for a request.
+-- The walk of `clap` over the arguments that are written for a request.
 use Rattle.std.proofs.Common.{◌≡◌, ◌∙◌, ◌==◌, ◌&&◌, ◌++◌, ◌∷◌, [], ℕ, Bool, List, Option, Some, None, true, false, cond, ap, ap₂, refl, sym, subst}
 use Rattle.std.proofs.Common.{codes, pos, option_map, fold, is_some, IfSome}
 use Rattle.std.proofs.lemmas.Bool.{and_right}
@@ -21,7 +21,7 @@ use Rattle.simulation.specs.Words.{Choices, app_with, choice_rule, cut_of, sync_
 use Rattle.simulation.specs.Written.{file_words, option_words}
 use Rattle.simulation.proofs.WordFacts.{no_dashes, no_long, no_name, no_short, plain_met, plain_step}
 
--- ---- a word that begins with no hyphen
+-- ---- a word that doesn't begin with a hyphen
 
 abbrev pub Plain : Text → Type 0
 Plain [] = ⊥
@@ -47,7 +47,7 @@ Good p o = IfSome o (λ t. Plain t × (accepts false p t ≡ true))
 
 -- ---- the walk over the words
 
--- the rows after a use with this value, or after none
+-- the rows after a use of an option with this value, or without a use
 abbrev after_use : Rule → Option Text → List Row → List Row
 after_use a None rows = rows
 after_use a (Some t) rows = used a (t ∷ []) rows
@@ -74,25 +74,25 @@ module _ (cuts syncs : Choices) where
   abbrev file_arg : Rule
   file_arg = with_index 1 (filled (new_rule (codes "FILE")))
 
-  -- what is held has these rows once the last option is used, and no fault
+  -- the held state has these rows once the last option is used, and has no error
   record Settled (h : Held) (rows : List Row) : Type 0 where
     is : settled args h ≡ record { rows = rows; pending = None; skip = 0 }
     fair : settle_fault args false h ≡ []
 
-  -- the words, with any after them, are walked without a fault from these rows to those
+  -- the walk over these words, with any words after them, leads from these rows to those without an error
   abbrev Passes : List Text → (before after : List Row) → Type 0
   Passes words before after = (h : Held) → Settled h before → (k : Held) × Settled k after
       × ((rest : List Text) → fold (walked args []) (window_position h) (words ++ rest) ≡ fold (walked args []) (window_position k) rest)
       × ((rest : List Text) → walk_fault top [] (window_position h) (words ++ rest) ≡ walk_fault top [] (window_position k) rest)
 
-  -- an option that waits for its value, and that got it
+  -- the state in which an option waits for its value, and the state after it got the value
   abbrev waiting_held : Rule → Held → Held
   waiting_held a h = record (settled args h) { pending = Some (a.id, []) }
 
   abbrev got : Rule → Text → Held → Held
   got a t h = pushed a.id t (waiting_held a h)
 
-  -- how the walk takes the option: with its value attached, or apart
+  -- the steps of the walk at the option, with its value attached or in the next word
   record IsOption (a : Rule) (name : Text) : Type 0 where
     attached : (t : Text) (h : Held) → walked args [] (window_position h) (codes "--" ++ name ++ codes "=" ++ t) ≡ window_position (reacted args a (t ∷ []) h)
     attached_turn : (t : Text) (h : Held) → turn_fault top [] (window_position h) (codes "--" ++ name ++ codes "=" ++ t) ≡ or_else (react_fault args false a (t ∷ []) h) []
@@ -114,7 +114,7 @@ module _ (cuts syncs : Choices) where
   unfolding clap_on_literals
   is_sync = record { attached = λ t h. refl; attached_turn = λ t h. refl; flag = λ h. refl; flag_turn = λ h. refl; apart = λ t h. refl; settles = λ t h. refl; fair = λ t h. refl }
 
-  -- the next use of an option has no fault
+  -- the next use of an option has no error
   abbrev Clean : Rule → List Row → Text → Type 0
   Clean a rows t = Plain t × (use_fault false a (t ∷ []) rows ≡ [])
 
@@ -152,7 +152,7 @@ module _ (cuts syncs : Choices) where
 
   -- ---- the file
 
-  -- the walk is at its end, without a fault, and met no subcommand
+  -- the walk is at its end, without an error and without a subcommand
   record Ends (w : Walk) (rows : List Row) : Type 0 where
     at : Settled w.held rows
     stopped : w.stopped ≡ None
@@ -180,7 +180,7 @@ module _ (cuts syncs : Choices) where
     stopped = stopped;
   }
 
-  -- a name that begins with no hyphen, or with one
+  -- a name that begins with a hyphen, or with another byte
   named : (b : ℕ) (bs : Text) (rows : List Row) → use_fault false file_arg ((b ∷ bs) ∷ []) rows ≡ [] → (x : Bool) → (b == 45) ≡ x
       → Finishes (cond x (codes "--" ∷ (b ∷ bs) ∷ []) ((b ∷ bs) ∷ [])) rows (used file_arg ((b ∷ bs) ∷ []) rows)
   unfolding clap_on_literals
@@ -207,7 +207,7 @@ module _ (cuts syncs : Choices) where
   all_words joined v c s f =
       option_words joined (codes "workers") v ++ (option_words joined (codes "cut") c ++ (option_words joined (codes "sync") s ++ file_words f))
 
-  -- the faults of one value, by the answer of its parser
+  -- the errors of one value, by the result of its parser
   abbrev tested : ErrorKind → Bool → Kinds
   tested k x = or_else (cond x [] (k ∷ [])) []
 
@@ -236,7 +236,7 @@ module _ (cuts syncs : Choices) where
   abbrev pub found : (v c s f : Option Text) → List Row
   found v c s f = fold with_default (rows_with v c s f) args
 
-  -- the values that are found in the end, and that a file and the defaults are without fault
+  -- the values that are found at the end; a file and the defaults have no error
   abbrev AtEnd : (v c s f : Option Text) → Type 0
   AtEnd v c s f = (first_of (codes "FILE") (found v c s f) ≡ f) × (one_of (codes "workers") (found v c s f) ≡ option_map without_minus v)
       × (cut_of (first_of (codes "cut") (found v c s f)) ≡ cut_of c) × (sync_of (first_of (codes "sync") (found v c s f)) ≡ sync_of s)
@@ -286,7 +286,7 @@ module _ (cuts syncs : Choices) where
     pub matches : matches_of (app_with cuts syncs) (program ∷ words) ≡ found v c s f
     matches = ap (λ (h : Held). fold with_default h.rows args) walks.0.at.is
 
-    -- what follows the walk
+    -- the errors after the walk
     abbrev end_fault : Option (Text × List Text) → Kinds → Held → Kinds
     end_fault stop fair h = or_else (entered_fault (built (app_with cuts syncs)) stop)
         (or_else fair (or_else (defaults_fault h.rows args) (check_fault top (fold with_default h.rows args) (is_some (entered (built (app_with cuts syncs)) stop)))))

@@ -22,15 +22,16 @@ pub record Streams : Type 0 where
 abbrev pub streams : (input output errors : Option (List ℕ)) → Streams
 streams input output errors = record { input = input; output = output; errors = errors }
 
--- the words ask for a simulation: its answer decides the status, and without a fault nothing is written to `errors`
+-- the arguments ask for a simulation: its result decides the status, and without an error nothing is written to
+-- `errors`
 pub record Simulates (asked : Asked) (old new : Streams) (status : ℕ) : Type 0 where
   pub answer : Result (Unit {0}) SimError
-  -- without a file it is the simulation of the input
+  -- without a file, the input is simulated
   pub of_input : asked.file ≡ None
       → IfSome old.input (λ bytes. SimulatedWith (way_of asked.options) bytes old.output new.output answer)
-  -- with a file the input isn't read
+  -- with a file, the input isn't read
   pub unread : IsSome asked.file → new.input ≡ old.input
-  -- a report is that of some bytes, by the number and kind of workers that are asked for
+  -- a report is that of some bytes, simulated as the options say
   pub of_some : SimulatedSome (way_of asked.options) old.output new.output answer
   pub unwritten : IfErr answer (Unwritten old.output new.output)
   pub status_is : status ≡ status_of answer
@@ -43,15 +44,16 @@ status_of_words kind.DisplayHelp = 0
 status_of_words kind.DisplayVersion = 0
 status_of_words k = 2
 
--- the words are refused, or ask for help: nothing is read, the output gets only help, and `errors` then nothing
+-- the arguments are refused, or ask for help: nothing is read; an error isn't written to the output, nor help to
+-- `errors`
 pub record RefusesWords (k : ErrorKind) (old new : Streams) (status : ℕ) : Type 0 where
   pub status_is : status ≡ status_of_words k
   pub unread : new.input ≡ old.input
   pub fault : status ≢ 0 → Keeps old.output new.output
   pub help : status ≡ 0 → Keeps old.errors new.errors
 
--- the contents of the command's streams after it ran with these arguments, of which the first is the program's name,
--- and the exit status that it returns
+-- the contents of the command's streams before and after it ran with these arguments, and the exit status that it
+-- returned; the first argument is the program's name
 abbrev pub Commands : (words : List (List ℕ)) → (old new : Streams) → (status : ℕ) → Type 0
 Commands words old new status = ((asked : Asked) × AsksFor words asked × Simulates asked old new status)
     ⊎ ((k : ErrorKind) × FaultOf words k × RefusesWords k old new status)
@@ -60,8 +62,8 @@ Commands words old new status = ((asked : Asked) × AsksFor words asked × Simul
 abbrev pub RunsSome : (old new : Streams) → (status : ℕ) → Type 0
 RunsSome old new status = (words : List (List ℕ)) × Commands words old new status
 
--- the process returns the status of the command with some arguments; or it couldn't get them, and then nothing is read
--- or reported
+-- the process returns the status of the command with some arguments; or it couldn't get its arguments, and then it
+-- reads nothing and writes nothing to the output
 abbrev pub ReturnsSome : (old new : Streams) → (status : ℕ) → Type 0
 ReturnsSome old new status =
     RunsSome old new status ⊎ ((status ≢ 0) × (new.input ≡ old.input) × (new.output ≡ old.output))

@@ -1,10 +1,10 @@
--- The cuts that the options name.
+-- The partitions that the options name.
 use Rattle.std.specs.Prelude.{ℕ, List}
 use Rattle.worker_cut.specs.Cut.{block_cut, stripe_cut}
 use Rattle.simulation.specs.declared.options.CutKind.{CutKind}
 use Rattle.simulation.specs.declared.options.CutKind.TheVariants as kind
 
--- the worker of each mote, by a cut of this kind
+-- the worker of each mote in a partition of this kind
 abbrev pub of_kind : CutKind → (motes workers : ℕ) → List ℕ
 of_kind kind.Block motes workers = block_cut motes workers
 of_kind kind.Stripe motes workers = stripe_cut motes workers

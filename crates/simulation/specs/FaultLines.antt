@@ -1,4 +1,4 @@
--- The line that reports a fault, after the name of the program.
+-- The line that reports an error, after the name of the program.
 use Rattle.std.specs.Prelude.{ℕ, List, [], ◌∷◌, ◌++◌, codes, decimal}
 use Rattle.program_tree.specs.Kinds.{kind_number}
 use Rattle.radio_medium.specs.Errors.{medium_fault_number}
@@ -32,6 +32,6 @@ fault_line (fault.Print print.Write) = codes "write fault"
 fault_line (fault.Print print.Memory) = memory_line
 fault_line fault.Memory = memory_line
 
--- the line as the program writes it
+-- the whole line that the program writes
 abbrev pub written_line : SimError → List ℕ
 written_line e = codes "motesim: " ++ fault_line e ++ 10 ∷ []

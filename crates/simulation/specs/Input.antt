@@ -1,4 +1,4 @@
--- The result of reading the whole of an input.
+-- The result of reading a whole input.
 use Rattle.std.specs.Prelude.{ℕ, ◌<◌, ◌≤◌, List, length}
 use Rattle.std.specs.Str.{IsUtf8}
 use Rattle.net_scenario.specs.Limits.{longest_text}
@@ -8,10 +8,10 @@ pub record IsText (bytes : List ℕ) : Type 0 where
   pub short : length bytes ≤ longest_text
   pub utf8 : IsUtf8 bytes
 
--- more bytes than a scenario may have
+-- there are more bytes than a scenario may have
 abbrev pub IsTooLong : List ℕ → Type 0
 IsTooLong bytes = longest_text < length bytes
 
--- no more bytes than a scenario may have, but they aren't UTF-8
+-- there are no more bytes than a scenario may have, but they aren't UTF-8
 abbrev pub IsNoText : List ℕ → Type 0
 IsNoText bytes = (length bytes ≤ longest_text) × (¬ IsUtf8 bytes)

@@ -12,8 +12,8 @@ use Rattle.simulation.specs.Words.{AsksFor, FaultOf}
 use Rattle.simulation.specs.Written.{words_of}
 use Rattle.simulation.specs.declared.command_line.Asked.{Asked}
 
--- The same scenario, the same bytes, on one thread or by any number of workers of either kind: if two runs read the
--- same bytes, answer Ok, and write after the same bytes, both leave the same.
+-- The same scenario has the same report, on one thread or with any number of workers of either kind: if two runs read
+-- the same bytes, return `Ok`, and append to the same bytes, then the final bytes are the same.
 abbrev pub OneReport : Type 0
 OneReport = (bytes old a b : List ℕ) (v w : Way)
     → SimulatedWith v bytes (Some old) (Some a) (Ok tt) → SimulatedWith w bytes (Some old) (Some b) (Ok tt) → a ≡ b
@@ -22,15 +22,15 @@ OneReport = (bytes old a b : List ℕ) (v w : Way)
 abbrev pub ScenarioHasReport : Type 0
 ScenarioHasReport = (text : List ℕ) (n : NetModel) → TellsNet text n → (r : ReportModel) × IsReportOf n r
 
--- The words ask for this request and for no other, and have no fault, though an allocation may fail.
+-- The arguments ask for exactly this request, and have no error, though an allocation may fail.
 pub record AskForOnly (words : List Text) (asked : Asked) : Type 0 where
   pub asks : AsksFor words asked
   pub only : (other : Asked) → AsksFor words other
       → (other.options ≡ asked.options) × (option_map (λ s. s.now) other.file ≡ option_map (λ s. s.now) asked.file)
   pub faultless : (k : ErrorKind) → FaultOf words k → k ≡ kind.OutOfMemory
 
--- The round trip of the command line: the words that are written for a request without workers, or with 1 to 16, ask
--- for only that request, in either notation, with the defaults or without them.
+-- The round trip of the command line: the arguments that are written for a request, without workers or with 1 to 16,
+-- ask for exactly that request, in both notations, with the defaults or without them.
 abbrev pub CommandLineRoundTrip : Type 0
 CommandLineRoundTrip = (joined brief : Bool) (program : Text) (asked : Asked) → MayRun (way_of asked.options)
     → AskForOnly (words_of joined brief program asked) asked

@@ -26,25 +26,25 @@ sim_fault input.TooLong = fault.TooLong
 sim_fault input.NotText = fault.NotText
 sim_fault input.Memory = fault.Memory
 
--- the bytes are a text of at most a mebibyte, which describes this net
+-- the bytes are a text of at most 1 MiB that describes this net
 pub record IsScenario (bytes : List ℕ) : Type 0 where
   pub is_text : IsText bytes
   pub net : NetModel
   pub matches : TellsNet bytes net
 
--- the bytes are a scenario, and of the text of the report of its net's run the writer has got this
+-- the bytes are a scenario, and `written` holds for the text of the report of its net's run
 pub record Reported (bytes : List ℕ) (written : List ℕ → Type 0) : Type 0 where
   pub from : IsScenario bytes
   pub report : ReportModel
   pub run : IsReportOf from.net report
   pub got : written (report_text from.net report)
 
--- the text has this first fault; an allocation may fail at any text
+-- this is the first error in the text; an allocation may fail for any text
 abbrev pub RefusesText : List ℕ → ScenarioError → Type 0
 RefusesText bytes scenario.Memory = Unit {0}
 RefusesText bytes e = TellsFault bytes e
 
--- how a net is run: on one thread, or by this many workers with this kind of synchronisation
+-- the way to run a net: on one thread, or with this many workers and this kind of synchronisation
 abbrev pub Way : Type 0
 Way = Option (ℕ × SyncKind)
 
@@ -56,17 +56,17 @@ way_by (Some n) sync = Some (n, sync)
 abbrev pub way_of : Options → Way
 way_of options = way_by options.workers options.sync
 
--- the number of workers is one that is allowed
+-- the number of workers is allowed
 abbrev pub MayWork : ℕ → Type 0
 MayWork n = (1 ≤ n) × (n ≤ 16)
 
--- a run on one thread, or by 1 to 16 workers
+-- a run on one thread, or with 1 to 16 workers
 abbrev pub MayRun : Way → Type 0
 MayRun None = Unit {0}
 MayRun (Some way) = MayWork way.0
 
--- the cause of a run's fault: a number of workers that isn't allowed; otherwise a failed allocation or, with workers, a
--- thread
+-- the cause of a run's error: a number of workers that isn't allowed; otherwise, a failed allocation or, with workers,
+-- a failed thread
 abbrev pub RefusesRun : Way → RunError → Type 0
 RefusesRun way run.Workers = ¬ MayRun way
 RefusesRun way run.CutLength = ⊥
@@ -75,14 +75,14 @@ RefusesRun way run.Memory = MayRun way
 RefusesRun way run.Thread = IsSome way × MayRun way
 RefusesRun way run.Stopped = ⊥
 
--- the answer to running a net in this way: the report is that of the net's run, whose definition doesn't mention
+-- the result of running a net in this way: the report is that of the net's run, whose definition doesn't mention
 -- workers
 abbrev pub RunsWith : Way → NetModel → Result Report RunError → Type 0
 RunsWith way net (Ok report) = MayRun way × IsReportOf net (report_of report)
 RunsWith way net (Err e) = RefusesRun way e
 
--- Each answer with its cause, on one thread or by workers of either kind. The reader or an allocation may fail at
--- any bytes, and an allocation of the run, or a thread, at any scenario.
+-- Each result and its cause, on one thread or with workers of either kind. For any bytes, the reader or an allocation
+-- may fail; for any scenario, an allocation of the run or a thread may fail.
 abbrev pub SimulatedWith : Way → List ℕ → (old new : Option (List ℕ)) → Result (Unit {0}) SimError → Type 0
 SimulatedWith way bytes old new (Ok u) = MayRun way × Reported bytes (Appends old new)
 SimulatedWith way bytes old new (Err fault.Read) = Unit {0}
@@ -93,7 +93,8 @@ SimulatedWith way bytes old new (Err (fault.Run e)) = IsScenario bytes × Refuse
 SimulatedWith way bytes old new (Err (fault.Print e)) = MayRun way × Reported bytes (AppendsFront old new)
 SimulatedWith way bytes old new (Err fault.Memory) = Unit {0}
 
--- the meaning of a result for some bytes, whichever the reader gave; one about reading, or out of memory, has none
+-- the meaning of a result if the reader's bytes aren't known: it is the result for some bytes; an error of reading, or
+-- out of memory, has no meaning
 abbrev pub SimulatedSome : Way → (old new : Option (List ℕ)) → Result (Unit {0}) SimError → Type 0
 SimulatedSome way old new (Ok u) = (bytes : List ℕ) × SimulatedWith way bytes old new (Ok u)
 SimulatedSome way old new (Err (fault.Scenario e)) =
@@ -103,7 +104,7 @@ SimulatedSome way old new (Err (fault.Print e)) =
     (bytes : List ℕ) × SimulatedWith way bytes old new (Err (fault.Print e))
 SimulatedSome way old new (Err e) = Unit {0}
 
--- a fault has written nothing, unless it occurred in printing
+-- nothing has been written before an error, except before an error of printing
 abbrev pub Unwritten : (old new : Option (List ℕ)) → SimError → Type 0
 Unwritten old new (fault.Print e) = Unit {0}
 Unwritten old new e = Keeps old new

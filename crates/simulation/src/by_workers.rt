@@ -1,4 +1,4 @@
-//! The run of a net by workers, as the options name them.
+//! The run of a net with the workers that the options ask for.
 ghost use Rattle.std.specs.Prelude.{◌≡◌, ◌<◌, length, vec_len, IfOk, Some, None};
 ghost use Rattle.mote_net.specs.Meaning.{net_of};
 ghost use Rattle.window_workers.specs.Fits.{cut_fault};
@@ -14,7 +14,7 @@ use std::thread::Threads;
 use window_workers::{Gate, MOST_WORKERS, RunError, SyncKind, run_workers};
 use worker_cut::Cut;
 
-/// The cut of this kind, which fits the motes and the workers.
+/// Makes the partition of this kind, which fits the motes and the workers.
 fn cut_of(alloc: Global, kind: CutKind, motes: u16, workers: u16) -> Result<Cut, AllocError>
     requires motes { 0 < motes }
     requires workers { MayWork workers }
@@ -27,7 +27,7 @@ fn cut_of(alloc: Global, kind: CutKind, motes: u16, workers: u16) -> Result<Cut,
     }
 }
 
-/// The number of workers, the cut of the motes among them, and their kind of synchronisation.
+/// The number of workers, the partition of the motes among them, and their kind of synchronisation.
 #[derive(Clone, Copy)]
 pub struct Team {
     pub workers: u16,
@@ -35,10 +35,11 @@ pub struct Team {
     pub sync: SyncKind,
 }
 
-/// The report of a net, by these workers. Their number is checked before the cut is made.
+/// Runs a net with these workers, and returns its report. It checks the number of workers before it makes the
+/// partition.
 ///
 /// # Errors
-/// `Workers` if there aren't 1 to 16 of them, otherwise `Memory` or `Thread`.
+/// `Workers` if there aren't 1 to 16 workers; otherwise `Memory` or `Thread`.
 pub fn run_by<T, G>(
     rt: &T,
     alloc: Global,

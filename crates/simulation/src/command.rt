@@ -1,5 +1,5 @@
-//! The command: a scenario in a file or on standard input, its report on standard output, a fault's line on standard
-//! error.
+//! The command. It reads a scenario from a file or from standard input, and writes its report to standard output; the
+//! line of an error goes to standard error.
 
 ghost use Rattle.std.specs.Prelude.{◌≡◌, ◌≢◌, None, IsSome, IfSome, Ok, IfErr, OnOk};
 ghost use Rattle.std.specs.Io.KnownBytes.{Appends, Keeps};
@@ -23,15 +23,15 @@ use std::sync::Wait;
 use std::thread::Threads;
 use window_workers::{Gate, NoGate};
 
-/// Writes the line that reports a fault, after the name of the program.
+/// Writes the line that reports an error: the program's name, and then the error's text.
 fn report_fault<E: Write>(fault: &SimError, errors: &mut E) -> io::Result<()>
     ensures appends { OnOk result (Appends (E.contents errors.old) (E.contents errors.new) (written_line fault.now)) }
 {
     writeln!(errors, "motesim: {fault}")
 }
 
-/// Returns the exit status of a simulation: 0, or 1 if it has a fault, whose line then goes to `errors`. A line that
-/// can't be written doesn't change the status.
+/// Returns the exit status of a simulation: 0, or 1 after an error. It writes the line that reports the error to
+/// `errors`; the status is the same if this fails.
 pub fn status_of<E: Write>(answer: Result<(), SimError>, errors: &mut E) -> u8
     ensures status { result ≡ status_of answer }
     ensures quiet { answer ≡ Ok tt → Keeps (E.contents errors.old) (E.contents errors.new) }
@@ -45,8 +45,8 @@ pub fn status_of<E: Write>(answer: Result<(), SimError>, errors: &mut E) -> u8
     }
 }
 
-/// The exit status if the arguments of the command line ask for help, which is written to `output`, or have a fault,
-/// which is written to `errors`. If an allocation failed, it is the status of a simulation that ran out of memory.
+/// Writes help to `output` if the arguments ask for it, or the error of the arguments to `errors`, and returns the
+/// exit status. If an allocation failed, the status is that of a simulation that ran out of memory.
 fn status_of_words<W: Write, E: Write>(error: &clap::Error, output: &mut W, errors: &mut E) -> u8
     ensures status { result ≡ status_of_words (kind_of error.now) }
     ensures fault { result ≢ 0 → Keeps (W.contents output.old) (W.contents output.new) }
@@ -65,7 +65,7 @@ fn status_of_words<W: Write, E: Write>(error: &clap::Error, output: &mut W, erro
     }
 }
 
-/// A file that can be read.
+/// Opens a file for reading.
 ///
 /// # Errors
 /// `Read` if it can't be opened.
@@ -81,7 +81,7 @@ fn open_file<T: Files>(rt: &T, file: &str) -> Result<T::File, SimError>
 /// Simulates the scenario in a file.
 ///
 /// # Errors
-/// As `simulate`; `Read` also if the file can't be opened.
+/// The errors of `simulate`, and `Read` if the file can't be opened.
 fn simulate_file<T, W, G>(
     rt: &T,
     file: &str,
@@ -100,11 +100,11 @@ where
     simulate(rt, rt.alloc(), &mut input, output, options, gate)
 }
 
-/// Simulates, on one thread, the scenario in the file, or without a file the one that `input` holds. It never waits
-/// for another thread, so it is proved to return.
+/// Simulates on one thread the scenario in the file or, without a file, the scenario in `input`. It never waits for
+/// another thread, so its proof also shows that it returns.
 ///
 /// # Errors
-/// As `simulate_serial`; `Read` also if the file can't be opened.
+/// The errors of `simulate_serial`, and `Read` if the file can't be opened.
 pub fn simulate_alone<T, R, W>(
     rt: &T,
     file: Option<&str>,
@@ -115,12 +115,12 @@ where
     T: AllocGlobal + Files,
     R: Read,
     W: Write,
-    // Without a file it is the simulation of the contents of `input`.
+    // Without a file, the contents of `input` are simulated.
     ensures answer { file.entry ≡ None → IfSome (R.remaining input.old) (λ bytes.
         SimulatedWith None bytes (W.contents output.old) (W.contents output.new) result) }
-    // With one, `input` isn't read.
+    // With a file, `input` isn't read.
     ensures unread { IsSome file.entry → R.remaining input.new ≡ R.remaining input.old }
-    // If there is a report, some bytes have it as their report.
+    // A report that is written is the report of some bytes.
     ensures simulated_some { SimulatedSome None (W.contents output.old) (W.contents output.new) result }
     ensures unwritten { IfErr result (Unwritten (W.contents output.old) (W.contents output.new)) }
 {
@@ -133,11 +133,11 @@ where
     }
 }
 
-/// Simulates the scenario in the file that the command line asks for, or without a file the one that `input` holds, as
-/// the options say. Without workers it is `simulate_alone`.
+/// Simulates the scenario in the file that the command line names or, without a file, the scenario in `input`, as the
+/// options say. Without workers, it calls `simulate_alone`.
 ///
 /// # Errors
-/// As `simulate`; `Read` also if the file can't be opened.
+/// The errors of `simulate`, and `Read` if the file can't be opened.
 pub fn simulate_asked<T, R, W, G>(
     rt: &T,
     asked: &Asked<'_>,
@@ -150,12 +150,12 @@ where
     R: Read,
     W: Write,
     G: Gate + Sync,
-    // Without a file it is the simulation of the contents of `input`.
+    // Without a file, the contents of `input` are simulated.
     ensures answer { asked.now.file ≡ None → IfSome (R.remaining input.old) (λ bytes.
         SimulatedWith (way_of asked.now.options) bytes (W.contents output.old) (W.contents output.new) result) }
-    // With one, `input` isn't read.
+    // With a file, `input` isn't read.
     ensures unread { IsSome asked.now.file → R.remaining input.new ≡ R.remaining input.old }
-    // If there is a report, some bytes have it as their report, with the workers that are asked for.
+    // A report that is written is the report of some bytes, simulated as the options say.
     ensures simulated_some { SimulatedSome (way_of asked.now.options) (W.contents output.old)
         (W.contents output.new) result }
     ensures unwritten { IfErr result (Unwritten (W.contents output.old) (W.contents output.new)) }
@@ -167,7 +167,7 @@ where
     }
 }
 
-/// Does what the arguments ask for, and returns the exit status.
+/// Simulates as the arguments ask, and returns the exit status.
 fn run_asked<T, R, W, E>(
     rt: &T,
     asked: &Asked<'_>,
@@ -188,13 +188,13 @@ where
     status_of(answer, errors)
 }
 
-/// Runs the program with these arguments, of which the first is the program's name. It simulates the scenario in the
-/// file that they name, or without a file the one that `input` holds, on one thread or by workers. The report goes to
-/// `output`, and the line of a fault to `errors`. Help that is asked for goes to `output`, and an error of the
-/// arguments to `errors`.
+/// Runs the program with these arguments; the first is the program's name. It simulates the scenario in the file that
+/// the arguments name or, without a file, the scenario in `input`, on one thread or with workers. It writes the report
+/// to `output`, and the line of an error to `errors`. If the arguments ask for help, it writes the help to `output`;
+/// if they have an error, it writes the error to `errors`.
 ///
-/// It returns the exit status: 0 for a report or help, 1 for a fault, and 2 for a fault of the arguments. A help text
-/// or a fault's line that can't be written doesn't change it.
+/// It returns the exit status: 0 for a report or help, 1 for an error, and 2 for an error of the arguments. The status
+/// is the same if the help or the error can't be written.
 pub fn run_command<T, R, W, E>(
     rt: &T,
     words: &[&str],

@@ -17,10 +17,10 @@ pub struct Asked<'a> {
     pub options: Options,
 }
 
-/// The names of the cuts.
+/// The names of the partitions, the values of `--cut`.
 static CUTS: [&str; 2] = ["block", "stripe"];
 
-/// The cut of this name.
+/// Returns the partition with this name.
 fn cut_named(name: &str) -> CutKind
     ensures value { result ≡ cut_of (Some name.now) }
 {
@@ -30,10 +30,10 @@ fn cut_named(name: &str) -> CutKind
     }
 }
 
-/// The names of the kinds of synchronization.
+/// The names of the kinds of synchronisation, the values of `--sync`.
 static SYNCS: [&str; 2] = ["joins", "marks"];
 
-/// The kind of synchronization of this name.
+/// Returns the kind of synchronisation with this name.
 fn sync_named(name: &str) -> SyncKind
     ensures value { result ≡ sync_of (Some name.now) }
 {
@@ -43,8 +43,8 @@ fn sync_named(name: &str) -> SyncKind
     }
 }
 
-/// The options with this number of workers, and the cut and the kind of synchronization of these names. If a name is
-/// missing, the cut or the kind is that of the default options.
+/// Returns the options with this number of workers, and the partition and the kind of synchronisation with these
+/// names. If a name is missing, the option has its default.
 fn options_for(workers: Option<u16>, cut: Option<&str>, sync: Option<&str>) -> Options
     ensures workers { result.workers ≡ workers }
     ensures cut { result.cut ≡ cut_of (option_map (λ s. s.now) cut.entry) }
@@ -123,8 +123,8 @@ fn file_arg<'a>(alloc: Global) -> Arg<'a>
     Arg::new(alloc, "FILE").help("The scenario; without it, standard input is read")
 }
 
-/// The program's one command. Each argument is made only after the earlier ones have been added, so that none waits in
-/// a variable while adding another can fail.
+/// Makes the program's only command. It makes each argument after it has added the previous one, so no argument waits
+/// in a variable while an addition can fail.
 fn command<'a>(alloc: Global) -> Result<Command<'a>, AllocError>
     ensures is_motesim { IfOk result (λ c. IsMotesim (app_of c)) }
 {
@@ -138,12 +138,12 @@ fn command<'a>(alloc: Global) -> Result<Command<'a>, AllocError>
         .arg(file_arg(alloc))
 }
 
-/// Reads the arguments of a command line, of which the first is the program's name. Without workers, neither the cut
-/// nor the kind of synchronization has an effect.
+/// Reads the arguments of a command line; the first is the program's name. Without workers, the partition and the kind
+/// of synchronisation have no effect.
 ///
 /// # Errors
-/// Of the kind `DisplayHelp` if help is asked for, and `OutOfMemory` if an allocation failed; otherwise its kind is
-/// that of the fault of the arguments.
+/// An error of the kind `DisplayHelp` if the arguments ask for help, or of the kind `OutOfMemory` if an allocation
+/// failed; otherwise, of the kind of the error in the arguments.
 pub fn asked_by<'a>(alloc: Global, words: &'a [&'a str]) -> Result<Asked<'a>, Error>
     ensures asks { IfOk result (AsksFor (texts_of words.entry.now)) }
     ensures refuses { IfErr result (λ e. FaultOf (texts_of words.entry.now) (kind_of e)) }

@@ -28,7 +28,7 @@ fn simulate_text<W: Write>(alloc: Global, text: &str, writer: &mut W) -> Result<
     Ok(())
 }
 
-/// Simulates the scenario of this text by these workers, and writes the report.
+/// Simulates the scenario of this text with these workers, and writes the report.
 fn simulate_text_by<T, W, G>(
     rt: &T,
     alloc: Global,
@@ -58,8 +58,8 @@ where
 /// In this order: `Read` if a call of the reader failed, or was interrupted, before the limit was passed; `TooLong` if
 /// the reader returned more than 1,048,576 bytes, even if it never ends; `NotText` if they aren't UTF-8; `Scenario`
 /// with the scenario's first fault; `Run` if an allocation of the run failed; `Print` if the writer failed or took no
-/// byte. With `Print`, a part of the report has been written, from its beginning; with any other error, nothing. If an
-/// allocation failed, the error can also be `Memory`, or the `Memory` of a part, which have no other cause.
+/// byte. With `Print`, a prefix of the report has been written; with any other error, nothing has. If an allocation
+/// failed, the error can also be `Memory`, or the `Memory` of a part; these errors have no other cause.
 #[tactic(auto, using(crate::proofs::Printed::some_bytes))]
 pub fn simulate_serial<R: Read, W: Write>(
     alloc: Global,
@@ -70,7 +70,7 @@ pub fn simulate_serial<R: Read, W: Write>(
     // known, the report's text is written.
     ensures answer { IfSome (R.remaining reader.old)
         (λ input. SimulatedWith None input (W.contents writer.old) (W.contents writer.new) result) }
-    // If there is a report, or a scenario's fault, some bytes have it, whatever the reader is.
+    // A report or an error of the scenario is that of some bytes, for any reader.
     ensures simulated_some { SimulatedSome None (W.contents writer.old) (W.contents writer.new) result }
     // Nothing has been written if the error isn't `Print`.
     ensures unwritten { IfErr result (Unwritten (W.contents writer.old) (W.contents writer.new)) }
@@ -79,15 +79,15 @@ pub fn simulate_serial<R: Read, W: Write>(
     simulate_text(alloc, text.as_str(), writer)
 }
 
-/// Reads a scenario to its end, simulates it, and writes its report: on one thread, or by the workers that the options
-/// ask for, window by window. With joins each worker has a thread for each window, with marks one for the whole run; a
-/// long report is formatted by several threads, one for each worker. The bytes of the report are the same. Workers
-/// wait for one another, so the promise holds only if the run returns.
+/// Reads a scenario to its end, simulates it on one thread or with the workers that the options ask for, and writes
+/// its report. With joins, each worker has a thread for each window; with marks, it has one thread for the whole run.
+/// If a report is long, several threads format it, one for each worker. The report has the same bytes on one thread
+/// and with workers. Workers wait for one another, so the contract holds only if the run returns.
 ///
 /// # Errors
-/// As `simulate_serial`; `Run` with `Workers` if there aren't 1 to 16 of them, which is checked once the scenario
-/// has been read, and with `Memory` or `Thread` if an allocation of a worker failed, or its thread couldn't be
-/// started or run.
+/// The errors of `simulate_serial`, and `Run` with one of these: `Workers` if there aren't 1 to 16 workers, which is
+/// checked after the scenario has been read; `Memory` if an allocation of a worker failed; `Thread` if a worker's
+/// thread couldn't be started or run.
 #[tactic(auto, using(crate::proofs::Printed::some_bytes))]
 pub fn simulate<T, R, W, G>(
     rt: &T,
@@ -102,7 +102,7 @@ where
     R: Read,
     W: Write,
     G: Gate + Sync,
-    // As those of `simulate_serial`, for any number of workers of either kind and any cut.
+    // The clauses of `simulate_serial`, for any number of workers, any partition and both kinds of synchronisation.
     ensures answer { let way = way_of options.now
         in IfSome (R.remaining reader.old)
         (λ input. SimulatedWith way input (W.contents writer.old) (W.contents writer.new) result) }

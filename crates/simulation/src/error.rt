@@ -1,4 +1,4 @@
-//! The errors of a simulation, and the line that reports each.
+//! The errors of a simulation, and the lines that report them.
 ghost use Rattle.std.specs.Prelude.{◌≡◌, Some};
 ghost use Rattle.simulation.specs.FaultLines.{fault_line};
 ghost use Rattle.simulation.specs.Simulation.{sim_fault};
@@ -11,7 +11,7 @@ use std::fmt;
 use trace_printer::PrintError;
 use window_workers::RunError;
 
-/// The reason why a simulation wrote no whole report.
+/// The reason why a simulation didn't write a complete report.
 #[derive(Debug, PartialEq, Eq, Drop)]
 pub enum SimError {
     /// A call of the reader failed.
@@ -20,13 +20,13 @@ pub enum SimError {
     TooLong,
     /// The bytes aren't UTF-8.
     NotText,
-    /// The scenario's first fault.
+    /// The first error in the scenario.
     Scenario(ScenarioError),
-    /// The net couldn't be run to its end.
+    /// The run of the net didn't reach its end.
     Run(RunError),
     /// A prefix of the report has been written.
     Print(PrintError),
-    /// Memory ran out outside the parts above.
+    /// An allocation failed outside the parts above.
     Memory,
 }
 

@@ -1,4 +1,4 @@
-//! Reading the whole of an input as a text.
+//! Reads a whole input as a text.
 ghost use Rattle.std.specs.Prelude.{◌≡◌, ◌≤◌, IfOk, IfSome, string_len, vec_len};
 ghost use Rattle.simulation.specs.Reads.{ReadsBytes, ReadsText};
 ghost use Rattle.net_scenario.specs.Limits.{longest_text};
@@ -8,7 +8,7 @@ use net_scenario::LONGEST_TEXT;
 use std::alloc::{AllocError, Global};
 use std::io::Read;
 
-/// The number of bytes that are asked for at a time.
+/// The largest number of bytes that one call of the reader returns.
 const CHUNK: usize = 4096;
 
 /// The reason why an input was refused.
@@ -32,8 +32,8 @@ impl From<AllocError> for InputError {
     }
 }
 
-/// All bytes of a reader, if they are at most `LONGEST_TEXT`. Reading stops at the first call that passes this limit,
-/// so the function returns even if the reader has no end.
+/// Reads all bytes of a reader, if there are at most `LONGEST_TEXT` of them. It stops at the first call that passes
+/// this limit, so it returns even if the reader has no end.
 fn read_all<R: Read>(alloc: Global, reader: &mut R) -> Result<Vec<u8>, InputError>
     ensures matches { IfSome (R.remaining reader.old) (λ input. ReadsBytes input result) }
     ensures bounded { IfOk result (λ bytes. vec_len bytes ≤ longest_text) }
@@ -50,11 +50,12 @@ fn read_all<R: Read>(alloc: Global, reader: &mut R) -> Result<Vec<u8>, InputErro
     Err(InputError::TooLong)
 }
 
-/// The text that a reader holds, of at most `LONGEST_TEXT` bytes of UTF-8.
+/// Reads the text of a reader, which may have at most `LONGEST_TEXT` bytes of UTF-8.
 ///
 /// # Errors
 /// In this order: `Read` if a call of the reader failed before the limit was passed, `TooLong` if more than
-/// `LONGEST_TEXT` bytes arrived, `NotText` if they aren't UTF-8. `Memory` only if an allocation failed.
+/// `LONGEST_TEXT` bytes arrived, `NotText` if they aren't UTF-8. The error can also be `Memory`, but only if an
+/// allocation failed.
 pub fn read_text<R: Read>(alloc: Global, reader: &mut R) -> Result<String, InputError>
     // If the reader's contents are known, the result is that of reading these bytes.
     ensures matches { IfSome (R.remaining reader.old) (λ input. ReadsText input result) }

@@ -1,4 +1,4 @@
-//! Motes simulated, from the bytes of a scenario to the bytes of its report, and the command that does it.
+//! Simulates motes, from the bytes of a scenario to the bytes of its report; and the command that does it.
 #![tactic(auto)]
 
 mod by_workers;

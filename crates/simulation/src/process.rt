@@ -1,4 +1,4 @@
-//! The command as a process runs it: with the arguments that the process was given.
+//! The command, with the arguments of the process.
 ghost use Rattle.std.specs.Prelude.{◌≡◌, MatchResult};
 ghost use Rattle.simulation.specs.Command.{ReturnsSome, RunsSome, streams};
 
@@ -16,7 +16,7 @@ fn borrow_words(alloc: Global, words: &[String]) -> Result<Vec<&str>, AllocError
     words.iter().map(|word| word.as_str()).collect(alloc)
 }
 
-/// The arguments that the process was given.
+/// Returns the arguments of the process.
 fn words_of<T: AllocGlobal + Env>(rt: &T) -> io::Result<Vec<String>> {
     let words = env::args(rt)?.collect(rt.alloc())?;
     Ok(words)
@@ -43,7 +43,7 @@ where
     Ok(run_command(rt, &words, input, output, errors))
 }
 
-/// Runs the command with the arguments that the process was given.
+/// Runs the command with the arguments of the process.
 fn run<T, R, W, E>(rt: &T, input: &mut R, output: &mut W, errors: &mut E) -> io::Result<u8>
 where
     T: AllocGlobal + Env + Files + Threads + Wait + RandomSource + Sync,
@@ -58,11 +58,11 @@ where
     Ok(run_words(rt, &words, input, output, errors)?)
 }
 
-/// Runs `run_command` with the arguments that the process was given, and returns its exit status. If an argument isn't
-/// UTF-8, the status is 2, and a line in `errors` reports it.
+/// Runs `run_command` with the arguments of the process, and returns the exit status of the command. If an argument
+/// isn't UTF-8, the status is 2, and a line in `errors` reports this.
 ///
-/// It is here, and not with the program's `main`, because a check of `main` would load once more all that the
-/// contract of `run_command` rests on.
+/// This function isn't next to the program's `main`: a check of `main` would then load again everything on which the
+/// contract of `run_command` depends.
 pub fn run_process<T, R, W, E>(rt: &T, input: &mut R, output: &mut W, errors: &mut E) -> u8
 where
     T: AllocGlobal + Env + Files + Threads + Wait + RandomSource + Sync,

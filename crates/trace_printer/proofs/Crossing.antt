@@ -1,4 +1,4 @@
--- A net, its traces and the log of its medium may be shared by threads.
+-- Threads may share a net, its traces and the log of its medium.
 use denote.Param.Send.{IsSync, sendable}
 use denote.Param.SendFields.{declared_sync}
 use denote.Ref.{NamedLft}

@@ -1,4 +1,4 @@
--- A small program whose names differ, and two reports that only names would tell apart.
+-- A small program whose names differ, and two reports that would differ only in names.
 use Rattle.std.proofs.Common.{◌≡◌, ℕ, zero, suc, List, [], ◌∷◌, refl, ap, codes}
 use Rattle.program_tree.specs.Words.{keywords, word_token}
 use Rattle.program_tree.specs.declared.event.Proc.TheVariants.{Own}

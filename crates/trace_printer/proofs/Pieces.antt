@@ -1,4 +1,4 @@
--- Texts in pieces: the next piece, and the rest after it.
+-- Texts that consist of pieces: the next piece, and the rest after it.
 use Rattle.std.proofs.Common.{◌≡◌, ◌+◌, ◌<◌, ◌≤◌, append_assoc, append-nil, ℕ, zero, suc, List, [], map, ◌∷◌, ◌++◌, length, get_or, drop, refl, ap, sym, ◌∙◌, add-one, arith, Vec, Global, Some, slice_get, option_map, codes, decimal}
 use Rattle.std.specs.List.{flat_map}
 use Rattle.program_tree.specs.Code.{Tree}
@@ -19,7 +19,7 @@ pub flat_map-map : {X Y : Type 0} (g : Y → List ℕ) (f : X → Y) (xs : List 
 flat_map-map g f [] = refl
 flat_map-map g f (x ∷ xs) = ap (λ l. g (f x) ++ l) (flat_map-map g f xs)
 
--- the same of mapped items
+-- the mapped pieces from i on
 pub mapped-drop : {X Y : Type 0} (g : Y → List ℕ) (f : X → Y) (xs : List X) (i : ℕ) (d : X) → i < length xs
     → flat_map g (map f (drop i xs)) ≡ g (f (get_or xs i d)) ++ flat_map g (map f (drop (i + 1) xs))
 mapped-drop g f xs i d h =

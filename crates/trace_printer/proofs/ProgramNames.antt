@@ -1,4 +1,4 @@
--- Programs whose names are words of a text, none of them a keyword, and differ: so do their words in a report.
+-- If the names of a program are words of its text, aren't keywords, and differ, then their words in a report differ.
 use Rattle.std.proofs.Common.{◌≡◌, ℕ, zero, suc, ◌+◌, ◌-◌, ◌<◌, ◌≤◌, nat_eq, nat_le, Bool, true, false, List, [], ◌∷◌, length, get_or, refl, ap, sym, subst, ◌∙◌, arith, codes, eqb, if◌then◌else◌, inl, inr, true≢false, Some, slice_get, unwrap_or, bytes_eq}
 use Rattle.std.proofs.lemmas.Bool.{and_parts}
 use Rattle.std.proofs.lemmas.Bool.Decides.{nat_tests}
@@ -22,7 +22,7 @@ use Rattle.trace_printer.proofs.Separated.{numbers_differ, word_by_test}
 abbrev pub IsName : List ℕ → Type 0
 IsName x = (list_all is_word_byte x ≡ true) × (word_token x ≡ token.Name x)
 
--- no two places have the same name
+-- no two elements are the same name
 abbrev pub AreApart : List (List ℕ) → Type 0
 AreApart names = (i j : ℕ) (x : List ℕ) → slice_get names i ≡ Some x → slice_get names j ≡ Some x → i ≡ j
 

@@ -1,4 +1,4 @@
--- Bytes put into a list that has room for them.
+-- Bytes that are written into a list that has room for them.
 use Rattle.std.proofs.Common.{◌≡◌, ℕ, ◌+◌, ◌≤◌, List, ◌++◌, length, take, drop, set, refl, ap, subst, ◌∙◌, ◌<◌, ◌∷◌, arith, append_assoc, take-append-drop}
 use Rattle.std.proofs.lemmas.List.{take-append-le, length-take-le, length-drop, length-append}
 use Rattle.std.proofs.lemmas.Slice.{take-put_mid}
@@ -12,7 +12,7 @@ put_front at k n room put front within is begins few =
     let end : n ≡ length (take at room) + length front = omega arith in
     rw (end, take-append-add (take at room) (put ++ post_of at k room) (length front), take-append-le (length front) put (post_of at k room) few, begins) refl
 
--- the first m bytes of a text or more were put, and then all but the first m
+-- at least the first m bytes of a text were put, and then all bytes after the first m
 pub put_both : (at k l m from n : ℕ) (room first text : List ℕ) → at + length text ≤ length room → m ≤ length text → from ≡ at + m → n ≡ at + length text → take m first ≡ take m text → m ≤ length first
     → take n (put_mid from l (put_mid at k room first) (drop m text)) ≡ take at room ++ text
 put_both at k l m from n room first text within part starts ends begins long =

@@ -16,11 +16,11 @@ use Rattle.trace_printer.specs.Parts.{Adjoin, HasTraces, IsPut, texts_of_lines, 
 pub written_all : (a b : Option (List ℕ)) (text : List ℕ) → Appends a b text → Written a b text []
 written_all a b text h = record { done = text; whole = sym (append-nil text); appended = h }
 
--- a prefix of it is written
+-- a prefix of the text is written
 pub written_front_of : (a b : Option (List ℕ)) (text : List ℕ) → AppendsFront a b text → (rest : List ℕ) × Written a b text rest
 written_front_of a b text (front, byte, rest, split, more) = (byte ∷ rest, record { done = front; whole = split; appended = more })
 
--- one part more
+-- one more part
 pub adjoin_push : (first next last : ℕ) (ps : List Part) (p : Part) → Adjoin first ps next → p.skip ≡ next → p.page ≡ [] → last ≡ next + p.count → Adjoin first (ps ++ p ∷ []) last
 adjoin_push first next last [] p h from page is = (from ∙ sym h, page, ap (λ n. n + p.count) h ∙ sym is)
 adjoin_push first next last (x ∷ ps) p h from page is = (h.0, h.1, adjoin_push (first + x.count) next last ps p h.2 from page is)
@@ -29,7 +29,7 @@ adjoin_le : (first last : ℕ) (ps : List Part) → Adjoin first ps last → fir
 adjoin_le first last [] h = omega (arith, h)
 adjoin_le first last (p ∷ ps) h = omega (arith, adjoin_le (first + p.count) last ps h.2)
 
--- nothing is put on their pages yet
+-- the pages of the parts are still empty
 pub adjoin_ready : (t : Traces) (first last : ℕ) (ps : List Part) → HasTraces t → Adjoin first ps last → Each (λ p. HasTraces t × (p.page ≡ [])) ps
 adjoin_ready t first last [] has h = tt
 adjoin_ready t first last (p ∷ ps) has h = ((has, h.1), adjoin_ready t (first + p.count) last ps has h.2)
@@ -49,7 +49,7 @@ put_text t first last n (p ∷ ps) (q ∷ qs) h is put =
     ap (λ (l : List ℕ). l ++ flat_map page_of qs) this ∙ ap (λ (l : List ℕ). part_text (texts_of_lines t) first p.count ++ l) rest
     ∙ sym (part_sum (texts_of_lines t) first p.count (n - p.count)) ∙ ap (part_text (texts_of_lines t) first) (sym sum)
 
--- the next lines, this many, and then those after them
+-- the next `count` lines, and then the lines after them
 pub rest_next : (lines : List (List ℕ)) (skip count : ℕ) → concat (drop skip lines) ≡ part_text lines skip count ++ concat (drop (skip + count) lines)
 rest_next lines skip count =
     ap concat (sym (take-append-drop count (drop skip lines))) ∙ concat-append (take count (drop skip lines)) (drop count (drop skip lines))

@@ -1,4 +1,4 @@
--- Texts of words that are separated by bytes of another kind: which words, numbers and items they have.
+-- Texts of words with separators between them: the text determines its words, numbers and items.
 use Rattle.std.proofs.Common.{◌≡◌, ℕ, ◌<◌, ◌≤◌, true, false, List, [], ◌∷◌, ◌++◌, length, get_or, drop, nat_lt, refl, ap, ap₂, sym, subst, ◌∙◌, arith, append_assoc, decimal, eqb, eq-eqb, ltb-true, true≢false}
 use Rattle.std.specs.List.{flat_map, list_all, AllByRecursion as Each}
 use Rattle.std.specs.Str.Parse.{AllDigits}
@@ -19,7 +19,7 @@ abbrev pub Begins : (ℕ → Type 0) → List ℕ → Type 0
 Begins P [] = ⊥
 Begins P (b ∷ bs) = P b
 
--- two runs of one kind of bytes, each followed by a byte of another kind, are the same run
+-- two texts of bytes of one kind, each followed by a byte of another kind, are the same
 pub runs_same : (In Out : ℕ → Type 0) → ((b : ℕ) → In b → Out b → ⊥) → (u v r s : List ℕ) → Each In u → Each In v → Begins Out r → Begins Out s
     → u ++ r ≡ v ++ s → (u ≡ v) × (r ≡ s)
 runs_same In Out apart [] [] r s iu iv br bs e = (refl, e)
@@ -109,7 +109,7 @@ words_same (w ∷ ws) (v ∷ vs) x y iw iv e =
     let more = words_same ws vs x y iw.1 iv.1 one.1 in
     (ap₂ (λ (a : List ℕ) (b : List (List ℕ)). a ∷ b) one.0 more.0, more.1)
 
--- two lines of words, each with a text after it
+-- two lines, each with a text after it, have the same words
 pub lines_same : (f g : List ℕ) (ws vs : List (List ℕ)) (x y : List ℕ) → IsWord f → IsWord g → Each IsWord ws → Each IsWord vs
     → line_of f ws ++ x ≡ line_of g vs ++ y → (f ≡ g) × (ws ≡ vs) × (x ≡ y)
 lines_same f g ws vs x y wf wg iw iv e =
@@ -118,7 +118,7 @@ lines_same f g ws vs x y wf wg iw iv e =
     let more = words_same ws vs x y iw iv one.1 in
     (one.0, more.0, more.1)
 
--- a line begins with its first word's first byte
+-- a line begins with the first byte of its first word
 pub line_begins : (P : ℕ → Type 0) (f : List ℕ) (ws : List (List ℕ)) (x : List ℕ) → Begins P (f ++ after_first ws x) → Begins P (line_of f ws ++ x)
 line_begins P f ws x h = subst (Begins P) (sym (line_is f ws x)) h
 
@@ -129,7 +129,8 @@ no_both [] y d l e = d
 no_both (b ∷ bs) [] d l e = l
 no_both (b ∷ bs) (c ∷ cs) d l e = let same : b ≡ c = first_same b c bs cs e in omega arith
 
--- the texts of some items, each of which begins with a digit, and a text after them that begins with a letter
+-- two texts of items have the same items, if each item begins with a digit and the text after them begins with a
+-- letter
 pub items_same : {X : Type 0} (text : X → List ℕ) (Ok : X → Type 0)
     → ((a : X) (r : List ℕ) → Ok a → Begins (λ b. b ≤ 57) (text a ++ r))
     → ((a b : X) (x y : List ℕ) → Ok a → Ok b → text a ++ x ≡ text b ++ y → (a ≡ b) × (x ≡ y))

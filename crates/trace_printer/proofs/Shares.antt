@@ -5,7 +5,7 @@ use Rattle.std.specs.List.{AllByRecursion as Each}
 use Rattle.trace_printer.specs.Parts.{IsShare}
 use Rattle.trace_printer.specs.declared.part.Part.{Part}
 
--- the first of `suc k` shares of what is left, and what is then left for the others
+-- one of `suc k` shares of the lines that are left, and the lines that are then left for the others
 pub record Divided (q left lines k : ℕ) : Type 0 where
   pub least : q ≤ lines
   pub most : lines ≤ q + 1

@@ -49,7 +49,7 @@ entry_is n small =
           ]
     ]
 
--- the entries of the next numbers from n on, this many
+-- the entries of this many numbers, from n on
 entries : ℕ → ℕ → List ℕ
 entries zero n = []
 entries (suc k) n = entry n ++ entries k (suc n)

@@ -17,7 +17,7 @@ use Rattle.trace_printer.specs.ReportText.{line_text, medium_text, motes_text, p
 use Rattle.trace_printer.specs.TraceLines.{mote_lines, lines_from, lines_of, medium_lines, part_text}
 use Rattle.trace_printer.specs.Words.{line_of}
 
--- no line
+-- a part of no lines
 pub part_nothing : (skip count : ℕ) → part_text [] skip count ≡ []
 part_nothing skip count = rw (drop-nil {A = List ℕ} skip, take-nil {A = List ℕ} count) refl
 
@@ -43,7 +43,7 @@ mote_shows n m name tree lines named grown =
     ap (λ word. line_of (codes "mote") (decimal n ∷ word ∷ []) ∷ map (line_text m.tree) lines) is_name
     ∙ ap (λ (t : Tree). line_of (codes "mote") (decimal n ∷ name ∷ []) ∷ map (line_text t) lines) is_tree
 
--- some lines of two lists: those of the first, and then those of the second
+-- a part of two lists: some lines of the first, and then some of the second
 pub part_both : (xs ys : List (List ℕ)) (skip count : ℕ) → part_text (xs ++ ys) skip count ≡ part_text xs skip count ++ part_text ys (skip - length xs) (count - (length xs - skip))
 part_both [] ys skip count =
     let same : skip - 0 ≡ skip = omega arith in
@@ -61,18 +61,18 @@ part_both (x ∷ xs) ys (suc s) c =
     let counts : length (x ∷ xs) - suc s ≡ length xs - s = omega arith in
     rw (skips, counts) (part_both xs ys s c)
 
--- some lines, and then some of those after them
+-- a part of the lines, and then a part of the lines after it
 pub part_sum : (lines : List (List ℕ)) (skip a b : ℕ) → part_text lines skip (a + b) ≡ part_text lines skip a ++ part_text lines (skip + a) b
 part_sum lines skip a b = rw (take-add a b (drop skip lines), concat-append (take a (drop skip lines)) (take b (drop a (drop skip lines))), drop_drop skip a lines) refl
 
--- the lines after the first of a mote or of the medium
+-- a part that begins after the first line of a mote or of the medium
 pub part_later : {X : Type 0} (f : X → List ℕ) (head : List ℕ) (trace lines : List X) (skip count : ℕ) → 0 < skip → lines ≡ take count (drop (skip - 1) trace) → flat_map f lines ≡ part_text (head ∷ map f trace) skip count
 part_later f head trace lines zero count some is = absurd (omega arith)
 part_later f head trace lines (suc s) count some is =
     let before : suc s - 1 ≡ s = omega arith in
     ap (flat_map f) (is ∙ ap (λ n. take count (drop n trace)) before) ∙ mapped_part f trace s count
 
--- the first line of a mote or of the medium, and some of those after it
+-- a part that begins with the first line of a mote or of the medium
 pub part_first : {X : Type 0} (f : X → List ℕ) (head : List ℕ) (trace lines : List X) (count : ℕ) → 0 < count → lines ≡ take (count - 1) (drop 0 trace) → head ++ flat_map f lines ≡ part_text (head ∷ map f trace) 0 count
 part_first f head trace lines zero some is = absurd (omega arith)
 part_first f head trace lines (suc c) some is =
@@ -96,7 +96,7 @@ lines_next n (m ∷ ms) (x ∷ ts) (suc i) t name tree lines h same named grown 
 pub lines_end : (n : ℕ) (ms : List MoteSetup) (ts : List (Vec Line Global)) (i : ℕ) → length ms ≤ i → lines_from n (drop i ms) (map lines_in (drop i ts)) ≡ []
 lines_end n ms ts i h = rw (drop_of_length-le ms h) refl
 
--- how many lines the motes show
+-- the number of lines that the motes show
 pub lines_counted : (n : ℕ) (ms : List MoteSetup) (ts : List (Vec Line Global)) → length ts ≡ length ms → length (lines_from n ms (map lines_in ts)) ≡ sum_by (λ t. length t.items + 1) ts
 lines_counted n [] [] same = refl
 lines_counted n [] (t ∷ ts) same = absurd (omega arith)

@@ -30,12 +30,12 @@ written_more a b c text rest left n before more is =
 pub written_kept : (a b c : Option (List ℕ)) (text rest : List ℕ) → Written a b text rest → Keeps b c → Written a c text rest
 written_kept a b c text rest w same = record { done = w.done; whole = w.whole; appended = appended_kept a b c w.done w.appended same }
 
--- some of the text isn't written
+-- a part of the text isn't written
 pub written_stops : (a b : Option (List ℕ)) (text rest : List ℕ) → Written a b text rest → (length rest == 0) ≡ false → AppendsFront a b text
 written_stops a b text [] w h = cc
 written_stops a b text (byte ∷ rest) w h = (w.done, byte, rest, w.whole, w.appended)
 
--- the rest begins with a piece, and all of the piece but a part is written
+-- the rest begins with a piece, and all of the piece except a part is written
 pub written_next : (a b c : Option (List ℕ)) (text rest piece left part : List ℕ) → Written a b text rest → rest ≡ piece ++ left → Written b c piece part → Written a c text (part ++ left)
 written_next a b c text rest piece left part w is more =
     record {
@@ -60,7 +60,7 @@ pub writes_all_but : {E : Type 0} (a b : Option (List ℕ)) (r : Result (Unit {0
 writes_all_but a b (Ok u) text h = ([], record { done = text; whole = sym (append-nil text); appended = h })
 writes_all_but a b (Err e) text (front, byte, rest, split, more) = (byte ∷ rest, record { done = front; whole = split; appended = more })
 
--- one text is printed, and of another all but a rest is written
+-- one text is printed, and all of another except a rest is written
 printed_both : (a b c : Option (List ℕ)) (p q rest one other : List ℕ) → Written a b (p ++ one) q → Written b c (q ++ other) rest → Written a c (p ++ (one ++ other)) rest
 printed_both a b c p q rest one other w more =
     record {
@@ -75,11 +75,11 @@ pub prints_then : {E : Type 0} (a b c : Option (List ℕ)) (p q s : List ℕ) (r
 prints_then a b c p q s (Ok u) one other w more = printed_both a b c p q s one other w more
 prints_then a b c p q s (Err e) one other w (rest, more) = (rest, printed_both a b c p q rest one other w more)
 
--- a text is put on the page
+-- a text is appended to the page
 pub printed_put : (a : Option (List ℕ)) (p q text : List ℕ) → q ≡ p ++ text → Written a a (p ++ text) q
 printed_put a p q text is = subst (λ l. Written a a l q) is (written_none a q)
 
--- nothing is put on the page
+-- nothing is appended to the page
 pub printed_nothing : (a : Option (List ℕ)) (p : List ℕ) → Written a a (p ++ []) p
 printed_nothing a p = printed_put a p p [] (sym (append-nil p))
 
@@ -87,7 +87,7 @@ printed_nothing a p = printed_put a p p [] (sym (append-nil p))
 pub put_printed : (a b : Option (List ℕ)) (p q s text : List ℕ) → q ≡ p ++ text → Written a b (q ++ []) s → Written a b (p ++ text) s
 put_printed a b p q s text is w = subst (λ l. Written a b l s) (append-nil q ∙ is) w
 
--- a text is put on the page, which is then written in part
+-- a text is appended to the page, and a part of the page is then written
 pub put_stopped : (a b : Option (List ℕ)) (p q text : List ℕ) → q ≡ p ++ text → (rest : List ℕ) × Written a b (q ++ []) rest → (rest : List ℕ) × Written a b (p ++ text) rest
 put_stopped a b p q text is (rest, w) = (rest, put_printed a b p q rest text is w)
 

@@ -1,4 +1,4 @@
--- Reports in which each process and event has a name, over programs whose names differ.
+-- Reports in which each process and each event has a name, if the names in each program differ.
 use Rattle.std.specs.Prelude.{◌≡◌, ◌⊎◌, ℕ, ◌+◌, ◌^◌, ◌<◌, ◌≤◌, List, [], ◌∷◌, length, Option, Some, None}
 use Rattle.std.specs.List.{AllByRecursion as Each}
 use Rattle.program_tree.specs.Code.{Tree}
@@ -44,14 +44,14 @@ HasTarget t All = Unit {0}
 abbrev pub HasEvent : Tree → ℕ → Type 0
 HasEvent t e = ((s : SystemEvent) × (e ≡ system_number s)) ⊎ ((0x8b ≤ e) × (e < 0x8b + length t.events))
 
--- no two receivers of a program's events have the same word, nor two of its events
+-- no two receivers of a program's events have the same word, and no two of its events have the same word
 pub record NamesDiffer (t : Tree) : Type 0 where
   pub target_is_word : (a : Target) → HasTarget t a → IsWord (target_word t a)
   pub event_is_word : (e : ℕ) → HasEvent t e → IsWord (event_word t e)
   pub targets_differ : (a b : Target) → HasTarget t a → HasTarget t b → target_word t a ≡ target_word t b → a ≡ b
   pub events_differ : (d e : ℕ) → HasEvent t d → HasEvent t e → event_word t d ≡ event_word t e → d ≡ e
 
--- the event names only processes and events that exist
+-- the line names only processes and events that exist
 abbrev pub HasNames : Tree → What → Type 0
 HasNames t (Start p) = HasProcess t p
 HasNames t (Leave p) = HasProcess t p
@@ -63,7 +63,7 @@ HasNames t (Print p v) = HasProcess t p
 HasNames t (Busy p) = HasProcess t p
 HasNames t w = Unit {0}
 
--- in numbers of 64 bits
+-- the numbers in the line have 64 bits
 abbrev pub Is64What : What → Type 0
 Is64What (Post serial to e w) = Is64 serial × Is64 w
 Is64What (Full to e w) = Is64 w
@@ -86,24 +86,24 @@ Is64Fate f = Is64 f.to × IsTime64 f.at
 abbrev pub Is64Packet : Packet → Type 0
 Is64Packet p = Is64 p.sent.at × Is64 p.sent.sender × Is64 p.sent.number × Is64 p.sent.value × Each Is64Fate p.fates
 
--- one trace for each mote, whose lines name only what the mote's program has
+-- there is one trace for each mote, and its lines name only processes and events of the mote's program
 abbrev pub AreNamed : List MoteSetup → List (List Line) → Type 0
 AreNamed [] [] = Unit {0}
 AreNamed [] (t ∷ ts) = ⊥
 AreNamed (m ∷ ms) [] = ⊥
 AreNamed (m ∷ ms) (t ∷ ts) = Each (λ (l : Line). HasNames m.tree l.what) t × AreNamed ms ts
 
--- a report whose numbers have 64 bits, as those of each value of the type `Report` have
+-- a report whose numbers have 64 bits, as in each value of the type `Report`
 pub record Is64Report (r : ReportModel) : Type 0 where
   pub traces : Each (Each Is64Line) r.traces
   pub log : Each Is64Packet r.log
   pub left : Is64 r.left
 
--- a report of a net in which each process and event has a name, in numbers of 64 bits
+-- a report of a net in which each process and each event has a name, and numbers have 64 bits
 pub record IsNamed (net : NetModel) (r : ReportModel) : Type 0 where
   pub names : AreNamed net.motes r.traces
   pub numbers : Is64Report r
 
--- in each program of the net
+-- the names in each program of the net differ
 abbrev pub NetNamesDiffer : NetModel → Type 0
 NetNamesDiffer net = Each (λ (m : MoteSetup). NamesDiffer m.tree) net.motes

@@ -1,4 +1,4 @@
--- A small program whose names differ, and two reports that only names would tell apart.
+-- A small program whose names differ, and two reports that would differ only in names.
 use Rattle.std.specs.Prelude.{◌≡◌, ℕ, List, [], ◌∷◌, codes, None, false}
 use Rattle.program_tree.specs.Code.{Tree}
 use Rattle.program_tree.specs.declared.event.Proc.TheVariants.{Own}
@@ -33,7 +33,7 @@ one_mote = record {
   motes = record { program = codes "p"; tree = tree_with (codes "a" ∷ []); queue = 1 } ∷ [];
 }
 
--- it starts a process with this number
+-- the report in which the mote starts the process with this number
 abbrev pub starts : (process : ℕ) → ReportModel
 starts process = record {
   traces = (record { at = 0; what = Start (Own process) } ∷ []) ∷ [];
@@ -41,6 +41,7 @@ starts process = record {
   left = 0;
 }
 
--- Processes 1 and 2, which the program doesn't have, have no name: so the reports of their starts have one text.
+-- The program doesn't have the processes 1 and 2, so these have no names: the reports of their starts have the same
+-- text.
 abbrev pub TextsMeetWithoutNames : Type 0
 TextsMeetWithoutNames = (report_text one_mote (starts 1) ≡ report_text one_mote (starts 2)) × (starts 1 ≡ starts 2 → ⊥)

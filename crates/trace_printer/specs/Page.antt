@@ -2,14 +2,14 @@
 use Rattle.std.specs.Prelude.{◌≡◌, ℕ, ◌++◌, List, Option, Result, Ok, Err}
 use Rattle.std.specs.Io.KnownBytes.{Appends}
 
--- all of the text but this rest is written
+-- all of the text except this rest is written
 pub record Written (old new : Option (List ℕ)) (text rest : List ℕ) : Type 0 where
   pub done : List ℕ
   pub whole : text ≡ done ++ rest
   pub appended : Appends old new done
 
--- a text is appended to the waiting text of the page: at `Ok` a prefix of both is written and the rest waits, at an
--- error a prefix of both is written
+-- a text is appended to the waiting text of the page: after `Ok`, a prefix of both is written and the rest waits;
+-- after an error, a prefix of both is written
 abbrev pub Prints : {E : Type 0} → Option (List ℕ) → Option (List ℕ) → (waiting waits : List ℕ)
     → Result (Unit {0}) E → List ℕ → Type 0
 Prints old new waiting waits (Ok u) text = Written old new (waiting ++ text) waits

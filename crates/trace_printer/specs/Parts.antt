@@ -18,16 +18,16 @@ HasTraces t = (length t.traces.now ≡ length (net_of t.net.now).motes) × (leng
 abbrev pub texts_of_lines : Traces → List (List ℕ)
 texts_of_lines t = trace_texts t ++ medium_lines (map line_model t.medium.now)
 
--- from the first line to the last each part begins at the end of the one before it, and nothing is on its page yet
+-- from the first line to the last, each part begins at the end of the previous one, and its page is still empty
 abbrev pub Adjoin : (first : ℕ) → List Part → (last : ℕ) → Type 0
 Adjoin first [] last = first ≡ last
 Adjoin first (p ∷ ps) last = (p.skip ≡ first) × (p.page ≡ []) × Adjoin (first + p.count) ps last
 
--- of so many lines a part has as many as each of so many workers, or one more
+-- the part has the number of lines that each worker gets if `count` lines are divided evenly, or one more
 abbrev pub IsShare : (count workers : ℕ) → Part → Type 0
 IsShare count workers p = (count / workers ≤ p.count) × (p.count ≤ count / workers + 1)
 
--- its lines are put on its page
+-- the lines of the part are on its page
 abbrev pub IsPut : Traces → (old new : Part) → Type 0
 IsPut t old new = new.page ≡ part_text (texts_of_lines t) old.skip old.count
 

@@ -1,4 +1,4 @@
--- The faults of printing by their numbers.
+-- The errors of printing, by their numbers.
 use Rattle.std.specs.Prelude.{ℕ}
 use Rattle.trace_printer.specs.declared.error.PrintError.{PrintError}
 use Rattle.trace_printer.specs.declared.error.PrintError.TheVariants.{Write, Memory}

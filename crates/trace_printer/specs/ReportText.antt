@@ -1,5 +1,5 @@
--- The text of a report. For each mote it has the line `mote N PROGRAM` and the lines of its trace; the line `medium`
--- and a line for each packet follow, and at the end `left K`.
+-- The text of a report. For each mote, it has the line `mote N PROGRAM` and the lines of the mote's trace. The line
+-- `medium` and a line for each packet follow. The last line is `left K`.
 use Rattle.std.specs.Prelude.{ℕ, ◌+◌, List, [], ◌∷◌, ◌++◌, codes, decimal, map}
 use Rattle.std.specs.List.{flat_map}
 use Rattle.program_tree.specs.Code.{Tree}
@@ -8,7 +8,7 @@ use Rattle.mote_net.specs.Net.{MoteSetup, NetModel}
 use Rattle.mote_net.specs.Report.{Packet, ReportModel}
 use Rattle.trace_printer.specs.Words.{line_of, words_of, fate_word}
 
--- a line of a trace: the moment, and the words of the event in a mote with this program
+-- a line of the trace of a mote with this program: the moment, and the words of the event
 abbrev pub line_text : Tree → Line → List ℕ
 line_text program l = line_of (decimal l.at) (words_of program l.what)
 
@@ -22,7 +22,7 @@ motes_text mote (m ∷ ms) (t ∷ ts) = mote_text mote m t ++ motes_text (mote +
 motes_text mote [] ts = []
 motes_text mote (m ∷ ms) [] = []
 
--- a line of the medium: when a packet was sent, by whom, its number and its value, and the fate of each copy
+-- a line of the medium: the moment of a packet, its sender, its number and its value, and the fate of each copy
 abbrev pub packet_text : Packet → List ℕ
 packet_text p =
     line_of (decimal p.sent.at)
@@ -31,7 +31,7 @@ packet_text p =
 abbrev pub medium_text : List Packet → List ℕ
 medium_text log = line_of (codes "medium") [] ++ flat_map packet_text log
 
--- the last line: how many copies were still on their way
+-- the last line: the number of copies that were still on their way
 abbrev pub left_text : (left : ℕ) → List ℕ
 left_text left = line_of (codes "left") (decimal left ∷ [])
 

@@ -1,4 +1,4 @@
--- The lines of a report except the last, numbered through, and the text of some of them.
+-- The lines of a report except the last, in order, and the text of some of them.
 use Rattle.std.specs.Prelude.{ℕ, ◌+◌, List, [], ◌∷◌, ◌++◌, codes, decimal, map, take, drop}
 use Rattle.std.specs.List.{concat}
 use Rattle.trace_lines.specs.declared.line.Line.{Line}
@@ -7,7 +7,7 @@ use Rattle.mote_net.specs.Report.{Packet}
 use Rattle.trace_printer.specs.ReportText.{line_text, packet_text}
 use Rattle.trace_printer.specs.Words.{line_of}
 
--- the line that begins the text of a mote, and those of its trace
+-- the line that begins the text of a mote, and the lines of its trace
 abbrev pub mote_lines : (mote : ℕ) → MoteSetup → List Line → List (List ℕ)
 mote_lines mote m trace = line_of (codes "mote") (decimal mote ∷ m.program ∷ []) ∷ map (line_text m.tree) trace
 
@@ -21,7 +21,7 @@ lines_from mote (m ∷ ms) [] = []
 abbrev pub lines_of : NetModel → List (List Line) → List (List ℕ)
 lines_of net traces = lines_from 0 net.motes traces
 
--- the line that begins the log of the medium, and those of its packets
+-- the line that begins the log of the medium, and the lines of its packets
 abbrev pub medium_lines : List Packet → List (List ℕ)
 medium_lines log = line_of (codes "medium") [] ∷ map packet_text log
 

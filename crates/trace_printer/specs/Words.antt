@@ -14,24 +14,24 @@ use Rattle.trace_lines.specs.declared.line.What.TheVariants.{Start, Leave, Post,
 use Rattle.trace_lines.specs.declared.line.What.TheVariants.{Send, Recv, Lost, Deaf, Collide}
 use Rattle.radio_packet.specs.declared.fate.Fate.{Fate}
 
--- a line: its first word, a space and each other word, and a line feed
+-- a line: its first word, each other word after a space, and a line feed
 abbrev pub line_of : (first : List ℕ) → (others : List (List ℕ)) → List ℕ
 line_of first others = first ++ flat_map (λ w. 32 ∷ w) others ++ 10 ∷ []
 
--- The name of a process; that of a process that the program doesn't have is the empty word.
+-- The name of a process, or the empty word if the program doesn't have the process.
 abbrev pub process_word : Tree → Proc → List ℕ
 process_word t (Own p) = unwrap_or (slice_get t.processes p) []
 process_word t Etimer = codes "etimer"
 process_word t Ctimer = codes "ctimer"
 process_word t Radio = codes "radio"
 
--- whom an event is for
+-- the receiver of an event
 abbrev pub target_word : Tree → Target → List ℕ
 target_word t (One p) = process_word t p
 target_word t All = codes "all"
 
--- The word of an event by its number, or the name under which the program declares it. An event that is none of these
--- has the empty word.
+-- The system's word for an event, by the event's number, or the name under which the program declares the event. Any
+-- other event has the empty word.
 abbrev pub event_word : Tree → ℕ → List ℕ
 event_word t e =
     if e == system_number event.Init then system_word event.Init
@@ -45,7 +45,7 @@ event_word t e =
     else if e == system_number event.Packet then system_word event.Packet
     else unwrap_or (declared_name t e) []
 
--- the words of a trace's line after its moment
+-- the words of a trace's line that follow its moment
 abbrev pub words_of : Tree → What → List (List ℕ)
 words_of t (Start p) = codes "start" ∷ process_word t p ∷ []
 words_of t (Leave p) = codes "leave" ∷ process_word t p ∷ []
@@ -62,11 +62,11 @@ words_of t (Lost from number) = codes "lost" ∷ decimal from ∷ decimal number
 words_of t (Deaf from number) = codes "deaf" ∷ decimal from ∷ decimal number ∷ []
 words_of t (Collide from number) = codes "collide" ∷ decimal from ∷ decimal number ∷ []
 
--- when a copy arrives, if it does
+-- the moment at which a copy arrives, or `lost`
 abbrev pub arrival_word : Option ℕ → List ℕ
 arrival_word (Some at) = decimal at
 arrival_word None = codes "lost"
 
--- the receiver of a copy and when it arrives, joined by `@`
+-- the receiver of a copy and the moment at which it arrives, joined by `@`
 abbrev pub fate_word : Fate → List ℕ
 fate_word f = decimal f.to ++ 64 ∷ arrival_word f.at

@@ -1,4 +1,4 @@
-//! A report, round by round.
+//! Writes a report with workers, round by round.
 ghost use Rattle.std.specs.Prelude.{◌≡◌, ◌≤◌, ◌<◌, ◌+◌, ◌^◌, [], length, map, vec_len, IfSome};
 ghost use Rattle.std.specs.List.{concat};
 ghost use Rattle.mote_net.specs.Net.{NetModel};
@@ -23,13 +23,13 @@ use std::sync::Wait;
 use std::thread::Threads;
 use trace_lines::Line;
 
-/// The number of lines that all workers together format in one round. Their text has some mebibytes.
+/// The number of lines that all workers together format in one round. Their text is a few mebibytes long.
 const ROUND: usize = 65_536;
 
-/// The least number of lines for which workers are started.
+/// The smallest number of lines for which workers are started.
 const MANY: usize = 16_384;
 
-/// Writes the lines of all traces and of the medium, `lines` in number, round by round.
+/// Writes all lines of the traces and of the medium, round by round. There are `lines` of them.
 fn write_traces<R: Threads + Wait + Sync, W: Write>(
     rt: &R,
     alloc: Global,
@@ -53,8 +53,8 @@ fn write_traces<R: Threads + Wait + Sync, W: Write>(
     Ok(())
 }
 
-/// The number of lines of the traces, if workers are to format these lines and the medium's: there are at least two
-/// workers, and at least `MANY` lines.
+/// Returns the number of lines of the traces, if workers are to format these lines and those of the medium. This
+/// requires at least two workers and at least `MANY` lines in the traces.
 fn many_lines(workers: u16, traces: &[Vec<Line>], log: &[LogLine]) -> Option<usize>
     ensures lines { (net : NetModel) → length traces.now ≡ length net.motes
         → IfSome result (λ count. length (lines_of net (map lines_in traces.now)) ≡ count) }
@@ -69,7 +69,7 @@ fn many_lines(workers: u16, traces: &[Vec<Line>], log: &[LogLine]) -> Option<usi
     }
 }
 
-/// Writes, by workers, a report whose traces have `lines` lines. The page for its last line is made first.
+/// Writes a report with workers. Its traces have `lines` lines. The page for its last line is made first.
 fn write_by<R: Threads + Wait + Sync, W: Write>(
     rt: &R,
     alloc: Global,
@@ -98,15 +98,15 @@ fn write_by<R: Threads + Wait + Sync, W: Write>(
     write_end(writer, &mut page, report.left)
 }
 
-/// Writes the report of a net as text, the same as `write_report`. If its traces have many lines, the workers write
-/// them and the log of the medium to pages, each in a thread of its own, and this thread writes the pages; it appends
-/// the last line itself.
+/// Writes the report of a net as text, the same text as `write_report`. If the traces have many lines, each worker
+/// writes a part of them and of the log of the medium to a page, in a thread of its own. This thread writes the pages,
+/// and then the last line.
 ///
-/// This thread waits for the workers, so the promise holds if the call returns.
+/// This thread waits for the workers, so the contract holds only if the call returns.
 ///
 /// # Errors
-/// `Write` if the writer failed or took no byte, `Memory` if an allocation failed. A proper prefix of the text
-/// has then been written.
+/// `Write` if the writer failed or took no byte; `Memory` if an allocation failed. A proper prefix of the text has
+/// then been written.
 pub fn write_report_by<R: Threads + Wait + Sync, W: Write>(
     rt: &R,
     alloc: Global,

@@ -5,10 +5,10 @@ ghost use Rattle.trace_printer.specs.declared.error.PrintError.TheVariants as fa
 use crate::output::WriteFault;
 use std::alloc::AllocError;
 
-/// The reason why a report wasn't written whole, with the numbers that are printed.
+/// The reason why a report isn't complete. Each has the number that is printed for it.
 #[derive(Clone, Copy, Debug, PartialEq, Eq)]
 pub enum PrintError {
-    /// The writer failed, or took no byte.
+    /// The writer failed or took no byte.
     Write = 1,
     /// An allocation failed.
     Memory = 2,
@@ -17,7 +17,7 @@ pub enum PrintError {
 impl PrintError {
     ghost use Rattle.trace_printer.specs.PrintErrors.{print_fault_number};
 
-    /// The number that is printed.
+    /// Returns the number that is printed for this error.
     pub fn number(self) -> u8
         ensures number { result ≡ print_fault_number self }
     {

@@ -1,21 +1,22 @@
-//! Laws of the text of a report: theorems, each stated as the contract of an empty function.
+//! Laws of the text of a report. Each is a theorem, stated as the contract of an empty function.
 ghost use Rattle.trace_printer.specs.Laws.{NoTextBeginsAnother, TextDeterminesReport};
 ghost use Rattle.trace_printer.specs.NamedCases.{OneProcessDiffers, TextsMeetWithoutNames};
 
-/// Equal bytes mean equal reports. If each process and event in two reports of a net has a name, and the names in each
-/// program differ, then equal texts have equal traces, equal logs, and the same number of copies left.
+/// Equal texts mean equal reports. Suppose that each process and each event in two reports of a net has a name, and
+/// that the names in each program differ. If the texts of the reports are equal, then the traces, the logs and the
+/// numbers of copies left are equal.
 pub fn text_determines_report()
     ensures text_determines_report { TextDeterminesReport }
 {}
 
-/// Of two such reports, no text is a proper prefix of the other's. So a report that was cut off is never taken for a
-/// whole one.
+/// For two such reports, neither text is a proper prefix of the other. So a report that was cut off can't be mistaken
+/// for a complete one.
 pub fn no_text_begins_another()
     ensures no_text_begins_another { NoTextBeginsAnother }
 {}
 
-/// The names of a small program differ. Two different reports have the same text, because they are about processes
-/// that the program lacks. So both laws need the condition that each process has a name.
+/// The two laws need the condition that each process has a name. In a small program whose names differ, two different
+/// reports have the same text, because they are about processes that the program doesn't have.
 pub fn names_are_needed()
     ensures differ { OneProcessDiffers }
     ensures meet { TextsMeetWithoutNames }

@@ -1,4 +1,4 @@
-//! The report of a net's run as text, written by one thread or by workers.
+//! Writes the report of a net's run as text, on one thread or with workers.
 #![tactic(auto)]
 
 mod by_workers;

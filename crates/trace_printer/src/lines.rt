@@ -15,7 +15,7 @@ use radio_packet::{Fate, Sent};
 use std::alloc::AllocError;
 use trace_lines::{Line, What};
 
-/// Room for everything in a line except its keyword, its names and its fates.
+/// The number of bytes for everything in a line except its keyword, its names and its fates.
 const LINE: usize = 128;
 
 /// Appends the line that begins the trace of a mote with this number and the name of its program.
@@ -48,7 +48,7 @@ pub fn put_medium(page: &mut Page) -> Result<(), AllocError>
     Ok(())
 }
 
-/// Appends `left N`, the count of copies on their way.
+/// Appends `left N`, the number of copies that are still on their way.
 ///
 /// # Errors
 /// If an allocation failed.
@@ -63,7 +63,7 @@ pub fn put_left(page: &mut Page, left: u64) -> Result<(), AllocError>
     Ok(())
 }
 
-/// Appends a line of a keyword and a name.
+/// Appends a line with a keyword and a name.
 #[inline(always)]
 fn put_named(page: &mut Page, at: u64, keyword: &str, name: &str) -> Result<(), AllocError>
     ensures appended { OnOk result (page.new ≡ page.old ++ line_of (decimal at) (keyword.now ∷ name.now ∷ [])) }
@@ -78,7 +78,7 @@ fn put_named(page: &mut Page, at: u64, keyword: &str, name: &str) -> Result<(), 
     Ok(())
 }
 
-/// Appends a line of a keyword, an event's number and a name.
+/// Appends a line with a keyword, an event's number and a name.
 #[inline(always)]
 fn put_event(
     page: &mut Page,
@@ -101,7 +101,7 @@ fn put_event(
     Ok(())
 }
 
-/// Appends a line of a keyword and two numbers.
+/// Appends a line with a keyword and two numbers.
 #[inline(always)]
 fn put_numbers(
     page: &mut Page,
@@ -255,7 +255,7 @@ pub fn put_trace_line(page: &mut Page, program: &Program, line: &Line) -> Result
     }
 }
 
-/// Appends a space, the receiver of a copy, and when the copy arrives.
+/// Appends a space, the receiver of a copy, and the moment at which the copy arrives.
 fn put_fate(page: &mut Page, fate: Fate) -> Result<(), AllocError>
     ensures appended { OnOk result (page.new ≡ page.old ++ 32 ∷ fate_word fate) }
 {
@@ -276,7 +276,8 @@ fn put_fates(page: &mut Page, fates: &[Fate]) -> Result<(), AllocError>
     Ok(())
 }
 
-/// Appends the words of a packet before the fates of its copies: when it was sent, by whom, its number and its value.
+/// Appends the words of a packet that come before the fates of its copies: its moment, its sender, its number and its
+/// value.
 fn put_sent(page: &mut Page, sent: Sent) -> Result<(), AllocError>
     ensures appended { OnOk result (page.new ≡ page.old ++ decimal sent.at
         ++ flat_map (λ w. 32 ∷ w) (decimal sent.sender ∷ decimal sent.number ∷ decimal sent.value ∷ [])) }
@@ -298,7 +299,7 @@ fn put_line_feed(page: &mut Page) -> Result<(), AllocError>
     Ok(())
 }
 
-/// Appends a line of the medium.
+/// Appends a line of the medium's log.
 ///
 /// # Errors
 /// If an allocation failed.

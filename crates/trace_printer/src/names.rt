@@ -1,5 +1,5 @@
-//! The words for processes, targets and events: those of the system, and the names in a mote's program. Each is found
-//! by its number.
+//! The words for processes, targets and events: the system's own words, and the names in a mote's program. Each word
+//! is found by its number.
 ghost use Rattle.std.specs.Prelude.{◌≡◌, [], slice_get, unwrap_or};
 ghost use Rattle.program_tree.specs.Program.{tree_of};
 ghost use Rattle.trace_printer.specs.Words.{process_word, target_word, event_word};
@@ -25,7 +25,7 @@ const COM: u8 = SystemEvent::Com as u8;
 
 const PACKET: u8 = SystemEvent::Packet as u8;
 
-/// The name of a process of the program, or the empty text if the program has no such process.
+/// Returns the name of a process of the program, or the empty text if the program has no such process.
 fn own_word(program: &Program, number: u8) -> &str
     ensures value { result.now ≡ unwrap_or (slice_get (tree_of program.now).processes number) [] }
 {
@@ -36,7 +36,7 @@ fn own_word(program: &Program, number: u8) -> &str
     }
 }
 
-/// The name of a process, or the empty word if the program doesn't have it.
+/// Returns the name of a process, or the empty text if the program doesn't have the process.
 pub fn process_word(program: &Program, process: Proc) -> &str
     ensures value { result.now ≡ process_word (tree_of program.now) process }
 {
@@ -48,7 +48,7 @@ pub fn process_word(program: &Program, process: Proc) -> &str
     }
 }
 
-/// The name of an event's receiver, or `all`.
+/// Returns the name of an event's receiver, or `all`.
 pub fn target_word(program: &Program, target: Target) -> &str
     ensures value { result.now ≡ target_word (tree_of program.now) target }
 {
@@ -58,7 +58,7 @@ pub fn target_word(program: &Program, target: Target) -> &str
     }
 }
 
-/// The word of an event, or the empty word if the program doesn't declare it.
+/// Returns the word of an event, or the empty text if the program doesn't declare the event.
 pub fn event_word(program: &Program, event: u8) -> &str
     ensures value { result.now ≡ event_word (tree_of program.now) event }
 {

@@ -1,4 +1,5 @@
-//! A part of the text of the traces and the medium: some of their lines, numbered through.
+//! A part of the text of the traces and the medium. Their lines are numbered from 0, from the first trace to the end
+//! of the medium's log.
 ghost use Rattle.std.specs.Prelude.{◌≡◌, [], ◌∷◌, ◌++◌, length, map, take, drop, codes, decimal, IfSome, OnOk};
 ghost use Rattle.std.specs.List.{flat_map};
 ghost use Rattle.program_tree.specs.Program.{tree_of};
@@ -18,8 +19,8 @@ use program_tree::Program;
 use std::alloc::AllocError;
 use trace_lines::Line;
 
-/// The number of lines that the motes with these traces show: those of each trace, and one before them. `None` if the
-/// count overflows.
+/// Returns the number of lines that the motes with these traces show: the lines of each trace, and one line before
+/// them. It is `None` if the count overflows.
 pub fn count_lines(traces: &[Vec<Line>]) -> Option<usize>
     ensures count { (net : NetModel) → length traces.now ≡ length net.motes
         → IfSome result (λ count. length (lines_of net (map lines_in traces.now)) ≡ count) }
@@ -31,7 +32,7 @@ pub fn count_lines(traces: &[Vec<Line>]) -> Option<usize>
     Some(count)
 }
 
-/// At most `count` lines of a trace or of the medium, after the first `skip`.
+/// Returns at most `count` lines of a trace or of the medium's log, after the first `skip`.
 fn some_of<T>(lines: &[T], skip: usize, count: usize) -> &[T]
     ensures part { result.now ≡ take count (drop skip lines.now) }
 {
@@ -49,7 +50,7 @@ fn put_lines(page: &mut Page, program: &Program, lines: &[Line]) -> Result<(), A
     Ok(())
 }
 
-/// Appends at most `count` of the lines that a mote shows, after the first `skip`.
+/// Appends at most `count` of a mote's lines, after the first `skip`.
 fn put_mote_part(
     page: &mut Page,
     mote: u16,
@@ -73,7 +74,7 @@ fn put_mote_part(
     put_lines(page, program, some_of(trace, 0, count - 1))
 }
 
-/// Appends at most `count` of the lines that the motes show, after the first `skip`.
+/// Appends at most `count` of the motes' lines, after the first `skip`.
 ///
 /// # Errors
 /// If an allocation failed.
@@ -109,7 +110,7 @@ pub fn put_part(
     Ok(())
 }
 
-/// Appends lines of the medium.
+/// Appends lines of the medium's log.
 fn put_packets(page: &mut Page, log: &[LogLine]) -> Result<(), AllocError>
     ensures appended { OnOk result (page.new ≡ page.old ++ flat_map packet_text (map line_model log.now)) }
 {
@@ -119,7 +120,7 @@ fn put_packets(page: &mut Page, log: &[LogLine]) -> Result<(), AllocError>
     Ok(())
 }
 
-/// Appends at most `count` of the lines of the medium, after the first `skip`.
+/// Appends at most `count` of the medium's lines, after the first `skip`.
 fn put_medium_part(
     page: &mut Page,
     log: &[LogLine],
@@ -139,8 +140,8 @@ fn put_medium_part(
     put_packets(page, some_of(log, 0, count - 1))
 }
 
-/// Appends at most `count` of all lines, after the first `skip`: of those that the motes show, and then of those of the
-/// medium.
+/// Appends at most `count` of all lines, after the first `skip`. The lines of the motes are first, and those of the
+/// medium follow.
 ///
 /// # Errors
 /// If an allocation failed.

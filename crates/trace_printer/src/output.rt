@@ -1,16 +1,16 @@
-//! Writing the whole of a text.
+//! Writes a whole text.
 ghost use Rattle.trace_printer.specs.Writes.{Writes};
 
 use std::io::Write;
 
-/// The writer failed, or took no byte of a text that wasn't at its end.
+/// The error of a writer that failed, or that took no byte although the text wasn't at its end.
 #[derive(Clone, Copy, Debug, PartialEq, Eq)]
 pub struct WriteFault;
 
-/// Writes all of the bytes. At an error a proper prefix of them has been written.
+/// Writes all of the bytes. After an error, a proper prefix of them has been written.
 ///
 /// # Errors
-/// If the writer failed, or took no byte.
+/// If the writer failed or took no byte.
 pub fn write_bytes<W: Write>(writer: &mut W, bytes: &[u8]) -> Result<(), WriteFault>
     ensures writes { Writes (W.contents writer.old) (W.contents writer.new) result bytes.now }
 {

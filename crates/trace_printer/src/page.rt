@@ -1,4 +1,4 @@
-//! The text that waits to be written.
+//! The page: text that waits to be written.
 ghost use Rattle.std.specs.Prelude.{◌≡◌, ◌≤◌, ◌+◌, [], length, take, IfOk, OnOk};
 ghost use Rattle.trace_printer.specs.Writes.{Writes};
 
@@ -7,15 +7,15 @@ use std::alloc::{AllocError, Global};
 use std::io::Write;
 use std::marker::Model;
 
-/// The number of bytes that a page has room for without growing.
+/// The number of bytes for which a page has room at first.
 const ROOM: usize = 65_536;
 
-/// A page is written once it has this many bytes. After them there is still room for a line half as long as the page,
-/// and some to spare.
+/// The length in bytes from which a page is written. After this many bytes there is still room for a line half as long
+/// as the page, and for a few more bytes.
 const FULL: usize = 32_640;
 
-/// Lines that wait to be written, so that the writer is called once for many of them: the first `len` bytes. The
-/// others are room for more.
+/// Lines that wait to be written, so that one call of the writer takes many of them. They are the first `len` bytes;
+/// the other bytes are room for more lines.
 #[derive(Drop)]
 pub struct Page {
     pub(crate) bytes: Vec<u8>,
@@ -31,8 +31,8 @@ impl Model for Page {
     ghost view = { λ p. take p.len p.bytes.items };
 }
 
-/// Makes room for `room` bytes after the first `len`, which stay. A page that grows gets twice what it needs, so it
-/// seldom grows.
+/// Makes room for `room` bytes after the first `len`, which don't change. A page that is too small grows to twice the
+/// size that it needs, so it seldom grows.
 ///
 /// # Errors
 /// If an allocation failed.
@@ -51,7 +51,7 @@ pub fn make_room(bytes: &mut Vec<u8>, len: usize, room: usize) -> Result<(), All
 }
 
 impl Page {
-    /// An empty page with room for its text.
+    /// Makes an empty page with room for its text.
     ///
     /// # Errors
     /// If an allocation failed.
@@ -62,12 +62,12 @@ impl Page {
         Ok(Page { bytes, len: 0 })
     }
 
-    /// Returns `true` if it is time to write the page.
+    /// Returns whether the page must be written now.
     pub fn is_full(&self) -> bool {
         self.len >= FULL
     }
 
-    /// An empty page, for which nothing is allocated yet.
+    /// Makes an empty page without allocating anything.
     pub fn empty(alloc: Global) -> Page
         ensures empty { result ≡ [] }
     {
@@ -77,20 +77,20 @@ impl Page {
         }
     }
 
-    /// Writes the page. At an error a proper prefix of it has been written.
+    /// Writes the page. After an error, a proper prefix of the page has been written.
     ///
     /// # Errors
-    /// If the writer failed, or took no byte.
+    /// If the writer failed or took no byte.
     pub fn write<W: Write>(&self, writer: &mut W) -> Result<(), WriteFault>
         ensures writes { Writes (W.contents writer.old) (W.contents writer.new) result self.now }
     {
         write_bytes(writer, &self.bytes[..self.len])
     }
 
-    /// Writes the page, and empties it. At an error a proper prefix of it has been written.
+    /// Writes the page, and empties it. After an error, a proper prefix of the page has been written.
     ///
     /// # Errors
-    /// If the writer failed, or took no byte.
+    /// If the writer failed or took no byte.
     pub fn write_to<W: Write>(&mut self, writer: &mut W) -> Result<(), WriteFault>
         ensures written { Writes (W.contents writer.old) (W.contents writer.new) result self.old }
         ensures emptied { OnOk result (self.new ≡ []) }

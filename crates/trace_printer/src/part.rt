@@ -9,7 +9,7 @@ use std::alloc::Global;
 use std::sync::ledger::Ledger;
 use trace_lines::Line;
 
-/// A part of the text: `count` of its lines, after the first `skip`, and the page that they are written to.
+/// A part of the text: `count` of its lines, after the first `skip`, and the page to which they are written.
 #[derive(Drop)]
 pub struct Part {
     pub skip: usize,
@@ -18,7 +18,7 @@ pub struct Part {
 }
 
 impl Part {
-    /// A part with an empty page.
+    /// Makes a part with an empty page.
     pub fn new(alloc: Global, skip: usize, count: usize) -> Part
         ensures skip { result.skip ≡ skip }
         ensures count { result.count ≡ count }
@@ -32,7 +32,7 @@ impl Part {
     }
 }
 
-/// A net, the trace of each of its motes with the number of lines that these show, and the log of the medium.
+/// A net, the trace of each of its motes, the number of lines of the motes, and the log of the medium.
 pub struct Traces<'a> {
     pub net: &'a Net,
     pub traces: &'a [Vec<Line>],
@@ -69,7 +69,7 @@ impl Work<Part> for Traces<'_> {
         Ok(Part { skip, count, page })
     }
 
-    // No gate is called: gates are for the threads of the run.
+    // No gate is asked: gates are only for the threads of the run.
     fn may_start(&self, _part: &Part) -> bool {
         true
     }

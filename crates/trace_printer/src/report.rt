@@ -1,4 +1,4 @@
-//! Writes a report through a buffer of 64 KiB, the page.
+//! Writes a report through a page, a buffer of 64 KiB.
 ghost use Rattle.std.specs.Prelude.{◌≡◌, ◌++◌, ◌∷◌, [], length, map, vec_len, codes, decimal};
 ghost use Rattle.std.specs.List.{flat_map};
 ghost use Rattle.program_tree.specs.Program.{tree_of};
@@ -126,10 +126,10 @@ fn print_medium<W: Write>(
     print_packets(writer, page, log)
 }
 
-/// Appends the last line, and writes all of the waiting text.
+/// Appends the last line to the page, and writes the page.
 ///
 /// # Errors
-/// `Write` if the writer failed or took no byte, `Memory` if an allocation failed.
+/// `Write` if the writer failed or took no byte; `Memory` if an allocation failed.
 pub fn write_end<W: Write>(writer: &mut W, page: &mut Page, left: u64) -> Result<(), PrintError>
     ensures writes { Writes (W.contents writer.old) (W.contents writer.new) result (page.old ++ left_text left) }
 {
@@ -137,11 +137,11 @@ pub fn write_end<W: Write>(writer: &mut W, page: &mut Page, left: u64) -> Result
     Ok(page.write_to(writer)?)
 }
 
-/// Writes the waiting text of the page, and then the part of a report after the traces: the log of the medium, and the
-/// count of copies still on their way.
+/// Writes the waiting text of the page and the part of a report after the traces: the log of the medium, and the
+/// number of copies that are still on their way.
 ///
 /// # Errors
-/// `Write` if the writer failed or took no byte, `Memory` if an allocation failed.
+/// `Write` if the writer failed or took no byte; `Memory` if an allocation failed.
 pub fn write_medium<W: Write>(
     writer: &mut W,
     page: &mut Page,
@@ -155,12 +155,12 @@ pub fn write_medium<W: Write>(
     write_end(writer, page, report.left)
 }
 
-/// Writes the report of a net as text: the trace of each mote, the log of the medium, and the count of copies still on
-/// their way. The text is gathered on a page of 64 KiB, which is made first.
+/// Writes the report of a net as text: the trace of each mote, the log of the medium, and the number of copies that
+/// are still on their way. The text is gathered on a page of 64 KiB, which is made first.
 ///
 /// # Errors
-/// `Write` if the writer failed or took no byte, `Memory` if an allocation failed, for the page or for a line longer
-/// than half of it. A proper prefix of the text has then been written.
+/// `Write` if the writer failed or took no byte; `Memory` if an allocation failed, for the page or for a line longer
+/// than half of the page. A proper prefix of the text has then been written.
 pub fn write_report<W: Write>(
     alloc: Global,
     net: &Net,

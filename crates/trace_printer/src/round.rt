@@ -1,5 +1,5 @@
-//! One round: lines are divided into a part for each worker, each worker writes its part to a page, and the pages are
-//! written.
+//! One round: this thread divides lines into one part for each worker, each worker writes its part to a page, and this
+//! thread writes the pages.
 ghost use Rattle.std.specs.Prelude.{◌≡◌, ◌<◌, ◌≤◌, ◌+◌, ◌^◌, [], IfOk};
 ghost use Rattle.std.specs.List.{flat_map, AllByRecursion as Each};
 ghost use Rattle.trace_printer.specs.Page.{Prints};
@@ -17,8 +17,8 @@ use std::io::Write;
 use std::sync::Wait;
 use std::thread::Threads;
 
-/// Divides `count` lines, after the first `skip`, into a part for each worker. The parts' lengths differ by at most
-/// one.
+/// Divides `count` lines, after the first `skip`, into one part for each worker. The lengths of the parts differ by at
+/// most one.
 fn cut(alloc: Global, workers: u16, skip: usize, count: usize) -> Result<Vec<Part>, AllocError>
     requires positive { 1 ≤ workers }
     requires end_bounded { skip + count < 2 ^ 64 }
@@ -37,7 +37,7 @@ fn cut(alloc: Global, workers: u16, skip: usize, count: usize) -> Result<Vec<Par
     Ok(parts)
 }
 
-/// The parts, each written to its page in a thread of its own.
+/// Has each part written to its page in a thread of its own, and returns the parts.
 fn put<R: Threads + Wait + Sync>(
     rt: &R,
     alloc: Global,
@@ -66,7 +66,7 @@ fn write_pages<W: Write>(writer: &mut W, parts: &[Part]) -> Result<(), WriteFaul
     Ok(())
 }
 
-/// Writes the lines to one page, and the page to the writer, without another thread.
+/// Writes the lines without another thread: to one page, and then to the writer.
 fn write_alone<W: Write>(
     alloc: Global,
     traces: &Traces<'_>,
@@ -84,10 +84,10 @@ fn write_alone<W: Write>(
 }
 
 /// Writes `count` lines of the traces and the medium, after the first `skip`. If an allocation of a worker fails, or
-/// its thread can't be started, this thread writes them all itself.
+/// its thread can't be started, this thread writes all lines itself.
 ///
 /// # Errors
-/// `Write` if the writer failed or took no byte, `Memory` if an allocation failed.
+/// `Write` if the writer failed or took no byte; `Memory` if an allocation failed.
 pub fn write_round<R: Threads + Wait + Sync, W: Write>(
     rt: &R,
     alloc: Global,

@@ -1,4 +1,4 @@
-//! Words written into a slice that has room for them, from a place on. Each call returns the place after its word.
+//! Writes words into a slice that has room for them, from a place on. Each function returns the place after its word.
 ghost use Rattle.std.specs.Prelude.{◌≡◌, ◌<◌, ◌≤◌, ◌+◌, ◌/◌, ◌%◌, [], ◌∷◌, ◌++◌, length, take, decimal};
 ghost use Rattle.trace_printer.specs.Words.{arrival_word};
 
@@ -16,7 +16,8 @@ pub fn put_byte(room: &mut [u8], at: usize, byte: u8) -> usize
     at + 1
 }
 
-/// Writes a text of `N` to twice `N` bytes: its first `N` and its last `N`, which may overlap.
+/// Writes a text whose length is from `N` to twice `N` bytes: its first `N` bytes and its last `N` bytes, which may
+/// overlap.
 #[inline(always)]
 fn put_ends<const N: usize>(room: &mut [u8], at: usize, text: &[u8]) -> usize
     requires size { (N ≤ length text.now) × (length text.now ≤ N + N) }
@@ -30,7 +31,7 @@ fn put_ends<const N: usize>(room: &mut [u8], at: usize, text: &[u8]) -> usize
     end
 }
 
-/// Writes a text. A short one is copied without a call, which would take longer than the copy.
+/// Writes a text. It copies a short text without a call, because a call would take longer than the copy.
 #[inline(always)]
 pub fn put_text(room: &mut [u8], at: usize, text: &str) -> usize
     requires fits { at + length text.now ≤ length room.old }
@@ -51,7 +52,7 @@ pub fn put_text(room: &mut [u8], at: usize, text: &str) -> usize
     }
 }
 
-/// The number of digits of a number.
+/// Returns the number of digits of a number.
 fn digits(number: u64) -> usize
     ensures value { result ≡ length (decimal number) }
     ensures bounded { result ≤ 20 }
@@ -78,8 +79,8 @@ fn put_digits(room: &mut [u8], at: usize, number: u64, count: usize) -> usize
     end
 }
 
-/// Writes a number below a thousand: all four bytes of its entry in the table. Those after its digits lie beyond the
-/// place that is returned.
+/// Writes a number below a thousand: all four bytes of its entry in the table. The bytes after its digits are beyond
+/// the place that is returned.
 #[inline(always)]
 fn put_short_number(room: &mut [u8], at: usize, number: u64) -> usize
     requires short_fits { (number < 1000) × (at + 4 ≤ length room.old) }
@@ -97,7 +98,7 @@ fn put_short_number(room: &mut [u8], at: usize, number: u64) -> usize
     at + (usize::from(count) - usize::from(b'0'))
 }
 
-/// The last digit of a number as a byte of text.
+/// Returns the last digit of a number as a byte of text.
 #[inline(always)]
 fn last_digit(number: u64) -> u8
     ensures digit { result ≡ 48 + number % 10 }
@@ -105,8 +106,8 @@ fn last_digit(number: u64) -> u8
     b'0' + (number % 10) as u8
 }
 
-/// Writes a number of four digits: the first three by the table, and the last after them. As there are always three, it
-/// needn't wait for the table to say how many.
+/// Writes a number of four digits: the first three from the table, and then the last. There are always three digits
+/// before the last, so its place is known without the length in the table.
 #[inline(always)]
 fn put_four_digits(room: &mut [u8], at: usize, number: u64) -> usize
     requires size { (1000 ≤ number) × (number < 10000) }
@@ -118,8 +119,9 @@ fn put_four_digits(room: &mut [u8], at: usize, number: u64) -> usize
     put_byte(room, at + 3, last_digit(number))
 }
 
-/// Writes the last three digits of a number, leading zeros included. The table has no leading zeros, so the last two
-/// digits come from the entry of a hundred more, after a 1; the first of the three then replaces the 1.
+/// Writes the last three digits of a number, with leading zeros. Entries of the table have no leading zeros. So the
+/// entry of 100 plus the last two digits is written: a 1, and then these two digits. The first of the three digits
+/// then replaces the 1.
 #[inline(always)]
 fn put_last_three(room: &mut [u8], at: usize, number: u64) -> usize
     requires fits { at + 4 ≤ length room.old }
@@ -132,7 +134,7 @@ fn put_last_three(room: &mut [u8], at: usize, number: u64) -> usize
     at + 3
 }
 
-/// Writes a number of four to six digits: its thousands by the table, and the last three digits after them.
+/// Writes a number of four to six digits: its thousands from the table, and then the last three digits.
 #[inline(always)]
 fn put_thousands(room: &mut [u8], at: usize, number: u64) -> usize
     requires size { (1000 ≤ number) × (number < 1000000) }
@@ -144,7 +146,7 @@ fn put_thousands(room: &mut [u8], at: usize, number: u64) -> usize
     put_last_three(room, end, number)
 }
 
-/// Writes a number from a thousand on.
+/// Writes a number that isn't below a thousand.
 #[inline(never)]
 fn put_long_number(room: &mut [u8], at: usize, number: u64) -> usize
     requires long_fits { (1000 ≤ number) × (at + 20 ≤ length room.old) }
@@ -160,8 +162,8 @@ fn put_long_number(room: &mut [u8], at: usize, number: u64) -> usize
     }
 }
 
-/// Writes a number. Most are below a thousand, and are written inline. (If longer ones were too, the code that appends
-/// a line of a trace would be too large to be inlined itself.)
+/// Writes a number. Most numbers are below a thousand, and the code for these is inlined. (If the code for longer
+/// numbers were inlined too, the function that appends a line of a trace would be too large to be inlined.)
 #[inline(always)]
 pub fn put_number(room: &mut [u8], at: usize, number: u64) -> usize
     requires fits { at + 20 ≤ length room.old }
@@ -175,7 +177,7 @@ pub fn put_number(room: &mut [u8], at: usize, number: u64) -> usize
     }
 }
 
-/// Writes the moment at which a copy arrives, if it does.
+/// Writes the moment at which a copy arrives, or `lost` if it doesn't arrive.
 pub fn put_arrival(room: &mut [u8], at: usize, arrival: Option<u64>) -> usize
     requires fits { at + 20 ≤ length room.old }
     ensures put { take result room.new ≡ take at room.old ++ arrival_word arrival }

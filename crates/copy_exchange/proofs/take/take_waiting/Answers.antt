@@ -9,7 +9,7 @@ use Rattle.copy_exchange.specs.Marks.{Counts}
 use Rattle.copy_exchange.proofs.MarksCounted.{takes_none, takes_more, takes_unexpected}
 use Rattle.copy_exchange.proofs.take.take_waiting.Goals as goal
 
--- a property of this error is one of the error that was passed on
+-- a property of this error is a property of the error that was passed on
 of_error : {T : Type 0} (r : Result T MarkError) (e this : MarkError) (Q : Type 0) → IsErrAnd r (λ x. x ≡ e)
     → (e ≡ this → Q) → IfErr r (λ x. x ≡ this → Q)
 of_error (Ok v) e this Q is h = tt

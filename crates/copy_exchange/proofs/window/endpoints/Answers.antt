@@ -97,7 +97,7 @@ loop-taker-preserved c =
       room = omega arith;
     }
 
--- all of them
+-- all endpoints are made
 all_built : (c : After-drop-taker-iterator-2) → c.loop-taker.endpoints.items ≡ built 0 (zip c.loop-worker.takers.items c.loop-worker.rows.items)
 all_built c =
     let d = c.into_iter-taker-iterator.ensures.into_iter_gives in

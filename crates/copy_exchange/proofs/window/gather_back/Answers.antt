@@ -32,7 +32,7 @@ loop-senders-preserved g c =
       takers = takers_after c.args.inboxes.now c.loop-senders.takers.items c.gather_all.new.takers.items c.in-Some.senders.items i.takers c.gather_all.ensures.gathers_row;
     }
 
--- all senders of all endpoints
+-- all senders of all endpoints are gathered
 all_rows : (g : _) (c : After-drop-senders-iterator g) → GathersRows (map (λ (x : Endpoint). x.taker) c.args.endpoints.items) c.loop-senders.takers.items (map (λ (x : Endpoint). x.senders) c.args.endpoints.items)
 all_rows g c =
     let rest = c.into_iter-senders-iterator.ensures.into_iter_gives in

@@ -18,7 +18,7 @@ use Rattle.trace_printer.proofs.by_workers.write_by.Goals as goal
 abbrev all_lines : NetModel → List (Vec Line Global) → List LogLine → List (List ℕ)
 all_lines n ts log = lines_of n (map lines_in ts) ++ medium_lines (map line_model log)
 
--- a report's text is that of these lines, and then the last line
+-- a report's text is the text of these lines, and then the last line
 lines_first : (n : NetModel) (r : Report) (ts : List (Vec Line Global)) (log : List LogLine) → ts ≡ r.traces.items → log ≡ r.medium.items
     → report_text n (report_of r) ≡ concat (all_lines n ts log) ++ left_text r.left
 lines_first n r ts log is are =

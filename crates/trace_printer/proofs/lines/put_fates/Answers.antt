@@ -4,7 +4,7 @@ use Rattle.radio_packet.specs.declared.fate.Fate.{Fate}
 use Rattle.trace_printer.proofs.Pieces.{spaced_more, spaced_end}
 use Rattle.trace_printer.proofs.lines.put_fates.Goals as goal
 
--- the default for a place past the end of some fates
+-- the default value for a place past the end of a list of fates
 abbrev no_fate : Fate
 no_fate = record { to = 0; at = None }
 

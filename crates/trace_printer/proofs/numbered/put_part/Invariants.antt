@@ -4,6 +4,6 @@ use Rattle.mote_net.specs.Report.{lines_in}
 use Rattle.trace_printer.specs.TraceLines.{lines_from, lines_of, part_text}
 use Rattle.trace_printer.proofs.numbered.put_part.Given as goal
 
--- the page, followed by the part of the remaining motes' lines, is the final page
+-- the page, followed by the remaining part of the remaining motes' lines, is the final page
 abbrev pub invariant-loop-mote : goal.invariant-loop-mote
 invariant-loop-mote l = l.page ++ part_text (lines_from l.mote (drop l.mote (net_of l.net).motes) (map lines_in (drop l.mote l.traces))) l.before l.left ≡ l.fn.page ++ part_text (lines_of (net_of l.net) (map lines_in l.traces)) l.skip l.count

@@ -9,7 +9,7 @@ use Rattle.trace_printer.proofs.Pieces.{flat_map-drop}
 use Rattle.trace_printer.proofs.Written.{put_printed, put_stopped, printed_next, stopped_next}
 use Rattle.trace_printer.proofs.report.print_lines.Goals as goal
 
--- the default for a place past the end of some lines
+-- the default value for a place past the end of a list of lines
 abbrev no_line : Line
 no_line = record { at = 0; what = Start (Own 0) }
 

@@ -7,7 +7,7 @@ use Rattle.trace_printer.specs.ReportText.{medium_text, left_text}
 use Rattle.trace_printer.proofs.Written.{written_none, written_then, printed_next, stopped_before}
 use Rattle.trace_printer.proofs.report.write_medium.Goals as goal
 
--- the log's text, and then the last line
+-- the text of the log, and then the last line
 medium_next : (r : Report) (log : List LogLine) → log ≡ r.medium.items → medium_text (report_of r).log ++ left_text r.left ≡ medium_text (map line_model log) ++ left_text r.left
 medium_next r log is = ap (λ (l : List LogLine). medium_text (map line_model l) ++ left_text r.left) (sym is)
 

@@ -3,8 +3,8 @@ use Rattle.std.specs.List.{AllByRecursion as Each}
 use Rattle.trace_printer.specs.Parts.{Adjoin, IsShare}
 use Rattle.trace_printer.proofs.round.cut.Given as goal
 
--- the parts adjoin, what is left comes after them, and nothing is left after the last worker's; each part has its
--- share, and what is left are the shares of the others
+-- each part begins at the end of the previous one, and has its share; the lines that are left are the shares of the
+-- other workers, and after the last worker none are left
 abbrev pub invariant-loop-others : goal.invariant-loop-others
 invariant-loop-others l = record {
   adjoin : Adjoin l.skip l.parts.items l.begin;

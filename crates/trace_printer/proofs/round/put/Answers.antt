@@ -8,7 +8,7 @@ use Rattle.trace_printer.proofs.Crossing.{traces_sync}
 use Rattle.trace_printer.proofs.Rounds.{adjoin_ready, put_text}
 use Rattle.trace_printer.proofs.round.put.Goals as goal
 
--- the lifetime is that of the value to which the traces refer; its name in a type doesn't matter to sharing
+-- the lifetime is that of the value to which the traces refer; its name in a type doesn't matter for sharing
 pub fork_join-requires-sync-W : goal.fork_join-requires-sync-W
 fork_join-requires-sync-W g c κs within =
     record { shared = λ x b o. (traces_sync (record { mir = erased; lft = κs.1.1.1.1.0 })).shared x b o }
