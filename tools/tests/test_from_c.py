@@ -183,6 +183,40 @@ class Timers(unittest.TestCase):
         self.assertIn('`ctimer t { .. }`', found.hint)
 
 
+class FileScope(unittest.TestCase):
+    """Declarations above the processes, each of which belongs into the code that uses its name."""
+    SOURCE = ('%s\nprocess a, b;\nautostart a, b;\ncode a {\n  body {\n    yield;\n  }\n}\ncode b {\n  // of b\n'
+              '  var n = 0;\n  etimer u;\n  body {\n    %s\n  }\n}\n')
+
+    def test_each_moves_with_its_value(self) -> None:
+        for typed, use, below, declared in (
+                ('static struct etimer et;', 'set et 5;', 12, 'etimer et;'),
+                ('etimer et;', 'set et 5;', 12, 'etimer et;'),
+                ('static struct ctimer ct;', 'set ct 5;', 12, 'ctimer ct { }'),
+                ('static uint8_t x;', 'print x;', 11, 'var x = 0;'), ('var x = 7;', 'print x;', 11, 'var x = 7;'),
+                ('static int x = 7, y;', 'print (x + y);', 11, 'var x = 7; var y = 0;'),
+                ('#define PERIOD 40', 'set u period;', 11, 'var period = 40;'),
+                ('static uint8_t x = 7;', 'yield;', 4, 'var x = 7;')):
+            with self.subTest(typed):
+                source = self.SOURCE % (typed, use)
+                fault = find_fault(source)
+                assert fault
+                found, shown = correction(source, fault), advice(source, fault)
+                assert found and shown
+                self.assertEqual((found.line, found.above), ('', (below, declared)))
+                self.assertIsNone(find_fault(found.applied(source)))
+                self.assertEqual(shown.shown(source, 0), [
+                    'Leave line 1 out,', 'and insert below line %d:' % below, '    ' + declared])
+
+    def test_without_a_code_the_hint_has_the_value(self) -> None:
+        source = 'static int x = 7, y;\nprocess a;\nautostart a;\n'
+        fault = find_fault(source)
+        assert fault
+        found = advice(source, fault)
+        assert found
+        self.assertIn('at the head of its `code`: `var x = 7; var y = 0;`.', found.hint)
+
+
 class Packets(unittest.TestCase):
     def test_a_value_that_leaves_no_room_for_an_address_has_no_line(self) -> None:
         for value, line in ('(512 + from)', None), ('300', None), ('(x + 255)', 'send ((from * 256) + (x + 255));'):

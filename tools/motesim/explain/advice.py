@@ -18,7 +18,7 @@ CUT_CHAIN = 'one more `}` closes it'
 class Advice(NamedTuple):
     """A hint, and the line that should be there; the lines (from 1) that it replaces. An empty line is left out.
 
-    above  a line that belongs further up too, and the number of the line below which it is
+    above  a line that belongs elsewhere too, mostly further up, and the number of the line below which it is
     """
     hint: str
     line: str | None = None
@@ -31,11 +31,11 @@ class Advice(NamedTuple):
         if self.line is None:
             return ['Insert %s:' % _inserted(self.above, offset), _indented(source, *self.above)] if self.above else []
         which = _which(self.first, self.last, offset)
+        inserted = ['and insert %s:' % _inserted(self.above, offset), _indented(source, *self.above)] \
+            if self.above else []
         if not self.line:
-            return ['Leave %s out.' % which]
-        lines = ['Write, as %s:' % which, _indented(source, self.first, self.line)]
-        return lines + (['and insert %s:' % _inserted(self.above, offset), _indented(source, *self.above)]
-                        if self.above else [])
+            return ['Leave %s out%s' % (which, ',' if inserted else '.'), *inserted]
+        return ['Write, as %s:' % which, _indented(source, self.first, self.line), *inserted]
 
 
 def _which(first: int, last: int, offset: int | None) -> str:
@@ -57,8 +57,8 @@ def _indented(source: str, number: int, line: str) -> str:
     """A line that begins in the same column as a line of the program, or behind that if it opens a block."""
     there = source.split('\n')[number - 1] if number and not line.startswith('event ') else ''
     indent = len(there) - len(there.lstrip(' '))
-    opens = there.rstrip().endswith('{') and not line.rstrip().endswith('{') and line.startswith(('var ', 'etimer ',
-                                                                                                  '  '))
+    opens = there.rstrip().endswith('{') and not line.rstrip().endswith('{') and line.startswith(
+        ('var ', 'etimer ', 'ctimer ', '  '))
     return '  ' + ' ' * (indent + 2 * opens) + line.strip()
 
 

@@ -9,7 +9,7 @@ from typing import NamedTuple
 
 from motesim.from_c.expressions import NoCounterpart
 from motesim.from_c.scope import Scope
-from motesim.from_c.places import place_below
+from motesim.from_c.places import head_for, place_below
 from motesim.from_c.statements import Statements
 from motesim.from_c.structure import process_line, unclosed_block
 from motesim.notation.faults import ProgramError, find_fault, tokens_of
@@ -23,7 +23,7 @@ LONGEST_TEXT, LONGEST_LINES = 200_000, 2_000
 class Correction(NamedTuple):
     """Lines of a program (from 1) and what should be there, or None if no line is known; and the reasons.
 
-    above  a line that is to be inserted further up, and the number of the line below which it belongs
+    above  a line that is to be inserted elsewhere, mostly further up, and the number of the line below which it belongs
     """
     first: int
     last: int
@@ -34,9 +34,10 @@ class Correction(NamedTuple):
     def applied(self, text: str) -> str:
         """A program's text with the correction."""
         lines = text.split('\n')
-        lines[self.first - 1:self.last] = [] if self.line is None else [self.line]
-        if self.above:
-            lines.insert(self.above[0], self.above[1])
+        edits = [(self.first - 1, self.last, [] if self.line is None else [self.line])]
+        edits += [(self.above[0], self.above[0], [self.above[1]])] if self.above else []
+        for begin, end, new in sorted(edits, key=lambda it: it[0], reverse=True):
+            lines[begin:end] = new
         return '\n'.join(lines)
 
 
@@ -59,7 +60,8 @@ def _spans(text: str, fault: ProgramError) -> Iterator[tuple[int, int]]:
 def _rank(text: str, made: Correction) -> int:
     """2 if a text with a correction has no fault, 1 if its first one is further down, otherwise 0."""
     found = find_fault(made.applied(text))
-    return 2 if found is None else int(found.token.line > made.first + (made.above is not None))
+    return 2 if found is None else int(found.token.line > made.first + (
+        made.above is not None and made.above[0] < made.first))
 
 
 def _above_processes(text: str) -> int:
@@ -98,6 +100,18 @@ def _is_only_named(text: str, fault: ProgramError) -> bool:
     return fault.kind == 3 and at is not None and tokens[at + 1].text not in ('(', '[', '=')
 
 
+def _insertions(text: str, reader: Statements) -> list[tuple[int, str] | None]:
+    """The lines that may be inserted with a reading, the best one first."""
+    if not reader.declares:
+        return [(_above_processes(text), ' '.join(reader.events)) if reader.events else None]
+    if reader.events:
+        return [None]
+    is_top = reader.place.is_top
+    head = head_for(text, reader.declares[0]) if is_top else reader.place.head
+    declared = head, ' '.join(sorted(reader.declares, key=lambda it: it.split()[0], reverse=True))
+    return [declared, None] if is_top and head else [None if is_top else declared]
+
+
 def correction(text: str, fault: ProgramError) -> Correction | None:
     """The lines that repair a fault, or, without a line, what to do; None if nothing is known."""
     if len(text) > LONGEST_TEXT:
@@ -122,11 +136,10 @@ def correction(text: str, fault: ProgramError) -> Correction | None:
                 if first <= fault.token.line <= last and not (is_only_named and last > fault.token.line):
                     advice = advice or str(said)
                 continue
-            above = (reader.place.head, ' '.join(sorted(reader.declares, reverse=True))) if reader.declares else None
-            if reader.events:
-                above = None if above else (_above_processes(text), ' '.join(reader.events))
-            made = Correction(first, last, written, tuple(reader.writer.reasons[:MOST_REASONS]), above)
-            found.append((0 if _same(source, written) else _rank(text, made), made))
+            made = Correction(first, last, written, tuple(reader.writer.reasons[:MOST_REASONS]))
+            for above in _insertions(text, reader):
+                made = made._replace(above=above)
+                found.append((0 if _same(source, written) else _rank(text, made), made))
         best = max(found, key=lambda it: it[0], default=None)
         if best and best[0]:
             return best[1]

@@ -48,12 +48,18 @@ class Declarations(Lines):
 
     def declared(self, name: str, value: str) -> str:
         if self.place.is_top:
-            self.why('Variables belong to one process: `var %s = %s;` is at the head of its `code`.' % (allowed(name),
-                                                                                                        value))
-            return ''
+            return self.in_code('Variables belong', 'var %s = %s;' % (self.new_name(name), value))
         if not self.place.is_head:
             return self.declared_above(name, value)
         return 'var %s = %s;' % (self.new_name(name), value)
+
+    def in_code(self, belong: str, declared: str) -> str:
+        """A declaration above the codes, which moves into one."""
+        self.declares.append(declared)
+        belongs = belong + ' to one process, at the head of its `code`: '
+        self.writer.reasons = [belongs + '`%s`.' % ' '.join(self.declares),
+                               *(it for it in self.writer.reasons if not it.startswith(belongs))]
+        return ''
 
     def declared_above(self, name: str, value: str) -> str:
         """A variable that is declared among statements."""
@@ -103,7 +109,7 @@ class Declarations(Lines):
                 break
             self.why('Each variable has a line of its own.')
         self.end('')
-        return ' '.join(found)
+        return ' '.join(it for it in found if it)
 
     def of_array(self, name: str) -> str:
         """An array: a variable for each of its members, if they are few."""
@@ -182,18 +188,22 @@ class Declarations(Lines):
         self.at += 1
         self.end('')
         self.why('A callback timer has a block, which runs when the timer is due: `ctimer %s { .. }`.' % name)
+        if self.place.is_top:
+            return self.in_code('Timers belong', 'ctimer %s { }' % name)
         return 'ctimer %s { %s}' % (name, 'poll %s; ' % self.place.code if self.place.code else '')
 
     def of_names(self, word: str, form: str) -> str:
         """Names with commas between them, each declared by a line of its own."""
         found = []
         while True:
-            found.append('%s %s;' % (word, form % self.new_name(self.token.text)))
+            declared = '%s %s;' % (word, form % self.new_name(self.token.text))
+            is_moved = word == 'etimer' and self.place.is_top
+            found.append(self.in_code('Timers belong', declared) if is_moved else declared)
             self.at += 1
             if not self.accept(','):
                 break
         self.end('')
-        return ' '.join(found)
+        return ' '.join(it for it in found if it)
 
     def kept(self) -> str:
         """A declaration of the notation, unchanged: up to its semicolon, or its brace."""
@@ -201,6 +211,8 @@ class Declarations(Lines):
         if words[0] in ('etimer', 'event') and words[2] == ',' and self.accept(words[0]):
             self.why('Each name is declared on its own.')
             return self.of_names(words[0], '%s')
+        if words[0] == 'etimer' and self.place.is_top and self.accept('etimer'):
+            return self.of_names('etimer', '%s')
         if words[0] == 'ctimer' and words[2] == ';' and self.accept('ctimer'):
             return self.of_callback()
         if words[0] == 'receiver' and words[2] == ',':

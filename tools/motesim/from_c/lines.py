@@ -19,7 +19,7 @@ class Lines(Expressions):
         self.is_cut = self.opens = False
         self.nested = 0
         self.end_of_process = end
-        # Declarations that belong to the head of the code, and those of events.
+        # Declarations that belong to the head of the code (or of a code, if the lines are above all), those of events.
         self.declares: list[str] = []
         self.events: list[str] = []
 

@@ -4,6 +4,7 @@ from __future__ import annotations
 import re
 from typing import NamedTuple
 
+from motesim.from_c.scope import CODE
 from motesim.notation.faults import tokens_of
 
 NAME = r'[a-z][a-z0-9_]*'
@@ -14,6 +15,9 @@ ENDS = [
     (re.compile(r'!(%s)' % NAME), r'\1 = 1'), (re.compile(r'\((%s) == 0\)' % NAME), r'\1 = 1'),
     (re.compile('(%s)' % NAME), r'\1 = 0'),
 ]
+# The beginning of a code, up to its last variable, or up to its last event timer.
+HEADS = {word: re.compile(r'\{(?:(?:\s*+//.*+)*+\s*+(?:%s)\b.*+)*+' % words)
+         for word, words in (('var', 'var'), ('etimer', 'var|etimer'), ('ctimer', 'var|etimer'))}
 
 
 class Surroundings(NamedTuple):
@@ -61,6 +65,19 @@ def place_below(above: list[str]) -> Surroundings:
     names = frozenset(words[at + 1] for at in declared if at + 1 < len(words))
     return Surroundings(len(opened) == 1, False, loop, words[codes[-1] + 1], head, names, _last(words),
                         last_statement(words))
+
+
+def head_for(text: str, declared: str) -> int:
+    """The line (from 1) below which a declaration from above `process` belongs: in the first code that uses its name, or
+    in the first one; 0 if there is no code."""
+    codes = [it for it in CODE.finditer(text) if '{' in text[it.end():]]
+    if not codes:
+        return 0
+    word, name = declared.rstrip(';').split()[:2]
+    ends = [it.start() for it in codes[1:]] + [len(text)]
+    users = [code for code, end in zip(codes, ends) if re.search(r'\b%s\b' % name, text[code.end():end], re.I)]
+    head = HEADS[word].match(text, text.index('{', (users or codes)[0].end()))
+    return text.count('\n', 0, head.end()) + 1 if head else 0
 
 
 def last_statement(words: list[str]) -> str:
