@@ -190,6 +190,20 @@ class Sentences(unittest.TestCase):
                 ('mote 1 sends 2 packets', 'mote 1 sends exactly 2 times'),
                 ('every mote sends one packet', 'every mote sends exactly once'),
                 ('no mote sends more than 3 packets', 'no mote sends more than 3 times'),
+                ('mote 1 at most once sends 1', 'mote 1 sends 1 at most once'),
+                ('at most twice mote 1 sends after 5', 'mote 1 sends at most twice after 5'),
+                ('never mote 1 sends', 'mote 1 never sends'), ('mote 1 never sent', 'mote 1 never sends'),
+                ('mote 1 sends atleast 3 times', 'mote 1 sends at least 3 times'),
+                ('mote 1 sends at mots 3', 'mote 1 sends at most 3'),
+                ('mote 1 sends less than 3 times', 'mote 1 sends fewer than 3 times'),
+                ('mote 1 sends 1 not more than 3 times', 'mote 1 sends 1 at most 3 times'),
+                ('mote 1 prints a 1 3 times', 'mote 1 prints a 1 exactly 3 times'),
+                ('mote 1 sends within 3 moments after recieving 1', 'mote 1 sends within 3 of receiving 1'),
+                ('mote 1 sends withing 3 of receving', 'mote 1 sends within 3 of receiving'),
+                ('mote 1 prnts a 1 befor 13', 'mote 1 prints a 1 before 13'),
+                ('mote 1 prints a 1 until 13', 'mote 1 prints a 1 by 13'),
+                ('mote 1 sends once every 10 from 0 to 99', 'mote 1 sends once in each 10 from 0 to 99'),
+                ('exactly 3 packets is sent', 'exactly 3 packets are sent'), ('mote 1 sends befor 13', 'before'),
                 ('all motes halt never', 'all motes never halt'), ('no packets collide', 'no copy collides'),
                 ('there are no collisions', 'no copy collides'),
                 ('node 1 doesn\'t receive a packet before moment 5', 'mote 1 never receives before 5')):
@@ -197,7 +211,8 @@ class Sentences(unittest.TestCase):
                 with self.assertRaises(SentenceFault) as caught:
                     read_sentence(sentence, names)
                 self.assertIn('  Did you mean: %s' % like, caught.exception.explained.splitlines())
-                read_sentence(like, names)
+                if like != 'before':
+                    read_sentence(like, names)
 
     def test_what_is_refused(self) -> None:
         for sentence, seen in REFUSED:

@@ -10,6 +10,9 @@ from collections.abc import Callable, Iterator
 
 NUMBERS = ('no', 'one', 'two', 'three', 'four', 'five', 'six', 'seven', 'eight', 'nine', 'ten')
 VERBS = 'print|send|receive|start|leave|halt'
+# How many times a mote does something, and a deed without its values of several words.
+TIMES = r'(?:(?:at least|at most|exactly|more than|fewer than) )?(?:once|twice|\d+ times)'
+DEED = r'(?:%s)s?\b(?: (?!(?:at|by|before|after|between|from|within|in)\b)\w+)*' % VERBS
 Replaced = str | Callable[[re.Match[str]], str]
 
 
@@ -26,7 +29,26 @@ FORMS: list[tuple[str, Replaced]] = [
     (r'\bnode(s?)\b', r'mote\1'),
     (r'''["'`](\w+)["'`]''', r'\1'),
     (r'\b(?:gets|gots|hears) (?=\d|a packet|packet)', 'receives '),
-    (r'\brec(?:ie|ee|i|e)ve(s?)\b', r'receive\1'),
+    (r'\brec(?:ie|ee|i|e)v(e|es|ing)\b', r'receiv\1'),
+    (r'(?<!\bare )(?<!\bis )\bsent\b', 'sends'),
+    (r'\b(print|start|halt|receiv)ed\b', lambda it: it[1].replace('receiv', 'receive') + 's'),
+    (r'\b(?:at ?l[aes]{1,3}t|(?:no|not) (?:less|fewer) th[ae]n)\b', 'at least'),
+    (r'\b(?:at ?(?:most|mots|mst|moost|must)|(?:no|not) more th[ae]n)\b', 'at most'),
+    (r'\b(?:less|fewer) th[ae]n\b', 'fewer than'),
+    (r'\bmore then\b', 'more than'),
+    (r'\bonly (?=once|twice|\d)', 'exactly '),
+    (r'\b(packets|copies) is\b', r'\1 are'),
+    (r'\b(no (?:packet|copie))s are\b', r'\1 is'),
+    (r'\bcan not hear\b', 'cannot hear'),
+    (r'\b(?:until|till|up to|no later than) (?=\d)', 'by '),
+    (r'\bon (?=\d)', 'at '),
+    (r'\b(?:in )?(?:each|every) (\d+) (?:moments? )?(?=from\b)', r'in each \1 '),
+    (r'\bsince (\d+)', r'from \1 on'),
+    (r'\b(?:with)?in (\d+)(?: moments?)? (?:after|of|from) ', r'within \1 of '),
+    (r'^never (.*?) ((?:%s)s?)\b' % VERBS, r'\1 never \2'),
+    (r'^(%s),? (.*?\b%s)' % (TIMES, DEED), r'\2 \1'),
+    (r'\b(motes? .*?)\b(%s) (%s)' % (TIMES, DEED), r'\1\3 \2'),
+    (r'\b((?:%s)s?(?: [a-z]\w*(?: \d+)?)?) (\d+ times)' % VERBS, r'\1 exactly \2'),
     (r'\b((?:%s)s?) never\b' % VERBS, r'never \1'),
     (r'\b(at|by|before|after|between|from|within|to|and) (?:the )?(?:moment|time|t ?=) ?(?=\d)', r'\1 '),
     (r'\b(at|by|before|after|from) (\d+) moments?\b', r'\1 \2'),

@@ -25,6 +25,8 @@ COMPARES = {
     'at least': operator.ge, 'at most': operator.le, 'exactly': operator.eq, 'more than': operator.gt,
     'fewer than': operator.lt,
 }
+# How often a sentence is read with one more word respelled.
+MOST_READINGS = 4
 VERBS = ('print', 'send', 'receive', 'start', 'leave', 'halt', 'write')
 
 
@@ -706,8 +708,26 @@ def read_sentence(sentence: str, names: Names = Names()) -> Sentence:
     try:
         return _read(sentence, names)
     except SentenceFault as fault:
-        like = next((it for it in rewritten(sentence) if _is_read(it, names)), None)
+        like = next((it for it in rewritten(sentence) if _is_read(it, names)), None) or _respelled(sentence, names)
         raise SentenceFault(sentence, fault.place, fault.wanted, fault.hint, like) if like else fault from None
+
+
+def _respelled(sentence: str, names: Names) -> str | None:
+    """The sentence in which the nearest allowed words replace several words, or some words of another form of it."""
+    for form in reversed([sentence, *rewritten(sentence)]):
+        text = form
+        for count in range(MOST_READINGS):
+            try:
+                _read(text, names)
+                # (for a single word the message names that word)
+                return text if count > 1 or form != sentence else None
+            except SentenceFault as fault:
+                word = re.match(r'\w+', text[fault.place:])
+                like = meant(text[fault.place:], fault.wanted)
+                if not (word and like):
+                    break
+                text = text[:fault.place] + like + text[fault.place + len(word[0]):]
+    return None
 
 
 def _is_read(sentence: str, names: Names) -> bool:
