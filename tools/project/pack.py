@@ -8,8 +8,9 @@ or newer, from any folder: nothing is installed, and nothing is fetched from a n
 
 It has the files that git knows, and the folders and files of your own that you name, such as an exercise and its
 worksheet: tools/pack examples/mylab worksheet.pdf. A folder or file outside of this tree is at the top of the archive.
-A file isn't packed if its name, or that of its folder, begins with `solution` or `hidden`, even if you name it; nor is
-docs/use/TEACH.md. tools/pack lists what it adds to the repository's own files, and what it leaves out.
+A file isn't packed if a word of its name, or of its folder's, begins with `solution`, `hidden`, `answer` or `marks`,
+even if you name it; nor is docs/use/TEACH.md. With --for-teachers these are packed too. tools/pack lists what it adds
+to the repository's own files, and what it leaves out.
 
 The archive has the binary that the environment variable MOTESIM names, or without it the proved `motesim` of these
 sources, if ./prove has built it; the page PROVED.md then describes the proof and the kit. Otherwise it has one that is
@@ -31,6 +32,7 @@ from typing import NamedTuple
 
 from motesim.faults import Fault, command
 from motesim.runner.programs import COMPILED, TOP, is_proved, program_of_sources, program_path
+from motesim.scenario import kinds
 from motesim.terminal import one_line
 from motesim.version import KIT, VERSION
 from motesim.words import words_of
@@ -40,8 +42,8 @@ from project.tree import commit, git
 
 # The contents of the archive besides the program: files, and folders with all files in them that git knows.
 PARTS = ('CHANGES.md', 'CITATION.cff', 'LICENSE', 'docs/use', 'examples', 'tools/contiki_host', 'tools/motesim')
-# Paths of files for teachers only, and of files that tools and editors make for themselves.
-FOR_TEACHERS = re.compile(r'docs/use/TEACH\.md\Z|(.*/)?(?i:solution|hidden)', re.S)
+# The page for teachers, the folders of the tools and pages, and files that tools and editors make for themselves.
+PAGE_FOR_TEACHERS, OURS = 'docs/use/TEACH.md', ('docs', 'tools')
 RUBBISH = re.compile(r'(.*/)?(\.|__pycache__/|[^/]*~(/|\Z))', re.S)
 # A link of a page, with its words and its target. (The words may be on two lines.)
 LINK = re.compile(r'(?<!!)\[([^\]\n]*(?:\n[^\]\n]*)?)\]\(([^)#\s]*)(?:#[^)\s]*)?\)')
@@ -127,8 +129,17 @@ def own_files(named: Iterable[Path], top: Path) -> Iterator[tuple[str, Path]]:
             yield str(file.relative_to(base)), file
 
 
-def sorted_files(parts: Iterable[str], named: Iterable[Path] = (), top: Path = TOP) -> Sorted:
-    """The files of the archive besides the program, from the repository's parts and what the maker has named."""
+def is_for_teachers(path: str) -> bool:
+    """Returns whether the file of this path in the archive is only for teachers."""
+    parts = path.split('/')
+    return path == PAGE_FOR_TEACHERS or parts[0] not in OURS and any(map(kinds.is_for_teachers, parts))
+
+
+def sorted_files(parts: Iterable[str], named: Iterable[Path] = (), top: Path = TOP, has_all: bool = False) -> Sorted:
+    """The files of the archive besides the program, from the repository's parts and what the maker has named.
+
+    has_all  whether those for teachers are among them
+    """
     listed, changed = (set(filter(None, git(top, *words, '-z').split('\0')))
                        for words in (['ls-files'], ['diff', '--name-only', '--relative', 'HEAD']))
     found, own = Sorted({}, [], [], {}, bool(listed)), dict(own_files(named, top))
@@ -141,7 +152,7 @@ def sorted_files(parts: Iterable[str], named: Iterable[Path] = (), top: Path = T
             continue
         if name in known and name in own and not own[name].samefile(top / name):
             raise Fault('%s has the name of a file of the repository: rename it' % own[name])
-        if any(map(FOR_TEACHERS.match, paths)):
+        if not has_all and any(map(is_for_teachers, paths)):
             found.left_out[name] = 'for teachers'
         elif name not in known and name not in own:
             found.left_out[name] = 'git doesn\'t know it, and it wasn\'t named'
@@ -216,8 +227,10 @@ def main() -> int:
                        help='the archive (motesim-VERSION.tar.gz, in this folder)')
     words.add_argument('own', metavar='OWN', type=Path, nargs='*',
                        help='a folder or file of your own that goes into the archive too')
+    words.add_argument('--for-teachers', action='store_true',
+                       help='pack solutions, hidden nets and the page for teachers too')
     asked = words.parse_args()
-    its = sorted_files(parts(), asked.own)
+    its = sorted_files(parts(), asked.own, has_all=asked.for_teachers)
     folder, packed = 'motesim-%s' % VERSION, program()
     path = asked.output or Path(folder + '.tar.gz')
     data = archive(folder, packed, its)

@@ -198,6 +198,20 @@ class Pack(unittest.TestCase):
         found = pack.sorted_files(parts, [top / 'examples/lab/hidden.toml'], top)
         self.assertEqual((found.added, 'examples/lab/hidden.toml' in found.left_out), ([], True))
 
+    def test_solutions_in_a_folder_of_one_s_own_are_packed_only_on_request(self) -> None:
+        top = self.tree('docs/use/TEACH.md tools/motesim/answers.py', '')
+        its = 'start.toml', 'task1_solution.toml', 'net-hidden.toml', 'answers/anna.toml', 'marks.csv', 'bookmarks.md'
+        for name in its:
+            (top / 'lab' / name).parent.mkdir(parents=True, exist_ok=True)
+            (top / 'lab' / name).write_text('')
+        parts = ['docs/use', 'tools/motesim']
+        found = pack.sorted_files(parts, [top / 'lab'], top)
+        self.assertEqual(sorted(found.packed), ['lab/bookmarks.md', 'lab/start.toml', 'tools/motesim/answers.py'])
+        self.assertIn('Left out: lab/task1_solution.toml (for teachers)', found.notes())
+        found = pack.sorted_files(parts, [top / 'lab'], top, has_all=True)
+        self.assertEqual(found.added, sorted('lab/' + it for it in its))
+        self.assertEqual((len(found.packed), found.left_out), (8, {}))
+
     def test_files_from_elsewhere_are_at_the_top_of_the_archive(self) -> None:
         top = self.tree('examples/a.toml LICENSE', '')
         lab = top.parent / 'course/lab'

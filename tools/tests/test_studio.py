@@ -133,6 +133,13 @@ class Files(unittest.TestCase):
         with self.assertRaisesRegex(Fault, 'is a name of a plan, and not of a scenario'):
             self.desk.save_new(self.document(), 'other.plan.toml')
 
+    def test_a_hidden_net_is_listed_only_if_such_a_file_was_named(self) -> None:
+        for name in 'hidden.toml', 'task1_solution.toml':
+            (self.room / name).write_text(NET)
+        self.assertEqual(self.desk.names('folder'), ['net.toml'])
+        self.assertEqual(Desk(self.room / 'hidden.toml').names('folder'),
+                         ['hidden.toml', 'net.toml', 'task1_solution.toml'])
+
     def test_two_saves_at_once_both_end(self) -> None:
         """Each has a scratch file of its own: the name of the process doesn't tell two threads apart."""
         faults = []

@@ -1,4 +1,4 @@
-"""The kinds of files that users mix up: programs, scenarios, plans and the results of sweeps."""
+"""The kinds of files that users mix up: programs, scenarios, plans and the results of sweeps; and those of teachers."""
 from __future__ import annotations
 
 import re
@@ -11,6 +11,14 @@ SCENARIO = re.compile(rb'(?:\xef\xbb\xbf)?(?:\s|#[^\n]*+\n)*+(?:\[|[A-Za-z0-9_"\
 PLACES = re.compile(rb'^[ \t]*(?:\[\[?[ \t]*places[ \t]*\]|places[ \t]*=)', re.M)
 OF_SCENARIO = re.compile(rb'^[ \t]*(?:\[\[?[ \t]*mote[ \t]*\]|(?:mote|version)[ \t]*=)', re.M)
 RESULTS = re.compile(rb'[^\n]*,fault,note,plan,[^\n]*,parameters\r?\n')
+
+# The name of a file or folder that students shouldn't see: a word of it begins so.
+FOR_TEACHERS = re.compile(r'(?:.*[^a-z])?(?:solution|hidden|answer|marks)', re.S | re.I)
+
+
+def is_for_teachers(name: str) -> bool:
+    """Returns whether a file or folder of this name has solutions, nets that nobody has seen, or marks."""
+    return FOR_TEACHERS.match(name) is not None
 
 
 def has_plan(data: bytes) -> bool:

@@ -15,6 +15,7 @@ from typing import Any, NamedTuple
 from motesim.faults import Fault, in_words
 from motesim.files import NotWritten, write_whole
 from motesim.runner.programs import TOP
+from motesim.scenario.kinds import is_for_teachers
 
 LONGEST = 1_048_576
 # Endings of TOML files that are not scenarios.
@@ -139,12 +140,14 @@ class Desk:
         return self.examples if where == 'example' else self.folder
 
     def names(self, where: str) -> list[str]:
-        """The scenarios of a folder."""
+        """The scenarios of a folder, without those for teachers unless the studio was started with one."""
         try:
             names = os.listdir(self.folder_of(where))
         except OSError:
             return []
-        return sorted(name for name in names if is_name(name) and not name.endswith(OTHERS))
+        has_all = self.mine is not None and is_for_teachers(self.mine)
+        return sorted(name for name in names if is_name(name) and not name.endswith(OTHERS)
+                      and (has_all or name in self.written or not is_for_teachers(name)))
 
     def path(self, where: str, name: str) -> Path:
         """The path of a file that may be read: one in its folder itself, and no link to elsewhere."""
