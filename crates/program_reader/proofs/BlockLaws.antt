@@ -1,4 +1,4 @@
--- Blocks with names of their own, `onpoll`, `onexit` and the body.
+-- Blocks with their own names, `onpoll`, `onexit` and the body.
 use Rattle.std.proofs.Common.{◌≡◌, ◌≤◌, ◌<◌, ◌+◌, nat_lt, ℕ, suc, List, [], ◌∷◌, ◌++◌, length, Bool, true, false, Some}
 use Rattle.std.proofs.Common.{None, refl, ap, sym, subst, ◌∙◌, append_assoc, arith, slice_index_or, map}
 use Rattle.std.proofs.lemmas.Bool.{lt-ltb, ltb-true, ltb-false, and_from, and_parts}
@@ -81,7 +81,7 @@ last_at : (xs : List Name) (x : Name) → slice_index_or (xs ++ x ∷ []) (lengt
 last_at [] x = refl
 last_at (y ∷ ys) x = last_at ys x
 
--- a thread that is found in the block of the last is an earlier one
+-- a thread that is found in the block of the last thread is an earlier one
 last_or_earlier : (xs : List Name) (x y : Name) (i : ℕ) → place_of (xs ++ x ∷ []) y ≡ Some i → bytes_eq x y ≡ false
     → i < length xs
 last_or_earlier xs x y i e other =
@@ -109,7 +109,7 @@ spawns_earlier n x xs b e h = h (earlier_threads (length xs)) (λ c y i f. cover
 
 pub ruleset thread_steps = (within_limits)
 
--- one after the other
+-- one named block after another
 
 pub no_blocks : (c : Class) (y : Symbol) (marks : List Named → List Mark → List Mark) (s : Scope) (old : List Token)
     → HasBlocks c y marks [] s s old old
@@ -180,7 +180,7 @@ pushed bs bs' b e = ap (map tree_in) e ∙ map-append tree_in bs (b ∷ [])
 
 pub ruleset blocks_steps = (no_blocks, shorter_behind)
 
--- each spawns earlier ones
+-- each thread spawns only earlier threads
 fit-append : (w : ℕ → Within) (k : ℕ) (bs : List (Body ℕ)) (b : Body ℕ) → threads_fit w k bs ≡ true
     → block_fits (w (k + length bs)) b ≡ true → threads_fit w k (bs ++ b ∷ []) ≡ true
 fit-append w k [] b h f = and_from _ _ (ap (λ i. block_fits (w i) b) (omega arith) ∙ f) refl

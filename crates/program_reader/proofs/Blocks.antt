@@ -1,4 +1,4 @@
--- Statements with blocks, and a block of which some statements are read.
+-- Statements with blocks, and blocks of which the first statements are read.
 use Rattle.std.proofs.Common.{◌≡◌, ℕ, suc, ◌+◌, ◌-◌, ◌<◌, ◌≤◌, List, [], ◌∷◌, ◌++◌, drop, length, map, refl, sym, ap}
 use Rattle.std.proofs.Common.{subst, ◌∙◌, arith, Option, Some, true}
 use Rattle.std.proofs.lemmas.Bool.{and_from, and_parts}
@@ -59,7 +59,7 @@ front_all : (f : Class → ℕ → Name) (ss : List (Statement ℕ)) → with_fr
 front_all f [] = refl
 front_all f (s ∷ ss) = ap (next (statement_map f s)) (front_all f ss)
 
--- the statements of a block so far: `old` is the tokens of the block up to them, and then `rest`
+-- the statements of a block that are read so far: the block has the tokens `old`, and `rest` is still to be read
 pub record HasFront (s s' : Scope) (own : Option Name) (c : Context) (ss : List (Statement ℕ))
     (old rest : List Token) : Type 0 where
   pub spelled : (n : NamesInScope) → Extends s.names n → (tail : Body Name) (ms : List Mark)
@@ -175,7 +175,7 @@ all_read s s' own c ss b old mid new h is from e =
       counts = h.counts;
     })
 
--- the same for a statement as the code has it
+-- the same for a statement in the form that the code has it
 pub one_read : (s s1 s2 : Scope) (c d : Context) (ss ss' : List Stmt) (x : Stmt) (old mid rest : List Token)
     → d ≡ inner c → ss' ≡ ss ++ (x ∷ []) → HasFront s s1 c.thread c (map statement_of ss) old mid → s1.names ≡ s.names
     →

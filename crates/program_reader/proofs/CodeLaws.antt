@@ -37,7 +37,7 @@ other_name : (s : Scope) (x y : Name) (f : Pending) (ts : List Token) (b : Bool)
 other_name s x y f ts true e h = absurd cc
 other_name s x y f ts false e h = rw e refl
 
--- another name is there, or none
+-- another name is here, or none
 not_this : (s : Scope) (x : Name) (f : Pending) (m0 : List Token)
     → ((y : Name) → first m0 ≡ Some (token.Name y) → bytes_eq y x ≡ false)
     → tell s (this_name x ∷ f) m0 ≡ fault (unfit_at (first m0)) (length m0)

@@ -87,7 +87,7 @@ pub behind_none : (n : NamesInScope) (cs : List CodeShape) → n.variables ≡ [
 behind_none n [] e f g = (e, f, g)
 behind_none n (c ∷ cs) e f g = behind_none (outside (inside n c)) cs refl refl refl
 
--- The loop over the processes, at the one of this number.
+-- The loop over the processes, at the process with this number.
 
 pub first_empty : {A : Type 0} (xs ys : List A) → xs ++ ys ≡ [] → xs ≡ []
 first_empty [] ys e = refl
@@ -97,7 +97,7 @@ pub second_empty : {A : Type 0} (xs ys : List A) → xs ++ ys ≡ [] → ys ≡ 
 second_empty [] ys e = e
 second_empty (x ∷ xs) ys e = absurd cc
 
--- a code may begin, since none of the names of those before it is in scope
+-- a code may begin, because no name of the codes before it is in scope
 pub still_none : (a b : ScopeRead) (trees : List Code) (left : List Name) (old mid : List Token) → HasNoOwnNames a
     → HasCodes trees left (scope_of a) (scope_of b) old mid → HasNoOwnNames b
 still_none a b trees left old mid h r =

@@ -18,7 +18,7 @@ use Rattle.program_tree.specs.Tree.{a_variable, a_timer, a_thread, Body}
 use Rattle.program_tree.specs.declared.keyword.Keyword.TheVariants as word
 use Rattle.program_reader.proofs.ExtendLaws.{extends_on, extends_all, all_numbered_on}
 
--- the names of a code, one class after the other
+-- the names of a code, one class after another
 
 all_variables : (n : NamesInScope) (vs ts hs xs : List Name) → with_all (with_own n vs ts hs) a_variable xs
     ≡ with_own n (vs ++ xs) ts hs
@@ -38,7 +38,7 @@ all_threads n vs ts hs [] = ap (λ z. with_own n vs ts z) (sym (append-nil hs))
 all_threads n vs ts hs (x ∷ xs) = all_threads n vs ts (hs ++ x ∷ []) xs ∙ ap (λ z. with_own n vs ts z)
     (append_assoc hs (x ∷ []) xs)
 
--- a code begins with no names of its own
+-- a code begins without names of its own
 pub bare : (n : NamesInScope) → n.variables ≡ [] → n.timers ≡ [] → n.threads ≡ [] → n ≡ with_own n [] [] []
 bare n e f g = ap (λ z. with_own n z n.timers n.threads) e ∙ ap (λ z. with_own n [] z n.threads) f
     ∙ ap (λ z. with_own n [] [] z) g
@@ -46,7 +46,7 @@ bare n e f g = ap (λ z. with_own n z n.timers n.threads) e ∙ ap (λ z. with_o
 maybe_numbered_on : (n m : NamesInScope) (b : Option (Body ℕ)) → n ≡ m → MaybeNumbered n b → MaybeNumbered m b
 maybe_numbered_on n m b e h = subst (λ z. MaybeNumbered z b) e h
 
--- all of them
+-- all names of a code
 pub content_read : (es cs : List Name) (starts : List ℕ) (callbacks thread_bodies : List (Body ℕ))
     (on_poll on_exit : Option (Body ℕ)) (body : Body ℕ) (es2 : List Name) (s0 s1 s2 s3 s4 s5 s6 s7 : Scope)
     (t0 t1 t2 t3 t4 t5 t6 t7 : List Token)

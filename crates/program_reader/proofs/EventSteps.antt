@@ -1,4 +1,4 @@
--- The next steps of reading after the words for events.
+-- The next steps of reading after the keywords for events.
 use Rattle.std.proofs.Common.{◌≡◌, List, [], ◌∷◌, drop, refl, sym, ap, ◌∙◌, Option, Some}
 use Rattle.program_tree.specs.Faults.{Scope}
 use Rattle.program_tree.specs.Forms as form
@@ -14,7 +14,7 @@ use Rattle.program_tree.specs.declared.keyword.Keyword.{Keyword}
 use Rattle.program_tree.specs.declared.keyword.Keyword.TheVariants as word
 use Rattle.program_reader.proofs.NameSteps.{taken, front_of}
 
--- a keyword that is one mark of its own
+-- a keyword that has one mark of its own
 pub key_reads : (s : Scope) (y : Symbol) (k : Keyword) (old new : List Token) → first old ≡ Some (token.Keyword k)
     → ((f : Pending) → step (y ∷ f) (token.Keyword k) ≡ take (key k) f) → new ≡ drop 1 old
     → Reads s s y (λ n ms. key k ∷ ms) old new
@@ -28,7 +28,8 @@ pub cast_name : (s : Scope) (c : Context) (f : Pending) (old : List Token) (x : 
 cast_name s c f [] x e = absurd cc
 cast_name s c f (t ∷ ts) x e = let is : t ≡ token.Name x = cc in rw is refl
 
--- not a keyword that this operand has beyond the narrower one: `exit` beyond `cast`, the others beyond `sent`
+-- the token isn't a keyword that this operand allows and the narrower operand doesn't: `exit` for `sent`, the others
+-- for `any`
 abbrev pub IsOther : Operand → Option Token → Type 0
 IsOther form.sent (Some (token.Keyword word.Exit)) = ⊥
 IsOther form.any (Some (token.Keyword word.Init)) = ⊥

@@ -1,4 +1,4 @@
--- More names are in scope.
+-- Names in scope that are extended by more names.
 use Rattle.std.proofs.Common.{◌≡◌, ℕ, List, [], ◌∷◌, ◌++◌, refl, sym, ap, ◌∙◌, append_assoc}
 use Rattle.std.proofs.lemmas.List.{append-nil}
 use Rattle.program_reader.specs.CodeParts.{IsNumbered, AllNumbered}

@@ -11,7 +11,7 @@ use Rattle.program_reader.specs.Front.{entry_of}
 use Rattle.program_tree.specs.TokenMeaning.{token_of}
 use Rattle.program_tree.specs.Words.{lookup}
 
--- the place that was found, or else the end
+-- the place that was found, or otherwise the end
 place_or_end : (b : Bool) (n l : ℕ) → nat_lt n l ≡ b → n ≤ l → unwrap_or (cond b (Some n) None) l ≡ n
 place_or_end true n l h w = refl
 place_or_end false n l h w = omega (arith, ltb-false n l h)

@@ -117,7 +117,7 @@ mapped_none : (n : ℕ) (o : Option ℕ) → is_some (option_map (λ i. n + i) o
 mapped_none n None h = refl
 mapped_none n (Some i) h = absurd cc
 
--- a name that isn't among these isn't among the last of them
+-- a name that isn't on this list isn't on the last part of the list
 pub not_in_second : (xs ys : List Name) (x : Name) → is_some (place_of (xs ++ ys) x) ≡ false → place_of ys x ≡ None
 not_in_second xs ys x h = go (place_of xs x) refl
   where
@@ -171,7 +171,7 @@ ctimer_added s k x es cs xs is all e =
     timer_added s k x (es ++ xs) (ap class_of_kind is) (ap (λ z. es ++ z) e ∙ sym (append_assoc es cs (x ∷ []))
     ∙ ap (λ z. z ++ x ∷ []) (sym all))
 
--- how many names there are after a declaration, whether or not it had the memory for one more
+-- the number of names after a declaration, whether or not there was enough memory for one more
 
 one_more : {T E : Type 0} (r : Result T E) (x : Name) (xs ys : List Name) → OnOk r (ys ≡ xs ++ x ∷ [])
     → OnErr r (ys ≡ xs) → length ys ≤ length xs + 1
@@ -183,7 +183,7 @@ pub room : (n : NamesInScope) (k k' : Kind) → k ≡ k' → is_full n (class_of
     → is_full n (class_of_kind k') ≡ false
 room n k k' is h = rw (← is) h
 
--- so there are never more than may be
+-- so there are never more names than allowed
 
 pub few_more : {T E : Type 0} (r : Result T E) (most : ℕ) (x : Name) (xs ys : List Name) → leb most (length xs) ≡ false
     → OnOk r (ys ≡ xs ++ x ∷ []) → OnErr r (ys ≡ xs) → length ys ≤ most

@@ -1,4 +1,4 @@
--- The texts that each symbol derives, and the machine's steps as those of the grammar.
+-- The texts that each symbol derives. Each step of the machine is a step of the grammar.
 use Rattle.std.proofs.Common.{◌≡◌, ℕ, List, [], ◌∷◌, ◌++◌, refl, sym, ap, ◌∙◌, Bool, true, false, if◌then◌else◌}
 use Rattle.std.proofs.Common.{Option, Some, None}
 use Rattle.std.specs.Str.{bytes_eq}
@@ -252,7 +252,7 @@ abbrev pub spell_all : (f : Pending) → Parts f → List Mark
 spell_all [] ps = []
 spell_all (s ∷ f) ps = spell s ps.0 (spell_all f ps.1)
 
--- something always completes it
+-- there is at least one part for each symbol
 pub some_operand : (o : Operand) → OperandShape o
 some_operand (form.name k) = []
 some_operand form.cast = event.continue
@@ -311,7 +311,7 @@ pub some_parts : (f : Pending) → Parts f
 some_parts [] = tt
 some_parts (s ∷ f) = (some_part s, some_parts f)
 
--- Lists of symbols that are made by the tables.
+-- Lists of symbols that the tables make.
 
 abbrev pub form_split : (c : Context) (g : Form) (f : Pending) → Parts (symbols_of c g f) → FormShape g × (Parts f)
 form_split c ends f ps = (tt, ps.1)
@@ -335,7 +335,7 @@ abbrev pub codes_split_spelled : (xs : List Name) (f : Pending) (ps : Parts (cod
 codes_split_spelled [] f ps = refl
 codes_split_spelled (x ∷ xs) f ps = refl
 
--- the codes of some processes and one more
+-- the codes of some processes, and one more code
 abbrev pub all_but_last : (xs : List Name) (x : Name) → CodesOf (xs ++ x ∷ []) → CodesOf xs
 all_but_last [] x cs = tt
 all_but_last (y ∷ xs) x cs = (cs.0, all_but_last xs x cs.1)
@@ -355,13 +355,14 @@ pub with_last : (xs : List Name) (x : Name) (cs : CodesOf xs) (c : CodeShape) �
 with_last [] x cs c = ((c, tt), refl, refl)
 with_last (y ∷ xs) x cs c = let q = with_last xs x cs.1 c in ((cs.0, q.0), ap (λ z. (cs.0, z)) q.1, q.2)
 
--- A step back: parts for the symbols that are pending after a token become, with its mark, parts for those before it.
+-- A step back: parts for the symbols that are pending after a token, together with its mark, become parts for the
+-- symbols before it.
 
 abbrev pub Back : Pending → Token → Step → Type 0
 Back f t unfit = Unit {0}
 Back f t (take m f') = (m.token ≡ t) × ((ps : Parts f') → (qs : Parts f) × (spell_all f qs ≡ m ∷ spell_all f' ps))
 
--- a symbol is passed over
+-- a symbol is skipped
 abbrev pub passed : (y z : Symbol) (f : Pending) (up : PartOf z → PartOf y)
     → ((p : PartOf z) (rest : List Mark) → spell y (up p) rest ≡ spell z p rest) → (t : Token) (s : Step)
     → Back (z ∷ f) t s → Back (y ∷ f) t s

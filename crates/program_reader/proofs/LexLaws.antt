@@ -1,4 +1,4 @@
--- The part of a text that was read, piece by piece.
+-- The part of a text that is read, piece by piece.
 use Rattle.std.proofs.Common.{◌≡◌, ◌≢◌, ◌<◌, ◌≤◌, ◌+◌, ◌-◌, ℕ, List, [], ◌∷◌, ◌++◌, get_or, length, drop, Bool, true}
 use Rattle.std.proofs.Common.{false, cond, Option, Some, None, refl, ap, sym, ◌∙◌, subst, arith, codes, map, add-zero}
 use Rattle.std.specs.Prelude.{count_by, option_map, option_to_list}
@@ -50,7 +50,7 @@ feeds rest (Other b) fits = omega arith
 
 -- ---- one more piece
 
--- whatever fitting pieces the rest consists of, the tokens and lines of the text are these and then theirs
+-- for all fitting pieces of the rest, the text has these tokens and lines, and then those of the rest
 pub record HasRead (text : List ℕ) (tokens : List Token) (lines : List ℕ) (line : ℕ) (rest : List ℕ) : Type 0 where
   pub goes_on : (more : List Piece) → rest ≡ text_of more → AllFit more
       → (all : List Piece) × (text ≡ text_of all) × AllFit all × (tokens_of all ≡ tokens ++ tokens_of more)

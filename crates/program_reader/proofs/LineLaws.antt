@@ -62,7 +62,7 @@ has_first s m x old m0 rest split r = record {
       (from_comma x [] ∷ f) rest)) r.sound ∙ ap (λ z. tell z (from_comma x [] ∷ f) rest) (sym r.added);
 }
 
--- a further one
+-- a further name
 pub has_more : (s m s' : Scope) (x : Name) (old rest m0 new : List Token) → HasProcesses s m old rest
     → rest ≡ token.Comma ∷ m0 → IsNew a_process m s' x m0 new → HasProcesses s s' old new
 has_more s m s' x old rest m0 new h split r = record {
@@ -92,7 +92,7 @@ more_process_fails s m old rest m0 v more h split e =
     h.goes_on more ∙ ap (tell m (from_comma h.first h.others ∷ more)) split
     ∙ more_fails m h.first h.others more m0 v e
 
--- its end
+-- the end of the line
 no_comma : (s : Scope) (x : Name) (xs : List Name) (f : Pending) (ts : List Token) → (first ts ≡ Some token.Comma → ⊥)
     → tell s (from_comma x xs ∷ f) ts ≡ tell s (semicolon ∷ from_autostart x xs ∷ f) ts
 no_comma s x xs f (token.Comma ∷ ts) h = absurd (h refl)

@@ -92,7 +92,7 @@ values_more {y = y} {k = k} {m = m} h split p spells steps = (
       (λ f. ap (tell m (y ∷ f)) split ∙ steps f ∙ p.goes_on (y ∷ f)),
 )
 
--- the last of them is read
+-- the last declaration is read
 pub all_declared : {A : Type 0} {c : Class} {name_of : A → Name} {y z : Symbol} {marks : List A → List Mark → List Mark}
     {items : List A} {s s' : Scope} {old rest new : List Token} → HasDeclared c name_of y marks items s s' old rest
     → ((ms : List Mark) → marks [] ms ≡ ms) → ((f : Pending) → tell s' (y ∷ f) rest ≡ tell s' (z ∷ f) rest)
@@ -104,7 +104,7 @@ all_declared {z = z} {marks = marks} {items = items} {s' = s'} h none passed sam
   goes_on = λ f. h.goes_on f ∙ passed f ∙ ap (tell s' (z ∷ f)) (sym same);
 }
 
--- a fault in a further one
+-- an error in a further declaration
 pub declared_fails : {A : Type 0} {c : Class} {name_of : A → Name} {y : Symbol} {marks : List A → List Mark → List Mark}
     {items : List A} {s m : Scope} {old rest m0 : List Token} {k : Keyword} {v : Verdict} (more : Pending)
     → HasDeclared c name_of y marks items s m old rest → rest ≡ token.Keyword k ∷ m0
@@ -117,7 +117,7 @@ shorter_behind t old m0 new split h = omega (arith, ap length split)
 
 pub ruleset list_steps = (no_names_yet, no_values_yet, shorter_behind)
 
--- a fault that `?` hands on
+-- an error that `?` passes on
 pub handed_on : {T U : Type 0} {r : Result U ReadFailure} {a : ReadFailure} {f : Fault} → IsErrAnd r (λ e. e ≡ a)
     → r ≡ Err (refusal.Fault f) → ◌≡◌ {A = Result T ReadFailure} (Err a) (Err (refusal.Fault f))
 handed_on {r = r} h e = let p = err_from_is_err_and r h in cc (p.1, p.2, e)

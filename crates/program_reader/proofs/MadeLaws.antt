@@ -1,4 +1,4 @@
--- The text of a process from the parts of its code that were read.
+-- The text of a process, made from the parts of its code that were read.
 use Rattle.std.proofs.Common.{◌≡◌, ℕ, ◌+◌, List, [], ◌∷◌, ◌++◌, length, map, Option, Some, None, option_map, refl, ap}
 use Rattle.std.proofs.Common.{sym, subst, ◌∙◌, ◌≤◌, arith}
 use Rattle.std.proofs.lemmas.List.{length-append, length-map}
@@ -87,7 +87,7 @@ zipped_written : (n : NamesInScope) (ps : List (Name × (Body ℕ))) → zip (na
 zipped_written n [] = refl
 zipped_written n (p ∷ ps) = ap (λ z. (p.0, written n p.1) ∷ z) (zipped_written n ps)
 
--- a shape is that of its code, with the names put back
+-- a shape is the shape of its code, with the names put back
 names_put_back : (n m : NamesInScope) (k : ℕ) (vs : List Valued) (es : List Name) (cs ts : List (Name × (Body ℕ)))
     (on_poll on_exit : Option (Body ℕ)) (body : Body ℕ)
     → m ≡ with_own n (named_of vs) (es ++ named_of cs) (named_of ts)
@@ -167,7 +167,7 @@ pub blocks_paired : (xs : List Name) (ys : List (Body ℕ)) (items : List (Name 
 blocks_paired xs ys items e f = ap length f ∙ length-map items (λ p. p.1) ∙ sym (length-map items (λ p. p.0))
     ∙ sym (ap length e)
 
--- once a code's names are out of scope, there are no more of any kind than may be
+-- after a code's names are out of scope, no class has more names than allowed
 
 pub few_none : (most : ℕ) (xs : List Name) → xs ≡ [] → length xs ≤ most
 few_none most xs e = omega (arith, ap length e)

@@ -1,4 +1,4 @@
--- The next steps of reading after a name that is looked up.
+-- The next steps of reading after a name is looked up.
 use Rattle.std.proofs.Common.{◌≡◌, ℕ, List, [], ◌∷◌, drop, length, refl, sym, ap, ◌∙◌, Option, Some, None, Bool, true}
 use Rattle.std.proofs.Common.{false, not, ◌&&◌, ◌||◌}
 use Rattle.program_tree.specs.Faults.{Scope, scope_after, is_other, is_own}
@@ -34,7 +34,7 @@ pub front_of : (old : List Token) (t : Token) → first old ≡ Some t → old �
 front_of [] t e = absurd cc
 front_of (x ∷ xs) t e = let is : x ≡ t = cc in ap (λ y. y ∷ xs) is
 
--- a token and those after it
+-- a token and the tokens after it
 pub token_then : (t : Token) (old new : List Token) → first old ≡ Some t → new ≡ drop 1 old → old ≡ t ∷ new
 token_then t old new is from = front_of old t is ∙ ap (λ ts. t ∷ ts) (sym from)
 

@@ -1,4 +1,4 @@
--- The machine reports the first fault, and passes programs alone.
+-- The machine reports the first error, and accepts only programs.
 use Rattle.std.proofs.Common.{◌≡◌, ℕ, suc, ◌<◌, List, [], ◌∷◌, ◌++◌, length, refl, sym, ap, ◌∙◌, subst, arith}
 use Rattle.std.proofs.Common.{append_assoc, Bool, true, false, nat_lt, if◌then◌else◌, Option, Some, None, IsTrue, ◌⊎◌}
 use Rattle.std.proofs.Common.{inl, inr}
@@ -51,7 +51,7 @@ it_is_broken broken (j ∷ js) k e = go (broken j) refl e (it_is_broken broken j
     go true is h ih = let same : j ≡ k = cc in subst (λ z. broken z ≡ true) same is
     go false is h ih = ih h
 
--- no rule of a lesser number is broken
+-- no rule with a lower number is broken
 abbrev LeastIn : (ReadErrorKind → Bool) → ℕ → List ReadErrorKind → Type 0
 LeastIn broken n [] = Unit {0}
 LeastIn broken n (k ∷ ks) = (kind_number k < n → broken k ≡ false) × LeastIn broken n ks
@@ -148,7 +148,7 @@ on_marks s m Unexpected e = absurd cc
 on_marks s m NoProcess e = absurd cc
 on_marks s m k e = tt
 
--- the tokens are those of these marks, and the text after them may be one that these symbols derive, and no other
+-- the tokens are those of these marks; the text after them can be any text that these symbols derive, and no other
 pub record Reached (before : List Token) (ms : List Mark) (f : Pending) (s : Scope) : Type 0 where
   pub marks : tokens ms ≡ before
   pub here : (ps : Parts f) → (p : ProgramShape) × (program_marks p [] ≡ ms ++ spell_all f ps)
@@ -181,7 +181,7 @@ begin = record {
   scope = refl;
 }
 
--- the marks of some tokens and one more
+-- the marks of some tokens, and one more mark
 split_last : (before : List Token) (t : Token) (xs : List Mark) → tokens xs ≡ before ++ (t ∷ []) →
     (front : List Mark) × (m : Mark) × (xs ≡ front ++ (m ∷ [])) × (tokens front ≡ before) × (m.token ≡ t)
 split_last [] t [] e = absurd cc
@@ -225,12 +225,12 @@ advance before ms f s t m f' r is =
       scope = ap (λ z. scope_after z m) r.scope ∙ sym (scope_push nothing_yet ms m);
     }
 
--- no fault before these tokens
+-- there is no error before these tokens
 abbrev pub Clean : List Token → List Token → Type 0
 Clean before ts = (b r : List Token) (j : ReadErrorKind) → before ++ ts ≡ b ++ r → length b < length before
     → IsFault j b r → ⊥
 
--- the verdict holds of the text
+-- the verdict is true of the text
 abbrev pub Judged : Verdict → List Token → Type 0
 Judged whole text = (p : ProgramShape) × IsProgram p text
 Judged (fault k left) text = IsFirstFaultAt k left text
@@ -365,12 +365,12 @@ module _ (before ts : List Token) (ms : List Mark) (f : Pending) (s : Scope) (t 
         },
       )
 
--- no fault has a number below 1
+-- no error has a number below 1
 none_below_one : (j : ReadErrorKind) → kind_number j < 1 → ⊥
 none_below_one BadToken h = omega arith
 none_below_one j h = omega arith
 
--- if this can't follow, no mark here can break a rule
+-- if this token can't follow, no mark here can break a rule
 no_breach : (k : ReadErrorKind) (before rest : List Token) → (CanFollow before rest → ⊥) → Breach k before rest → ⊥
 no_breach k before [] bad b = absurd (cc (b.at))
 no_breach k before (t ∷ ts) bad b = bad (
@@ -415,7 +415,7 @@ reports_bad before ts clean = (
   },
 )
 
--- the end of a text, if `process` can follow and the text can't end
+-- the end of a text at a place where `process` can follow and the text can't end
 reports_no_process : (before : List Token) → (CanFollow before [] → ⊥) → LacksProcess before [] → Clean before []
     → Judged (fault NoProcess 0) (before ++ [])
 reports_no_process before bad lacks clean = (
@@ -436,7 +436,7 @@ reports_no_process before bad lacks clean = (
     least NoProcess h i = omega arith
     least j h i = no_breach j before [] bad i
 
--- the marks of some tokens and more
+-- the marks of some tokens, and more marks
 split_at : (before : List Token) (t : Token) (more : List Token) (xs : List Mark) → tokens xs ≡ before ++ (t ∷ more) →
     (front : List Mark) × (m : Mark) × (later : List Mark) × (xs ≡ front ++ (m ∷ later)) × (tokens front ≡ before)
     × (m.token ≡ t)
@@ -462,7 +462,7 @@ cannot_end before ms y f s r h =
     let o = r.only h.0 (program_marks h.0 []) [] (sym (append-nil (program_marks h.0 []))) h.1 in
     subst (λ zs. Forth (y ∷ f) zs) o.2 (forth (y ∷ f) o.1)
 
--- if the end is unexpected at a symbol, `process` can't follow there
+-- if the text can't end at a symbol, `process` can't follow there
 lacks_none : (before : List Token) (ms : List Mark) (y : Symbol) (f : Pending) (s : Scope)
     → Reached before ms (y ∷ f) s → end_kind y ≡ Unexpected → LacksProcess before [] → ⊥
 lacks_none before ms y f s r e h = cannot before ms (y ∷ f) s (token.Keyword word.Process) [] r (process_unfit y f e) h

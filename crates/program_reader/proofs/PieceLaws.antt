@@ -1,4 +1,4 @@
--- The piece that a text begins with.
+-- The piece with which a text begins.
 use Rattle.std.proofs.Common.{◌≡◌, ◌≢◌, ◌<◌, ◌≤◌, ◌+◌, ◌&&◌, not, ℕ, suc, List, [], ◌∷◌, ◌++◌, get_or, length, take}
 use Rattle.std.proofs.Common.{drop, eqb, Bool, true, false, cond, Option, Some, None, refl, ap, sym, subst, arith}
 use Rattle.std.proofs.Common.{codes, one-add}
@@ -14,7 +14,7 @@ use Rattle.program_tree.specs.Words.{begins, is_word_byte, word_token}
 use Rattle.program_tree.specs.Text.{is_feed, is_blank, signs, sign_at, begins_comment, ends_line, Blank, Comment, Word}
 use Rattle.program_tree.specs.Text.{Sign, Other}
 
--- ---- the longest prefix whose bytes pass
+-- ---- the longest prefix whose bytes pass the test
 
 passes_cons : (p : ℕ → Bool) (x : ℕ) (xs : List ℕ) (b : Bool) → p x ≡ b → list_all p xs ≡ true
     → list_all p (cond b (x ∷ xs) []) ≡ true

@@ -1,4 +1,4 @@
--- Statements without a block, made of the operands read after their keywords.
+-- Statements without a block, made of the operands after their keywords.
 use Rattle.std.proofs.Common.{◌≡◌, ℕ, List, [], ◌∷◌, length, true, Some, refl}
 use Rattle.program_tree.specs.Faults.{Scope}
 use Rattle.program_tree.specs.Forms.{Beginning, no_statement, action, branches, loops, goes_on, beginning}
@@ -23,7 +23,7 @@ use Rattle.program_reader.specs.declared.plain.Valued.TheVariants as valued
 use Rattle.program_reader.specs.declared.plain.About.TheVariants as about
 use Rattle.program_reader.proofs.Runs.{IsMadeOf}
 
--- a keyword alone
+-- only a keyword
 
 bare_at : (c : Context) (b : Bare) → IsMadeOf c (bare_action b) (λ n ms. begins_with c (bare_keyword b)
     ∷ sign token.Semicolon ∷ ms) (λ n. Unit {0}) (λ w. true)

@@ -54,7 +54,7 @@ head_names events semaphores processes = record no_names {
   processes = processes;
 }
 
--- the head is read from the beginning of the text on
+-- the head is read, beginning at the start of the text
 pub record HeadIsRead (text m5 : List Token) (s4 : Scope) (counts autostart : List ℕ) (receiver : Option ℕ) : Type 0
   where
     pub s0 : Scope
@@ -94,7 +94,7 @@ line_processes [] ms = refl
 line_processes (p ∷ ps) ms = ap (λ zs. role.sign token.Comma ∷ named p.0 (role.new a_process p.0) ∷ zs)
     (line_processes ps ms)
 
--- the shape of a program that is read
+-- the shape of a program that was read
 abbrev shape_with : List Name → List (Name × ℕ) → Name × CodeShape → List (Name × CodeShape) → List Name → Option Name
     → ProgramShape
 shape_with es ss p ps st r = record {
@@ -123,7 +123,7 @@ tree_same : {e e' s s' ps ps' : List Name} {c c' a a' : List ℕ} {r r' : Option
     tree_with e' s' c' ps' a' r' k' t' ≡ tree_with e s c ps a r k t
 tree_same h1 h2 h3 h4 h5 h6 h7 h8 = cc
 
--- the shape of a tree whose names are those of this shape
+-- the shape of a tree that has the names of this shape
 shape_put_back : (es : List Name) (ss : List (Name × ℕ)) (p : Name × CodeShape) (ps : List (Name × CodeShape))
     (st : List Name) (r : Option Name) (e s qs : List Name) (c a : List ℕ) (rc : Option ℕ) (k : List Code)
     (t : List Timer) → e ≡ es → s ≡ named_of ss → c ≡ values_of ss → qs ≡ p.0 ∷ named_of ps
@@ -167,7 +167,7 @@ all_owned k n (c ∷ cs) h =
     (All-append P (map (λ t. timer_of k true) c.ctimers) (timers_from (k + 1) cs)
     (all_same P (timer_of k true) low c.ctimers) (all_owned (k + 1) n cs (omega arith)))
 
--- head and codes are read, and the text ends after them
+-- the head and the codes are read, and the text ends after them
 module _ (text m5 : List Token) (s4 s5 : Scope) (counts autostart : List ℕ) (receiver : Option ℕ) (trees : List Code)
     (h : HeadIsRead text m5 s4 counts autostart receiver) (r : HasCodes trees [] s4 s5 m5 [])
     (timers : List Timer) (timed : timers ≡ all_timers trees) where

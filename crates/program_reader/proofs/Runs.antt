@@ -1,4 +1,4 @@
--- How the parts of a statement follow one another.
+-- The order in which the parts of a statement follow one another.
 use Rattle.std.proofs.Common.{◌≡◌, ℕ, List, ◌∷◌, refl, sym, ap, subst, ◌∙◌, Bool, true, ◌&&◌, Option}
 use Rattle.std.proofs.lemmas.Bool.{and_from}
 use Rattle.program_tree.specs.Faults.{Scope}
@@ -27,7 +27,7 @@ renumbered n n1 again t e h = λ n' u. h n' (subst (λ z. Extends z n') (sym e) 
 pub refitted : (n n1 : NamesInScope) (own : Option Name) (fits : Within → Bool) → n1 ≡ n → Fits n1 own fits → Fits n own fits
 refitted n n1 own fits e h = λ w u. h w (subst (λ z. Covers z own w) (sym e) u)
 
--- The beginning of a statement is read, with the pending symbols before and behind it: the marks of its parts, the
+-- The beginning of a statement is read, with these pending symbols before and after it: the marks of its parts, the
 -- numbers of their names, and whether these names are in scope.
 pub record Begun (s s' : Scope) (own : Option Name) (front back : Pending → Pending)
     (marks : NamesInScope → List Mark → List Mark) (again : NamesInScope → Type 0) (fits : Within → Bool)
@@ -98,7 +98,7 @@ followed {s = s} {s1 = s1} {own = own} {marks' = marks'} r e spelled goes number
   fit = λ w u. and_from _ _ (r.fit w u) (fits w (subst (λ z. Covers z own w) (sym r.names) u));
 }
 
--- that changes nothing in scope
+-- a part that changes nothing in scope
 pub with_part : {T : Type 0} {s : Scope} {own : Option Name} {y : Symbol} {front back : Pending → Pending}
     {marks marks' : NamesInScope → List Mark → List Mark} {again : NamesInScope → Type 0} {again' : NamesInScope → T} {t : T}
     {fits fits' : Within → Bool} {old mid new : List Token} {a b : ScopeRead} → b ≡ a
@@ -121,7 +121,7 @@ pub with_block : {T : Type 0} {s : Scope} {own : Option Name} {y : Symbol} {fron
     (λ w. fits w && fits' w) old new
 with_block {back = back} a b e r k = followed r (fixed_names b a e) k.spelled (λ f. k.goes_on (back f))
 
--- the other branch of an `if`
+-- the `else` part of an `if`
 pub with_else : {T : Type 0} {s : Scope} {own : Option Name} {c : Context} {front : Pending → Pending}
     {marks marks' : NamesInScope → List Mark → List Mark} {again : NamesInScope → Type 0} {again' : NamesInScope → T} {t : T}
     {fits fits' : Within → Bool} {old mid new : List Token} (a b : ScopeRead) → fixed b ≡ fixed a
@@ -132,7 +132,7 @@ pub with_else : {T : Type 0} {s : Scope} {own : Option Name} {c : Context} {fron
     (λ w. fits w && fits' w) old new
 with_else a b e r k = followed r (fixed_names b a e) k.spelled k.goes_on
 
--- The statement of all its parts.
+-- The statement that consists of all its parts.
 
 pub record IsRead {T : Type 0} (s s' : Scope) (own : Option Name) (c : Context) (t : T)
     (marks : NamesInScope → List Mark → List Mark) (again : NamesInScope → T) (fit : Within → Bool)
@@ -153,7 +153,7 @@ is_read r same numbered fits = record {
   fits = λ w u. sym (fits w) ∙ r.fit w u;
 }
 
--- the marks of an action, its numbers and whether it fits are those of its parts
+-- the marks and the numbers of an action are those of its parts, and it fits if they fit
 pub record IsMadeOf (c : Context) (a : Action ℕ) (marks : NamesInScope → List Mark → List Mark) (again : NamesInScope → Type 0)
     (fits : Within → Bool) : Type 0 where
   pub spelled : (n : NamesInScope) (ms : List Mark) → marks n ms ≡ action_marks c (action_map (name_in n) a) ms

@@ -1,4 +1,4 @@
--- A name that is found is in scope, and means the same thing whatever else is declared.
+-- A name that is found is in scope, and keeps its meaning whatever else is declared.
 use Rattle.std.proofs.Common.{◌≡◌, ℕ, ◌+◌, ◌-◌, List, [], ◌++◌, refl, sym, ap, ◌∙◌, arith, Option, Some, None}
 use Rattle.std.proofs.Common.{option_map, Bool, true, false, not, ◌&&◌, ◌||◌, is_some, slice_index_or}
 use Rattle.program_tree.specs.InScope.{NamesInScope, names_of, is_a, is_in_scope, number_in, name_in, or_zero}
@@ -62,7 +62,7 @@ pub found_other : (n : NamesInScope) (own : Option Name) (c : Class) (x : Name) 
     → IsFound n own c x found.Other
 found_other n own c x e h = (h, or_first _ _ (and_both _ _ h (none_is_a n c x e)))
 
--- The number of the name that is found, and the name with that number, in any names that extend these.
+-- The number of the name that is found, and the name with that number, in all lists of names that extend these.
 
 pub number_found : (n : NamesInScope) (c : Class) (x : Name) (i : ℕ) → look n c x ≡ Some i → number_in n c x ≡ i
 number_found n a_timer x i e =

@@ -1,4 +1,4 @@
--- A stage that is absent is passed over.
+-- Stages of a text that may be absent: an absent stage is skipped.
 use Rattle.std.proofs.Common.{◌≡◌, List, ◌∷◌, Some, refl}
 use Rattle.program_tree.specs.Faults.{Scope}
 use Rattle.program_reader.specs.Machine.{Pending, tell, first, from_events, from_semaphores, from_variables}

@@ -205,7 +205,7 @@ no_receiver_read s old new other same = record {
       ∙ ap (tell s (codes x xs ∷ f)) (sym same);
 }
 
--- the numbers of processes have a meaning; of other classes, any number does
+-- the numbers of processes have a meaning, and so has any number of another class
 within_processes : NamesInScope → Within
 within_processes n a_process i = nat_lt i (length n.processes)
 within_processes n c i = true

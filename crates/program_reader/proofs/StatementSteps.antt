@@ -23,7 +23,7 @@ use Rattle.program_reader.specs.declared.scope.Found.TheVariants as found
 use Rattle.program_reader.proofs.NameSteps.{taken, broken, front_of}
 use Rattle.program_reader.proofs.ScopeLaws.{found_is_a, a_in_scope, name_again, number_again}
 
--- with one more statement
+-- the scope after one more statement
 abbrev pub counted : Scope → Scope
 counted s = record s { statements = s.statements + 1 }
 

@@ -1,4 +1,4 @@
--- Every text is lexed, and in one way.
+-- Each text has exactly one lexing.
 use Rattle.std.proofs.Common.{◌≡◌, ◌<◌, ◌≤◌, ◌+◌, not, ℕ, zero, suc, List, [], ◌∷◌, ◌++◌, get_or, length, drop, Bool}
 use Rattle.std.proofs.Common.{true, false, Option, Some, None, refl, ap, sym, ◌∙◌, subst, arith, codes}
 use Rattle.std.specs.Prelude.{option_map, count_by}
@@ -33,9 +33,9 @@ pub length-lines : (text : List ℕ) (tokens : List Token) (lines : List ℕ) �
 length-lines text tokens lines lexed = ap length lexed.placed ∙ length-lines_from 1 lexed.pieces
     ∙ ap (λ ts. length ts + 1) (sym lexed.matches)
 
--- ---- every text is pieces
+-- ---- each text consists of pieces
 
--- some piece begins it
+-- some piece begins the text
 record Begins (s : List ℕ) : Type 0 where
   token : Option Token
   len : ℕ
@@ -91,7 +91,7 @@ pieces_within (suc k) (b ∷ s) h =
       fit = (subst (λ r. FitsBefore r front.piece) more.spelled front.fits, more.fit);
     }
 
--- every text is lexed
+-- each text has a lexing
 pub every_text : (text : List ℕ) → (tokens : List Token) × (lines : List ℕ) × IsLexed text tokens lines
 every_text text =
     let all = pieces_within (length text) text (omega arith) in (
@@ -106,7 +106,7 @@ every_text text =
       },
     )
 
--- ---- and in one way
+-- ---- only one lexing
 
 front_run : (p : ℕ → Bool) (xs rest : List ℕ) → list_all p xs ≡ true → begins p rest ≡ false
     → take_while p (xs ++ rest) ≡ xs
@@ -190,7 +190,7 @@ same_pieces (p ∷ ps) (q ∷ qs) e f g =
     (e ∙ ap (λ z. bytes_of z ++ text_of qs) (sym first)) in
     ap (λ z. z ∷ ps) first ∙ ap (λ zs. q ∷ zs) (same_pieces ps qs rest f.1 g.1)
 
--- a text has one lexing
+-- a text has only one lexing
 pub one_lexing : (text : List ℕ) (ts us : List Token) (ls ms : List ℕ) → IsLexed text ts ls → IsLexed text us ms
     → (ts ≡ us) × (ls ≡ ms)
 one_lexing text ts us ls ms a b =

@@ -27,7 +27,7 @@ use Rattle.program_reader.proofs.Turns.{same_marks, same_parts}
 use Rattle.program_reader.proofs.TextLaws.{length-lines, every_text, one_lexing}
 use Rattle.program_reader.proofs.OnRecord.{Judged, judged, same_front, shape_from, parts_of_program}
 
--- tokens are those of one program
+-- tokens are the tokens of at most one program
 only_one : (p q : ProgramShape) (text : List Token) → IsProgram p text → IsProgram q text → p ≡ q
 only_one p q text h k =
     let same = same_marks (program_marks p []) (program_marks q []) (from_events ∷ []) (parts_of_program p, tt)
@@ -49,7 +49,7 @@ pub read_fails : (k : ReadErrorKind) (left : ℕ) (text : List Token) → tell n
     ≡ fault k left → IsFirstFaultAt k left text
 read_fails k left text e = subst (λ v. Judged v text) e (judged text)
 
--- a reported error, as the reader has it
+-- a reported error, as the reader returns it
 line_is_there : (ls : List ℕ) (i : ℕ) → i < length ls → slice_get ls i ≡ Some (get_or ls i 0)
 line_is_there ls i h = slice_get-get_or ls i 0 h
 
@@ -85,14 +85,14 @@ reported_read text ts ls k left line lexed e at =
       in_state = ap (λ i. slice_get ls i) here ∙ at;
     }
 
--- a failed allocation is no fault of a text
+-- a failed allocation isn't an error of the text
 never_memory : (before rest : List Token) → IsFirstFault Memory before rest → ⊥
 never_memory before rest h = absurd (cc (h.here.broken))
 
 pub reports_no_memory : (text : List ℕ) (line : ℕ) → IsErrorOf text Memory line → ⊥
 reports_no_memory text line h = never_memory h.before h.rest h.matches
 
--- a tree and a reported error
+-- a text can't have both a tree and a reported error
 pub never_both : (text : List ℕ) (t : Tree) (k : ReadErrorKind) (line : ℕ) → IsTreeOf text t → IsErrorOf text k line → ⊥
 never_both text t k line h f =
     let e = one_lexing text h.tokens f.tokens h.lines f.lines h.lexed f.lexed in
@@ -138,7 +138,7 @@ tree_or_reported text =
       apart = never_both text;
     }
 
--- one reported error
+-- a text has at most one reported error
 same_kind : (j k : ReadErrorKind) → kind_number j ≡ kind_number k → j ≡ k
 same_kind BadToken BadToken e = refl
 same_kind Unexpected Unexpected e = refl

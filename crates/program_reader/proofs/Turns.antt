@@ -1,5 +1,5 @@
--- The marks of the remaining text begin with the one mark that the step gives; so tokens have one list of marks, and
--- marks one shape.
+-- The marks of the remaining text begin with the one mark that the step has. So tokens have only one list of marks,
+-- and marks have only one shape.
 use Rattle.std.proofs.Common.{◌≡◌, List, [], ◌∷◌, ◌++◌, refl, sym, ap, subst, ◌∙◌, Bool, true, false, if◌then◌else◌}
 use Rattle.std.proofs.Common.{Some, None}
 use Rattle.std.specs.Str.{bytes_eq}
@@ -29,7 +29,8 @@ use Rattle.program_reader.proofs.Language.{codes_spelled, all_but_last, last, la
 use Rattle.program_reader.proofs.Language.{more_spelled}
 use Rattle.program_tree.proofs.NameLaws.{bytes_same}
 
--- a step forward: the marks begin with the mark that the step gives, and continue with those of parts for its symbols
+-- a step forward: the marks begin with the mark that the step has, and continue with the marks of parts for its
+-- symbols
 abbrev pub On : Mark → List Mark → Step → Type 0
 On m ms unfit = ⊥
 On m ms (take m' f') = (m' ≡ m) × (ps : Parts f') × (spell_all f' ps ≡ ms)
@@ -248,7 +249,7 @@ both_same : (f : Pending) (m : Mark) (ms : List Mark) (ps qs : Parts f) (s : Ste
 both_same f m ms ps qs unfit b ih p q = absurd p
 both_same f m ms ps qs (take m' f') b ih p q = sym p.3 ∙ ap (λ xs. (b.1 xs).0) (ih f' p.1 q.1 p.2 q.2) ∙ q.3
 
--- the remaining text has no two parts with the same marks
+-- parts of the remaining text that have the same marks are the same
 pub same_parts : (ms : List Mark) (f : Pending) (ps qs : Parts f) → spell_all f ps ≡ ms → spell_all f qs ≡ ms → ps ≡ qs
 same_parts [] [] ps qs p q = refl
 same_parts [] (s ∷ f) ps qs p q = absurd (subst (λ zs. Turns (s ∷ f) ps zs) p (turns (s ∷ f) ps))
@@ -267,7 +268,7 @@ heads : (f : Pending) (m n : Mark) (ms ns : List Mark) (s : Step)
 heads f m n ms ns unfit ih p q = absurd p
 heads f m n ms ns (take m' f') ih p q = let a = ih f' p.1 q.1 p.2 q.2 in let b : m ≡ n = sym p.0 ∙ q.0 in cc (a, b)
 
--- tokens have one list of marks
+-- tokens have only one list of marks
 pub same_marks : (ms ns : List Mark) (f : Pending) (ps qs : Parts f) → spell_all f ps ≡ ms → spell_all f qs ≡ ns
     → tokens ms ≡ tokens ns → ms ≡ ns
 same_marks [] [] f ps qs p q e = refl

@@ -25,7 +25,7 @@ use Rattle.program_reader.specs.declared.value_word.Telling.TheVariants as telli
 use Rattle.program_reader.proofs.ExpressionSteps.{alone_start, bang_start, open_start}
 use Rattle.program_reader.proofs.NameSteps.{front_of, token_then}
 
--- this expression is read, by its marks
+-- this expression is read, and has these marks
 abbrev ReadsValue : Scope → Context → Expression ℕ → List Token → List Token → Type 0
 ReadsValue s c e old new = Reads s s (expression c) (λ n ms. expression_marks c (expression_map (name_in n) e) ms) old
     new
@@ -36,7 +36,7 @@ NumbersValue n e = Numbered n (λ n'. expression_map (number_in n') (expression_
 abbrev FitsValue : NamesInScope → Option Name → Expression ℕ → Type 0
 FitsValue n own e = Fits n own (λ w. expression_fits w e)
 
--- the marks of a value, its numbers and whether it fits are those of its operand
+-- the marks and the numbers of a value are those of its operand, and the value fits if its operand fits
 record IsMadeOf (c : Context) (e : Expression ℕ) (marks : NamesInScope → List Mark → List Mark) (again : NamesInScope → Type 0)
     (fits : Within → Bool) : Type 0 where
   spelled : (n : NamesInScope) (ms : List Mark) → marks n ms ≡ expression_marks c (expression_map (name_in n) e) ms
@@ -103,7 +103,7 @@ telling_read {c = c} {d = d} {i = i} {e = e} t class is r numbered fits =
     rw (class, is) (telling_at c t i) in
     is_value made r numbered fits
 
--- a keyword that is no value
+-- a keyword that isn't a value
 
 no_word_at : (s : Scope) (c : Context) (k : Keyword) (f : Pending) (ts : List Token) → word_of k ≡ no_value
     → tell s (expression c ∷ f) (token.Keyword k ∷ ts) ≡ fault Unexpected (length (token.Keyword k ∷ ts))

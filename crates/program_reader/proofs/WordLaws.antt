@@ -1,4 +1,4 @@
--- Words are ASCII, and the token of each.
+-- Words are ASCII, and each has a token.
 use Rattle.std.proofs.Common.{◌≡◌, ◌<◌, ◌≤◌, ◌+◌, ◌*◌, ◌-◌, ℕ, zero, suc, min, List, [], ◌∷◌, get_or, length, take}
 use Rattle.std.proofs.Common.{Bool, true, false, Some, None, refl, ap, sym, ◌∙◌, arith, if◌then◌else◌}
 use Rattle.std.proofs.lemmas.Bool.{and_parts}
@@ -34,7 +34,7 @@ all_at p [] i h l = absurd (omega arith)
 all_at p (x ∷ xs) zero h l = (and_parts (p x) (list_all p xs) h).0
 all_at p (x ∷ xs) (suc i) h l = all_at p xs i (and_parts (p x) (list_all p xs) h).1 (omega arith)
 
--- capping a value before the next digit changes nothing after it
+-- if a value is capped before the next digit is read, the result is the same
 capped_more : (v d : ℕ) → min (10 * min v 65536 + d) 65536 ≡ min (v * 10 + d) 65536
 capped_more v d = omega arith
 

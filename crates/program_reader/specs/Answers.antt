@@ -1,4 +1,4 @@
--- The result of a call of the reader: the part of a program that it read, or the first error.
+-- The result of a call of the reader: the part of a program that it has read, or the first error.
 use Rattle.std.specs.Prelude.{◌≡◌, ◌+◌, ◌<◌, ◌≤◌, length, Result, IfOk, OnOk}
 use Rattle.program_tree.specs.Grammar.{expression_marks, action_marks, statement_marks}
 use Rattle.program_tree.specs.InScope.{name_in, number_in}
@@ -15,7 +15,7 @@ use Rattle.program_reader.specs.declared.fault.ReadFailure.{ReadFailure}
 use Rattle.program_reader.specs.declared.reader.Reader.{Reader}
 use Rattle.program_reader.specs.declared.scope.Context.{Context}
 
--- an expression
+-- the result of reading an expression
 pub record AnswersExpression (old new : Reader) (place : Context) (result : Result Expr ReadFailure) : Type 0 where
   pub no_longer : length new.cursor ≤ length old.cursor
   pub same : new.scope ≡ old.scope
@@ -28,7 +28,7 @@ pub record AnswersExpression (old new : Reader) (place : Context) (result : Resu
       (λ w. expression_fits w (expression_of e)))
   pub err : Fails (scope_of old.scope) (expression (context_of place)) old.cursor result
 
--- a statement without a block
+-- the result of reading a statement without a block
 pub record AnswersAction (old new : Reader) (place : Context) (result : Result Action ReadFailure) : Type 0 where
   pub names : fixed new.scope ≡ fixed old.scope
   pub shorter : OnOk result (length new.cursor < length old.cursor)
@@ -41,7 +41,7 @@ pub record AnswersAction (old new : Reader) (place : Context) (result : Result A
       (λ w. action_fits w (action_of a)))
   pub err : Fails (scope_of old.scope) (items (context_of place)) old.cursor result
 
--- a statement, which is counted along with those in its blocks
+-- the result of reading a statement; the reader counts it, and the statements in its blocks
 pub record AnswersStatement (old new : Reader) (place : Context) (result : Result Stmt ReadFailure) : Type 0 where
   pub names : fixed new.scope ≡ fixed old.scope
   pub shorter : OnOk result (length new.cursor < length old.cursor)

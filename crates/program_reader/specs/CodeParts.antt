@@ -18,7 +18,7 @@ use Rattle.program_tree.specs.Tree.{Class, Body, body_map}
 use Rattle.program_tree.specs.declared.keyword.Keyword.{Keyword}
 use Rattle.program_tree.specs.declared.keyword.Keyword.TheVariants as word
 
--- A block with its names put back. Its numbers are right if numbering these names gives the block again.
+-- A block with its names put back. Its numbers are correct if numbering these names results in the same block.
 abbrev pub written : NamesInScope → Body ℕ → Body Name
 written n b = body_map (name_in n) b
 
@@ -36,7 +36,7 @@ MaybeNumbered n (Some b) = IsNumbered n b
 abbrev pub all_written : NamesInScope → List (Name × (Body ℕ)) → List Named
 all_written n items = map (λ p. (p.0, written n p.1)) items
 
--- a new callback timer or thread, with its block
+-- a new callback timer or thread is read, with its block
 pub record IsNamedBlock (c : Class) (y : Pending → Pending) (place : Name → Context) (tree : Body ℕ) (s s' : Scope)
     (old new : List Token) : Type 0 where
   pub name : Name
@@ -47,7 +47,7 @@ pub record IsNamedBlock (c : Class) (y : Pending → Pending) (place : Name → 
       → old ≡ token.Name name ∷ tokens (block_marks (place name) (written n tree) ms)
   pub goes_on : (f : Pending) → tell s (y f) old ≡ tell s' f new
 
--- some of them, and there may be more
+-- the first callback timers or threads are read, and there may be more
 pub record HasBlocks (c : Class) (y : Symbol) (marks : List Named → List Mark → List Mark) (trees : List (Body ℕ))
     (s s' : Scope) (old rest : List Token) : Type 0 where
   pub items : List (Name × (Body ℕ))
@@ -60,7 +60,7 @@ pub record HasBlocks (c : Class) (y : Symbol) (marks : List Named → List Mark 
       → old ≡ tokens (marks (all_written n items ++ more) ms)
   pub goes_on : (f : Pending) → tell s (y ∷ f) old ≡ tell s' (y ∷ f) rest
 
--- all of them
+-- all callback timers or threads are read
 pub record ReadsBlocks (c : Class) (y z : Symbol) (marks : List Named → List Mark → List Mark) (trees : List (Body ℕ))
     (s s' : Scope) (old new : List Token) : Type 0 where
   pub items : List (Name × (Body ℕ))
@@ -72,7 +72,7 @@ pub record ReadsBlocks (c : Class) (y z : Symbol) (marks : List Named → List M
       → old ≡ tokens (marks (all_written n items) ms)
   pub goes_on : (f : Pending) → tell s (y ∷ f) old ≡ tell s' (z ∷ f) new
 
--- `onpoll` or `onexit`, if present
+-- `onpoll` or `onexit` is read, if it is present
 pub record ReadsHandler (k : Keyword) (y z : Symbol) (tree : Option (Body ℕ)) (s s' : Scope)
     (old new : List Token) : Type 0 where
   pub names : s'.names ≡ s.names
@@ -82,7 +82,7 @@ pub record ReadsHandler (k : Keyword) (y z : Symbol) (tree : Option (Body ℕ)) 
       → old ≡ tokens (handler_marks k (option_map (written n) tree) ms)
   pub goes_on : (f : Pending) → tell s (y ∷ f) old ≡ tell s' (z ∷ f) new
 
--- the body; the last brace is not yet read
+-- the body is read, but not the last brace after it
 pub record ReadsBody (tree : Body ℕ) (s s' : Scope) (old new : List Token) : Type 0 where
   pub names : s'.names ≡ s.names
   pub starting : s'.starting ≡ s.starting
@@ -91,13 +91,13 @@ pub record ReadsBody (tree : Body ℕ) (s s' : Scope) (old new : List Token) : T
       → old ≡ token.Keyword word.Body ∷ tokens (block_marks at_body (written n tree) ms)
   pub goes_on : (f : Pending) → tell s (machine.from_body ∷ f) old ≡ tell s' (machine.last_brace ∷ f) new
 
--- a code's keyword, name and opening brace
+-- the keyword, the name and the opening brace of a code are read
 pub record ReadsOpening (x : Name) (s : Scope) (old new : List Token) : Type 0 where
   pub spelled : old ≡ token.Keyword word.Code ∷ token.Name x ∷ token.OpenBrace ∷ new
   pub goes_on : (xs : List Name) (f : Pending) → tell s (machine.codes x xs ∷ f) old
       ≡ tell s (machine.from_variables ∷ codes_form xs f) new
 
--- the code of a process
+-- the code of a process is read
 pub record ReadsCode (x : Name) (process : ℕ) (code : Code) (s s' : Scope) (old new : List Token) : Type 0 where
   pub shape : CodeShape
   pub tree : code ≡ code_in process (inside s.names shape) shape
@@ -107,11 +107,11 @@ pub record ReadsCode (x : Name) (process : ℕ) (code : Code) (s s' : Scope) (ol
   pub spelled : (ms : List Mark) → tokens ms ≡ new → old ≡ tokens (code_marks (x, shape) ms)
   pub goes_on : (xs : List Name) (f : Pending) → tell s (machine.codes x xs ∷ f) old ≡ tell s' (codes_form xs f) new
 
--- with these names of a code instead of its own
+-- the names in scope, with these names of a code
 abbrev pub with_own : NamesInScope → (variables timers threads : List Name) → NamesInScope
 with_own n vs ts hs = record n { variables = vs; timers = ts; threads = hs }
 
--- The text between the braces of a code is read, but for its last brace: the names of the event timers and callback
+-- The text between the braces of a code is read, up to its last brace: the names of the event timers and callback
 -- timers, the first values, and the blocks.
 pub record ReadsContent (own_etimers own_ctimers : List Name) (starts : List ℕ)
     (callbacks thread_bodies : List (Body ℕ)) (on_poll on_exit : Option (Body ℕ)) (body : Body ℕ)

@@ -21,7 +21,7 @@ abbrev pub behind : NamesInScope → List CodeShape → NamesInScope
 behind n [] = n
 behind n (c ∷ cs) = behind (outside (inside n c)) cs
 
--- the codes of the first processes are read, and those of the processes `left` are not
+-- the codes of the first processes are read, and the codes of the processes `left` are not
 pub record HasCodes (trees : List Code) (left : List Name) (s s' : Scope) (old rest : List Token) : Type 0 where
   pub shapes : List (Name × CodeShape)
   pub named : s.names.processes ≡ named_of shapes ++ left
@@ -47,7 +47,7 @@ pub record ReadsHead (counts autostart : List ℕ) (receiver : Option ℕ) (s s'
     pub starting : ReadsAutostart s3 s' autostart m3 m4
     pub receiving : ReadsReceiver s' receiver m4 new
 
--- the timers of a code, and of all
+-- the timers of a code, and the timers of all codes
 abbrev pub timers_of_code : Code → List Timer
 timers_of_code c = replicate (length c.etimers) (timer_of c.number false) ++ replicate (length c.ctimers)
     (timer_of c.number true)
@@ -56,7 +56,7 @@ abbrev pub all_timers : List Code → List Timer
 all_timers [] = []
 all_timers (c ∷ cs) = timers_of_code c ++ all_timers cs
 
--- the tree of the names in scope after a text and its parts
+-- the tree of a program with these names in scope at its end, and with these parts
 abbrev pub tree_with : ScopeRead → Parts → Tree
 tree_with s p = record {
   events = s.events;

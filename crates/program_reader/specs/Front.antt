@@ -7,11 +7,11 @@ use Rattle.program_tree.specs.TokenMeaning.{token_of}
 use Rattle.program_tree.specs.Words.{is_word_byte}
 use Rattle.program_tree.specs.Text.{Piece, bytes_of, token_at, FitsBefore, is_blank, begins_comment}
 
--- a text of a table, and its token
+-- an entry of a table: a text and its token
 abbrev pub entry_of : Bor (List ℕ) × TokenRead → List ℕ × Token
 entry_of entry = (entry.0.now, token_of entry.1)
 
--- the text begins with a piece of this many bytes that fits before the rest, and this is its token
+-- the text begins with a piece of this many bytes, which fits before the rest of the text and has this token
 pub record BeginsWith (text : List ℕ) (token : Option Token) (len : ℕ) : Type 0 where
   pub piece : Piece
   pub split : text ≡ bytes_of piece ++ drop len text
@@ -19,7 +19,7 @@ pub record BeginsWith (text : List ℕ) (token : Option Token) (len : ℕ) : Typ
   pub fits : FitsBefore (drop len text) piece
   pub is : token ≡ token_at piece
 
--- the text begins with no blank, word or comment
+-- the text begins with neither a blank, nor a word, nor a comment
 pub record BeginsOther (text : List ℕ) : Type 0 where
   pub some : 0 < length text
   pub no_blank : is_blank (slice_index text 0) ≡ false

@@ -30,15 +30,15 @@ class_of_kind kind.Etimer = a_timer
 class_of_kind kind.Ctimer = a_timer
 class_of_kind kind.Thread = a_thread
 
--- with other names in scope
+-- the scope, with other names
 abbrev pub with_names : Scope → NamesInScope → Scope
 with_names s n = record s { names = n }
 
--- with other processes in `autostart`
+-- the scope, with other processes in `autostart`
 abbrev pub with_starting : Scope → List Name → Scope
 with_starting s xs = record s { starting = xs }
 
--- if the result is a fault, it is the first one, whatever comes after these symbols
+-- if the result is an error, it is the first error, whatever symbols follow these
 abbrev pub FailsIn : {T : Type 0} → Scope → Pending → List Token → Result T ReadFailure → Type 0
 FailsIn s y old result = (f : Fault) → result ≡ Err (refusal.Fault f) → (more : Pending)
     → tell s (y ++ more) old ≡ fault f.kind f.left
@@ -56,7 +56,7 @@ pub record IsListed (c : Class) (s s' : Scope) (old new : List Token) : Type 0 w
   pub spelled : old ≡ token.Name name ∷ token.Semicolon ∷ new
   pub goes_on : (f : Pending) → tell s (new_name c ∷ machine.semicolon ∷ f) old ≡ tell s' f new
 
--- a new name is read, its first value, and the semicolon after it
+-- a new name, its first value and the semicolon after it are read
 pub record IsValued (c : Class) (s s' : Scope) (values values' : List ℕ) (old new : List Token) : Type 0 where
   pub name : Name
   pub value : ℕ
@@ -66,12 +66,12 @@ pub record IsValued (c : Class) (s s' : Scope) (values values' : List ℕ) (old 
   pub goes_on : (f : Pending) → tell s (new_name c ∷ machine.equals ∷ machine.number ∷ machine.semicolon ∷ f) old
       ≡ tell s' f new
 
--- names are declared, one by one
+-- the names in scope after these names are declared, one by one
 abbrev pub with_all : NamesInScope → Class → List Name → NamesInScope
 with_all names c [] = names
 with_all names c (x ∷ xs) = with_all (with_new names c x) c xs
 
--- some declarations of a class are read, and there may be more of them
+-- some declarations of a class are read, and there may be more
 pub record HasDeclared {A : Type 0} (c : Class) (name_of : A → Name) (y : Symbol) (marks : List A → List Mark
     → List Mark)
     (items : List A) (s s' : Scope) (old rest : List Token) : Type 0 where
@@ -81,7 +81,7 @@ pub record HasDeclared {A : Type 0} (c : Class) (name_of : A → Name) (y : Symb
       → old ≡ tokens (marks (items ++ more) ms)
   pub goes_on : (f : Pending) → tell s (y ∷ f) old ≡ tell s' (y ∷ f) rest
 
--- all declarations of a class are read, and the symbol after them comes
+-- all declarations of a class are read, and the symbol after them is next
 pub record Declares {A : Type 0} (c : Class) (name_of : A → Name) (y z : Symbol) (marks : List A → List Mark
     → List Mark)
     (items : List A) (s s' : Scope) (old new : List Token) : Type 0 where
@@ -93,7 +93,7 @@ pub record Declares {A : Type 0} (c : Class) (name_of : A → Name) (y z : Symbo
 abbrev pub itself : Name → Name
 itself x = x
 
--- the events and the event timers
+-- some events or event timers are read
 abbrev pub HasNames : Class → Symbol → (List Name → List Mark → List Mark) → Scope → Scope → List Token → List Token
     → Type 0
 HasNames c y marks s s' old rest = (items : List Name) × HasDeclared c itself y marks items s s' old rest
@@ -102,7 +102,7 @@ abbrev pub ReadsNames : Class → Symbol → Symbol → (List Name → List Mark
     → List Token → Type 0
 ReadsNames c y z marks s s' old new = (items : List Name) × Declares c itself y z marks items s s' old new
 
--- the semaphores and the variables, with their first values
+-- some semaphores or variables are read, with their first values
 abbrev pub HasValues : Class → Symbol → (List Valued → List Mark → List Mark) → List ℕ → Scope → Scope → List Token
     → List Token → Type 0
 HasValues c y marks values s s' old rest =
@@ -115,12 +115,12 @@ ReadsValues c y z marks values s s' old new =
 
 -- The process line.
 
--- its further names, each after a comma, and its semicolon
+-- the names after the first, each after a comma, and the semicolon of the line
 abbrev pub line_marks : List Name → (after : List Mark) → List Mark
 line_marks [] after = sign token.Semicolon ∷ after
 line_marks (x ∷ xs) after = sign token.Comma ∷ named x (role.new a_process x) ∷ line_marks xs after
 
--- the first names of it are read
+-- the first names of the process line are read
 pub record HasProcesses (s s' : Scope) (old rest : List Token) : Type 0 where
   pub first : Name
   pub others : List Name
@@ -130,7 +130,7 @@ pub record HasProcesses (s s' : Scope) (old rest : List Token) : Type 0 where
   pub goes_on : (f : Pending) → tell s (machine.from_semaphores ∷ f) old
       ≡ tell s' (machine.from_comma first others ∷ f) rest
 
--- all of it is read
+-- the whole process line is read
 pub record ReadsProcesses (s s' : Scope) (old new : List Token) : Type 0 where
   pub first : Name
   pub others : List Name
@@ -142,13 +142,13 @@ pub record ReadsProcesses (s s' : Scope) (old new : List Token) : Type 0 where
 
 -- The processes that start at boot.
 
--- a name that may be listed in `autostart`: that of the process with this number
+-- `autostart` may list this name, which is the name of the process with this number
 pub record CanStart (s : Scope) (x : Name) (number : ℕ) : Type 0 where
   pub declared : is_in_scope s.names x ≡ true
   pub fresh : place_of s.starting x ≡ None
   pub known : place_of s.names.processes x ≡ Some number
 
--- a process is listed
+-- one process of `autostart` is read
 pub record IsStarting (s s' : Scope) (numbers numbers' : List ℕ) (old new : List Token) : Type 0 where
   pub name : Name
   pub number : ℕ
@@ -158,7 +158,7 @@ pub record IsStarting (s s' : Scope) (numbers numbers' : List ℕ) (old new : Li
   pub spelled : old ≡ token.Name name ∷ new
   pub goes_on : (f : Pending) → tell s (machine.starting ∷ f) old ≡ tell s' f new
 
--- the first of them are listed
+-- the first processes of `autostart` are read
 pub record HasStarting (s s' : Scope) (numbers : List ℕ) (old rest : List Token) : Type 0 where
   pub first : Name
   pub others : List Name
@@ -172,7 +172,7 @@ pub record HasStarting (s s' : Scope) (numbers : List ℕ) (old rest : List Toke
       tell s (machine.from_autostart x xs ∷ f) old ≡ tell s' (machine.more_starting ∷ machine.from_receiver x xs ∷ f)
       rest
 
--- all of them are
+-- all processes of `autostart` are read
 pub record ReadsAutostart (s s' : Scope) (numbers : List ℕ) (old new : List Token) : Type 0 where
   pub names : List Name
   pub added : s' ≡ with_starting s (s.starting ++ names)
@@ -183,7 +183,7 @@ pub record ReadsAutostart (s s' : Scope) (numbers : List ℕ) (old new : List To
   pub goes_on : (x : Name) (xs : List Name) (f : Pending) →
       tell s (machine.from_autostart x xs ∷ f) old ≡ tell s' (machine.from_receiver x xs ∷ f) new
 
--- The process that packets go to.
+-- The process that gets packets.
 pub record ReadsReceiver (s : Scope) (receiver : Option ℕ) (old new : List Token) : Type 0 where
   pub name : Option Name
   pub numbered : receiver ≡ option_map (number_in s.names a_process) name

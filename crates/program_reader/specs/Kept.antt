@@ -1,4 +1,4 @@
--- The names in scope between codes, and those of them that are kept.
+-- The names in scope between codes, and the names among them that are kept.
 use Rattle.std.specs.Prelude.{◌≡◌, []}
 use Rattle.program_reader.specs.declared.scope.Scope.{Scope}
 

@@ -1,5 +1,5 @@
--- The remaining text, as a list of symbols, and the effect of each token on it. A device of the proofs: the grammar and
--- its errors are defined without it. Each symbol derives at least one token.
+-- The remaining text, as a list of symbols, and the effect of each token on this list. Only the proofs use it: the
+-- grammar and its errors are defined without it. Each symbol derives at least one token.
 use Rattle.std.specs.Prelude.{ℕ, suc, ◌+◌, List, [], ◌∷◌, ◌++◌, length, Bool, if◌then◌else◌, Option, Some, None}
 use Rattle.std.specs.Str.{bytes_eq}
 use Rattle.program_tree.specs.Faults.{Scope, scope_after, breaks}
@@ -32,17 +32,17 @@ pub data Symbol : Type 0 where
   -- `;`, or `into`, a variable and `;`
   into_end : Context → Symbol
   block : Context → Symbol
-  -- the statements of a block, and its closing brace; the same after the first block of an `if`
+  -- the statements of a block and its closing brace; and the same after the first block of an `if`
   items : Context → Symbol
   items_else : Context → Symbol
   -- a new name of a class
   new_name : Class → Symbol
   -- the name of a new thread, and its block
   new_thread : Symbol
-  -- a code, from its keyword on, and the codes of these processes after it
+  -- a code, from its keyword on, and after it the codes of these processes
   codes : Name → List Name → Symbol
   this_name : Name → Symbol
-  -- the rest of a code: from the variables, the timers of either kind, the threads, `onpoll`, `onexit` or the body on
+  -- the rest of a code: from the variables, the timers of one kind, the threads, `onpoll`, `onexit` or the body on
   from_variables : Symbol
   from_etimers : Symbol
   from_ctimers : Symbol
@@ -55,10 +55,10 @@ pub data Symbol : Type 0 where
   from_events : Symbol
   from_semaphores : Symbol
   first_process : Symbol
-  -- the rest of the process line, from after a name or from a name on, with the processes named so far
+  -- the rest of the process line, from the place after a name or from a name on, with the processes named so far
   from_comma : Name → List Name → Symbol
   more_process : Name → List Name → Symbol
-  -- from `autostart` or `receiver` on
+  -- the rest of a program, from `autostart` or `receiver` on
   from_autostart : Name → List Name → Symbol
   from_receiver : Name → List Name → Symbol
   starting : Symbol
@@ -68,7 +68,7 @@ pub data Symbol : Type 0 where
 abbrev pub Pending : Type 0
 Pending = List Symbol
 
--- a token doesn't fit, or it has this mark, and then these symbols are pending
+-- the token doesn't fit; or it has this mark, and these symbols are pending after it
 pub data Step : Type 0 where
   unfit : Step
   take : Mark → Pending → Step
@@ -144,7 +144,7 @@ abbrev pub items_else_step : Context → Pending → Token → Step
 items_else_step c f (token.Keyword k) = else_step c k (beginning k) f
 items_else_step c f t = items_step c f t
 
--- The stages of a code. Each except the body may be passed over.
+-- The stages of a code. Each stage except the body may be absent.
 
 abbrev pub body_step : Pending → Token → Step
 body_step f (token.Keyword word.Body) = take (key word.Body) (block at_body ∷ last_brace ∷ f)
@@ -176,7 +176,7 @@ variables_step f (token.Keyword word.Var) = take (key word.Var)
     (new_name a_variable ∷ equals ∷ number ∷ semicolon ∷ from_variables ∷ f)
 variables_step f t = etimers_step f t
 
--- the codes that are left
+-- the remaining codes
 abbrev pub codes_form : List Name → Pending → Pending
 codes_form [] f = f
 codes_form (x ∷ xs) f = codes x xs ∷ f
@@ -253,7 +253,7 @@ step (more_starting ∷ f) token.Comma = take (sign token.Comma) (starting ∷ m
 step (more_starting ∷ f) token.Semicolon = take (sign token.Semicolon) f
 step (s ∷ f) t = unfit
 
--- a whole program, or the first fault, with the number of tokens from its token on
+-- the text is a whole program, or has this first error; `left` is the number of tokens from the error's token on
 pub data Verdict : Type 0 where
   whole : Verdict
   fault : ReadErrorKind → (left : ℕ) → Verdict
@@ -283,17 +283,17 @@ abbrev pub fault_or : Option ReadErrorKind → (left : ℕ) → Verdict → Verd
 fault_or None left other = other
 fault_or (Some k) left other = fault k left
 
--- the fault of a token that doesn't fit
+-- the error of a token that doesn't fit
 abbrev pub unfit_kind : Token → ReadErrorKind
 unfit_kind token.Bad = BadToken
 unfit_kind t = Unexpected
 
--- the same for the next token, or for the end
+-- the error of the next token if it doesn't fit, or of the end of the text
 abbrev pub unfit_at : Option Token → ReadErrorKind
 unfit_at None = Unexpected
 unfit_at (Some t) = unfit_kind t
 
--- the verdict at a token, given by `on` the verdict on those after it
+-- the verdict at a token; `on` is the verdict on the tokens after it
 abbrev pub after : Scope → (left : ℕ) → Token → Step → (Scope → Pending → Verdict) → Verdict
 after s left t unfit on = fault (unfit_kind t) left
 after s left t (take m f) on = fault_or (first_broken s m) left (on (scope_after s m) f)

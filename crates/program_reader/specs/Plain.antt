@@ -1,5 +1,4 @@
--- The statements without a block that begin with a keyword, by the operands that follow it: their keywords, and their
--- trees.
+-- The statements without a block that begin with a keyword, by the operands after it: their keywords, and their trees.
 use Rattle.std.specs.Prelude.{ℕ, Option, Some}
 use Rattle.program_tree.specs.Forms.{Beginning, action, beginning}
 use Rattle.program_reader.specs.Steps.{IsPlain}
@@ -23,7 +22,7 @@ abbrev pub IsNoAction : Beginning → Type 0
 IsNoAction (action f) = ⊥
 IsNoAction b = Unit {0}
 
--- the first token of a statement without a block, or one that begins no statement
+-- the first token of a statement without a block, or a token that begins no statement
 abbrev pub BeginsPlain : Option Token → Type 0
 BeginsPlain (Some token.CloseBrace) = ⊥
 BeginsPlain (Some (token.Keyword k)) = IsPlain (beginning k)

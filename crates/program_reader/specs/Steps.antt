@@ -1,5 +1,5 @@
--- The result of reading one part of a program: its tokens are spelled by its marks, and the machine continues after
--- it, whatever follows.
+-- The result of reading one part of a program: its marks spell its tokens, and the machine continues after the part,
+-- whatever follows.
 use Rattle.std.specs.Prelude.{◌≡◌, ℕ, ◌+◌, List, ◌∷◌, ◌++◌, Bool, true, false, ◌||◌, Option, Some, option_map, Result}
 use Rattle.std.specs.Prelude.{Err}
 pub use Rattle.program_tree.specs.Classes.{class_of}
@@ -46,7 +46,7 @@ scope_of s = record {
 abbrev pub context_of : ContextRead → Context
 context_of c = record { level = c.level; simple = c.simple; thread = option_map (λ x. x.now) c.thread }
 
--- the numbers of events are below 117, those of all other classes below 64
+-- the numbers of events are below 117, and the numbers of all other classes are below 64
 abbrev pub most_of : Class → ℕ
 most_of an_event = 117
 most_of c = 64
@@ -65,7 +65,7 @@ token_of_sign read_sign.Open = token.Open
 token_of_sign read_sign.Close = token.Close
 token_of_sign read_sign.OpenBrace = token.OpenBrace
 
--- Names as they are looked up.
+-- The look-up of names.
 
 -- the number of a name of a class
 abbrev pub look : NamesInScope → Class → Name → Option ℕ
@@ -76,7 +76,7 @@ abbrev pub is_own_thread : Option Name → Class → Name → Bool
 is_own_thread own a_thread x = is_own own x
 is_own_thread own c x = false
 
--- the name has this number, and isn't that of the thread that is being read
+-- the name has this number, and isn't the name of the thread that is being read
 pub record Finds (n : NamesInScope) (own : Option Name) (c : Class) (x : Name) (i : ℕ) : Type 0 where
   pub found : look n c x ≡ Some i
   pub other : is_own_thread own c x ≡ false
@@ -87,13 +87,13 @@ pub record IsNamed (n : NamesInScope) (own : Option Name) (c : Class) (i : ℕ) 
   pub here : first old ≡ Some (token.Name name)
   pub finds : Finds n own c name i
 
--- the number of a name, if one of this class is expected
+-- the thing that a name refers to, if the reader expects this class
 abbrev pub IsFound : NamesInScope → Option Name → Class → Name → Found → Type 0
 IsFound n own c x found.Unknown = is_in_scope n x ≡ false
 IsFound n own c x found.Other = (is_in_scope n x ≡ true) × ((is_other n c x || is_own_thread own c x) ≡ true)
 IsFound n own c x (found.Here i) = Finds n own c x i
 
--- the names in scope stay there, and more may be declared
+-- the first list begins the second: its names stay in scope, and more may be declared
 abbrev pub IsFront : List Name → List Name → Type 0
 IsFront xs ys = (more : List Name) × (ys ≡ xs ++ more)
 
@@ -101,11 +101,11 @@ pub record Extends (n n' : NamesInScope) : Type 0 where
   pub front : (c : Class) → IsFront (names_of n c) (names_of n' c)
   pub first_timer : n'.first_timer ≡ n.first_timer
 
--- each number that a name is found to have is within
+-- each number that is found for a name is within these numbers
 abbrev pub Covers : NamesInScope → Option Name → Within → Type 0
 Covers n own w = (c : Class) (x : Name) (i : ℕ) → Finds n own c x i → w c i ≡ true
 
--- with its names put back and numbered again the tree is the same, whatever else is declared
+-- if its names are put back and numbered again, the tree stays the same, whatever else is declared
 abbrev pub Numbered : {T : Type 0} → NamesInScope → (again : NamesInScope → T) → T → Type 0
 Numbered n again t = (n' : NamesInScope) → Extends n n' → again n' ≡ t
 
@@ -113,9 +113,9 @@ Numbered n again t = (n' : NamesInScope) → Extends n n' → again n' ≡ t
 abbrev pub Fits : NamesInScope → Option Name → (fits : Within → Bool) → Type 0
 Fits n own fits = (w : Within) → Covers n own w → fits w ≡ true
 
--- The parts that are read.
+-- The parts that the reader reads.
 
--- a sign that must be there
+-- a required sign is read
 pub record ReadsSign (y : Symbol) (t : Token) (old new : List Token) : Type 0 where
   pub spelled : old ≡ t ∷ new
   pub goes_on : (s : Scope) (f : Pending) → tell s (y ∷ f) old ≡ tell s f new
@@ -124,30 +124,30 @@ abbrev pub FailsSign : {T : Type 0} → Symbol → List Token → Result T ReadF
 FailsSign y old result = (f : Fault) → result ≡ Err (refusal.Fault f) → (s : Scope) (more : Pending)
     → tell s (y ∷ more) old ≡ fault f.kind f.left
 
--- a part whose marks, with the names put back, are these
+-- a part is read, and has these marks if its names are put back
 pub record Reads (s s' : Scope) (y : Symbol) (marks : NamesInScope → List Mark → List Mark) (old new : List Token)
     : Type 0 where
   pub spelled : (n : NamesInScope) → Extends s.names n → (ms : List Mark) → tokens ms ≡ new → old ≡ tokens (marks n ms)
   pub goes_on : (f : Pending) → tell s (y ∷ f) old ≡ tell s' f new
 
--- if the result is a fault, it is the first one, whatever comes after the symbol
+-- if the result is an error, it is the first error, whatever follows the symbol
 abbrev pub Fails : {T : Type 0} → Scope → Symbol → List Token → Result T ReadFailure → Type 0
 Fails s y old result = (f : Fault) → result ≡ Err (refusal.Fault f) → (more : Pending)
     → tell s (y ∷ more) old ≡ fault f.kind f.left
 
--- a statement of a block, with the rest of the block still to be read
+-- a statement of a block is read, and the rest of the block is still to be read
 pub record ReadsStatement (s s' : Scope) (c : Context) (marks : NamesInScope → List Mark → List Mark)
     (old new : List Token) : Type 0 where
   pub spelled : (n : NamesInScope) → Extends s.names n → (ms : List Mark) → tokens ms ≡ new → old ≡ tokens (marks n ms)
   pub goes_on : (f : Pending) → tell s (items c ∷ f) old ≡ tell s' (items c ∷ f) new
 
--- the part after the first block of an `if`
+-- the part after the first block of an `if` is read
 pub record ReadsElse (s s' : Scope) (c : Context) (marks : NamesInScope → List Mark → List Mark) (old new : List Token)
     : Type 0 where
   pub spelled : (n : NamesInScope) → Extends s.names n → (ms : List Mark) → tokens ms ≡ new → old ≡ tokens (marks n ms)
   pub goes_on : (f : Pending) → tell s (items_else c ∷ f) old ≡ tell s' (items c ∷ f) new
 
--- the kind of statement that the first token requires
+-- the symbols that a statement requires after its first token
 abbrev pub pending_of : Context → Beginning → Pending → Pending
 pending_of c no_statement f = f
 pending_of c (action g) f = symbols_of c g (items c ∷ f)
@@ -165,7 +165,7 @@ IsPlain branches = ⊥
 IsPlain loops = ⊥
 IsPlain b = Unit {0}
 
--- a block doesn't end here
+-- the block doesn't end here
 abbrev pub IsInside : Option Token → Type 0
 IsInside (Some token.CloseBrace) = ⊥
 IsInside t = Unit {0}
@@ -175,7 +175,7 @@ pub record Begins (s s' : Scope) (c : Context) (k : Keyword) (old new : List Tok
   pub spelled : old ≡ token.Keyword k ∷ new
   pub goes_on : (f : Pending) → tell s (items c ∷ f) old ≡ tell s' (pending_of c (beginning k) f) new
 
--- the variable that a statement assigns to is read, and the statement is counted
+-- the variable to which a statement assigns is read, and the statement is counted
 pub record IsTarget (s s' : Scope) (c : Context) (i : ℕ) (old new : List Token) : Type 0 where
   pub spelled : (n : NamesInScope) → Extends s.names n → old ≡ token.Name (name_in n a_variable i) ∷ new
   pub goes_on : (f : Pending) → tell s (items c ∷ f) old ≡ tell s' (equals ∷ expression c ∷ semicolon ∷ items c ∷ f) new

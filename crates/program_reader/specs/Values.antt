@@ -1,4 +1,4 @@
--- The result of reading a part of an expression: the keywords by their operands, and the two sides of an operator.
+-- The result of reading a part of an expression: a keyword with its operands, or the two sides of an operator.
 use Rattle.std.specs.Prelude.{◌≡◌, ℕ, List, ◌∷◌}
 use Rattle.program_tree.specs.Faults.{Scope}
 use Rattle.program_tree.specs.Grammar.{Context, Mark, tokens, sign, expression_marks}
@@ -57,7 +57,7 @@ value_keyword (value.Alone a) = alone_keyword a
 value_keyword (value.Telling t) = telling_keyword t
 value_keyword value.Is = word.Is
 
--- the two sides of an operator are read, and the sign that closes them
+-- the two sides of an operator are read, and so is the sign that closes them
 pub record ReadsSides (s : Scope) (c : Context) (o : Operator) (a b : Expression ℕ) (old new : List Token) : Type 0
   where
     pub spelled : (n : NamesInScope) → Extends s.names n → (ms : List Mark) → tokens ms ≡ new →

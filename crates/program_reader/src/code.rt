@@ -32,7 +32,7 @@ use std::alloc::Global;
 use std::mem;
 
 impl Cursor<'_> {
-    /// The keyword and the name of a code, and its opening brace.
+    /// Reads the keyword and the name of a code, and its opening brace.
     #[tactic(auto, using(crate::proofs::CodeLaws::opening_steps))]
     fn opening(&mut self, name: &str) -> Result<(), ReadFailure>
         ensures ok { OnOk result ((s : faults.Scope) → ReadsOpening name.now s self.old self.new) }
@@ -50,7 +50,7 @@ impl Cursor<'_> {
         self.sign(Sign::OpenBrace)
     }
 
-    /// The keyword and the name of the code of a process, by its number, and the opening brace.
+    /// Reads the keyword of a code, the name of the process with this number, and the opening brace.
     fn opening_of(&mut self, scope: &Scope, process: usize) -> Result<(), ReadFailure>
         requires process_exists { process < length scope.now.processes }
         ensures ok { OnOk result ((s : faults.Scope) → ReadsOpening (slice_index_or scope.now.processes process []) s
@@ -63,7 +63,7 @@ impl Cursor<'_> {
         self.opening(scope.processes.get(process))
     }
 
-    /// The last brace of a code.
+    /// Reads the last brace of a code.
     #[tactic(auto, using(crate::proofs::CodeLaws::brace_steps))]
     fn last_brace(&mut self) -> Result<(), ReadFailure>
         ensures spelled { OnOk result (self.old ≡ token.CloseBrace ∷ self.new) }
@@ -82,7 +82,7 @@ impl Cursor<'_> {
     }
 }
 
-/// The text between the braces of a code, except its names.
+/// The text between the braces of a code, without the names that it declares.
 #[derive(Drop)]
 struct Content {
     starts: Vec<u16>,
@@ -93,7 +93,7 @@ struct Content {
     body: FlatBlock,
 }
 
-/// The names of a code, and how many timers the program has before it.
+/// The names that a code declares, and the number of timers that the program has before it.
 #[derive(Drop)]
 struct Own {
     variables: Names,
@@ -133,7 +133,7 @@ impl Scope {
 }
 
 impl Reader<'_> {
-    /// Reads the text between the braces of a code. Its names are then in scope.
+    /// Reads the text between the braces of a code. The names of the code are in scope afterwards.
     #[tactic(auto, using(crate::proofs::ContentLaws::content_steps))]
     fn content(&mut self) -> Result<Content, ReadFailure>
         requires has_no_own_names { HasNoOwnNames self.old.scope }
@@ -166,7 +166,7 @@ impl Reader<'_> {
         })
     }
 
-    /// The code of the process with this number.
+    /// Reads the code of the process with this number.
     #[tactic(auto, using(crate::proofs::MadeLaws::code_steps))]
     pub(crate) fn code(&mut self, process: usize) -> Result<ProcessText, ReadFailure>
         requires process { process < length self.old.scope.processes }

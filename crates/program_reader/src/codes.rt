@@ -1,4 +1,4 @@
-//! The codes of a program, and the program.
+//! The codes of a program, and the whole program.
 ghost use Rattle.std.specs.Prelude.{◌≡◌, ◌<◌, ◌++◌, ◌∷◌, [], map, replicate, IfOk, OnOk};
 ghost use Rattle.program_reader.specs.Codes.{HasCodes, ReadsHead, all_timers, tree_with};
 ghost use Rattle.program_reader.specs.Head.{FailsIn};
@@ -22,7 +22,7 @@ use program_tree::timer::Timer;
 use program_tree::token::Token;
 use std::alloc::{AllocError, Global};
 
-/// Adds this many timers of one kind.
+/// Adds this many timers with the same process and of the same kind.
 fn add_timers(timers: &mut Vec<Timer>, count: usize, timer: Timer) -> Result<(), AllocError>
     ensures appended { OnOk result (timers.new.items ≡ timers.old.items ++ replicate count timer) }
 {
@@ -54,7 +54,7 @@ fn timers(alloc: Global, mut codes: &[ProcessText]) -> Result<Vec<Timer>, AllocE
 }
 
 impl Reader<'_> {
-    /// The codes of the processes, in their order.
+    /// Reads the codes of the processes, in the order of the processes.
     fn codes(&mut self) -> Result<Vec<ProcessText>, ReadFailure>
         requires has_no_own_names { HasNoOwnNames self.old.scope }
         ensures ok { IfOk result (λ codes. HasCodes (map code_of codes.items) [] (scope_of self.old.scope)
@@ -73,7 +73,7 @@ impl Reader<'_> {
 }
 
 impl Cursor<'_> {
-    /// The end of the text.
+    /// Checks that the text ends here.
     fn end(&self) -> Result<(), ReadFailure>
         ensures ok { OnOk result (self.now ≡ []) }
         ensures err { (f : Fault) → result ≡ Err (ReadFailure.Fault f) → (s : Scope)
@@ -86,8 +86,8 @@ impl Cursor<'_> {
     }
 }
 
-/// The parts before the codes of a program: the first counts of the semaphores, the processes that start at boot,
-/// and the one that packets go to.
+/// The parts before the codes of a program: the first counts of the semaphores, the processes that start at boot, and
+/// the process that gets packets.
 #[derive(Drop)]
 struct Head {
     counts: Vec<u16>,
@@ -115,8 +115,8 @@ impl Reader<'_> {
     }
 }
 
-/// The parts of a program except the names that are in scope after it: those before the codes, the codes, and their
-/// timers.
+/// The parts of a program without the names that are in scope at its end: the parts before the codes, the codes, and
+/// the timers of the codes.
 #[derive(Drop)]
 struct Parts {
     head: Head,
@@ -125,7 +125,7 @@ struct Parts {
 }
 
 impl Reader<'_> {
-    /// The codes, after which the text ends.
+    /// Reads the codes, and checks that the text ends after them.
     fn last_codes(&mut self) -> Result<Vec<ProcessText>, ReadFailure>
         requires has_no_own_names { HasNoOwnNames self.old.scope }
         ensures ok { IfOk result (λ codes. HasCodes (map code_of codes.items) [] (scope_of self.old.scope)
@@ -139,7 +139,7 @@ impl Reader<'_> {
         Ok(codes)
     }
 
-    /// All parts of a text, from its first token on.
+    /// Reads all parts of a text, beginning at its first token.
     fn parts(&mut self) -> Result<Parts, ReadFailure>
         requires fresh { scope_of self.old.scope ≡ nothing_yet }
         requires lexed { AreLexed self.old.cursor }
@@ -158,7 +158,7 @@ impl Reader<'_> {
         })
     }
 
-    /// The program of the parts, with the names that are in scope after them.
+    /// The program with these parts, and with the names that are in scope after them.
     fn into_program(self, parts: Parts) -> Program
         requires is_made { IsMade (tree_with self.scope parts) }
         ensures tree { tree_of result ≡ tree_with self.entry.scope parts }
@@ -176,7 +176,7 @@ impl Reader<'_> {
     }
 }
 
-/// The program that the tokens form, or their first fault.
+/// The program that the tokens form, or their first error.
 pub(crate) fn program<'a>(alloc: Global, tokens: &'a [Token<'a>]) -> Result<Program, ReadFailure>
     requires are_lexed { AreLexed (map token_of tokens.now) }
     ensures ok { IfOk result (λ p. IsTreeOfTokens (map token_of tokens.now) (tree_of p)) }

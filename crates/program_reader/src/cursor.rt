@@ -1,4 +1,4 @@
-//! The tokens that are still to be read.
+//! The tokens that are yet to be read.
 ghost use Rattle.std.specs.Prelude.{◌≡◌, ◌∷◌, ◌≤◌, false, Some, drop, length, map, option_map, OnOk};
 ghost use Rattle.std.specs.Bool.{OnTrue};
 ghost use Rattle.program_tree.specs.Tokens as token;
@@ -22,7 +22,7 @@ pub(crate) enum Sign {
     OpenBrace,
 }
 
-/// A place among the tokens of a text. Contracts see it as the tokens from there on.
+/// A place among the tokens of a text. In contracts, it is the list of the tokens from there on.
 #[derive(Drop)]
 pub(crate) struct Cursor<'a> {
     rest: &'a [Token<'a>],
@@ -68,7 +68,7 @@ impl<'a> Cursor<'a> {
         }
     }
 
-    /// The fault of this kind at the next token.
+    /// The error of this kind at the next token.
     pub(crate) fn fault(&self, kind: ReadErrorKind) -> ReadFailure
         ensures refusal { result ≡ ReadFailure.Fault (record { kind = kind; left = length self.now }) }
     {
@@ -78,7 +78,7 @@ impl<'a> Cursor<'a> {
         })
     }
 
-    /// The fault of a token that isn't allowed here, or of the end.
+    /// The error of a next token that isn't allowed here, or of a text that isn't allowed to end here.
     pub(crate) fn unfit(&self) -> ReadFailure
         ensures refusal { result
             ≡ ReadFailure.Fault (record { kind = unfit_at (first self.now); left = length self.now }) }
@@ -108,7 +108,7 @@ impl<'a> Cursor<'a> {
         }
     }
 
-    /// Reads the next token if it is this keyword, and returns `true` then.
+    /// Reads the next token if it is this keyword. Returns `true` if it was read.
     pub(crate) fn accept(&mut self, keyword: Keyword) -> bool
         ensures no_longer { length self.new ≤ length self.old }
         ensures read { OnTrue result (self.old ≡ token.Keyword keyword ∷ self.new) }
@@ -124,7 +124,7 @@ impl<'a> Cursor<'a> {
         }
     }
 
-    /// Reads the next token if it is a comma, and returns `true` then.
+    /// Reads the next token if it is a comma. Returns `true` if it was read.
     #[tactic(auto, using(crate::proofs::NameSteps::token_then))]
     pub(crate) fn comma(&mut self) -> bool
         ensures no_longer { length self.new ≤ length self.old }

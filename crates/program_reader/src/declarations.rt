@@ -1,4 +1,4 @@
-//! Names as they are declared.
+//! The reading of declared names.
 ghost use Rattle.std.specs.Prelude.{◌≡◌, ◌≢◌, ◌≤◌, false, ◌∷◌, [], length, IfOk, OnOk};
 ghost use Rattle.program_tree.specs.Faults.{is_full};
 ghost use Rattle.program_reader.specs.Head.{class_of_kind, with_names, IsNew, IsListed, IsValued, FailsIn};
@@ -16,7 +16,7 @@ use program_tree::error::ReadErrorKind;
 use program_tree::token::Token;
 use std::alloc::{AllocError, Global};
 
-/// The things that a declaration makes.
+/// The kinds of things that a declaration can declare.
 #[derive(Clone, Copy)]
 pub(crate) enum Kind {
     Event,
@@ -28,7 +28,7 @@ pub(crate) enum Kind {
     Thread,
 }
 
-/// The most names of a kind that a program, or a process of it, may have; timers of both kinds are counted together.
+/// The greatest number of names of a kind that a program or a process may have. Timers of both kinds count together.
 const EVENTS: usize = 117;
 
 const SEMAPHORES: usize = 64;
@@ -41,7 +41,7 @@ const TIMERS: usize = 64;
 
 const THREADS: usize = 7;
 
-/// The largest number.
+/// The largest number that a program may contain.
 const LARGEST: u32 = 65535;
 
 impl Scope {
@@ -61,7 +61,7 @@ impl Scope {
         }
     }
 
-    /// Declares a name.
+    /// Declares a name: the name is then in scope.
     #[tactic(auto, using(crate::proofs::HeadLaws::not_in_second))]
     fn declare(&mut self, alloc: Global, kind: Kind, name: &str) -> Result<(), AllocError>
         requires fresh { is_a (scope_of self.old).names (class_of_kind kind) name.now ≡ false }
@@ -85,7 +85,7 @@ impl Scope {
 }
 
 impl Cursor<'_> {
-    /// A first value.
+    /// Reads a first value.
     #[tactic(auto, using(crate::proofs::HeadLaws::number_steps))]
     fn number(&mut self) -> Result<u16, ReadFailure>
         ensures no_longer { length self.new ≤ length self.old }
@@ -106,7 +106,7 @@ impl Cursor<'_> {
 }
 
 impl<'a> Cursor<'a> {
-    /// A new name, which is in scope from then on. Event timers come before callback timers.
+    /// Reads a new name, which is in scope from then on. Event timers must be declared before callback timers.
     #[tactic(auto, using(crate::proofs::HeadLaws::new_steps))]
     pub(crate) fn new_name(
         &mut self,
@@ -140,7 +140,7 @@ impl<'a> Cursor<'a> {
 }
 
 impl Reader<'_> {
-    /// A new name and a semicolon.
+    /// Reads a new name and a semicolon.
     #[tactic(auto, using(crate::proofs::HeadLaws::new_goes, crate::proofs::HeadLaws::is_listed))]
     pub(crate) fn listed(&mut self, kind: Kind) -> Result<(), ReadFailure>
         requires etimers_first { kind ≡ Kind.Etimer → self.old.scope.ctimers ≡ [] }
@@ -155,7 +155,7 @@ impl Reader<'_> {
         self.cursor.sign(Sign::Semicolon)
     }
 
-    /// A new name with its first value, and a semicolon.
+    /// Reads a new name with its first value, and a semicolon.
     #[tactic(auto, using(crate::proofs::HeadLaws::new_goes, crate::proofs::HeadLaws::is_valued))]
     pub(crate) fn with_value(
         &mut self,

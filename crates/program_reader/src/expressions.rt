@@ -1,4 +1,4 @@
-//! Expressions as they are read.
+//! The reading of expressions.
 ghost use Rattle.std.specs.Prelude.{◌≡◌, ◌∷◌, [], ◌≤◌, Some, length, IfOk};
 ghost use Rattle.program_reader.specs.Answers.{AnswersExpression};
 ghost use Rattle.program_reader.specs.Head.{FailsIn};
@@ -23,17 +23,17 @@ use program_tree::token::Token;
 use program_tree::tree::{Expr, Operator};
 use std::alloc::{AllocError, Global};
 
-/// The largest number.
+/// The largest number that a program may contain.
 const LARGEST: u32 = 65_535;
 
-/// The two sides of an operator.
+/// An operator with its two sides.
 struct Sides {
     left: Expr,
     operator: Operator,
     right: Expr,
 }
 
-/// Implemented by hand: the check of a function that owns two sides then sees only one call for its drop.
+/// Implemented by hand, so that the check of a function that owns two sides sees only one call for their drop.
 impl Drop for Sides {
     fn drop(self) {
         let Sides {
@@ -61,7 +61,7 @@ impl Sides {
 }
 
 impl Cursor<'_> {
-    /// The operator of an expression in parentheses.
+    /// Reads the operator of an expression in parentheses.
     fn operator(&mut self) -> Result<Operator, ReadFailure>
         ensures no_longer { length self.new ≤ length self.old }
         ensures ok { IfOk result (λ o. ReadsSign operator (token.Op o) self.old self.new) }
@@ -78,7 +78,7 @@ impl Cursor<'_> {
 }
 
 impl Reader<'_> {
-    /// A keyword that asks about something, followed by a name in parentheses.
+    /// Reads a keyword that asks about something, and a name in parentheses.
     #[tactic(auto, using(crate::proofs::ExpressionSteps::word_steps))]
     fn question(&mut self, place: &Context, telling: Telling) -> Result<Expr, ReadFailure>
         requires at_keyword { first self.old.cursor ≡ Some (token.Keyword (telling_keyword telling)) }
@@ -92,7 +92,7 @@ impl Reader<'_> {
         Ok(telling.value(number))
     }
 
-    /// `is`, followed by an event in parentheses.
+    /// Reads `is`, and an event in parentheses.
     #[tactic(auto, using(crate::proofs::ExpressionSteps::word_steps))]
     fn is(&mut self, place: &Context) -> Result<Expr, ReadFailure>
         requires at_keyword { first self.old.cursor ≡ Some (token.Keyword Keyword.Is) }
@@ -105,7 +105,7 @@ impl Reader<'_> {
         Ok(Expr::Is(event))
     }
 
-    /// An expression that begins with a keyword.
+    /// Reads an expression that begins with a keyword.
     #[tactic(auto, using(crate::proofs::ValueLaws::no_word))]
     fn word(&mut self, place: &Context, keyword: Keyword) -> Result<Expr, ReadFailure>
         requires at_keyword { first self.old.cursor ≡ Some (token.Keyword keyword) }
@@ -122,7 +122,7 @@ impl Reader<'_> {
         }
     }
 
-    /// `!` and what it negates.
+    /// Reads `!` and the expression that it negates.
     #[cycle(expression)]
     #[tactic(auto, using(crate::proofs::ExpressionSteps::bang_start))]
     fn negation(&mut self, place: &Context) -> Result<Expr, ReadFailure>
@@ -138,7 +138,7 @@ impl Reader<'_> {
         Ok(Expr::Not(Box::new(self.alloc, operand)?))
     }
 
-    /// The two sides of an operator, with the operator between them and the sign that closes them.
+    /// Reads the two sides of an operator, with the operator between them and the sign that closes them.
     #[cycle(expression)]
     fn sides(&mut self, place: &Context) -> Result<Sides, ReadFailure>
         requires shallow { place.now.level ≤ LEVELS }
@@ -171,7 +171,7 @@ impl Reader<'_> {
         })
     }
 
-    /// An expression in parentheses.
+    /// Reads an expression in parentheses.
     #[cycle(expression)]
     #[tactic(auto, using(crate::proofs::ExpressionSteps::open_start))]
     fn binary(&mut self, place: &Context) -> Result<Expr, ReadFailure>
@@ -187,7 +187,7 @@ impl Reader<'_> {
         Ok(sides.into_expression(self.alloc)?)
     }
 
-    /// An expression, at this place.
+    /// Reads an expression in this context.
     #[cycle(expression)]
     #[tactic(auto, using(crate::proofs::ExpressionSteps::variable_start))]
     pub(crate) fn expression(&mut self, place: &Context) -> Result<Expr, ReadFailure>

@@ -1,18 +1,18 @@
-//! The errors of tokens that aren't a program, as the parts of the reader return it.
+//! The error of tokens that don't form a program, as the parts of the reader return it.
 ghost use Rattle.std.specs.Prelude.{◌≡◌};
 ghost use Rattle.program_reader.specs.declared.fault.ReadFailure.TheVariants.{Memory};
 
 use program_tree::error::ReadErrorKind;
 use std::alloc::{AllocError, AllocFailed};
 
-/// A fault, and how many tokens are left from its token on.
+/// An error, and the number of tokens that are left, its own token included.
 #[derive(Clone, Copy)]
 pub(crate) struct Fault {
     pub kind: ReadErrorKind,
     pub left: usize,
 }
 
-/// Out of memory (an allocation failed), or the first fault.
+/// Out of memory (an allocation failed), or the first error of the tokens.
 #[derive(Clone, Copy)]
 pub(crate) enum ReadFailure {
     Memory,

@@ -1,4 +1,4 @@
-//! The parts before the codes of a program, after its events and semaphores.
+//! The reading of the parts before the codes of a program, after its events and semaphores.
 ghost use Rattle.std.specs.Prelude.{List, ◌≡◌, ◌≤◌, Some, None, ◌∷◌, ◌++◌, [], length, IfOk, OnOk, IfErr};
 ghost use Rattle.program_tree.specs.Grammar.{named, starts};
 ghost use Rattle.program_reader.specs.Head.{FailsIn, ReadsProcesses, CanStart, IsStarting, ReadsAutostart};
@@ -24,7 +24,7 @@ use program_tree::token::Token;
 use std::alloc::Global;
 
 impl Scope {
-    /// The number of a process that may be listed in `autostart`, by its name.
+    /// The number of a process that `autostart` may list, by the name of the process.
     #[tactic(auto, using(crate::proofs::StartLaws::startable_steps))]
     fn startable(&self, name: &str) -> Result<u8, ReadErrorKind>
         ensures ok { IfOk result (λ i. CanStart (scope_of self.now) name.now i) }
@@ -42,7 +42,7 @@ impl Scope {
         }
     }
 
-    /// Lists a process in `autostart`.
+    /// Adds a process to the list of `autostart`.
     fn start(
         &mut self,
         alloc: Global,
@@ -63,7 +63,7 @@ impl Scope {
 }
 
 impl Cursor<'_> {
-    /// A process that starts at boot.
+    /// Reads the name of a process that starts at boot.
     #[tactic(auto, using(crate::proofs::StartLaws::starting_steps))]
     fn starting(
         &mut self,
@@ -90,7 +90,7 @@ impl Cursor<'_> {
 }
 
 impl Reader<'_> {
-    /// The process line.
+    /// Reads the process line.
     #[tactic(auto, using(crate::proofs::LineLaws::line_steps))]
     pub(crate) fn processes(&mut self) -> Result<(), ReadFailure>
         requires at_keyword { first self.old.cursor ≡ Some (token.Keyword word.Semaphore) → ⊥ }
@@ -113,7 +113,7 @@ impl Reader<'_> {
         self.cursor.sign(Sign::Semicolon)
     }
 
-    /// The processes that start at boot, by their numbers.
+    /// Reads the processes that start at boot, and returns their numbers.
     pub(crate) fn autostart(&mut self) -> Result<Vec<u8>, ReadFailure>
         ensures ok { IfOk result (λ numbers. ReadsAutostart (scope_of self.old.scope) (scope_of self.new.scope)
             numbers.items self.old.cursor self.new.cursor) }
@@ -127,7 +127,7 @@ impl Reader<'_> {
         Ok(numbers)
     }
 
-    /// Reads the names after `autostart`, if it is present, and adds their numbers.
+    /// Reads `autostart` and the names after it, if it is present, and adds the numbers of the processes.
     #[tactic(auto, using(crate::proofs::StartLaws::autostart_steps))]
     fn starting_names(&mut self, numbers: &mut Vec<u8>) -> Result<(), ReadFailure>
         requires none_yet { numbers.old.items ≡ [] }
@@ -148,7 +148,7 @@ impl Reader<'_> {
         self.cursor.sign(Sign::Semicolon)
     }
 
-    /// The process that packets go to, by its number.
+    /// Reads the process that gets packets, and returns its number. Returns `None` if there is no `receiver`.
     #[tactic(auto, using(crate::proofs::StartLaws::receiver_steps))]
     pub(crate) fn receiver(&mut self) -> Result<Option<u8>, ReadFailure>
         ensures same { self.new.scope ≡ self.old.scope }

@@ -10,12 +10,12 @@ pub fn at_most_one_tree()
     ensures at_most_one { (text : List ℕ) (t u : Tree) → IsTreeOf text t → IsTreeOf text u → t ≡ u }
 {}
 
-/// Each text has a tree or a reported error, and none has both.
+/// Each text has a tree or a reported error, and no text has both.
 pub fn tree_or_fault()
     ensures has_tree_or_fault { (text : List ℕ) → HasTreeOrFault text }
 {}
 
-/// At most one fault of a text is reported.
+/// A text has at most one reported error.
 pub fn at_most_one_fault()
     ensures at_most_one { (text : List ℕ) (j k : ReadErrorKind) (l m : ℕ) → IsErrorOf text j l → IsErrorOf text k m →
         (j ≡ k)

@@ -12,21 +12,21 @@ use program_tree::token::Token;
 use program_tree::tree::Operator;
 use std::alloc::{AllocError, Global};
 
-/// The tokens of a text, and their lines from 1 on. There is one more line than tokens: that of the end.
+/// The tokens of a text, and their lines, from 1 on. There is one more line than tokens: the line of the text's end.
 #[derive(Drop)]
 pub(crate) struct Lexed<'a> {
     pub(crate) tokens: Vec<Token<'a>>,
     pub(crate) lines: Vec<usize>,
 }
 
-/// The first piece of a text: its length, and its token, if it isn't blank or a comment.
+/// The first piece of a text: its length, and its token if it is neither blank nor a comment.
 #[derive(Clone, Copy)]
 struct Front<'a> {
     token: Option<Token<'a>>,
     len: usize,
 }
 
-/// The signs, the longer first.
+/// The signs, longer signs first.
 static SIGNS: [Entry<'static>; 21] = [
     (b"==", Token::Op(Operator::Equal)),
     (b"!=", Token::Op(Operator::Unequal)),
@@ -76,14 +76,14 @@ fn line_len(rest: &[u8]) -> usize
         .unwrap_or(rest.len())
 }
 
-/// The first of the signs that a text begins with.
+/// The first of these signs with which a text begins.
 fn first_sign(signs: &'static [Entry<'static>], rest: &[u8]) -> Option<Entry<'static>>
     ensures value { option_map entry_of result ≡ find (λ s. starts_with nat_eq rest.now s.0) (map entry_of signs.now) }
 {
     signs.iter().find(|sign| rest.starts_with(sign.0)).copied()
 }
 
-/// The sign or the bad byte that a text begins with.
+/// The sign or the bad byte with which a text begins.
 fn sign_or_bad<'a>(rest: &[u8]) -> Front<'a>
     requires begins_other { BeginsOther rest.now }
     ensures piece { BeginsWith rest.now (option_map token_of result.token) result.len }
@@ -102,7 +102,7 @@ fn sign_or_bad<'a>(rest: &[u8]) -> Front<'a>
     }
 }
 
-/// The piece that a text begins with.
+/// The piece with which a text begins.
 fn first_piece<'a>(rest: &'a [u8]) -> Front<'a>
     requires not_empty { 0 < length rest.now }
     ensures piece { BeginsWith rest.now (option_map token_of result.token) result.len }
@@ -131,7 +131,7 @@ fn first_piece<'a>(rest: &'a [u8]) -> Front<'a>
 }
 
 impl<'a> Lexed<'a> {
-    /// Adds a token, if there is one, with its line.
+    /// Adds a token with its line, if there is a token.
     fn add(&mut self, token: Option<Token<'a>>, line: usize) -> Result<(), AllocError>
         ensures tokens { OnOk result (self.new.tokens.items ≡ self.old.tokens.items ++ option_to_list token.entry) }
         ensures lines { OnOk result (self.new.lines.items ≡ self.old.lines.items
@@ -145,7 +145,7 @@ impl<'a> Lexed<'a> {
     }
 }
 
-/// Cuts a text into its tokens.
+/// Splits a text into its tokens.
 pub(crate) fn lex<'a>(alloc: Global, text: &'a str) -> Result<Lexed<'a>, AllocError>
     ensures is_lexed { IfOk result (λ t. IsLexed text.now (map token_of t.tokens.items) t.lines.items) }
 {

@@ -1,4 +1,4 @@
-//! From texts to programs, and the laws of the notation: each text has one tree, or one reported error.
+//! The reading of texts as programs, and the laws of the notation: each text has one tree or one reported error.
 #![tactic(auto)]
 
 mod code;

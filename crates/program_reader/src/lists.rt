@@ -1,4 +1,4 @@
-//! The lists of declarations of a program and of a code.
+//! The reading of the lists of declarations in a program and in a code.
 ghost use Rattle.std.specs.Prelude.{◌≡◌, ◌≤◌, Some, ◌∷◌, [], length, IfOk, OnOk};
 ghost use Rattle.program_tree.specs.Grammar.{event_marks, semaphore_marks, variable_marks, etimer_marks};
 ghost use Rattle.program_reader.specs.Head.{FailsIn, ReadsNames, ReadsValues};
@@ -16,7 +16,7 @@ use crate::reader::Reader;
 use program_tree::keyword::Keyword;
 
 impl Reader<'_> {
-    /// The events that a program declares.
+    /// Reads the events that a program declares.
     #[tactic(auto, using(crate::proofs::ListLaws::list_steps))]
     pub(crate) fn events(&mut self) -> Result<(), ReadFailure>
         ensures no_longer { OnOk result (length self.new.cursor ≤ length self.old.cursor) }
@@ -30,7 +30,7 @@ impl Reader<'_> {
         Ok(())
     }
 
-    /// The semaphores, with their first counts.
+    /// Reads the semaphores, and returns their first counts.
     #[tactic(auto, using(crate::proofs::ListLaws::list_steps))]
     pub(crate) fn semaphores(&mut self) -> Result<Vec<u16>, ReadFailure>
         ensures no_longer { OnOk result (length self.new.cursor ≤ length self.old.cursor) }
@@ -46,7 +46,7 @@ impl Reader<'_> {
         Ok(values)
     }
 
-    /// The variables of a process, with their first values.
+    /// Reads the variables of a process, and returns their first values.
     #[tactic(auto, using(crate::proofs::ListLaws::list_steps))]
     pub(crate) fn variables(&mut self) -> Result<Vec<u16>, ReadFailure>
         ensures no_longer { OnOk result (length self.new.cursor ≤ length self.old.cursor) }
@@ -62,7 +62,7 @@ impl Reader<'_> {
         Ok(values)
     }
 
-    /// The event timers of a process, which come before its callback timers.
+    /// Reads the event timers of a process, which are before its callback timers.
     #[tactic(auto, using(crate::proofs::ListLaws::list_steps))]
     pub(crate) fn etimers(&mut self) -> Result<(), ReadFailure>
         requires etimers_first { self.old.scope.ctimers ≡ [] }

@@ -1,4 +1,4 @@
-//! The blocks of a process: those of its callback timers and threads, `onpoll`, `onexit` and the body.
+//! The reading of a process's blocks: those of its callback timers and threads, `onpoll`, `onexit` and the body.
 ghost use Rattle.std.specs.Prelude.{◌≡◌, ◌≤◌, true, ◌∷◌, [], length, map, IfOk, OnOk, option_map};
 ghost use Rattle.std.specs.List.{All};
 ghost use Rattle.std.specs.Option.{ForSome};
@@ -22,7 +22,7 @@ use crate::scope::Context;
 use program_tree::flat_block::FlatBlock;
 use program_tree::keyword::Keyword;
 
-/// The place of the block of a callback, `onpoll` or `onexit`.
+/// The context of the block of a callback, `onpoll` or `onexit`.
 const SIMPLE: Context<'static> = Context {
     level: 0,
     simple: true,
@@ -30,7 +30,7 @@ const SIMPLE: Context<'static> = Context {
 };
 
 impl Reader<'_> {
-    /// A block of a process, with its flat code.
+    /// Reads a block of a process, and makes its flat code.
     fn flat_block(&mut self, place: &Context) -> Result<FlatBlock, ReadFailure>
         requires outermost { place.now.level ≡ 0 }
         ensures names { fixed self.new.scope ≡ fixed self.old.scope }
@@ -51,7 +51,7 @@ impl Reader<'_> {
         Ok(flat)
     }
 
-    /// The name and the block of a callback timer.
+    /// Reads the name and the block of a callback timer.
     #[tactic(auto, using(crate::proofs::BlockLaws::ctimer_steps))]
     fn ctimer(&mut self) -> Result<FlatBlock, ReadFailure>
         ensures no_longer { OnOk result (length self.new.cursor ≤ length self.old.cursor) }
@@ -69,7 +69,7 @@ impl Reader<'_> {
         Ok(block)
     }
 
-    /// The callback timers of a process, with their blocks.
+    /// Reads the callback timers of a process, and returns their blocks.
     #[tactic(auto, using(crate::proofs::BlockLaws::blocks_steps))]
     pub(crate) fn ctimers(&mut self) -> Result<Vec<FlatBlock>, ReadFailure>
         ensures no_longer { OnOk result (length self.new.cursor ≤ length self.old.cursor) }
@@ -88,7 +88,7 @@ impl Reader<'_> {
         Ok(blocks)
     }
 
-    /// The name and the block of a thread, which can spawn the threads before it.
+    /// Reads the name and the block of a thread, which can spawn the threads before it.
     #[tactic(auto, using(crate::proofs::BlockLaws::thread_steps))]
     fn thread(&mut self) -> Result<FlatBlock, ReadFailure>
         ensures no_longer { OnOk result (length self.new.cursor ≤ length self.old.cursor) }
@@ -112,7 +112,7 @@ impl Reader<'_> {
         Ok(block)
     }
 
-    /// The threads of a process, with their blocks.
+    /// Reads the threads of a process, and returns their blocks.
     #[tactic(auto, using(crate::proofs::BlockLaws::blocks_steps))]
     pub(crate) fn threads(&mut self) -> Result<Vec<FlatBlock>, ReadFailure>
         requires none_yet { self.old.scope.threads ≡ [] }
@@ -133,7 +133,7 @@ impl Reader<'_> {
         Ok(blocks)
     }
 
-    /// Reads the block that runs at POLL, if present.
+    /// Reads the block that runs at POLL, if there is one.
     #[tactic(auto, using(crate::proofs::BlockLaws::on_poll_steps))]
     pub(crate) fn on_poll(&mut self) -> Result<Option<FlatBlock>, ReadFailure>
         ensures fixed { fixed self.new.scope ≡ fixed self.old.scope }
@@ -150,7 +150,7 @@ impl Reader<'_> {
         Ok(Some(block))
     }
 
-    /// Reads the block that runs at EXIT, if present.
+    /// Reads the block that runs at EXIT, if there is one.
     #[tactic(auto, using(crate::proofs::BlockLaws::on_exit_steps))]
     pub(crate) fn on_exit(&mut self) -> Result<Option<FlatBlock>, ReadFailure>
         ensures fixed { fixed self.new.scope ≡ fixed self.old.scope }
@@ -167,7 +167,7 @@ impl Reader<'_> {
         Ok(Some(block))
     }
 
-    /// The body.
+    /// Reads the body.
     #[tactic(auto, using(crate::proofs::BlockLaws::body_steps))]
     pub(crate) fn body(&mut self) -> Result<FlatBlock, ReadFailure>
         ensures fixed { fixed self.new.scope ≡ fixed self.old.scope }

@@ -1,4 +1,4 @@
-//! The statements without a block that begin with a keyword, by what follows it.
+//! The statements without a block that begin with a keyword, by the operands after the keyword.
 ghost use Rattle.std.specs.Prelude.{◌≡◌, None, IfSome};
 ghost use Rattle.program_tree.specs.Forms as form;
 ghost use Rattle.program_tree.specs.Forms.{beginning, action, ends, takes, values};
@@ -20,7 +20,7 @@ pub(crate) enum Bare {
     Pause,
 }
 
-/// A statement that is its keyword and a value.
+/// A statement that consists of its keyword and a value.
 #[derive(Clone, Copy)]
 pub(crate) enum Valued {
     Print,
@@ -30,7 +30,7 @@ pub(crate) enum Valued {
     YieldUntil,
 }
 
-/// A statement that is its keyword and a name.
+/// A statement that consists of its keyword and a name.
 #[derive(Clone, Copy)]
 pub(crate) enum About {
     Spawn,
@@ -44,7 +44,7 @@ pub(crate) enum About {
     Stop,
 }
 
-/// A statement of any of these forms.
+/// A statement of one of these forms.
 #[derive(Clone, Copy)]
 pub(crate) enum Plain {
     Bare(Bare),
@@ -126,7 +126,7 @@ impl About {
         }
     }
 
-    /// The class of the thing that the name refers to.
+    /// The class of the thing to which the name refers.
     pub(crate) fn class(self) -> Class
         ensures class { class_of result ≡ about_class self }
     {
@@ -156,7 +156,7 @@ impl About {
 }
 
 impl Plain {
-    /// The statement that begins with a keyword.
+    /// The statement that begins with this keyword, if there is one.
     pub(crate) fn of(keyword: Keyword) -> Option<Plain>
         ensures same_keyword { IfSome result (λ p. keyword ≡ plain_keyword p) }
         ensures none { result ≡ None → IsNoAction (beginning keyword) }

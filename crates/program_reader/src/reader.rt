@@ -1,4 +1,4 @@
-//! The reader of a program: the tokens that are left, and what is in scope before them.
+//! The reader of a program: the tokens that are left, and the names that are in scope before them.
 ghost use Rattle.std.specs.Prelude.{◌≡◌, ◌∷◌, ◌≤◌, ◌<◌, length, IfOk};
 ghost use Rattle.program_tree.specs.Meaning.{cast_of, sent_of, any_of};
 ghost use Rattle.program_tree.specs.EventNames.{cast_map, sent_map, any_map};
@@ -21,7 +21,7 @@ use program_tree::keyword::Keyword;
 use program_tree::token::Token;
 use std::alloc::Global;
 
-/// The tokens that are left, and what is in scope before them.
+/// The tokens that are left, and the names that are in scope before them.
 #[derive(Drop)]
 pub(crate) struct Reader<'a> {
     pub alloc: Global,
@@ -30,7 +30,7 @@ pub(crate) struct Reader<'a> {
 }
 
 impl Reader<'_> {
-    /// The number of the name at this place, if it refers to something of this class.
+    /// The number of the name here, if the name refers to something of this class.
     #[tactic(auto, using(crate::proofs::NameSteps::number_steps))]
     fn number(&self, place: &Context, class: Class) -> Result<u8, ReadFailure>
         ensures ok { IfOk result (λ i. IsNamed (scope_of self.now.scope).names (context_of place.now).thread
@@ -71,7 +71,7 @@ impl Reader<'_> {
         Ok(number)
     }
 
-    /// An event that may be broadcast.
+    /// Reads an event that may be broadcast.
     #[tactic(auto, using(crate::proofs::EventSteps::cast_name, crate::proofs::EventSteps::key_reads))]
     pub(crate) fn cast(&mut self, place: &Context) -> Result<BroadcastEvent, ReadFailure>
         ensures no_longer { length self.new.cursor ≤ length self.old.cursor }
@@ -111,7 +111,7 @@ impl Reader<'_> {
         }
     }
 
-    /// An event that may be posted to one process.
+    /// Reads an event that may be posted to one process.
     pub(crate) fn sent(&mut self, place: &Context) -> Result<PostedEvent, ReadFailure>
         ensures no_longer { length self.new.cursor ≤ length self.old.cursor }
         ensures same { self.new.scope ≡ self.old.scope }
@@ -134,7 +134,7 @@ impl Reader<'_> {
         }
     }
 
-    /// An event that a process may get.
+    /// Reads an event that a process may get.
     pub(crate) fn any(&mut self, place: &Context) -> Result<TestedEvent, ReadFailure>
         ensures no_longer { length self.new.cursor ≤ length self.old.cursor }
         ensures same { self.new.scope ≡ self.old.scope }

@@ -1,4 +1,4 @@
-//! From a text to its program.
+//! The reading of a whole text.
 ghost use Rattle.std.specs.Prelude.{◌≡◌, IfOk};
 ghost use Rattle.program_tree.specs.Code.{Tree};
 ghost use Rattle.program_tree.specs.Program.{tree_of};
@@ -11,16 +11,17 @@ use program_tree::error::{ReadError, ReadErrorKind};
 use program_tree::program::Program;
 use std::alloc::Global;
 
-/// The program of a text, or its reported error: the one at the earliest token, and among several there, the one with
-/// the least number. The time is linear in the length of the text, apart from looking names up.
+/// Returns the program of a text, or its reported error: the error at the earliest token or, if there are several at
+/// this token, the error with the least number. The time is linear in the length of the text, except for the look-up
+/// of names.
 ///
-/// A program has at most 64 processes, 117 events, 64 semaphores and 64 timers, each process at most 64 variables and
-/// 7 threads. All blocks together have at most 4,096 statements, counted by their first tokens. Blocks and expressions
-/// are nested at most 32 levels deep, of which the body is the first.
+/// A program has at most 64 processes, 117 events, 64 semaphores and 64 timers, and each process has at most 64
+/// variables and 7 threads. All blocks together have at most 4,096 statements, counted by their first tokens. Blocks
+/// and expressions are nested at most 32 levels deep, and the body is the first level.
 ///
 /// # Errors
 ///
-/// The reported error, with the line of its token; `Memory` with line 0 if an allocation failed.
+/// The reported error, with the line of its token; or `Memory`, with line 0, if an allocation failed.
 pub fn read(alloc: Global, text: &str) -> Result<Program, ReadError>
     ensures ok { IfOk result (λ p. IsTreeOf text.now (tree_of p)) }
     ensures matches { (e : ReadError) → result ≡ Err e → (e.kind ≡ ReadErrorKind.Memory → ⊥)

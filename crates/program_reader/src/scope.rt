@@ -1,15 +1,15 @@
-//! The names in scope, by the things that they refer to.
+//! The names in scope, by the things to which they refer.
 ghost use Rattle.std.specs.Prelude.{◌≡◌, ◌+◌, ◌<◌, ◌≤◌, length, ℕ, IfSome};
 
 use program_tree::class::Class;
 use program_tree::names::Names;
 use std::alloc::Global;
 
-/// The greatest depth of nested blocks and expressions.
+/// The greatest depth to which blocks and expressions may be nested.
 pub(crate) const LEVELS: usize = 32;
 
-/// The thing that a name refers to, if a certain class is expected: nothing; something of this class, by its number;
-/// or something of another class.
+/// The thing to which a name refers, if the reader expects a certain class: nothing; something of this class, by its
+/// number; or something of another class.
 #[derive(Clone, Copy)]
 pub(crate) enum Found {
     Unknown,
@@ -17,8 +17,8 @@ pub(crate) enum Found {
     Here(u8),
 }
 
-/// The place of a block or an expression: how many levels deep, in a simple block or not, and in the block of which
-/// thread.
+/// The context of a block or an expression: the number of levels around it, whether it is in a simple block, and the
+/// thread whose block it is in.
 #[derive(Clone, Copy)]
 pub(crate) struct Context<'a> {
     pub level: usize,
@@ -30,7 +30,7 @@ impl<'a> Context<'a> {
     ghost use Rattle.program_tree.specs.Grammar.{inner};
     ghost use Rattle.program_reader.specs.Steps.{context_of, class_of, is_own_thread};
 
-    /// One level deeper.
+    /// The context one level deeper.
     pub(crate) fn inner(&self) -> Context<'a>
         requires level_bounded { self.now.level < LEVELS }
         ensures context { context_of result ≡ inner (context_of self.now) }
@@ -43,7 +43,7 @@ impl<'a> Context<'a> {
         }
     }
 
-    /// Returns `true` if a name is that of the thread that is being read.
+    /// Returns `true` if this is the name of the thread that is being read.
     fn is_own(&self, class: Class, name: &str) -> bool
         ensures value { result ≡ is_own_thread (context_of self.now).thread (class_of class) name.now }
     {
@@ -54,8 +54,9 @@ impl<'a> Context<'a> {
     }
 }
 
-/// The names that are declared so far, those that `autostart` lists, and how many statements have begun. Variables,
-/// timers and threads are those of one code; `first_timer` is how many timers the program has before them.
+/// The names that are declared so far, the names that `autostart` lists, and the number of statements that have begun.
+/// Variables, timers and threads are those of one code; `first_timer` is the number of timers that the program has
+/// before them.
 #[derive(Drop)]
 pub(crate) struct Scope {
     pub events: Names,
@@ -101,7 +102,7 @@ impl Scope {
         }
     }
 
-    /// Returns `true` if a name refers to anything.
+    /// Returns `true` if the name refers to anything.
     pub(crate) fn contains(&self, name: &str) -> bool
         ensures value { result ≡ is_in_scope (scope_of self.now).names name.now }
     {
@@ -136,7 +137,7 @@ impl Scope {
         Some(self.first_timer + place)
     }
 
-    /// The number of a name of a class, before it is made a byte.
+    /// The number of a name of this class, before it is converted to a byte.
     fn place_of(&self, class: Class, name: &str) -> Option<usize>
         ensures bounded { IfSome result (λ i. i < most_of (class_of class)) }
         ensures value { result ≡ look (scope_of self.now).names (class_of class) name.now }
@@ -151,7 +152,7 @@ impl Scope {
         }
     }
 
-    /// The number of a name of a class.
+    /// The number of a name of this class.
     fn number_of(&self, class: Class, name: &str) -> Option<u8>
         ensures bounded { IfSome result (λ i. i < most_of (class_of class)) }
         ensures value { result ≡ look (scope_of self.now).names (class_of class) name.now }
@@ -160,7 +161,7 @@ impl Scope {
         Some(place as u8)
     }
 
-    /// Finds the thing that a name refers to, if one of this class is expected.
+    /// Finds the thing to which a name refers, if the reader expects something of this class.
     #[tactic(auto, using(crate::proofs::ScopeLaws::find_steps))]
     pub(crate) fn find(&self, place: &Context, class: Class, name: &str) -> Found
         ensures bounded { (i : ℕ) → result ≡ Found.Here i → i < most_of (class_of class) }

@@ -1,4 +1,4 @@
-//! Statements and blocks as they are read.
+//! The reading of statements and blocks.
 ghost use Rattle.std.specs.Prelude.{◌≡◌, ◌+◌, ◌≤◌, ◌<◌, false, ◌&&◌, drop, length, IfOk, OnOk, Some};
 ghost use Rattle.std.proofs.Common.{option_map};
 ghost use Rattle.program_reader.specs.Answers.{AnswersAction, AnswersStatement};
@@ -26,10 +26,10 @@ use program_tree::keyword::Keyword;
 use program_tree::token::Token;
 use program_tree::tree::{Action, Block, Stmt};
 
-/// The most statements that a program may have.
+/// The greatest number of statements that a program may have.
 const STATEMENTS: usize = 4_096;
 
-/// Returns `true` if a statement isn't allowed in a simple block.
+/// Returns `true` if a statement with this keyword isn't allowed in a simple block.
 fn is_wait(keyword: Keyword) -> bool
     ensures value { result ≡ waits keyword }
 {
@@ -48,7 +48,7 @@ fn is_wait(keyword: Keyword) -> bool
 }
 
 impl Reader<'_> {
-    /// Tests whether a statement may begin with this keyword here.
+    /// Checks that a statement may begin with this keyword here.
     #[tactic(auto, using(crate::proofs::StatementSteps::may_begin_steps))]
     fn may_begin(&self, place: &Context, keyword: Keyword) -> Result<(), ReadFailure>
         requires at_keyword { first self.now.cursor ≡ Some (token.Keyword keyword) }
@@ -66,7 +66,7 @@ impl Reader<'_> {
         Ok(())
     }
 
-    /// Reads the keyword that a statement begins with, and counts the statement.
+    /// Reads the keyword with which a statement begins, and counts the statement.
     #[tactic(auto, using(crate::proofs::StatementSteps::begin_ok))]
     fn begin(&mut self, place: &Context, keyword: Keyword) -> Result<(), ReadFailure>
         requires at_keyword { first self.old.cursor ≡ Some (token.Keyword keyword) }
@@ -84,7 +84,7 @@ impl Reader<'_> {
         Ok(())
     }
 
-    /// The number of the variable that an assignment begins with.
+    /// The number of the variable with which an assignment begins.
     #[tactic(auto, using(crate::proofs::StatementSteps::may_assign_steps))]
     fn may_assign(&self, place: &Context, name: &str) -> Result<u8, ReadFailure>
         requires at_name { first self.now.cursor ≡ Some (token.Name name.now) }
@@ -103,7 +103,7 @@ impl Reader<'_> {
         }
     }
 
-    /// Reads the variable that an assignment begins with, and counts the statement.
+    /// Reads the variable with which an assignment begins, and counts the statement.
     #[tactic(auto, using(crate::proofs::StatementSteps::target_steps))]
     fn target(&mut self, place: &Context, name: &str) -> Result<u8, ReadFailure>
         requires at_name { first self.old.cursor ≡ Some (token.Name name.now) }
@@ -124,7 +124,7 @@ impl Reader<'_> {
         Ok(variable)
     }
 
-    /// Reads `;`, or `into`, a variable that gets the result and `;`.
+    /// Reads `;`, or reads `into`, a variable that gets the result, and `;`.
     #[tactic(auto, using(crate::proofs::StatementSteps::into_start))]
     fn into_end(&mut self, place: &Context) -> Result<Option<u8>, ReadFailure>
         ensures no_longer { length self.new.cursor ≤ length self.old.cursor }
@@ -153,7 +153,7 @@ impl Reader<'_> {
         }
     }
 
-    /// A statement that consists only of its keyword.
+    /// Reads a statement that consists only of its keyword.
     fn bare(&mut self, place: &Context, bare: Bare) -> Result<Action, ReadFailure>
         requires at_keyword { first self.old.cursor ≡ Some (token.Keyword (bare_keyword bare)) }
         ensures answers_action { AnswersAction self.old self.new place.now result }
@@ -163,7 +163,7 @@ impl Reader<'_> {
         Ok(bare.action())
     }
 
-    /// A statement that is its keyword and an expression.
+    /// Reads a statement that consists of its keyword and an expression.
     fn valued(&mut self, place: &Context, valued: Valued) -> Result<Action, ReadFailure>
         requires shallow { place.now.level ≤ LEVELS }
         requires at_keyword { first self.old.cursor ≡ Some (token.Keyword (valued_keyword valued)) }
@@ -175,7 +175,7 @@ impl Reader<'_> {
         Ok(valued.action(value))
     }
 
-    /// A statement that is its keyword and a name.
+    /// Reads a statement that consists of its keyword and a name.
     fn about(&mut self, place: &Context, about: About) -> Result<Action, ReadFailure>
         requires at_keyword { first self.old.cursor ≡ Some (token.Keyword (about_keyword about)) }
         ensures answers_action { AnswersAction self.old self.new place.now result }
@@ -248,7 +248,7 @@ impl Reader<'_> {
         Ok(Action::Assign(variable, value))
     }
 
-    /// A statement that begins with a keyword and has no block.
+    /// Reads a statement that begins with a keyword and has no block.
     #[tactic(auto, using(crate::proofs::PlainLaws::no_action))]
     fn action(&mut self, place: &Context, keyword: Keyword) -> Result<Action, ReadFailure>
         requires shallow { place.now.level ≤ LEVELS }
@@ -268,7 +268,7 @@ impl Reader<'_> {
         }
     }
 
-    /// A statement without a block.
+    /// Reads a statement without a block.
     fn plain(&mut self, place: &Context) -> Result<Action, ReadFailure>
         requires shallow { place.now.level ≤ LEVELS }
         requires plain { BeginsPlain (first self.old.cursor) }
@@ -306,7 +306,7 @@ impl Reader<'_> {
         Ok(Stmt::While(test, block))
     }
 
-    /// A statement of a block.
+    /// Reads a statement of a block.
     #[cycle(statement)]
     fn statement(&mut self, place: &Context) -> Result<Stmt, ReadFailure>
         requires low { place.now.level ≤ LEVELS }
@@ -374,7 +374,7 @@ impl Reader<'_> {
         Ok(())
     }
 
-    /// A block, at this place.
+    /// Reads a block in this context.
     #[cycle(statement)]
     pub(crate) fn block(&mut self, place: &Context) -> Result<Block, ReadFailure>
         requires low { place.now.level ≤ LEVELS }

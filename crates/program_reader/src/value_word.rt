@@ -1,4 +1,4 @@
-//! The keywords of an expression, by what follows them.
+//! The keywords of an expression, by the operands after them.
 ghost use Rattle.std.specs.Prelude.{◌≡◌, None, IfSome};
 ghost use Rattle.program_tree.specs.Forms.{name, no_value, tells_of, word_of};
 ghost use Rattle.program_reader.specs.Steps.{class_of};
@@ -19,7 +19,7 @@ pub(crate) enum Alone {
     Mote,
 }
 
-/// A keyword that asks about the thing named in the parentheses after it.
+/// A keyword that asks about the thing whose name is in the parentheses after it.
 #[derive(Clone, Copy)]
 pub(crate) enum Telling {
     Fired,
@@ -51,7 +51,7 @@ impl Alone {
 }
 
 impl Telling {
-    /// The class of the thing that the name refers to.
+    /// The class of the thing to which the name refers.
     pub(crate) fn class(self) -> Class
         ensures class { class_of result ≡ telling_class self }
         ensures form { word_of (telling_keyword self) ≡ tells_of (name (class_of result)) }
@@ -77,7 +77,7 @@ impl Telling {
 }
 
 impl ValueWord {
-    /// Classifies a keyword in an expression.
+    /// The kind of a keyword in an expression, if it is allowed there.
     pub(crate) fn of(keyword: Keyword) -> Option<ValueWord>
         ensures same_keyword { IfSome result (λ v. keyword ≡ value_keyword v) }
         ensures none { result ≡ None → word_of keyword ≡ no_value }

@@ -14,13 +14,13 @@ use program_tree::token::Token;
 /// A text and its token.
 pub(crate) type Entry<'a> = (&'a [u8], Token<'a>);
 
-/// The value that numbers above 65,535 count as.
+/// The value that represents all numbers above 65,535.
 const TOO_LARGE: u32 = 65_536;
 
-/// The most characters that a name may have.
+/// The greatest number of characters that a name may have.
 const LONGEST_NAME: usize = 16;
 
-/// The words that no program can have as names.
+/// The words that a program can't use as names.
 static KEYWORDS: [Entry<'static>; 58] = [
     (b"event", Token::Keyword(Keyword::Event)),
     (b"semaphore", Token::Keyword(Keyword::Semaphore)),
@@ -82,7 +82,7 @@ static KEYWORDS: [Entry<'static>; 58] = [
     (b"all", Token::Keyword(Keyword::All)),
 ];
 
-/// `a` to `z`, `0` to `9` and `_`.
+/// Returns `true` for `a` to `z`, `0` to `9` and `_`.
 pub(crate) fn is_word_byte(byte: u8) -> bool
     ensures value { result ≡ spec.is_word_byte byte }
 {
@@ -95,7 +95,7 @@ fn are_digits(word: &[u8]) -> bool
     word.iter().all(|byte| byte.is_ascii_digit())
 }
 
-/// Only digits, without a leading zero unless it is `0` itself.
+/// Returns `true` for digits without a leading zero, and for `0`.
 fn is_number(word: &[u8]) -> bool
     ensures number { result ≡ spec.is_number word.now }
     ensures digits { result ≡ true → list_all is_ascii_digit word.now ≡ true }
@@ -103,7 +103,7 @@ fn is_number(word: &[u8]) -> bool
     are_digits(word) && (word.first() != Some(&b'0') || word.len() == 1)
 }
 
-/// The value of digits, or `TOO_LARGE` if that is less.
+/// The value of the digits, or `TOO_LARGE` if their value is above it.
 fn number_value(digits: &[u8]) -> u32
     requires are_digits { list_all is_ascii_digit digits.now ≡ true }
     ensures value { result ≡ min (digits_value 10 digits.now) 65536 }
@@ -124,7 +124,7 @@ fn begins_lowercase(word: &[u8]) -> bool
     }
 }
 
-/// The token next to a text in a table.
+/// The token that a table has for a text.
 fn lookup(table: &'static [Entry<'static>], word: &[u8]) -> Option<Token<'static>>
     ensures value { option_map token_of result ≡ spec.lookup (map entry_of table.now) word.now }
 {
@@ -134,7 +134,7 @@ fn lookup(table: &'static [Entry<'static>], word: &[u8]) -> Option<Token<'static
         .map(|entry| entry.1)
 }
 
-/// The token of a name, which is bad if it is too long or doesn't begin with a letter.
+/// The token of a name. It is a bad token if the name is too long or doesn't begin with a letter.
 fn name<'a>(word: &'a [u8]) -> Token<'a>
     requires word_bytes { list_all spec.is_word_byte word.now ≡ true }
     ensures value { token_of result ≡ (if spec.is_name word.now then Name word.now else Bad) }
