@@ -1,4 +1,4 @@
--- Tokens that are added one after another.
+-- Tokens when they are added one after another.
 use Rattle.std.proofs.Common.{◌≡◌, ℕ, suc, ◌+◌, ◌<◌, ◌≤◌, List, [], ◌∷◌, ◌++◌, map, length, drop, get_or, Option, Some}
 use Rattle.std.proofs.Common.{None, refl, ap, sym, ◌∙◌, append_assoc, arith}
 use Rattle.std.specs.List.{flat_map, zip}
@@ -81,7 +81,7 @@ module _ (f : Class → ℕ → Name) (e : Expr) (a : Block) (t0 t1 t2 : List To
       → t2 ≡ t0 ++ statement_tokens (statement_map f (statement_of s))
   while_added s same h k = rw (k, h, same, while_of-While e a) (simp append_assoc)
 
--- a block none of whose statements is added yet
+-- a block before any of its statements is added
 pub block_begun : (f : Class → ℕ → Name) (ss : List Stmt) (old new : List Token) → new ≡ old ++ (token.OpenBrace ∷ [])
     → new ++ flat_map (λ s. statement_tokens (statement_map f (statement_of s))) ss
     ≡ old ++ (token.OpenBrace ∷ flat_map (λ s. statement_tokens (statement_map f (statement_of s))) ss)
@@ -89,7 +89,7 @@ block_begun f ss old new e =
     let all : List Token = flat_map (λ s. statement_tokens (statement_map f (statement_of s))) ss in
     ap (λ ts. ts ++ all) e ∙ append_assoc old (token.OpenBrace ∷ []) all
 
--- one more of them, read from the same list
+-- one more statement, read from the same list
 pub block_more : (f : Class → ℕ → Name) (ss items : List Stmt) (i : ℕ) (s : Stmt) (mid new all : List Token)
     → items ≡ ss → i < length items → s ≡ get_or items i s
     → mid ++ flat_map (λ s. statement_tokens (statement_map f (statement_of s))) (drop i ss) ≡ all
@@ -107,7 +107,7 @@ pub action_added : (f : Class → ℕ → Name) (a : Action) (s : Stmt) (old new
 action_added f a s old new same e =
     e ∙ ap (λ z. old ++ statement_tokens (statement_map f z)) (sym (ap statement_of same ∙ does_of-Do a))
 
--- a block whose statements are all added
+-- a block after all of its statements are added
 pub block_added : (f : Class → ℕ → Name) (ss : List Stmt) (i : ℕ) (old mid new : List Token) → length ss ≤ i
     → mid ++ flat_map (λ s. statement_tokens (statement_map f (statement_of s))) (drop i ss) ≡ old
     ++ (token.OpenBrace ∷ flat_map (λ s. statement_tokens (statement_map f (statement_of s))) ss)

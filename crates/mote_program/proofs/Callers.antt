@@ -1,4 +1,4 @@
--- For a caller that reads statements.
+-- A law for callers that read statements.
 use Rattle.std.proofs.Common.{◌≡◌, ℕ, ◌<◌, List, [], ◌∷◌, length, map, slice_get, sym, subst, ap, ◌∙◌, arith, Some}
 use Rattle.program_tree.specs.Code.{Code, Tree}
 use Rattle.program_tree.specs.Tree.{a_variable, Statement, does, assign, Body, end, next, listed}
@@ -21,7 +21,7 @@ set_first t c (next s b) i e ss h is =
     let same : s ≡ does (assign i e) = cc in
     subst (λ z. NamesDeclared (of_process t c) (next z b)) same h 0 (a_variable, i) (omega arith)
 
--- the same for the statements as the code has them
+-- the same for statements in the form that the code has them
 pub first_set : (t : Tree) (k : ℕ) (c : Code) (b : Body ℕ) (ss : List Stmt) (s : Stmt) (a : Action) (i : ℕ) (e : Expr)
     → IsDeclared t → slice_get t.codes k ≡ Some c → b ≡ c.body → map statement_of ss ≡ listed b →
     Some s ≡ slice_get ss 0 → s ≡ stmt.Do a → a ≡ action.Assign i e → i < length c.variables

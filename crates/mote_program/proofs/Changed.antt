@@ -1,4 +1,4 @@
--- A tree whose names are changed names the changed names.
+-- If the names of a tree are changed, the tree names the changed names.
 use Rattle.std.proofs.Common.{◌≡◌, List, ◌∷◌, ◌++◌, map, refl, sym, ap, ◌∙◌, Option, Some, None, option_map}
 use Rattle.std.proofs.lemmas.List.{map-append}
 use Rattle.program_tree.specs.EventNames as event

@@ -1,4 +1,4 @@
--- The codes of a program, over the numbers of its names.
+-- The codes of a program, with the numbers of its names.
 use Rattle.std.proofs.Common.{◌≡◌, ℕ, zero, suc, ◌+◌, List, [], ◌∷◌, ◌++◌, length, map, slice_get, refl, sym, ap}
 use Rattle.std.proofs.Common.{subst, ◌∙◌, append_assoc, arith, Option, Some, None, option_map}
 use Rattle.std.specs.Option.{ForSome}
@@ -17,7 +17,7 @@ use Rattle.mote_program.proofs.Walk.{BlockIsSound, CallbacksAreSound, ThreadsAre
 use Rattle.mote_program.proofs.Walk.{ctimers_are_sound, threads_are_sound, behind_threads, on_poll_is_sound, on_exit_is_sound}
 use Rattle.mote_program.proofs.Walk.{body_is_right}
 
--- the same names, but with the first of the timers and of the threads only
+-- the same names, but only the first of the timers and of the threads
 fronts : (n : NamesInScope) (ts hs more others : List Name) → n.timers ≡ ts ++ more → n.threads ≡ hs ++ others
     → Extends (record n { timers = ts; threads = hs }) n
 fronts n ts hs more others e h = record { front = front; first_timer = refl }
@@ -41,7 +41,7 @@ is_first : (f : Body Name → Body ℕ) (d : Declarations) (a : Body Name) (b : 
     → NamesDeclared d (f a) → NamesDeclared d b
 is_first f d a b e h = let same : f a ≡ b = cc in subst (NamesDeclared d) same h
 
--- the declarations before the block of the k-th of some callback timers that come after others
+-- the declarations before the block of the k-th callback timer of a list that comes after other timers
 abbrev callback_counts : NamesInScope → (done : List Name) → (k : ℕ) → Declarations
 callback_counts n done k = record (counts_of n) { timers = length done + (k + 1); threads = 0 }
 
@@ -88,7 +88,7 @@ threads_declared n done (t ∷ ts) all h (suc k) b e =
     subst (λ l. NamesDeclared (record (counts_of n) { threads = l }) b) longer
     (threads_declared n own ts (all ∙ sym (append_assoc done (t.0 ∷ []) (named_of ts))) h.1 k b e)
 
--- the names of a program that has this many timers before its next code
+-- the names of a program that has this many timers before the next code
 abbrev pub names_at : Tree → (first_timer : ℕ) → NamesInScope
 names_at t f = record no_names {
   events = t.events;
@@ -97,7 +97,7 @@ names_at t f = record no_names {
   first_timer = f;
 }
 
--- the tree of the code of a process there
+-- the tree of the code of a process with these names
 abbrev pub code_at : Tree → (first_timer : ℕ) → (process : ℕ) → CodeShape → Code
 code_at t f k c = code_in k (inside (names_at t f) c) c
 
@@ -118,7 +118,7 @@ handler_declared t f k c None h b e = absurd cc
 handler_declared t f k c (Some a) h b e = is_first (block_in (inside (names_at t f) c))
     (of_process t (code_at t f k c)) a b e (block_declared t f k c a (h a refl))
 
--- the facts about the blocks of a code, as its tree has them
+-- the blocks of a code name only what is declared, as the code's tree states it
 code_declared : (t : Tree) (f k : ℕ) (c : CodeShape) →
     CallbacksAreSound (record (inside (names_at t f) c) { timers = c.etimers; threads = [] }) c.ctimers
     → ThreadsAreSound (record (inside (names_at t f) c) { threads = [] }) c.threads →
@@ -140,7 +140,7 @@ code_declared t f k c callbacks threads on_poll on_exit body =
       body = block_declared t f k c c.body body;
     }
 
--- after a code
+-- the names after a code
 code_sound : (t : Tree) (f k : ℕ) (p : Name × CodeShape) (after : List Mark)
     → AreSound (names_at t f) (code_marks p after) →
     IsDeclaredIn t (code_at t f k p.1) × AreSound (names_at t (f + length (timers_of p.1))) after

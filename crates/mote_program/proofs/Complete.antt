@@ -1,4 +1,4 @@
--- Each declaration has its parts.
+-- Each declaration is complete.
 use Rattle.std.proofs.Common.{◌≡◌, ℕ, zero, suc, ◌+◌, ◌-◌, ◌<◌, ◌≤◌, nat_le, List, [], ◌∷◌, ◌++◌, length, map}
 use Rattle.std.proofs.Common.{slice_get, refl, sym, ap, subst, ◌∙◌, append_assoc, arith, Bool, true, false, Some}
 use Rattle.std.proofs.lemmas.Bool.{leb-true, leb-false, le-leb, lt-leb}
@@ -25,7 +25,7 @@ all_one y [] ys j h = absurd (omega (arith, h))
 all_one y (x ∷ xs) ys zero h = refl
 all_one y (x ∷ xs) ys (suc j) h = all_one y xs ys j (omega (arith, h))
 
--- the timers of a code, in the program's list, after those of the codes before it
+-- the timers of a code in the program's list, after the timers of the codes before it
 
 abbrev own_timers : (process : ℕ) → CodeShape → (after : List Timer) → List Timer
 own_timers k c after = map (λ x. timer_of k false) c.etimers ++ (map (λ t. timer_of k true) c.ctimers ++ after)
@@ -82,7 +82,7 @@ code_complete t f k c before after long all =
       timers = λ i low high. timer_at t f k c before after long all i low high;
     }
 
--- the codes from the k-th on, if the program's list has these timers before theirs
+-- the codes from the k-th on, if the program's list has these timers before the timers of those codes
 each_complete : (t : Tree) (f k : ℕ) (cs : List CodeShape) (before : List Timer) → length before ≡ f
     → t.timers ≡ before ++ timers_from k cs →
     (j : ℕ) (c : Code) → slice_get (codes_in k (names_at t f) cs) j ≡ Some c → (c.number ≡ k + j) × IsCompleteIn t c

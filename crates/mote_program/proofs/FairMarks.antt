@@ -1,4 +1,4 @@
--- In a program's marks numbers play the part of numbers, and no `=` follows `!`.
+-- In a program's marks, numbers have the role of numbers, and no `=` follows `!`.
 use Rattle.std.proofs.Common.{List, [], ◌∷◌, Option, Some, None, refl}
 use Rattle.program_tree.specs.Forms.{Operand, Form, ends, tells, takes, values}
 use Rattle.program_tree.specs.EventNames.{BroadcastEvent, PostedEvent, TestedEvent}
@@ -23,7 +23,7 @@ use Rattle.program_tree.specs.declared.keyword.Keyword.TheVariants as word
 use Rattle.mote_program.proofs.LexedAgain.{NoEquals}
 use Rattle.mote_program.proofs.OwnTokens.{PlaysItsPart, AreFair}
 
--- a mark that is fair whatever comes after it
+-- a mark that is fair whatever follows it
 abbrev IsFree : Mark → Type 0
 IsFree m = PlaysItsPart m.token m.role × ((ts : List Token) → NoEquals m.token ts)
 

@@ -1,4 +1,4 @@
--- The text before the codes: its declarations, and that the processes it names are declared.
+-- The text before the codes: its declarations, and a proof that the processes that it names are declared.
 use Rattle.std.proofs.Common.{◌≡◌, ℕ, ◌<◌, List, [], ◌∷◌, ◌++◌, length, map, refl, sym, subst, append_assoc, true}
 use Rattle.std.proofs.Common.{Option, Some, None, option_map}
 use Rattle.std.specs.List.{All}

@@ -22,11 +22,11 @@ use Rattle.mote_program.specs.Named.{named_by_cast, named_by_sent, named_by_any,
 use Rattle.mote_program.specs.Named.{named_by_action, named_by_statement, named_by_block, named_by_otherwise}
 use Rattle.mote_program.proofs.Marks.{AreSound}
 
--- a name of its class that isn't that of the thread that is being read
+-- a name of its class that isn't the name of the thread that is being read
 abbrev pub IsInState : NamesInScope → Option Name → Class × Name → Type 0
 IsInState n own m = (i : ℕ) × Finds n own m.0 m.1 i
 
--- each of these names does, and the marks after them keep the rules
+-- each of these names is one of its class, and the marks after them keep the rules
 abbrev pub AreInPosition : NamesInScope → Option Name → List (Class × Name) → List Mark → Type 0
 AreInPosition n own ns after = All (IsInState n own) ns × AreSound n after
 
@@ -101,7 +101,7 @@ module _ (n : NamesInScope) where
       → AreInPosition n c.thread (named_by_expression e) after
   last_is_sound c e after h = let q = expression_is_sound c e (sign token.Semicolon ∷ after) h in (q.0, q.1.1)
 
-  -- an expression, and perhaps `into`
+  -- an expression, and possibly `into`
   answer_is_sound : (c : Context) (e : Expression Name) (i : Option Name) (after : List Mark)
       → AreSound n (expression_marks c e (into_marks i after))
       → AreInPosition n c.thread (named_by_expression e ++ named_by_into i) after

@@ -23,7 +23,7 @@ use Rattle.program_tree.specs.declared.tree.Operator.{Operator}
 use Rattle.program_tree.specs.declared.tree.Operator.TheVariants as operator
 use Rattle.program_reader.proofs.WordLaws.{number_token}
 
--- a token that can be in a program, as a lexed text has it
+-- a token that can be in a program, in the form that the lexer returns
 abbrev pub IsOwn : Token → Type 0
 IsOwn (token.Name x) = (x ≢ []) × (list_all is_word_byte x ≡ true) × (word_token x ≡ token.Name x)
 IsOwn (token.Number n) = n ≤ 65535
@@ -159,7 +159,7 @@ number_stops b n (u ∷ rest) = refl
 
 -- ---- signs
 
--- the text begins with a byte that makes neither a longer sign nor a comment of the sign before it
+-- the text begins with a byte that makes the sign before it neither a longer sign nor a comment
 record NextByte (text : List ℕ) : Type 0 where
   byte : ℕ
   more : List ℕ

@@ -1,5 +1,5 @@
--- The list of a tree's names has each of them: if two ways to change names agree on the list, they change the tree in
--- the same way.
+-- The list of a tree's names is complete: if two ways to change names agree on the list, they change the tree in the
+-- same way.
 use Rattle.std.proofs.Common.{◌≡◌, List, [], ◌∷◌, ◌++◌, refl, Option, Some, None, option_map}
 use Rattle.std.specs.List.{AllByRecursion}
 use Rattle.std.proofs.lemmas.List.Elements.{recursion_from_All}

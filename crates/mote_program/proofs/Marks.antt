@@ -11,7 +11,7 @@ use Rattle.program_tree.specs.Shapes.{ProgramShape}
 use Rattle.program_tree.specs.Tree.{a_process, a_thread}
 use Rattle.program_tree.specs.declared.error.ReadErrorKind.TheVariants.{UnknownName, BadTarget}
 
--- a name that is used is one of its class
+-- a name that is used belongs to its class
 abbrev pub KeepsRole : NamesInScope → Role → Type 0
 KeepsRole n (uses k x) = is_a n k x ≡ true
 KeepsRole n (spawns own x) = (is_a n a_thread x ≡ true) × (is_own own x ≡ false)
@@ -41,7 +41,7 @@ after_push : (s : Scope) (ms : List Mark) (m : Mark) → (scope_from s (ms ++ m 
 after_push s [] m = begun_names (with_role s m.role) m.begins ∙ role_names s m.role
 after_push s (l ∷ ms) m = after_push (scope_after s l) ms m
 
--- in scope, and of no other class
+-- a name that is in scope and belongs to no other class
 one_of : (a b : Bool) → (not a ≡ true → ⊥) → ((a && not b) ≡ true → ⊥) → b ≡ true
 one_of true true h k = refl
 one_of true false h k = absurd (k refl)

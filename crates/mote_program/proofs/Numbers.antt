@@ -19,7 +19,7 @@ use Rattle.mote_program.specs.Named.{named_by_block}
 use Rattle.mote_program.proofs.Changed.{change, block_changed}
 use Rattle.mote_program.proofs.IsInState.{IsInState}
 
--- how many names there are of each class
+-- the number of names of each class
 abbrev pub counts_of : NamesInScope → Declarations
 counts_of n = record {
   events = length n.events;
@@ -31,7 +31,7 @@ counts_of n = record {
   threads = length n.threads;
 }
 
--- each number that is found is one of these
+-- each number that is found is the number of one of these declarations
 abbrev pub Counts : NamesInScope → Option Name → Declarations → Type 0
 Counts n own d = (k : Class) (x : Name) (i : ℕ) → Finds n own k x i → IsOneOf d k i
 
@@ -54,7 +54,7 @@ counted n own a_variable x i f = place_below n.variables x i f.found
 counted n own a_timer x i f = timer_below n x i f.found
 counted n own a_thread x i f = place_below n.threads x i f.found
 
--- a thread that is found and isn't the last is an earlier one
+-- a thread that is found, and isn't the last thread, is an earlier one
 
 last_at : (xs : List Name) (x : Name) → slice_index_or (xs ++ x ∷ []) (length xs) [] ≡ x
 last_at [] x = refl

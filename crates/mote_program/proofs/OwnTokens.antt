@@ -1,4 +1,4 @@
--- The tokens of a text are such as a program can have, if no rule is broken at any of them.
+-- A program can have the tokens of a text if none of them breaks a rule.
 use Rattle.std.proofs.Common.{◌≡◌, ◌≢◌, ◌≤◌, nat_lt, ℕ, min, List, [], ◌∷◌, ◌++◌, Bool, true, false, ◌||◌, Option}
 use Rattle.std.proofs.Common.{Some, None, refl, ap, sym, ◌∙◌, subst, arith, append_assoc, eqb, IsTrue, if◌then◌else◌}
 use Rattle.std.proofs.lemmas.Bool.{and_parts, ltb-false}
@@ -19,7 +19,7 @@ use Rattle.mote_program.proofs.LexedAgain.{IsOwn, NoEquals, AreOwn}
 use Rattle.program_reader.proofs.PieceLaws.{found_among}
 use Rattle.program_reader.proofs.WordLaws.{number_token, table_token, other_token}
 
--- ---- names, as they are lexed
+-- ---- names in the form that the lexer returns
 
 abbrev IsLexedName : Token → Type 0
 IsLexedName (token.Name x) = (x ≢ []) × (list_all is_word_byte x ≡ true) × (word_token x ≡ token.Name x)
@@ -97,8 +97,8 @@ names_lexed text ts ls lexed = subst AreLexedNames (sym lexed.matches) (pieces_l
 
 -- ---- marks
 
--- A number plays the part of a number. Marks are fair if theirs do, and no `!` is followed by a token that would make
--- it another sign.
+-- A number has the role of a number. Marks are fair if their numbers have this role, and no `!` is followed by a token
+-- that would make it another sign.
 abbrev pub PlaysItsPart : Token → Role → Type 0
 PlaysItsPart (token.Number n) r = r ≡ value n
 PlaysItsPart t r = Unit {0}

@@ -55,7 +55,7 @@ pub declarations_are_complete : DeclarationsAreComplete
 declarations_are_complete text tree h = let q = shape_of_text text tree h in
     subst IsComplete (sym q.2) (shape_complete q.0)
 
--- a program was read from some text
+-- a program that was read from some text
 read_from : (p : Program) → IsTreeOf (text_of_tree (tree_of p)) (tree_of p)
 read_from p = read_again (tree_of p) p.was_read
 

@@ -1,4 +1,4 @@
--- Reading the canonical text of a program gives the same program.
+-- Reading the canonical text of a program results in the same program.
 use Rattle.std.proofs.Common.{ℕ, List, sym, subst, ◌⊎◌, inl, inr}
 use Rattle.std.proofs.Math.Logic.{∥∥₁_elim, ∥∥₁_map}
 use Rattle.std.proofs.Props.{props}

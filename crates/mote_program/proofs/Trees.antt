@@ -13,7 +13,7 @@ use Rattle.mote_program.specs.Named.{named_by_block}
 use Rattle.mote_program.specs.Trees.{only, first_code, second_code, second_there, tree_with, names_what_is_there}
 use Rattle.mote_program.specs.Trees.{TreesThatDeclare, TreesThatDoNot, TreesThatLack}
 
--- for the second process
+-- a property of the second process
 second : (callback thread body : Body ℕ) → IsDeclared (tree_with callback thread body)
     → IsDeclaredIn (tree_with callback thread body) (second_code callback thread body)
 second callback thread body h = h.each 1 (second_code callback thread body) refl
@@ -43,7 +43,7 @@ named_in : (d : Declarations) (b : Body ℕ) → AllByRecursion (λ m. IsOneOf d
     → NamesDeclared d b
 named_in d b h = All-from_recursion (λ m. IsOneOf d m.0 m.1) (named_by_block b) h
 
--- of a list of one block
+-- a property of the only block of a list
 at_only : (P : ℕ → Body ℕ → Type 0) (a : Body ℕ) → P 0 a → (k : ℕ) (b : Body ℕ) → slice_get (a ∷ []) k ≡ Some b → P k b
 at_only P a h zero b e = let same : a ≡ b = cc in subst (P 0) same h
 at_only P a h (suc k) b e = absurd cc

@@ -1,4 +1,5 @@
--- Through the parts of a program: the declarations after each, and that the names in its blocks have a meaning.
+-- A walk through the parts of a program: the declarations after each part, and a proof that the names in its blocks
+-- have a meaning.
 use Rattle.std.proofs.Common.{◌≡◌, List, [], ◌∷◌, ◌++◌, sym, subst, append_assoc, Option, Some, None}
 use Rattle.std.specs.List.{All}
 use Rattle.std.specs.Option.{ForSome}
@@ -13,11 +14,11 @@ use Rattle.mote_program.specs.Named.{named_by_block}
 use Rattle.mote_program.proofs.Marks.{AreSound}
 use Rattle.mote_program.proofs.IsInState.{IsInState, block_is_sound}
 
--- the names in a block that isn't a thread's
+-- the names in a block that isn't the block of a thread
 abbrev pub BlockIsSound : NamesInScope → Body Name → Type 0
 BlockIsSound n b = All (IsInState n None) (named_by_block b)
 
--- those in each of these blocks; its own name is declared before it
+-- the names in each of these blocks; the block's own name is declared before the block
 abbrev pub CallbacksAreSound : NamesInScope → List Named → Type 0
 CallbacksAreSound n [] = Unit {0}
 CallbacksAreSound n (t ∷ ts) = BlockIsSound (with_new n a_timer t.0) t.1 × CallbacksAreSound (with_new n a_timer t.0) ts

@@ -1,10 +1,10 @@
--- Programs in which each declaration has its parts.
+-- Programs in which each declaration is complete.
 use Rattle.std.specs.Prelude.{◌≡◌, ℕ, ◌+◌, ◌<◌, ◌≤◌, nat_le, length, slice_get, Some}
 use Rattle.program_tree.specs.Code.{Code, Tree}
 
--- Each variable of a process has its first value, each callback timer and each thread its block; and each timer of the
--- process, in the program's list of timers, is that process's own, and a callback timer if it comes after the event
--- timers.
+-- Each variable of a process has its first value, and each callback timer and each thread has its block. Each timer of
+-- the process is in the program's list of timers as a timer of this process. It is a callback timer there if it is
+-- after the event timers.
 pub record IsCompleteIn (t : Tree) (c : Code) : Type 0 where
   pub starts : length c.starts ≡ length c.variables
   pub callbacks : length c.callbacks ≡ length c.ctimers
@@ -16,7 +16,7 @@ pub record IsCompleteIn (t : Tree) (c : Code) : Type 0 where
         is_callback = nat_le (c.first_timer + length c.etimers) i;
       })
 
--- Each semaphore has its first count, and each process its code, with the number of the process.
+-- Each semaphore has its first count. Each process has its code, and the code has the number of the process.
 pub record IsComplete (t : Tree) : Type 0 where
   pub counts : length t.counts ≡ length t.semaphores
   pub codes : length t.codes ≡ length t.processes

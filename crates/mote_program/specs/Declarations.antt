@@ -6,8 +6,8 @@ use Rattle.program_tree.specs.Code.{Code, Tree}
 use Rattle.program_tree.specs.Tree.{Class, an_event, a_semaphore, a_process, a_variable, a_timer, a_thread, Body}
 use Rattle.mote_program.specs.Named.{named_by_block}
 
--- How many of each class are declared before a block. Timers are numbered through the program, and a block has those
--- of its process.
+-- The number of declarations of each class before a block. Timers are numbered through the whole program; a block can
+-- name those of its process.
 pub record Declarations : Type 0 where
   pub events : ℕ
   pub semaphores : ℕ
@@ -17,7 +17,7 @@ pub record Declarations : Type 0 where
   pub timers : ℕ
   pub threads : ℕ
 
--- the number of one of them
+-- the number is that of one of these declarations
 abbrev pub IsOneOf : Declarations → Class → ℕ → Type 0
 IsOneOf d an_event i = i < d.events
 IsOneOf d a_semaphore i = i < d.semaphores
@@ -26,11 +26,11 @@ IsOneOf d a_variable i = i < d.variables
 IsOneOf d a_timer i = (d.first_timer ≤ i) × (i < d.first_timer + d.timers)
 IsOneOf d a_thread i = i < d.threads
 
--- each number in the block is that of one of its class
+-- each number in the block is the number of a declaration of its class
 abbrev pub NamesDeclared : Declarations → Body ℕ → Type 0
 NamesDeclared d b = All (λ named. IsOneOf d named.0 named.1) (named_by_block b)
 
--- The declarations of the program and of this process: before its body, and before its blocks at POLL and EXIT.
+-- The declarations of the program and of this process before the body, and before the blocks at POLL and EXIT.
 abbrev pub of_process : Tree → Code → Declarations
 of_process t c = record {
   events = length t.events;
@@ -42,11 +42,11 @@ of_process t c = record {
   threads = length c.threads;
 }
 
--- before the block of a callback timer, by its place among them: the timer itself, but no later one, and no thread
+-- before the block of the callback timer at this place: this timer and the timers before it, but no thread
 abbrev pub at_callback : Tree → Code → (place : ℕ) → Declarations
 at_callback t c k = record (of_process t c) { timers = length c.etimers + (k + 1); threads = 0 }
 
--- before the block of a thread: the earlier threads, and not itself
+-- before the block of a thread: the earlier threads, but not the thread itself
 abbrev pub at_thread : Tree → Code → (thread : ℕ) → Declarations
 at_thread t c k = record (of_process t c) { threads = k }
 
@@ -58,8 +58,8 @@ pub record IsDeclaredIn (t : Tree) (c : Code) : Type 0 where
   pub on_exit : ForSome c.on_exit (NamesDeclared (of_process t c))
   pub body : NamesDeclared (of_process t c) c.body
 
--- The names in a program are declared: those in the blocks of each process, those of the processes that start at boot,
--- and that of the one that packets go to.
+-- The names in a program are declared: the names in the blocks of each process, the processes that start at boot, and
+-- the process that gets packets.
 pub record IsDeclared (t : Tree) : Type 0 where
   pub each : (k : ℕ) (c : Code) → slice_get t.codes k ≡ Some c → IsDeclaredIn t c
   pub autostart : All (λ p. p < length t.processes) t.autostart

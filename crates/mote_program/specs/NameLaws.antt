@@ -1,4 +1,4 @@
--- The laws of programs: properties of the tree of any text.
+-- The laws of programs, which are properties of the tree of any text.
 use Rattle.std.specs.Prelude.{◌≡◌, ℕ, List}
 use Rattle.std.specs.List.{All}
 use Rattle.program_tree.specs.Code.{Tree}
@@ -14,7 +14,7 @@ NamesAreDeclared = (text : List ℕ) (tree : Tree) → IsTreeOf text tree → Is
 abbrev pub DeclarationsAreComplete : Type 0
 DeclarationsAreComplete = (text : List ℕ) (tree : Tree) → IsTreeOf text tree → IsComplete tree
 
--- The list of the names of a block leaves none out: if two ways to number names agree on the list, they make the same
+-- The list of the names in a block is complete: if two ways to number names agree on the list, they result in the same
 -- block.
 abbrev pub EachNameIsListed : Type 0
 EachNameIsListed =

@@ -1,4 +1,4 @@
--- The names in each part of a program: the names, or their numbers, each with its class, in the order of the text.
+-- The names in each part of a program, or their numbers, each with its class, in the order of the text.
 use Rattle.std.specs.Prelude.{List, [], ◌∷◌, ◌++◌, Option, Some, None}
 use Rattle.program_tree.specs.EventNames as event
 use Rattle.program_tree.specs.EventNames.{BroadcastEvent, PostedEvent, TestedEvent}

@@ -1,4 +1,4 @@
--- The tokens of a program's parts, over names as they are written.
+-- The tokens of a program's parts, with names as they are written.
 use Rattle.std.specs.Prelude.{List, [], ◌∷◌, ◌++◌, map, drop, slice_index_or, Option, None, Some, option_map}
 use Rattle.std.specs.List.{flat_map, zip}
 use Rattle.program_tree.specs.Code.{Tree}
@@ -33,7 +33,7 @@ sent_token e = (sent_mark e).token
 abbrev pub any_token : TestedEvent Name → Token
 any_token e = (any_mark e).token
 
--- a keyword with its question in parentheses
+-- a keyword, and a token in parentheses after it
 abbrev pub telling : KeywordRead → Token → List Token
 telling k t = Keyword k ∷ Open ∷ t ∷ Close ∷ []
 
@@ -57,7 +57,7 @@ abbrev pub into_tokens : Option Name → List Token
 into_tokens None = Semicolon ∷ []
 into_tokens (Some x) = Keyword word.Into ∷ AName x ∷ Semicolon ∷ []
 
--- statements that consist only of a keyword, and those with a name or an expression after it
+-- statements that consist only of a keyword, and statements with a name or an expression after the keyword
 abbrev pub bare : KeywordRead → List Token
 bare k = Keyword k ∷ Semicolon ∷ []
 
@@ -125,7 +125,7 @@ abbrev pub handler_tokens : KeywordRead → Option (Body Name) → List Token
 handler_tokens k None = []
 handler_tokens k (Some b) = Keyword k ∷ block_tokens b
 
--- the declarations of a code, and the statements that it runs, with its last brace
+-- the declarations of a code, and the blocks that the process runs, with the last brace
 abbrev pub declared_tokens : CodeShape → List Token
 declared_tokens c =
     flat_map (valued_tokens word.Var) c.variables ++ (flat_map (listed_tokens word.Etimer) c.etimers
@@ -162,7 +162,7 @@ head_tokens es ss ps st r =
     flat_map (listed_tokens word.Event) es ++ (flat_map (valued_tokens word.Semaphore) ss
     ++ (process_tokens ps ++ (autostart_tokens st ++ receiver_tokens r)))
 
--- those of a tree
+-- the tokens of the program with this tree
 abbrev pub spelled_tokens : Tree → List Token
 spelled_tokens t =
     head_tokens t.events (zip t.semaphores t.counts) t.processes

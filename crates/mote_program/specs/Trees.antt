@@ -1,4 +1,4 @@
--- Small trees: one whose names are declared, and some that break one thing each, as their names say.
+-- Small trees: one tree whose names are declared, and trees with one error each, which is in the tree's name.
 use Rattle.std.specs.Prelude.{ℕ, true, false, [], ◌∷◌, Some, None, codes}
 use Rattle.program_tree.specs.Code.{Code, Tree}
 use Rattle.program_tree.specs.EventNames as event
@@ -7,11 +7,11 @@ use Rattle.program_tree.specs.Tree.{end, next}
 use Rattle.mote_program.specs.Complete.{IsComplete}
 use Rattle.mote_program.specs.Declarations.{IsDeclared}
 
--- a block of one statement
+-- a block with one statement
 abbrev pub only : Action ℕ → Body ℕ
 only a = next (does a) end
 
--- the first process: it has timer 0
+-- the first process, which has timer 0
 abbrev pub first_code : Code
 first_code = record {
   number = 0;
@@ -28,8 +28,8 @@ first_code = record {
   body = end;
 }
 
--- the second process: it has a variable, the timers 1 and 2, the latter a callback timer with this block, and a thread
--- with that block
+-- the second process, which has a variable, the timers 1 and 2, and a thread; timer 2 is a callback timer, and the
+-- three blocks are those of the callback, the thread and the body
 abbrev pub second_code : (callback thread body : Body ℕ) → Code
 second_code callback thread body = record {
   number = 1;
@@ -60,7 +60,7 @@ tree_with callback thread body = record {
       ∷ record { process = 1; is_callback = true } ∷ [];
 }
 
--- a body that names the last of each class, and both timers
+-- a body that names the last thing of each class, and both timers of its process
 abbrev pub names_each_class : Body ℕ
 names_each_class =
     next (does (broadcast (event.declared 0) (number 3) (Some 0)))
@@ -127,7 +127,7 @@ abbrev pub timer_without_place : Tree
 timer_without_place = record (tree_with end end end)
     { timers = record { process = 0; is_callback = false } ∷ record { process = 1; is_callback = false } ∷ [] }
 
--- names that are declared, and declarations that are complete
+-- the names are declared, and the declarations are complete
 pub record TreesThatDeclare : Type 0 where
   pub declared : IsDeclared names_what_is_there
   pub complete : IsComplete names_what_is_there

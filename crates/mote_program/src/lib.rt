@@ -1,6 +1,5 @@
-//! Programs of motes: their notation, the trees of their texts, and the names that they share with the kernel. This
-//! crate has the canonical text of a program, and the law that a program declares what it names; reader and trees are
-//! those of the crates below.
+//! The canonical text of a program, and the law that a program declares everything that it names. The reader of
+//! programs and their trees are in the crates `program_reader` and `program_tree`.
 #![tactic(auto)]
 
 pub mod name_laws;

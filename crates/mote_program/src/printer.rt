@@ -14,7 +14,7 @@ use program_tree::program::Program;
 use program_tree::token::Token;
 use std::alloc::{AllocError, Global};
 
-/// The number of braces that are open after a token, from the number before it.
+/// The number of open braces after a token, given the number before it.
 fn braces_behind(braces: usize, token: &Token) -> usize
     requires bounded { braces + 1 < 2 ^ 64 }
     ensures value { result ≡ braces_behind braces (token_of token.now) }
@@ -26,7 +26,7 @@ fn braces_behind(braces: usize, token: &Token) -> usize
     }
 }
 
-/// Returns `true` if a `(` follows the word without a space.
+/// Returns `true` if the keyword has a `(` after it without a space.
 fn tells(keyword: Keyword) -> bool
     ensures value { result ≡ tells keyword }
 {
@@ -41,7 +41,7 @@ fn tells(keyword: Keyword) -> bool
     )
 }
 
-/// Returns `true` if a token ends its line, with these after it.
+/// Returns `true` if a token ends its line. `rest` is the tokens after it.
 fn ends_line(token: &Token, rest: &[Token]) -> bool
     ensures value { result ≡ ends_line (token_of token.now) (map token_of rest.now) }
 {
@@ -52,7 +52,7 @@ fn ends_line(token: &Token, rest: &[Token]) -> bool
     }
 }
 
-/// Returns `true` if there is no space between a token and the next.
+/// Returns `true` if there is no space between a token and the next one.
 fn is_close(token: &Token, rest: &[Token]) -> bool
     ensures value { result ≡ is_close (token_of token.now) (map token_of rest.now) }
 {
@@ -64,7 +64,7 @@ fn is_close(token: &Token, rest: &[Token]) -> bool
     }
 }
 
-/// The depth of a line that begins with these tokens: a closing brace is indented as the line that opened it.
+/// The depth of a line that begins with these tokens. A closing brace has the depth of the line that opened it.
 fn line_depth(braces: usize, rest: &[Token]) -> usize
     ensures value { result ≡ line_depth braces (map token_of rest.now) }
 {
@@ -117,14 +117,14 @@ pub(crate) fn print(alloc: Global, mut tokens: &[Token]) -> Result<String, Alloc
 
 /// Returns the canonical text of a program. Reading it returns the same program.
 ///
-/// Tokens are one space apart, but there is no space before `;`, `,` and `)`, after `(` and `!`, and between `is`,
-/// `fired`, `expired`, `gone`, `running` or `count` and its `(`. Each `;`, `{` and `}` ends a line, but `} else {` is
-/// one line. A line is indented by two spaces for each brace that is open. Empty blocks are kept. The text ends with
-/// LF.
+/// Tokens are separated by one space. There is no space before `;`, `,` and `)`, after `(` and `!`, and between `is`,
+/// `fired`, `expired`, `gone`, `running` or `count` and its `(`. Each `;`, `{` and `}` ends a line, except that `}
+/// else {` is on one line. A line is indented by two spaces for each open brace. Empty blocks are kept. The text ends
+/// with LF.
 ///
 /// # Errors
 ///
-/// Out of memory: an allocation failed.
+/// `AllocError` if an allocation fails.
 pub fn print_program(alloc: Global, program: &Program) -> Result<String, AllocError>
     ensures text { IfOk result (λ t. string_bytes t ≡ text_of_tree (tree_of program.now)) }
     ensures reads { IfOk result (λ t. IsTreeOf (string_bytes t) (tree_of program.now)) }

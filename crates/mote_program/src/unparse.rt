@@ -1,5 +1,5 @@
-//! Unreading, the reverse of reading: from a tree back to its tokens, with the name of each number. This module
-//! unreads expressions, statements and blocks.
+//! Unreading, which is the reverse of reading: a tree becomes tokens again, and each number becomes a name. This
+//! module unreads expressions, statements and blocks.
 ghost use Rattle.std.specs.Prelude.{◌≡◌, ◌-◌, ◌∷◌, ◌++◌, [], map, OnOk, slice_index_or, option_map};
 ghost use Rattle.program_tree.specs.Meaning.{cast_of, sent_of, any_of};
 ghost use Rattle.program_tree.specs.EventNames.{cast_map, sent_map, any_map};
@@ -26,7 +26,7 @@ use program_tree::token::Token;
 use program_tree::tree::{Action, Block, Expr, Stmt};
 use std::alloc::AllocError;
 
-/// The name with a number; empty if there is no such name, which doesn't happen in a program.
+/// The name with this number, or an empty name if there is none. In a program there always is one.
 pub(crate) fn name_at<'a>(names: &'a Names, place: usize) -> &'a str
     ensures name { result.now ≡ slice_index_or names.now place [] }
 {
@@ -37,7 +37,7 @@ pub(crate) fn name_at<'a>(names: &'a Names, place: usize) -> &'a str
     }
 }
 
-/// The name of a timer of a process, by its number in the program.
+/// The name of a timer of a process, by the timer's number in the program.
 fn timer_name<'a>(code: &'a ProcessText, timer: u8) -> &'a str
     ensures name { result.now ≡ slice_index_or (code.now.etimers ++ code.now.ctimers)
         (timer - code.now.first_timer) [] }
@@ -50,7 +50,7 @@ fn timer_name<'a>(code: &'a ProcessText, timer: u8) -> &'a str
     }
 }
 
-/// A code, and the program whose names are in scope in it too.
+/// A code, and the program whose names are in scope in the code too.
 #[derive(Clone, Copy)]
 pub(crate) struct Scoped<'a> {
     pub program: &'a Program,
@@ -58,7 +58,7 @@ pub(crate) struct Scoped<'a> {
 }
 
 impl<'a> Scoped<'a> {
-    /// The name with a number.
+    /// The name with this number, among the names of this class.
     fn name(&self, class: Class, number: u8) -> Token<'a>
         ensures token { token_of result ≡ token.Name (name_in (names_in self.now) (class_of class) number) }
     {
@@ -124,7 +124,7 @@ pub(crate) fn add_all<'a>(out: &mut Vec<Token<'a>>, more: &[Token<'a>]) -> Resul
     out.extend_from_slice(more)
 }
 
-/// Adds a keyword and what it asks about, in parentheses.
+/// Adds a keyword, and a token in parentheses after it.
 fn telling<'a>(
     out: &mut Vec<Token<'a>>,
     keyword: Keyword,
@@ -213,7 +213,7 @@ impl<'a> Scoped<'a> {
         add(out, Token::Semicolon)
     }
 
-    /// Adds a semicolon, and before it `into` and the variable that gets the result, if there is one.
+    /// Adds a semicolon and, if a variable gets the result, `into` and the variable before it.
     fn into_end(&self, into: Option<u8>, out: &mut Vec<Token<'a>>) -> Result<(), AllocError>
         ensures appended { OnOk result (map token_of out.new.items ≡ map token_of out.old.items
             ++ into_tokens (option_map (name_in (names_in self.now) a_variable) into)) }

@@ -1,4 +1,4 @@
-//! Unreading, the reverse of reading: the tokens of declarations, codes and whole programs.
+//! Unreading, which is the reverse of reading, for declarations, codes and whole programs.
 ghost use Rattle.std.specs.Prelude.{◌≡◌, ◌++◌, [], length, map, IfOk, OnOk, slice_index_or, option_map};
 ghost use Rattle.std.specs.List.{flat_map, zip};
 ghost use Rattle.program_tree.specs.Program.{code_of, tree_of};
@@ -18,7 +18,7 @@ use program_tree::program::Program;
 use program_tree::token::Token;
 use std::alloc::{AllocError, Global};
 
-/// Adds declarations that are only names.
+/// Adds declarations that consist only of names.
 fn listed<'a>(
     keyword: Keyword,
     names: &'a Names,
@@ -94,7 +94,7 @@ impl<'a> Scoped<'a> {
         Ok(())
     }
 
-    /// Adds the block of `onpoll` or `onexit`, if present.
+    /// Adds the block of `onpoll` or `onexit`, if there is one.
     fn handler(
         &self,
         keyword: Keyword,
@@ -113,7 +113,7 @@ impl<'a> Scoped<'a> {
         }
     }
 
-    /// Adds what the code declares.
+    /// Adds the declarations of the code.
     fn declared(&self, out: &mut Vec<Token<'a>>) -> Result<(), AllocError>
         ensures appended { OnOk result (map token_of out.new.items ≡ map token_of out.old.items
             ++ declared_tokens (code_with (names_in self.now) (code_of self.now.code.now))) }
@@ -138,7 +138,7 @@ impl<'a> Scoped<'a> {
         add(out, Token::CloseBrace)
     }
 
-    /// Adds the code, of the process with this name.
+    /// Adds the code. `name` is the name of its process.
     fn code(&self, name: &'a str, out: &mut Vec<Token<'a>>) -> Result<(), AllocError>
         ensures appended { OnOk result (map token_of out.new.items ≡ map token_of out.old.items
             ++ code_tokens (name.now, code_with (names_in self.now) (code_of self.now.code.now))) }
@@ -206,7 +206,7 @@ fn autostart<'a>(
     add(out, Token::Semicolon)
 }
 
-/// Adds the process that packets go to, if there is one.
+/// Adds the process that gets packets, if there is one.
 fn receiver<'a>(
     names: &'a Names,
     receiver: Option<u8>,
@@ -225,7 +225,7 @@ fn receiver<'a>(
     )
 }
 
-/// Adds what the program declares.
+/// Adds the declarations of the program.
 fn head<'a>(program: &'a Program, out: &mut Vec<Token<'a>>) -> Result<(), AllocError>
     ensures appended { OnOk result (let t = tree_of program.now in map token_of out.new.items
         ≡ map token_of out.old.items ++
