@@ -4,7 +4,7 @@ use Rattle.event_queue.specs.declared.queue.Posted.{Posted}
 use Rattle.event_queue.specs.declared.queue.Waiting.{Waiting}
 use Rattle.event_queue.specs.Queue.{Queue}
 
--- the events in the order in which they were accepted, the first with this serial
+-- the waiting events, numbered from this serial on
 abbrev pub posted_from : (serial : ℕ) → List Waiting → List Posted
 posted_from serial [] = []
 posted_from serial (w ∷ ws) =

@@ -62,8 +62,8 @@ impl Model for EventQueue {
         × (q.taken + length q.waiting.items ≤ 2 ^ 62) };
 }
 
-/// Takes the oldest waiting event. If only one event waits, it is taken from the back. A ring buffer that holds one
-/// event at a time then stays at its first slot, which is likely to be in the cache.
+/// Takes the oldest waiting event. If only one event waits, the function takes it from the back. A ring buffer that
+/// holds one event at a time then stays at its first slot, which is likely to be in the cache.
 #[inline(always)]
 #[tactic(auto, using(crate::proofs::Only::only_first))]
 fn take_oldest(waiting: &mut HeapCircularBuffer<Waiting>) -> Option<Waiting>

@@ -1,4 +1,4 @@
--- Small trees: one tree whose names are declared, and trees with one error each, which is in the tree's name.
+-- Small trees: one whose names are declared, and some with one error each. The name of such a tree states its error.
 use Rattle.std.specs.Prelude.{ℕ, true, false, [], ◌∷◌, Some, None, codes}
 use Rattle.program_tree.specs.Code.{Code, Tree}
 use Rattle.program_tree.specs.EventNames as event

@@ -1,5 +1,5 @@
-//! The canonical text of a program, and the law that a program declares everything that it names. The reader of
-//! programs and their trees are in the crates `program_reader` and `program_tree`.
+//! The canonical text of a program, and the law that a program declares everything that it names. The crate
+//! `program_reader` has the reader of programs, and `program_tree` has their trees.
 #![tactic(auto)]
 
 pub mod name_laws;

@@ -29,8 +29,8 @@ pub fn each_name_is_listed()
     ensures each_name_is_listed { EachNameIsListed }
 {}
 
-/// Both properties hold for a small tree that names something of each class. They fail for small trees with one error
-/// each.
+/// Both properties of `what_a_text_names_is_declared` hold for a small tree that names something of each class. They
+/// fail for small trees with one error each.
 pub fn trees_are_distinct()
     ensures trees_that_declare { TreesThatDeclare }
     ensures undeclared { TreesThatDoNot }

@@ -115,12 +115,12 @@ pub(crate) fn print(alloc: Global, mut tokens: &[Token]) -> Result<String, Alloc
     Ok(text)
 }
 
-/// Returns the canonical text of a program. Reading it returns the same program.
+/// Returns the canonical text of a program. Reading this text returns the same program.
 ///
-/// Tokens are separated by one space. There is no space before `;`, `,` and `)`, after `(` and `!`, and between `is`,
-/// `fired`, `expired`, `gone`, `running` or `count` and its `(`. Each `;`, `{` and `}` ends a line, except that `}
-/// else {` is on one line. A line is indented by two spaces for each open brace. Empty blocks are kept. The text ends
-/// with LF.
+/// Tokens are separated by one space. There is no space before `;`, `,` or `)`, none after `(` or `!`, and none
+/// between `is`, `fired`, `expired`, `gone`, `running` or `count` and its `(`. Each `;`, `{` and `}` ends a line,
+/// except that `} else {` is on one line. A line is indented by two spaces for each open brace. Empty blocks are kept.
+/// The text ends with LF.
 ///
 /// # Errors
 ///

@@ -7,7 +7,7 @@ use Rattle.mote_timers.specs.Timer.{is_due}
 use Rattle.mote_timers.specs.TimerLists.{TimerLists, timer_at}
 
 -- the properties of every `Timers`: the list has room for each timer, each timer on it has an owner, and no start is
--- past its limit
+-- above its limit
 pub record AreTimers (ts : List Timer) (listed : Numbers) : Type 0 where
   pub room : length ts ≡ listed.limit
   pub owned : All (λ id. IsSome (timer_at ts id).owner) listed.members

@@ -66,7 +66,7 @@ ListedOnce = (n : ℕ) (calls : List TimerCall) → IsDistinct nat_eq (after_cal
 abbrev pub KeepsTimers : Type 0
 KeepsTimers = (s : TimerLists) (calls : List TimerCall) → length (after_calls s calls).timers ≡ length s.timers
 
--- a timer that was set, and that no later call took off the list, is due exactly from its expiration on
+-- a timer that was set, and that no later call took off the list, is due from its expiration on, and not before
 abbrev pub DueFromExpiration : Type 0
 DueFromExpiration =
     (s : TimerLists) (id : ℕ) (owner : Proc) (interval now : ℕ) (calls : List TimerCall)

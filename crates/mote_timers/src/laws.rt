@@ -13,8 +13,8 @@ pub fn timers_stay()
     ensures keeps_timers { KeepsTimers }
 {}
 
-/// A timer that was set, and not fired, stopped or purged since then, is due exactly from its start plus its interval
-/// on. If no later call set it again either, its start and its interval are those with which it was set.
+/// A timer that was set, and not fired, stopped or purged since then, is due from its start plus its interval on, and
+/// not before. If no later call set it again either, its start and its interval are those with which it was set.
 pub fn due_from_expiration()
     ensures last_set { DueFromExpiration }
     ensures set_once { DueFromSet }

@@ -69,8 +69,8 @@ impl Timers {
         self.start(id, timer);
     }
 
-    /// Sets a timer again from its expiration: its start grows by its interval, up to 2 to the 62. The timer gets this
-    /// owner, and its place on the list is as in `set`.
+    /// Sets a timer again from its expiration: its start grows by its interval, to at most 2 to the 62. The timer gets
+    /// this owner, and its place on the list is as in `set`.
     #[tactic(auto, unfolding(crate::specs::TimerLists::reset_timer))]
     pub fn reset(&mut self, id: u16, owner: Proc)
         requires is_timer { id < length self.old.timers }

@@ -122,7 +122,7 @@ next_left ps qs k e h =
     drop-cons ps k [] low ∙ ap (λ x. x ∷ drop (suc k) ps) (ap (λ zs. slice_index_or zs k []) (sym e))
     ∙ ap (λ i. slice_index_or qs k [] ∷ drop i ps) one
 
--- the next process is the one whose code is read
+-- the code that is read is that of the next process
 next_code : (s m : Scope) (texts : List ProcessText) (k : ℕ) (old mid : List Token) → k ≡ length texts
     → HasCodes (map code_of texts) (drop (length texts) s.names.processes) s m old mid → k < length m.names.processes
     → HasCodes (map code_of texts) (slice_index_or m.names.processes k [] ∷ drop (k + 1) s.names.processes) s m old mid

@@ -39,7 +39,7 @@ use Rattle.program_tree.proofs.NameLaws.{same_bytes}
 
 -- The tables and the trees.
 
--- the action of a keyword and its operands, and its marks
+-- the action that a keyword forms with its operands, and the marks of this action
 abbrev pub action_made : (k : Keyword) (v : ActionShape (beginning k))
     → (a : Action Name) × ((c : Context) (after : List Mark) → action_marks c a after ≡ keyword_marks c k v after)
 action_made word.Print v = (print v.0, λ c after. refl)

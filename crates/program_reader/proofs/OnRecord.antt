@@ -24,7 +24,7 @@ use Rattle.program_tree.specs.declared.keyword.Keyword.TheVariants as word
 use Rattle.program_reader.proofs.Language.{Parts, spell_all, some_parts, some_program, Back, back, FromEvents}
 use Rattle.program_reader.proofs.Turns.{On, Forth, forth}
 
--- The first broken rule is the least.
+-- The first broken rule is the one with the least number.
 
 -- no rule of the list is broken
 abbrev NoneBroken : (ReadErrorKind → Bool) → List ReadErrorKind → Type 0

@@ -107,7 +107,7 @@ pub record ReadsCode (x : Name) (process : ℕ) (code : Code) (s s' : Scope) (ol
   pub spelled : (ms : List Mark) → tokens ms ≡ new → old ≡ tokens (code_marks (x, shape) ms)
   pub goes_on : (xs : List Name) (f : Pending) → tell s (machine.codes x xs ∷ f) old ≡ tell s' (codes_form xs f) new
 
--- the names in scope, with these names of a code
+-- the names in scope, with the code's own names replaced by these
 abbrev pub with_own : NamesInScope → (variables timers threads : List Name) → NamesInScope
 with_own n vs ts hs = record n { variables = vs; timers = ts; threads = hs }
 

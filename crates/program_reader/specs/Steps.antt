@@ -93,7 +93,7 @@ IsFound n own c x found.Unknown = is_in_scope n x ≡ false
 IsFound n own c x found.Other = (is_in_scope n x ≡ true) × ((is_other n c x || is_own_thread own c x) ≡ true)
 IsFound n own c x (found.Here i) = Finds n own c x i
 
--- the first list begins the second: its names stay in scope, and more may be declared
+-- the second list begins with the first: the names in scope stay in scope, and more may be declared
 abbrev pub IsFront : List Name → List Name → Type 0
 IsFront xs ys = (more : List Name) × (ys ≡ xs ++ more)
 
@@ -101,7 +101,7 @@ pub record Extends (n n' : NamesInScope) : Type 0 where
   pub front : (c : Class) → IsFront (names_of n c) (names_of n' c)
   pub first_timer : n'.first_timer ≡ n.first_timer
 
--- each number that is found for a name is within these numbers
+-- each number that is found for a name is one of these numbers
 abbrev pub Covers : NamesInScope → Option Name → Within → Type 0
 Covers n own w = (c : Class) (x : Name) (i : ℕ) → Finds n own c x i → w c i ≡ true
 

@@ -28,7 +28,7 @@ pub(crate) enum Kind {
     Thread,
 }
 
-/// The greatest number of names of a kind that a program or a process may have. Timers of both kinds count together.
+/// The greatest number of names of each kind in a program or in a process. Timers of both kinds count together.
 const EVENTS: usize = 117;
 
 const SEMAPHORES: usize = 64;

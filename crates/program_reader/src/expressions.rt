@@ -33,7 +33,7 @@ struct Sides {
     right: Expr,
 }
 
-/// Implemented by hand, so that the check of a function that owns two sides sees only one call for their drop.
+/// Implemented by hand: when the prover checks a function that owns two sides, it sees their drop as one call.
 impl Drop for Sides {
     fn drop(self) {
         let Sides {

@@ -24,7 +24,7 @@ use program_tree::token::Token;
 use std::alloc::Global;
 
 impl Scope {
-    /// The number of a process that `autostart` may list, by the name of the process.
+    /// Returns the number of the process with this name, if `autostart` may list the process.
     #[tactic(auto, using(crate::proofs::StartLaws::startable_steps))]
     fn startable(&self, name: &str) -> Result<u8, ReadErrorKind>
         ensures ok { IfOk result (λ i. CanStart (scope_of self.now) name.now i) }
@@ -127,7 +127,7 @@ impl Reader<'_> {
         Ok(numbers)
     }
 
-    /// Reads `autostart` and the names after it, if it is present, and adds the numbers of the processes.
+    /// Reads `autostart` and the names after it, if `autostart` is present, and adds the numbers of these processes.
     #[tactic(auto, using(crate::proofs::StartLaws::autostart_steps))]
     fn starting_names(&mut self, numbers: &mut Vec<u8>) -> Result<(), ReadFailure>
         requires none_yet { numbers.old.items ≡ [] }

@@ -30,7 +30,7 @@ pub(crate) struct Reader<'a> {
 }
 
 impl Reader<'_> {
-    /// The number of the name here, if the name refers to something of this class.
+    /// The number of the next name, if the name refers to something of this class.
     #[tactic(auto, using(crate::proofs::NameSteps::number_steps))]
     fn number(&self, place: &Context, class: Class) -> Result<u8, ReadFailure>
         ensures ok { IfOk result (λ i. IsNamed (scope_of self.now.scope).names (context_of place.now).thread

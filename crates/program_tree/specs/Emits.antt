@@ -19,8 +19,8 @@ abbrev pub LeadFrom : (all : List (List (Statement ℕ))) → (place : ℕ) → 
 LeadFrom all place [] = Unit {0}
 LeadFrom all place (i ∷ is) = Leads (rest_in all) i (rest_in all place) × LeadFrom all (place + 1) is
 
--- `new` is `old` with instructions added. If all rests contain the rests of these instructions at their places, and
--- the rest at `after` is the one that follows, then the instructions have the local property.
+-- `new` is `old` with instructions added. The added instructions have the local property if their rests are at their
+-- places in the list of all rests, and if the rest at `after` is the rest that follows them.
 pub record Adds (added : (rest : List (Statement ℕ)) → List (List (Statement ℕ))) (count after : ℕ)
     (old new : List Instruction) : Type 0 where
   pub more : List Instruction

@@ -63,7 +63,7 @@ abbrev pub is_own : Option Name → Name → Bool
 is_own None x = false
 is_own (Some own) x = bytes_eq own x
 
--- the role of the token breaks this rule in this scope, which is that of the marks before it
+-- the role of the token breaks this rule in this scope, the scope of the marks before the token
 abbrev pub role_breaks : ReadErrorKind → Scope → Role → Bool
 role_breaks UnknownName s (uses c x) = not (is_in_scope s.names x)
 role_breaks UnknownName s (spawns own x) = not (is_in_scope s.names x)

@@ -1,4 +1,4 @@
--- Trees in which each number has a meaning. For each class, the numbers that have one are given.
+-- Trees in which each number has a meaning. The numbers of each class that have one are given.
 use Rattle.std.specs.Prelude.{ℕ, ◌+◌, nat_lt, Bool, true, ◌&&◌, List, [], ◌∷◌, Option, None, Some}
 use Rattle.program_tree.specs.EventNames as event
 use Rattle.program_tree.specs.EventNames.{BroadcastEvent, PostedEvent, TestedEvent}

@@ -49,7 +49,7 @@ sign_at text = find (λ sign. starts_with nat_eq text sign.0) signs
 abbrev pub begins_comment : List ℕ → Bool
 begins_comment text = starts_with nat_eq text (codes "//")
 
--- the line ends here, because the text continues with LF or has ended
+-- the line ends here: the text continues with LF, or has ended
 abbrev pub ends_line : List ℕ → Bool
 ends_line [] = true
 ends_line (b ∷ bs) = is_feed b

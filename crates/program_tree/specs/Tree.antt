@@ -103,7 +103,7 @@ abbrev mutual
   other_height nothing = 0
   other_height (otherwise b) = height b
 
--- the number of statements in a block, with the statements of inner blocks
+-- the number of statements in a block, including those of inner blocks
 abbrev mutual
   pub size : {N : Type 0} → Body N → ℕ
   size end = 0
@@ -118,7 +118,7 @@ abbrev mutual
   other_size nothing = 0
   other_size (otherwise b) = size b
 
--- the number of statements that a statement counts as: itself and the statements of its blocks
+-- the number of statements in a statement: itself and the statements of its blocks
 abbrev pub statement_size : {N : Type 0} → Statement N → ℕ
 statement_size s = suc (inner_size s)
 

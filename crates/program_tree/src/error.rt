@@ -10,7 +10,7 @@ pub enum ReadErrorKind {
     /// A piece of text that isn't a token.
     BadToken = 1,
     /// A token that can't follow the tokens before it in any program, whatever the names and numbers. At the end of a
-    /// text: no program ends at this place, and none has `process` at this place.
+    /// text, this error means that no program ends there, and that no program has `process` there.
     Unexpected = 2,
     /// A name that isn't declared yet.
     UnknownName = 3,

@@ -19,7 +19,7 @@ pub enum Target {
 }
 
 /// The event with which a process is called: its number (`process_event_t`), its word of 16 bits, and the number of
-/// the mote that sent it, which is 0 except for a packet from the radio.
+/// the mote that sent it. The number of the mote is 0, except for a packet from the radio.
 #[derive(Clone, Copy, Debug, PartialEq, Eq)]
 pub struct Event {
     pub number: u8,

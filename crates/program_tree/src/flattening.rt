@@ -9,7 +9,7 @@ use crate::instruction::{END, Instruction};
 use crate::tree::{Block, Stmt};
 use std::alloc::{AllocError, Global};
 
-/// The number of statements in a block, with the statements of inner blocks.
+/// The number of statements in a block, including those of inner blocks.
 #[cycle(count)]
 fn count(block: &Block) -> u16
     requires size_bounded { size (block_of block.now) < 2 ^ 16 }
@@ -34,7 +34,7 @@ fn count_other(other: &Option<Block>) -> u16
     }
 }
 
-/// The number of statements that a statement counts as: itself and the statements of its blocks.
+/// The number of statements in a statement: itself and the statements of its blocks.
 #[cycle(count)]
 fn count_statement(statement: &Stmt) -> u16
     requires size_bounded { statement_size (statement_of statement.now) < 2 ^ 16 }

@@ -13,7 +13,7 @@ pub struct Names {
     set: IndexSet<String>,
 }
 
-/// Implemented by hand, so that the check of a function that owns names sees only one call for their drop.
+/// Implemented by hand: when the prover checks a function that owns names, it sees their drop as one call.
 impl Drop for Names {
     fn drop(self) {
         let Names { set: _ } = self;
@@ -52,7 +52,7 @@ impl Names {
         self.set.is_empty()
     }
 
-    /// The number of a name, if it was declared.
+    /// The number of a name, if the name was declared.
     pub fn place_of(&self, name: &str) -> Option<usize>
         ensures place { result ≡ place_of self.now name.now }
         ensures within { IfSome result (λ i. i < length self.now) }

@@ -1,6 +1,7 @@
 //! The text of each process of a program.
 //!
-//! The fields are public for the crates that read and print programs. The ghost fields hold for each value.
+//! The fields are public for the crates that read and print programs. The facts in the ghost fields hold for each
+//! value.
 ghost use Rattle.std.specs.Prelude.{◌≡◌, ◌+◌, ◌<◌, ◌≤◌, length, map, slice_get, IsTrue, IfSome, option_map};
 ghost use Rattle.std.specs.Option.{ForSome};
 ghost use Rattle.std.specs.List.{All};

@@ -1,7 +1,7 @@
 //! A program.
 //!
-//! The fields are public for the crates that read and print programs. The ghost fields hold for each value, so a value
-//! is always the program of a text.
+//! The fields are public for the crates that read and print programs. The facts in the ghost fields hold for each
+//! value, so a value is always the program of a text.
 ghost use Rattle.std.specs.Prelude.{◌≡◌, ◌<◌, ◌≤◌, length, map, slice_get, Some, IfSome, option_map};
 ghost use Rattle.std.specs.Option.{ForSome};
 ghost use Rattle.std.specs.List.{All};
@@ -47,7 +47,7 @@ pub struct Program {
     }) },
 }
 
-/// Implemented by hand, so that the check of a function that owns a program sees only one call for its drop.
+/// Implemented by hand: when the prover checks a function that owns a program, it sees the program's drop as one call.
 impl Drop for Program {
     fn drop(self) {
         let Program {
@@ -128,7 +128,7 @@ impl Program {
         self.processes.len() as u8
     }
 
-    /// The name of a process, by its number.
+    /// The name of the process with this number.
     pub fn name(&self, process: u8) -> &str
         requires process_exists { process < length (tree_of self.now).processes }
         ensures name { slice_get (tree_of self.now).processes process ≡ Some result.now }
@@ -136,7 +136,7 @@ impl Program {
         self.processes.get(usize::from(process))
     }
 
-    /// The text that a process runs, by its number.
+    /// The text of the process with this number.
     pub fn process(&self, process: u8) -> &ProcessText
         requires process_exists { process < length (tree_of self.now).processes }
         ensures code { slice_get (tree_of self.now).codes process ≡ Some (code_of result.now) }

@@ -24,8 +24,8 @@ pub enum Operator {
     Or,
 }
 
-/// An expression. Variables have the numbers of their declarations in the process; processes and semaphores have those
-/// of their declarations in the program. Timers of both kinds are numbered together through the whole program.
+/// An expression. A variable has the number of its declaration in the process; a process or a semaphore has the number
+/// of its declaration in the program. Timers of both kinds are numbered together through the whole program.
 #[derive(Drop)]
 pub enum Expr {
     Number(u16),
@@ -36,7 +36,7 @@ pub enum Expr {
     Sender,
     /// The current moment.
     Moment,
-    /// The number of the mote itself.
+    /// The number of the mote on which the program runs.
     Mote,
     /// 1 if the current event is this one, otherwise 0.
     Is(TestedEvent),

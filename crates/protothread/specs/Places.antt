@@ -66,7 +66,7 @@ callers_of code t = callers_in code (part_body code t.part) t.calls
 abbrev pub thread_place : Code → Thread → Place
 thread_place code t = nested (callers_of code t) (before t.is_yielded (rest_at (body_of_thread code t) t.position))
 
--- the remainder of a thread over a code
+-- the remainder of a thread, given the code of its process
 abbrev pub remainder_of : Code → Thread → Remainder
 remainder_of code t = record { part = t.part; mark = t.mark; place = thread_place code t }
 

@@ -5,7 +5,8 @@ pub data Use : Type 0 where
   takes : Use
   signals : Use
 
--- these uses take a semaphore from one count to another; all of them are possible: nothing is taken at 0
+-- these uses change the count of a semaphore from `start` to `count`, and all are possible: none takes from a count of
+-- 0
 abbrev pub Counts : (start : ℕ) → List Use → (count : ℕ) → Type 0
 Counts start [] count = start ≡ count
 Counts start (takes ∷ us) count = (0 < start) × Counts (start - 1) us count

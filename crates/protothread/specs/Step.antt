@@ -84,7 +84,8 @@ pub data Reached : Type 0 where
   operates : Op → Mark → Place → Reached
   answers : PtState → Place → Reached
 
--- the effect of an action on the thread whose block is `whole`, at the statement `s`, which is before the rest
+-- the effect of an action on the thread whose block is `whole`; the action is at the statement `s`, and the rest is
+-- after it
 abbrev pub performed : Code → (whole : List (Statement ℕ)) → (variables : List ℕ) → (s : Statement ℕ)
     → (rest : List (Statement ℕ)) → StatementEffect → Reached
 performed code whole vars s rest Passes = goes_on vars (before false rest)

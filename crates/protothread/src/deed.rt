@@ -24,7 +24,7 @@ pub(crate) enum StatementEffect {
     Waits,
     /// The thread yields at the statement.
     Yields,
-    /// A thread of the process is made fresh and called.
+    /// The thread makes a thread of the process fresh, and calls it.
     Spawns(u8),
     /// The thread is fresh again and waits.
     Restarts,

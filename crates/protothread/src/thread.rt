@@ -280,10 +280,10 @@ impl Thread {
 
     /// Continues up to the next operation or answer. The thread pays a unit of work for each statement that it
     /// reaches, for each further test of a `while`, and for each spawn that a call passes on its way to the thread's
-    /// position. Each time it is resumed, it also pays one for the statement at that position. After the answers
-    /// `Exited` and `Ended` the thread is fresh. A thread that has run away always answers `Runaway`.
+    /// position. Each time the thread is resumed, it also pays a unit for the statement at that position. After the
+    /// answers `Exited` and `Ended` the thread is fresh. A thread that has run away always answers `Runaway`.
     ///
-    /// Each call gets the same text, and the variables that were made from it.
+    /// Each call gets the same text, and variables that were made from this text.
     #[inline(always)]
     #[tactic(auto, unfolding(crate::specs::Step::advanced_of))]
     pub fn advance<L: Look>(

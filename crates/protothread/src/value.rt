@@ -54,7 +54,7 @@ fn is_running<L: Look>(look: &L, process: u8) -> bool
     look.running(process)
 }
 
-/// The value of an operand, if it is a number or a variable. Most operands are.
+/// The value of an operand, if it is a number or a variable. Most operands are one of these.
 #[inline(always)]
 fn plain_value(operand: &Expr, vars: &Vars) -> Option<u16>
     ensures value { (event : Event) (looks : Looks)

@@ -44,7 +44,8 @@ impl Vars {
         self.values[usize::from(variable)]
     }
 
-    /// The value of a variable of the text from which these were made. (The value of any other number would be 0.)
+    /// The value of a variable of the text from which these variables were made. (Any other number would have the
+    /// value 0.)
     pub(crate) fn value(&self, variable: u8) -> u16
         ensures value { result ≡ slice_index self.now variable }
     {

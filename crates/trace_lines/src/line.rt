@@ -25,7 +25,7 @@ pub enum What {
     Halt,
     /// The mote sends a packet with this number and value.
     Send(u64, u16),
-    /// The receive ring stored a packet: the mote that sent it, the packet's number among that mote's packets, its
+    /// The receive ring stored a packet: the mote that sent it, the packet's number among that mote's packets, and its
     /// value.
     Recv(u16, u64, u16),
     /// The receive ring was full when a packet arrived (an overflow).
