@@ -72,7 +72,7 @@ impl NumberList {
         self.members.retain(keep);
     }
 
-    /// Takes a number off the list, if it is on the list.
+    /// Takes a number off the list, if the list contains it.
     pub fn remove(&mut self, number: u16)
         ensures after { self.new ≡ numbers (without_member number self.old.members) self.old.limit }
     {

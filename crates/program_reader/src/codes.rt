@@ -176,7 +176,7 @@ impl Reader<'_> {
     }
 }
 
-/// The program that the tokens form, or their first error.
+/// The program that the tokens form, or the first error of the tokens.
 pub(crate) fn program<'a>(alloc: Global, tokens: &'a [Token<'a>]) -> Result<Program, ReadFailure>
     requires are_lexed { AreLexed (map token_of tokens.now) }
     ensures ok { IfOk result (λ p. IsTreeOfTokens (map token_of tokens.now) (tree_of p)) }

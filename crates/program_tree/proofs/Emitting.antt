@@ -206,7 +206,7 @@ first_more b s later after then old mid new p then_is q =
 pub first_all : (b : Body ℕ) (after : ℕ) (old new : List Instruction) → EmitsFirst b end after old new → Emits b after old new
 first_all b after old new p = record { more = p.more; extends = p.extends; counts = omega (arith, p.counts); leads = p.leads }
 
--- code is flat after a whole block was added to it
+-- after a whole block is added, the code is flat
 each_leads : (all : List (List (Statement ℕ))) (n : ℕ) (code : List Instruction) (k : ℕ) (i : Instruction) → LeadFrom all n code → slice_get code k ≡ Some i → Leads (rest_in all) i (rest_in all (n + k))
 each_leads all n [] k i h found = absurd (cc)
 each_leads all n (j ∷ code) zero i h found =

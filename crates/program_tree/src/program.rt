@@ -156,7 +156,7 @@ impl Program {
         }
     }
 
-    /// The processes that start at boot, in order.
+    /// The numbers of the processes that start at boot, in order.
     pub fn autostart(&self) -> &[u8]
         ensures value { result.now ≡ (tree_of self.now).autostart }
         ensures within { All (λ i. i < length (tree_of self.now).processes) result.now }
@@ -164,7 +164,7 @@ impl Program {
         &self.autostart
     }
 
-    /// The process that gets the packets from the radio.
+    /// The number of the process that gets the packets from the radio, if there is one.
     pub fn receiver(&self) -> Option<u8>
         ensures value { result ≡ (tree_of self.now).receiver }
         ensures within { IfSome result (λ i. i < length (tree_of self.now).processes) }

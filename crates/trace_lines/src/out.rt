@@ -14,7 +14,7 @@ pub struct Out {
 }
 
 impl Out {
-    /// An output without lines and packets.
+    /// An output with no lines and no packets.
     pub fn new(alloc: Global) -> Out
         ensures lines { result.lines.items ≡ [] }
         ensures sends { result.sends.items ≡ [] }
