@@ -10,7 +10,7 @@
     print(motesim.compare(run, motesim.run('examples/tdma.toml')).text)
 
     run       runs a scenario: a `Run` with `report` and `scenario`        Limits    what a run may use
-    expect    which sentences hold for a run: a list of `Kept`               Fault     what can go wrong, in words
+    expect    which sentences hold for a run: a list of `Kept`               Fault     an error, with its message
     compare   how two runs diverge: a `Comparison`                         Plan      scenarios by rule
     Scenario  motes, places, who hears whom, losses                        Report    traces and the log of the medium
 
@@ -31,7 +31,7 @@ __all__ = ['Comparison', 'Fault', 'Kept', 'Limits', 'Plan', 'Report', 'Run', 'Sc
 
 
 def __getattr__(name: str) -> object:
-    # (most commands need only a part of this, and have to start at once)
+    # (most commands need only some of these names, and must start quickly)
     if name not in __all__:
         raise AttributeError('module %r has no attribute %r' % (__name__, name))
     from motesim import api

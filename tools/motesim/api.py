@@ -1,4 +1,4 @@
-"""The public calls: `import motesim` has them all. docs/use/TOOLS.md shows them at work."""
+"""The public functions and classes: `import motesim` provides all of them. docs/use/TOOLS.md has examples."""
 from __future__ import annotations
 
 from collections.abc import Mapping, Sequence
@@ -24,11 +24,11 @@ MOST_ROWS = 20
 
 @dataclass(frozen=True)
 class Kept:
-    """A sentence, and whether a run shows what it says.
+    """A sentence, and whether it holds for a run.
 
-    sentence  as it was given
-    holds     whether the run shows it
-    why       what breaks it, in words; empty if it holds
+    sentence  the text, as the caller wrote it
+    holds     whether the sentence holds
+    why       the reason why it doesn't hold; empty if it holds
     row       the line of the report that shows it first, counted from 1, or None
     """
     sentence: str
@@ -55,11 +55,11 @@ class Comparison:
 
 def run(scenario: str | Path | bytes | Plan, parameters: Mapping[str, Value] | None = None, *,
         limits: Limits = Limits(), program: Path | None = None) -> Run:
-    """Runs a scenario: a file by its name, a text in bytes, or what a plan makes with these parameters.
+    """Runs a scenario: the name of its file, its text in bytes, or a plan with values of its parameters.
 
     Returns a `Run` with `report` and `scenario`. Raises a `Fault`, whose text can be shown, if the scenario is
-    refused, if the run reaches a limit, or if there is no program. A file that holds a report is read and isn't run;
-    then `scenario` is None.
+    refused, if the run reaches a limit, or if there is no `motesim`. If the file has a report, nothing runs, and
+    `scenario` is None.
     """
     if isinstance(scenario, Plan):
         name, data = 'plan', scenario.scenario(dict(parameters or {})).encode()

@@ -1,7 +1,7 @@
-"""Errors that are reported in one line, and the end of each command.
+"""Errors that are reported in one line, and the exit status of each command.
 
-A command's module has `@command('compare')` above its `main`, which returns the status. Each error of the
-input, of files or of memory is one line on standard error, with status 2.
+A command's module has `@command('compare')` above its `main`, which returns the status. For an error in the input or
+in a file, or if memory is short, a command prints one line on standard error, and its status is 2.
 """
 from __future__ import annotations
 
@@ -25,34 +25,34 @@ class Fault(Exception):
 
 
 def in_words(fault: OSError) -> str:
-    """The message of the system, with the file, or standard output if it names none."""
+    """The system's message, with the name of the file, or `standard output` if the error names no file."""
     where = 'standard output' if fault.filename is None else os.fsdecode(fault.filename)
     return '%s: %s' % (where, fault.strerror or fault)
 
 
 def drop_output() -> None:
-    """Discards the rest of standard output: Python would complain about it when it ends."""
+    """Discards the rest of standard output: otherwise Python would report an error when it ends."""
     with open(os.devnull, 'wb') as nothing:
         os.dup2(nothing.fileno(), 1)
 
 
 def check_streams() -> None:
-    """Raises a `Fault` if standard output is closed; replaces a closed standard error by one that discards all.
+    """Raises a `Fault` if standard output is closed; replaces a closed standard error by one that discards everything.
 
-    From now on nothing that is printed can command a terminal.
+    After this call nothing that is printed can control a terminal.
     """
     if sys.stderr is None:
         sys.stderr = open(os.devnull, 'w', encoding='utf-8')
     if sys.stdout is None:
         raise Fault('standard output is closed')
     if isinstance(sys.stdout, io.TextIOWrapper):
-        # (the name of a file may not be UTF-8, and the terminal may have no sign for a letter)
+        # (the name of a file need not be UTF-8, and the terminal may lack a character)
         sys.stdout.reconfigure(errors='backslashreplace')
     sys.stdout, sys.stderr = plain_stream(sys.stdout), plain_stream(sys.stderr)
 
 
 def status_of(tool: str, work: Callable[[], int]) -> int:
-    """The status that `work` returns, or that of an error, whose message is printed."""
+    """Returns the status of `work`; if it fails, prints its error, and returns the status of an error."""
     try:
         check_streams()
         status = work()
@@ -80,7 +80,7 @@ def status_of(tool: str, work: Callable[[], int]) -> int:
 
 
 def version_line() -> str:
-    """The line of `--version`, on the program that would run."""
+    """The line that `--version` prints, about the binary that would run."""
     # (only this option needs it, and its modules import this one)
     from motesim.runner.versions import version_line
     return version_line()
@@ -88,7 +88,7 @@ def version_line() -> str:
 
 def finish(tool: str, work: Callable[[], int], version: Callable[[], str]) -> NoReturn:
     """Ends a command with the status that `work` returns, or with 2 and one line on standard error."""
-    # (a search for cycles among millions of lines lasts longer than the work)
+    # (the garbage collector would need longer to search millions of lines than the command to do its work)
     gc.disable()
     sys.exit(status_of(tool, (lambda: say(version())) if sys.argv[1:] == ['--version'] else work))
 
@@ -100,7 +100,8 @@ def say(line: str) -> int:
 
 def command(tool: str, version: Callable[[], str] = version_line) -> Callable[[Callable[[], int]],
                                                                               Callable[[], NoReturn]]:
-    """Makes a command of a function that returns its status. With the argument --version it prints the version."""
+    """Makes a command from a function that returns a status. With the argument --version the command prints the
+    version."""
     def made(work: Callable[[], int]) -> Callable[[], NoReturn]:
         @functools.wraps(work)
         def main() -> NoReturn:

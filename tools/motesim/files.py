@@ -1,4 +1,4 @@
-"""Files that are written whole, or not at all."""
+"""Files that are written completely or not at all."""
 from __future__ import annotations
 
 import contextlib
@@ -19,14 +19,14 @@ class NotWritten(Fault):
 
 
 def write_whole(path: str | Path, parts: Iterable[bytes]) -> None:
-    """Writes a file under another name, and renames it at the end; an earlier file stays until then.
+    """Writes a file under a temporary name, and renames it at the end; until then an earlier file stays.
 
-    A file that exists keeps its mode. Something else than a plain file, such as /dev/stdout, is written directly.
+    A file that exists keeps its mode. Anything other than a regular file, such as /dev/stdout, is written directly.
     Raises a `NotWritten` if the file can't be written.
     """
     path = Path(path)
     try:
-        # (a link stays a link, to a file that is new)
+        # (a symbolic link stays, and the file to which it points is replaced)
         target = path.resolve()
         if target.exists() and not target.is_file():
             with open(target, 'wb') as file:
@@ -40,7 +40,8 @@ def write_whole(path: str | Path, parts: Iterable[bytes]) -> None:
 
 
 def replace_whole(path: str | Path, parts: Iterable[bytes]) -> None:
-    """The same, but a link at this place is replaced, and not followed. For folders that somebody else filled."""
+    """The same, but a symbolic link with this name is replaced, not followed. For folders that somebody else
+    filled."""
     path = Path(path)
     try:
         _replace(path, parts)

@@ -1,7 +1,8 @@
-"""The text that tools print: names that somebody else chose, as of a file or of a program, can't command a terminal.
+"""The text that tools print: names that somebody else chose, such as those of files and programs, can't control a
+terminal.
 
-Each command prints through a `Plain`, which shows every sign that a terminal obeys by its number. Tables, of which each
-row is one line, use `one_line` for the names in them.
+Each command prints through a `Plain`, which shows a control character as its number. Tables, in which each row is one
+line, use `one_line` for the names in them.
 """
 from __future__ import annotations
 
@@ -10,7 +11,7 @@ import re
 import sys
 from typing import Any, TextIO, cast
 
-# The signs that a terminal obeys: all controls but a tab, and the end of a line.
+# The control characters, except the tab and the end of a line.
 OBEYED = re.compile(r'[\x00-\x08\x0b\x0c\x0e-\x1f\x7f-\x9f]|\r(?!\n)')
 CLEAR = '\r\033[K'
 
@@ -20,7 +21,7 @@ def escaped(sign: str) -> str:
 
 
 def plain(text: str) -> str:
-    """A text without any sign that a terminal obeys."""
+    """A text with its control characters shown as numbers."""
     return OBEYED.sub(lambda found: escaped(found[0]), text)
 
 
@@ -31,7 +32,7 @@ def one_line(text: str) -> str:
 
 
 def cut(text: str, most: int) -> str:
-    """A text of at most so many signs: a longer one without its middle."""
+    """A text of at most this many characters: a longer one without its middle."""
     if len(text) <= most:
         return text
     begin = (most - 1) // 2
@@ -52,12 +53,12 @@ class Plain:
 
 
 def plain_stream(stream: TextIO) -> TextIO:
-    """A stream of the command, as one to which only plain text is written."""
+    """A stream of the command, wrapped so that only plain text is written to it."""
     return stream if isinstance(stream, Plain) else cast(TextIO, Plain(stream))
 
 
 def write_over(text: str) -> None:
-    """Writes a text over the last line of standard error, a terminal."""
+    """Writes a text over the last line of standard error, which is a terminal."""
     stream = sys.stderr.stream if isinstance(sys.stderr, Plain) else sys.stderr
     stream.write(CLEAR + plain(text))
     stream.flush()

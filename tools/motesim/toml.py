@@ -16,7 +16,7 @@ from motesim.faults import Fault
 
 MARK = '\ufeff'
 PLACE = re.compile(r' \(at (?:line (\d+), column (\d+)|end of document)\)$')
-# How many parts a key may have, and how deep arrays and inline tables may be nested.
+# The most parts of a key, and the deepest nesting of arrays and inline tables.
 DEEPEST = 80
 MANY_PARTS = 'A key has more than %d parts: write fewer dots' % DEEPEST
 TOO_DEEP = 'Arrays or tables are nested too deeply: at most %d levels are allowed' % DEEPEST
@@ -25,8 +25,9 @@ TOO_LONG = 'A number has too many digits'
 OURS = MANY_PARTS, TOO_DEEP, TOO_LONG
 
 PART = re.compile(r'''[A-Za-z0-9_-]++|"(?:[^"\\\n]|\\.)*+"|'[^'\n]*+\'''')
-# Texts and comments, in which dots and brackets mean nothing, and the rest: keys with all their parts, and brackets.
-# (A text of several lines always has a match, so its repetitions needn't be possessive; in those Python 3.11.2 fails.)
+# Texts and comments, in which dots and brackets mean nothing; outside them, keys with all their parts, and brackets.
+# (A text of several lines always matches, so its repetitions needn't be possessive; Python 3.11.2 fails on possessive
+# ones.)
 PIECE = re.compile(r"""
     (?P<text> "{3} (?:[^"\\]+|\\(?:.|\Z)|"(?!""))* (?:"{3,5}|\Z)
             | '{3} (?:[^']+|'(?!''))* (?:'{3,5}|\Z)
@@ -45,7 +46,7 @@ class NoToml(Fault):
 
     @property
     def shown(self) -> str:
-        """The reason; if it is in Python's words, this is said before it."""
+        """The reason; if Python wrote it, a remark before it says so."""
         return self.said if self.said in OURS else 'Python says: %s' % self.said
 
 
@@ -92,7 +93,7 @@ def check_keys(text: str) -> None:
 
 
 def check_brackets(text: str) -> None:
-    """Raises a `NoToml` at the first bracket that is in too many others."""
+    """Raises a `NoToml` at the first bracket that is nested too deeply."""
     depth = 0
     for piece in pieces(text):
         if piece['bracket']:

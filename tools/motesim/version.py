@@ -1,4 +1,4 @@
-"""The version of motesim and its tools, and the kit with which it was proved."""
+"""The version of motesim and its tools, and the kit with which `motesim` was proved."""
 VERSION = '1.2'
 KIT = 'rattle-kit-13f logic dac8208d650f15bf'
 # The part of a kit that proofs rest on. Kits with other names may have the same logic.

@@ -1,4 +1,4 @@
-"""The command line of a tool: what all of them share."""
+"""The parts of a command line that all tools share."""
 from __future__ import annotations
 
 import argparse
@@ -16,7 +16,7 @@ class Version(argparse.Action):
 
 
 def words_of(about: str | None, prog: str | None = None) -> argparse.ArgumentParser:
-    """The words of a tool, whose help begins with its module's text."""
+    """The parser of a tool's arguments; its help begins with the docstring of the tool's module."""
     words = argparse.ArgumentParser(prog=prog, description=about, formatter_class=argparse.RawDescriptionHelpFormatter)
     words.add_argument('--version', action=Version, nargs=0, help='print the version, and exit')
     return words

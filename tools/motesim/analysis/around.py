@@ -9,7 +9,8 @@ from motesim.analysis.points import Wish
 from motesim.experiments import packages
 
 POINTS = 72
-# A narrower picture, in centimetres, has smaller letters; the sizes of letters in points, in a wide and a narrow one.
+# The width in centimetres below which a picture has smaller letters, and the sizes of letters in points: in a wide
+# picture and in a narrow one.
 NARROW = 12
 LETTERS = {'text': (10, 8), 'title': (11, 9), 'heading': (9, 8), 'footer': (7, 6), 'legend': (9, 7.5)}
 # The part of a picture's width that its texts may need, and that of its height that a footer may need.
@@ -20,7 +21,7 @@ BETWEEN = 4
 
 
 def points_of(width: float, what: str) -> float:
-    """The size of the letters of a text in a picture of so many centimetres."""
+    """The size of the letters of a text in a picture with a width of this many centimetres."""
     wide, narrow = LETTERS[what]
     return narrow if width < NARROW else wide
 
@@ -34,7 +35,7 @@ def width_of(figure: Any, text: str, points: float) -> float:
 
 
 def folded(figure: Any, text: str, points: float, most: float | None = None) -> str:
-    """A text in lines that are no wider than so many points, or than the picture."""
+    """A text, broken into lines that are no wider than this many points, or than the picture."""
     most = figure.get_figwidth() * POINTS * ACROSS if most is None else most
     return '\n'.join(it for line in text.split('\n') for it in _lines(figure, line, points, most))
 
@@ -81,7 +82,8 @@ def words_around(figure: Any, width: float, wish: Wish, title: str, footer: str,
 
 
 def labelled(places: Sequence[float], widths: Sequence[float]) -> list[bool]:
-    """Which labels of ascending places fit next to each other: the first, the last, and others from left to right."""
+    """The labels of ascending places that fit next to each other: the first, the last, and others from left to
+    right."""
     shown = [False] * len(places)
     right = -math.inf
     end = places[-1] - widths[-1] / 2 - BETWEEN
@@ -94,9 +96,11 @@ def labelled(places: Sequence[float], widths: Sequence[float]) -> list[bool]:
 
 
 def dodged(places: Sequence[float], number: int, count: int, is_log: bool) -> list[float]:
-    """The places of a curve among others, a little to the left or the right, so that error bars don't hide others.
+    """The places of a curve among others, moved a little to the left or right, so that error bars don't hide each
+    other.
 
-    A step is the width of a bar's end, and all curves together need less than half of the least distance.
+    A step is the width of a bar's end, and all curves together need less than half of the least distance between
+    places.
     """
     if count < 2 or len(places) < 1:
         return list(places)

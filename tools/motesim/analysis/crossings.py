@@ -1,17 +1,17 @@
 """The place at which a curve crosses a threshold, with the interval of that place.
 
-The curve has the middle (the mean or the median) of the runs at each value of the axis, and straight lines between
-them, as in the picture: on logarithmic axes they are straight in the logarithm. For the interval the runs are drawn
-again with replacement (the bootstrap): each time the curve crosses somewhere else. If points have runs with the same
-seeds, the seeds are drawn, the same ones for the whole curve, since runs of one seed have much in common; otherwise
-the runs of each point are drawn by themselves.
+At each value of the axis the curve has the middle (the mean or the median) of the runs. Between these points it is a
+straight line, as in the picture: on logarithmic axes it is straight in the logarithm. For the interval the runs are
+drawn again with replacement (the bootstrap), and each drawn curve crosses at its own place. If points have runs with
+the same seeds, the seeds are drawn, the same ones for the whole curve, because runs of one seed have much in common.
+Otherwise the runs of each point are drawn independently.
 
 Nobody has measured between two neighbouring points, so each drawn curve only shows between which points it crosses.
-The interval contains all of that gap: it reaches from the left ends of the gaps to their right ends.
+The interval contains these gaps completely: it reaches from their left ends to their right ends.
 
 If a curve crosses several times, the first and the last crossing have intervals, from the first and the last crossing
-of each drawn curve in the same direction. For the crossings between them, a drawn curve doesn't show which of
-its crossings belongs to which of the curve's.
+of each drawn curve in the same direction. For the crossings between them, a drawn curve doesn't show which of its
+crossings corresponds to which crossing of the curve.
 """
 from __future__ import annotations
 
@@ -85,7 +85,7 @@ def place(line: Line, threshold: float, is_rising: bool | None = None, is_log: b
 def gap_of(line: Line, threshold: float, is_rising: bool, is_last: bool = False) -> tuple[float, float]:
     """The points between which a line crosses for the first time in that direction, or for the last time.
 
-    If it doesn't, it crosses before its first point or behind its last.
+    A line that doesn't cross between points crosses before its first point or behind its last.
     """
     found = [it for it in places_of(line, threshold) if it.is_rising == is_rising]
     if found:
@@ -109,7 +109,7 @@ def point(runs: Sequence[tuple[float, float]], middle: Middle) -> tuple[float, f
 
 
 def drawn_lines(curve: Sequence[Runs], middle: Middle, count: int) -> Iterator[Line]:
-    """Lines through the points of runs that are drawn again."""
+    """The lines through the points, for runs that are drawn again."""
     chance, points = Chance(SEED), by_key(curve)
     names = list(dict.fromkeys(key for it in curve for key in it.keys))
     alone = [list(zip(it.xs, it.ys)) for it in curve]
@@ -141,13 +141,13 @@ def crossing(curve: Sequence[Runs], threshold: float, confidence: float, middle:
     if len(places) > 1:
         ends = [gap_of(it, threshold, places[-1].is_rising, True) for it in lines]
         last = _around(ends, places[-1].gap, part)
-        # (a drawn curve has both or lacks one)
+        # (a drawn curve may lack the first crossing or the last one)
         gaps = [min(its) for its in zip(gaps, ends)]
     share = sum(math.isfinite(left) for left, _ in gaps) / len(gaps)
     return Crossing(at, is_rising, gap, low, high, share, draws, places, sizes, last)
 
 
 def _around(gaps: Sequence[tuple[float, float]], gap: tuple[float, float], part: float) -> tuple[float, float]:
-    """The interval of a crossing from those of drawn curves; the gap of the curve itself is always within."""
+    """The interval of a crossing, from the crossings of drawn curves; it always contains the curve's own gap."""
     low, high = between([left for left, _ in gaps], part)[0], between([right for _, right in gaps], part)[1]
     return min(low, gap[0]), max(high, gap[1])

@@ -1,4 +1,4 @@
-"""Pictures of points, by matplotlib: SVG, PDF or PNG. The same points have the same bytes."""
+"""Pictures of points, drawn by matplotlib: SVG, PDF or PNG. Pictures of the same points have the same bytes."""
 from __future__ import annotations
 
 import math
@@ -27,9 +27,10 @@ LEAST_SIDE, MOST_SIDE, INCH = 3, 100, 2.54
 # The size of a picture for one column of a paper of two columns, and its name.
 COLUMN, OF_COLUMN = 'column', (8.8, 6.6)
 POINTS = 72
-# The part of a picture's width that its axes have, about, and the most marks of an axis that aren't all labelled.
+# The part of a picture's width that its axes need, approximately, and the most marks of an axis on which some lack a
+# label.
 OF_AXES, MOST_MARKS = 0.85, 60
-# The part of a picture's height that the name of the axis upwards may need.
+# The part of a picture's height that the name of the vertical axis may need.
 OF_HEIGHT = 0.6
 # The thickness of the interval of a crossing in points, if there is one curve, and if there are several.
 THICK, THIN = 5, 3
@@ -205,7 +206,7 @@ def _within(low: float, high: float, places: Sequence[float]) -> list[float]:
 
 
 def _scale_of_measure(axes: Any) -> None:
-    """A logarithmic axis of a measure from left to right."""
+    """The logarithmic horizontal axis of a measure."""
     axes.set_xscale('log')
     low, high = axes.get_xlim()
     ticks = ticks_between(low, high)
@@ -230,7 +231,7 @@ def _scale_upwards(axes: Any, shown: Shown, wish: Wish) -> None:
 
 
 def _check_log(places: Sequence[Cell], wish: Wish) -> None:
-    """Refuses a logarithmic axis from left to right if a place on it isn't above 0."""
+    """Refuses a logarithmic horizontal axis if a place on it isn't above 0."""
     if wish.log and not all(isinstance(it, int | float) and it > 0 for it in places):
         raise Fault('--log needs values above 0, and some of %s are not' % wish.against)
 
@@ -241,7 +242,7 @@ def _numbers(places: Sequence[Cell], is_scale: bool) -> list[float]:
 
 
 def _scale(axes: Any, places: list[Cell], wish: Wish, is_scale: bool) -> None:
-    """The axis from left to right."""
+    """The horizontal axis."""
     _check_log(places, wish)
     if is_scale and wish.log:
         axes.set_xscale('log', base=2)
@@ -251,7 +252,7 @@ def _scale(axes: Any, places: list[Cell], wish: Wish, is_scale: bool) -> None:
     texts = ['%.4g' % it if type(it) is float else text_of(it) for it in places]
     shown = _fitting(axes, at, texts, wish)
     if not is_scale and not all(shown):
-        # (names are all needed, but a number may be left out)
+        # (each name needs a label, but a number may lack one)
         axes.set_xticks(at, texts, rotation=ANGLE, ha='right', rotation_mode='anchor')
     else:
         kept = [it for it in range(len(at)) if shown[it] or len(at) <= MOST_MARKS]
@@ -260,7 +261,7 @@ def _scale(axes: Any, places: list[Cell], wish: Wish, is_scale: bool) -> None:
 
 
 def _fitting(axes: Any, at: Sequence[float], texts: Sequence[str], wish: Wish) -> list[bool]:
-    """Which texts fit below an axis that has these places."""
+    """For each text, whether it fits below an axis that has these places."""
     width = size_of(wish.size)[0]
     scaled = [math.log(it) for it in at] if wish.log else list(at)
     extent = scaled[-1] - scaled[0] or 1.0
@@ -275,7 +276,7 @@ def between(counts: Sequence[int]) -> str:
 
 
 def _note(shown: Shown, wish: Wish) -> str:
-    """The words below a picture."""
+    """The text below a picture."""
     of_points = [point.estimate.runs for point in shown.points]
     runs = between([curve.runs for curve in shown.curves()] if wish.show == 'cdf' else of_points)
     of_nets = ' of %s runs' % between(list(shown.runs_at.values())) if shown.runs_at and wish.show != 'cdf' else ''
@@ -288,7 +289,7 @@ def _note(shown: Shown, wish: Wish) -> str:
 
 
 def _place_of_notes(path: Path, has_warnings: bool) -> str:
-    """The words below a picture that has no room for its notes."""
+    """The text below a picture that has no room for its notes."""
     return '%s: %s' % ('warnings and notes' if has_warnings else 'notes', origin_path(path).name)
 
 
@@ -308,14 +309,14 @@ def draw(shown: Shown, wish: Wish, path: Path) -> bool:
 
 
 def with_gaps(points: list[Point], shown: Shown, places: Sequence[Cell]) -> list[Point]:
-    """The points of a curve, with one that isn't drawn at each place at which no run has a value: its line would
-    cross the place otherwise."""
+    """The points of a curve. At a place at which no run has a value there is a point that isn't drawn: otherwise the
+    line would cross that place."""
     if points[0].across is not None:
         return points
     by, here = points[0].by, {it.against for it in points}
     missing = {place for of, place in (*shown.empty_at, *shown.faults_at) if of == by and place not in here}
     nothing = Estimate(0, math.nan, None, None)
-    # (a place of which no curve has a value isn't on an axis of names, on which lines join neighbours)
+    # (lines join neighbours on an axis of names, so the axis omits a place at which no curve has a value)
     is_scale = all(type(it) in (int, float) for it in places)
     gaps = [Point(by, it, (), nothing) for it in missing if it in places or is_scale and type(it) in (int, float)]
     return sorted([*points, *gaps], key=lambda it: order(it.against))
@@ -344,7 +345,7 @@ def _draw_curves(axes: Any, shown: Shown, wish: Wish) -> None:
             _scale(axes, places, wish, is_scale)
         elif wish.log:
             _scale_of_measure(axes)
-        # (from 0 on, unless all values would lie in the upper half)
+        # (the axis begins at 0, unless all values would be in its upper half)
         lows = [it.estimate.middle if it.estimate.low is None else it.estimate.low for it in shown.points]
         highs = [it.estimate.middle if it.estimate.high is None else it.estimate.high for it in shown.points]
         if wish.log_y:
@@ -368,13 +369,14 @@ def _name_axes(axes: Any, across: str, up: str) -> None:
 
 
 def _legend(axes: Any) -> None:
-    """The legend, above the axes: in them it would hide bars."""
+    """The legend, above the axes: inside them it would hide bars."""
     handles, labels = axes.get_legend_handles_labels()
     if not labels:
         return
     inches = axes.figure.get_figwidth()
     points = points_of(inches * INCH, 'legend')
-    # (it begins at the axes, right of their name and its marks; a line and its space need as much as 4.8 letters)
+    # (the legend begins at the left end of the axes, to the right of their name and labels; a line with its space is
+    # as wide as 4.8 letters)
     left = (1.25 * (axes.get_ylabel().count('\n') + 1) + 4) * points_of(inches * INCH, 'text')
     most = min(inches * POINTS * OF_AXES, inches * POINTS - left) - 4.8 * points
     labels = [folded(axes.figure, it, points, most) for it in labels]
@@ -385,7 +387,7 @@ def _legend(axes: Any) -> None:
 
 
 def _draw_threshold(axes: Any, shown: Shown, wish: Wish) -> None:
-    """A line at the threshold, and on it for each curve a bar from one end to the other of its crossing's interval."""
+    """A line at the threshold, and on it, for each curve, a bar over the interval of its crossing."""
     threshold = threshold_of(wish)
     if threshold is None or wish.show == 'cdf':
         return

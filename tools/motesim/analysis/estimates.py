@@ -1,15 +1,16 @@
 """Estimates from a few runs: means with confidence intervals, medians with quartiles.
 
-An interval by Student's t treats the runs as independent draws of something near to normal. One by the bootstrap
-assumes no form: the runs are drawn again with replacement, and the interval has the middle part of the means. The
-bootstrap of Student's t (Efron, 1981) draws in the same way, and counts each mean in its standard errors. The draws
-come from a fixed seed, so the same runs give the same interval anywhere. The middle part is a little larger than the
-confidence (`part_of_draws`), since few runs spread less than what they are drawn from.
+An interval by Student's t treats the runs as independent draws from a nearly normal distribution. One by the bootstrap
+assumes no distribution: the runs are drawn again with replacement, and the interval contains the middle part of the
+means. The bootstrap of Student's t (Efron, 1981) draws in the same way, and divides the deviation of each mean by its
+standard error. The draws come from a fixed seed, so the same runs give the same interval anywhere. The middle part is
+a little larger than the confidence (`part_of_draws`), because a few runs spread less than the distribution from which
+they are drawn.
 
-The interval of a share stays between 0 and 1: by Wilson's score if the runs are 0 or 1 each. Otherwise, if Student's t
-would pass 0 or 1, it is cut there, or comes from the bootstrap if there are enough runs. An interval by the bootstrap
-of Student's t is cut to Wilson's score for runs that lose up to twice as much as the worst run. Runs that are all the
-same have no interval: they don't show how far others would spread.
+The interval of a share is always within 0 and 1. If each run is 0 or 1, it is Wilson's score interval. Otherwise, if
+Student's t would pass 0 or 1, it is cut there, or is that of the bootstrap if there are enough runs. An interval by
+the bootstrap of Student's t is cut to Wilson's score interval for runs that lose up to twice as much as the worst run.
+Runs that are all the same have no interval: they don't show how far others would spread.
 """
 from __future__ import annotations
 
@@ -30,12 +31,12 @@ STEPS = 200
 TINY = 1e-300
 # With fewer runs the bootstrap's intervals are too narrow.
 LEAST_RUNS = 10
-# With fewer runs than this, means of skewed runs near 0 or 1 are in their intervals less often than these say.
+# With fewer runs than this, intervals of skewed runs near 0 or 1 contain the true mean less often than they state.
 ENOUGH_RUNS = 30
 NEAR, SKEWED = 0.1, 1.0
-# How many times the greatest loss of the runs others are taken to lose at most, if runs are nearly equal.
+# The assumed limit of the losses of other runs, as a multiple of the runs' greatest loss, if runs are nearly equal.
 RANGE = 2
-# The wish for a method that fits.
+# The name that asks for a method that fits the runs.
 AUTO = 'auto'
 Value = TypeVar('Value')
 Measured = Literal['any', 'share', 'yes or no']
@@ -115,7 +116,7 @@ def mean_without_interval(values: Sequence[float], confidence: float) -> Estimat
 
 
 def resampled(values: Sequence[Value], chance: Chance) -> list[Value]:
-    """As many of the values, drawn with replacement."""
+    """As many values, drawn from these with replacement."""
     return [values[at] for at in chance.some_below(len(values), len(values))]
 
 
@@ -129,11 +130,11 @@ def between(found: list[float], confidence: float) -> tuple[float, float]:
 
 @lru_cache(maxsize=None)
 def part_of_draws(confidence: float, runs: int) -> float:
-    """Which middle part of the draws of the bootstrap is an interval of this confidence.
+    """The middle part of the bootstrap's draws that is an interval of this confidence.
 
     The variance of draws from n runs is too small by a factor of (n - 1) / n, and is treated as known. Hesterberg
-    ("What Teachers Should Know About the Bootstrap", The American Statistician 69, 2015) adds so much at both
-    ends that the interval of something normal is as wide as Student's t.
+    ("What Teachers Should Know About the Bootstrap", The American Statistician 69, 2015) widens it at both ends, so
+    that the interval for a normal distribution is as wide as Student's t.
     """
     if runs < 2:
         return confidence
@@ -151,8 +152,8 @@ def mean_by_bootstrap(values: Sequence[float], confidence: float) -> Estimate:
 def mean_by_bootstrap_t(values: Sequence[float], confidence: float) -> Estimate:
     """The mean with its interval by the bootstrap of Student's t: the draws show how (mean - true) / error spreads.
 
-    Draws that are all the same have no error, and count as infinitely far. If there are too many of these, the
-    interval has no end on this side.
+    A draw whose runs are all the same has no standard error, and counts as infinitely far from the mean. If there are
+    too many such draws, the interval has no end on their side.
     """
     mean, runs, chance = statistics.fmean(values), len(values), Chance(SEED)
     error, gaps = statistics.stdev(values) / math.sqrt(runs), [it - mean for it in values]
@@ -161,7 +162,7 @@ def mean_by_bootstrap_t(values: Sequence[float], confidence: float) -> Estimate:
         drawn = resampled(gaps, chance)
         gap = sum(drawn) / runs
         if min(drawn) == max(drawn):
-            # (a run may be the mean of all, but for its last digit)
+            # (the drawn run may be the mean of all runs, except for rounding)
             found.append(math.copysign(math.inf, gap) if abs(gap) > error / 1e9 else 0.0)
         else:
             squares = sum(map(operator.mul, drawn, drawn)) / runs - gap * gap
@@ -185,7 +186,7 @@ def is_skewed(values: Sequence[float]) -> bool:
 
 
 def median_with_quartiles(values: Sequence[float], confidence: float) -> Estimate:
-    """The median between the quartiles, whatever the confidence."""
+    """The median, with the quartiles as its interval; the confidence isn't used."""
     first, median, third = quartiles(values)
     return Estimate(len(values), median, first, third, 'quartiles')
 
@@ -200,12 +201,12 @@ def wilson(share: float, runs: int, confidence: float) -> Estimate:
     z = statistics.NormalDist().inv_cdf((1 + confidence) / 2)
     middle = (share + z * z / (2 * runs)) / (1 + z * z / runs)
     room = z / (1 + z * z / runs) * math.sqrt(share * (1 - share) / runs + z * z / (4 * runs * runs))
-    # (an end that is the share itself may be rounded to its other side)
+    # (rounding may move an end that is equal to the share to the share's other side)
     return Estimate(runs, share, min(share, max(0.0, middle - room)), max(share, min(1.0, middle + room)), 'wilson')
 
 
 def method_of(values: Sequence[float], confidence: float, interval: str, measure: Measured) -> str:
-    """The method for the interval of a mean: the wish, or with `auto` one that fits these runs."""
+    """The method for the interval of a mean: the requested one, or with `auto` one that fits these runs."""
     if measure == 'yes or no' and len(values) > 1 and (interval == AUTO or len(set(values)) == 1):
         return 'wilson'
     if len(set(values)) == 1:
@@ -233,14 +234,15 @@ def mean_of(values: Sequence[float], confidence: float, interval: str = AUTO, me
 
 
 def _within_wilson(values: Sequence[float], found: Estimate, low: float, high: float, confidence: float) -> Estimate:
-    """An interval of shares, within Wilson's score interval on a range of twice the losses if it is too wide.
+    """The interval of a mean of shares; if it is too wide, Wilson's score interval on a range of twice the losses cuts
+    it.
 
-    The losses are the distances from the nearer one of 0 and 1. The range begins there, and has twice the greatest
-    loss of the runs, at most 1: Wilson's score is that of as many runs whose mean has the same place in this range. No
-    numbers in a range vary more than ones that are at its ends only and have their mean (Bhatia and Davis, The
-    American Mathematical Monthly 107 (4), 2000). bench/coverage.py measures what the factor 2 is worth.
-    The interval is too wide if it has no end on a side, or if its end on the far side of the mean is beyond Wilson's.
-    An end that passes the nearer one of 0 and 1 is cut there.
+    The losses are the distances from 0 or 1, the one nearer to the mean. The range begins there, and its length is
+    twice the greatest loss of the runs, at most 1. Wilson's score interval is that of as many runs at the ends of this
+    range, with the same mean. No numbers in a range have a greater variance than numbers at its ends with the same
+    mean (Bhatia and Davis, The American Mathematical Monthly 107 (4), 2000). bench/coverage.py measures the effect of
+    the factor 2. The interval is too wide if it has no end on a side, or if its end on the far side of the mean is
+    beyond Wilson's. An end that passes the nearer one of 0 and 1 is cut there.
     """
     is_near_1 = found.middle > 0.5
     unit = min(1.0, RANGE * (1 - min(values) if is_near_1 else max(values)))
@@ -255,7 +257,7 @@ def _within_wilson(values: Sequence[float], found: Estimate, low: float, high: f
 
 
 def measured(values: Sequence[float]) -> Measured:
-    """The kind of a measure, by all its values: each is 0 or 1, or between, or any number."""
+    """The kind of a measure, from all its values: each is 0 or 1, or each is from 0 to 1, or they are any numbers."""
     if not values or min(values) < 0 or max(values) > 1:
         return 'any'
     return 'yes or no' if set(values) <= {0, 1} else 'share'
@@ -264,10 +266,10 @@ def measured(values: Sequence[float]) -> Measured:
 METHODS: dict[str, Callable[[Sequence[float], float], Estimate]] = {
     't': mean_by_t, 'bootstrap': mean_by_bootstrap, 'bootstrap-t': mean_by_bootstrap_t, 'within': mean_by_t_within,
     'wilson': mean_by_wilson, 'alike': mean_without_interval}
-# The methods that can be wished for.
+# The methods that can be requested.
 MEANS = (AUTO, 't', 'bootstrap', 'bootstrap-t')
 # Each method in a heading, and in a row.
-# The method bootstrap-t if an end of the interval is that of Wilson's score.
+# The name of the method bootstrap-t if an end of the interval is that of Wilson's score.
 BOUNDED = 'bootstrap-t, Wilson'
 NAMES = {'t': 'Student\'s t', 'bootstrap': 'the bootstrap', 'bootstrap-t': 'the bootstrap of Student\'s t',
          BOUNDED: 'the bootstrap of Student\'s t within Wilson\'s score on twice the range',

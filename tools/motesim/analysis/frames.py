@@ -13,9 +13,10 @@ from motesim.experiments.results import read_results, text_of
 
 
 def frame(path: str | Path, with_faults: bool = False) -> Any:
-    """A DataFrame with a row for each run of a sweep's file; runs with a fault only if the caller asks for them.
+    """A DataFrame with a row for each run of a sweep's file; it has runs with a fault only if the caller asks for
+    them.
 
-    Standard error has how many rows are left out: those with a fault, and those of a run that is there twice.
+    Standard error has the number of omitted rows: those with a fault, and repeated rows of one run.
     """
     columns, rows = read_results(Path(path))
     pandas: Any = packages.load('pandas')

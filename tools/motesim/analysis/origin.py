@@ -1,6 +1,6 @@
-"""The origin of a picture, as a table next to it: the command, the results, and what made them.
+"""The origin of a picture, as a table next to it: the command, the results, and the digests of what made them.
 
-It has no date, so that the same command on the same results writes the same bytes.
+The table has no date, so the same command on the same results writes the same bytes.
 """
 from __future__ import annotations
 
@@ -13,11 +13,11 @@ from motesim.experiments.measures import Cell
 from motesim.experiments.results import Row, line_of, text_of
 from motesim.version import VERSION
 
-# The columns of results that say what made a row, each with its name here.
+# The columns of results with the digests of what made a row, each with its name in this table.
 OF_ROWS = {'plan': 'plan', 'plan_sha256': 'SHA-256 of the plan, 16 digits', 'program': 'motesim',
            'program_sha256': 'SHA-256 of motesim, 16 digits', 'kit': 'proved with',
            'measures_sha256': 'SHA-256 of the measures, 16 digits'}
-# How many values of a column are listed.
+# The most values of a column that are listed.
 MOST = 8
 
 

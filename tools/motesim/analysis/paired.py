@@ -1,12 +1,12 @@
-"""Two sweeps compared run by run: the same parameters on both sides, so that what they have in common drops out.
+"""Two sweeps, compared run by run: both runs of a pair have the same parameters, so effects that they share cancel.
 
 Only runs in which both sides have a value are compared; the others are counted, with the reason. If nets are averaged,
-so are these pairs: each net counts once, as the mean of its pairs.
+each net counts once, as the mean of its pairs.
 
-The difference of two shares of runs, of a measure that is 0 or 1 in each, has the interval of method 10 of R. G.
+If a measure is 0 or 1 in each run, the difference of its two shares has the interval of method 10 of R. G.
 Newcombe ("Improved confidence intervals for the difference between binomial proportions based on paired data",
-Statistics in Medicine 17, 1998): the Wilson intervals of both shares, joined with the correlation of the pairs. It
-stays between -1 and 1.
+Statistics in Medicine 17, 1998): the Wilson intervals of both shares, joined with the correlation of the pairs. This
+interval is always within -1 and 1.
 """
 from __future__ import annotations
 
@@ -30,7 +30,7 @@ class Pair(NamedTuple):
     against: Cell
     one: float
     other: float
-    # The net's name and its places on both sides, and how many pairs of runs this is the mean of.
+    # The net's name and its places on both sides, and the number of pairs of runs whose mean this is.
     net: tuple[Cell, ...] = ()
     runs: int = 1
 
@@ -85,7 +85,7 @@ class Difference(NamedTuple):
 
 
 def _by_key(rows: Sequence[Row], names: Sequence[str], side: str) -> dict[Key, Row]:
-    """The runs of a side by these parameters, in which no two may be the same."""
+    """The runs of a side by the values of these parameters; no two runs may have the same values."""
     found = {tuple(row[name] for name in names): row for row in rows}
     if len(found) < len(rows):
         raise Fault('%s has several runs with the same %s: select one of each by another parameter' % (

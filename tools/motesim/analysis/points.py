@@ -13,7 +13,7 @@ from motesim.faults import Fault
 
 MEDIAN = 'median'
 SHOWS = (MEDIAN, 'mean', 'points', 'cdf', 'heat')
-# A parameter of this name, or one that ends in `_seed`, makes runs that are repetitions of one another.
+# Runs that differ only in a parameter of this name, or in one that ends in `_seed`, repeat one another.
 SEED, SEEDS = 'seed', '_seed'
 MOST_VALUES = 4
 SELECTS = '--where %s=%s selects some'
@@ -26,16 +26,16 @@ MADE_BY = {'plan_sha256': 'plans, or of changed files next to one', 'measures_sh
 # The column with the digest of motesim, by which runs can be separated too.
 PROGRAM = 'program_sha256'
 SEPARATES = (*MADE_BY, PROGRAM)
-# The columns of a row that is the mean of a net: its runs, those that have values, those that have none, and the net's
-# name. (No parameter has such a name.)
+# The columns of a row that is the mean of a net: the numbers of its runs, of those with values and of those without,
+# and the net's name. (No parameter has such a name.)
 RUNS, WITH, WITHOUT, NET = '(runs)', '(with a value)', '(without a value)', '(net)'
 
-# The place of a point: the value of `by`, and that of the parameter from left to right.
+# The place of a point: the value of `by`, and that of the parameter on the horizontal axis.
 Place = tuple[Cell, Cell]
 
 
 class Wish(NamedTuple):
-    """A request for a picture or a table, and the words around it.
+    """A request for a picture or a table, and the texts around it.
 
     title, footer  the words above and below a picture; None: what it shows, and of which runs; '': none
     size           the width and the height of a picture in centimetres, `16x10`, or `column`, or nothing
@@ -76,7 +76,8 @@ class Wish(NamedTuple):
 
 
 class Point(NamedTuple):
-    """The runs of one group: its place from left to right, with an interval if that is a measure, and its estimate."""
+    """The runs of one group: its place on the horizontal axis, with an interval if it is that of a measure, and its
+    estimate."""
     by: Cell
     against: Cell
     values: tuple[float, ...]
@@ -84,7 +85,7 @@ class Point(NamedTuple):
     across: Estimate | None = None
     # For each run, in the order of the values, the parameters in which the runs of a point differ.
     keys: tuple[tuple[Cell, ...], ...] = ()
-    # For each run, the value on the axis from left to right, if that shows a measure.
+    # For each run, its value on the horizontal axis, if that axis shows a measure.
     others: tuple[float, ...] = ()
 
     @property
@@ -97,7 +98,8 @@ class Point(NamedTuple):
 
 
 class Net(NamedTuple):
-    """A net of which some runs have no value: its point, its name, how many runs have one, and how many it has."""
+    """A net in which some runs lack a value: its point, its name, how many runs have a value, and how many runs it
+    has."""
     place: Place
     name: str
     having: int
@@ -105,7 +107,7 @@ class Net(NamedTuple):
 
 
 class Curve(NamedTuple):
-    """The runs with one value of `by`: the values of those that have one, in their order, and how many runs it has."""
+    """The runs with one value of `by`: the measured values, in their order, and the number of all runs."""
     by: Cell
     values: list[float]
     runs: int
@@ -115,15 +117,15 @@ class Shown(NamedTuple):
     """The shown points, the parameters in which their runs differ, and the number of omitted runs.
 
     faults, empty  how many runs have a fault, and how many no value
-    not_above_0    how many runs a logarithmic axis has no place for
+    not_above_0    how many runs have no place on a logarithmic axis
     lacking        how many runs have no value, for each value of `by` that has such runs; of averaged nets: how many
                    nets
-    shared         the runs and the nets of a point of which several runs are in one net, if there is such a point
+    shared         the numbers of runs and of nets of a point with several runs in one net, if there is one
     faults_at, empty_at  the places of the omitted runs
     runs_at        of averaged nets: how many runs each point has
     warnings       lines about the runs
     nets           of averaged nets: those in which runs have no value
-    lacked         with a measure on either axis: those of which runs have no value
+    lacked         with a measure on each axis: the measures that some runs lack
     """
     points: list[Point]
     over: list[str]
@@ -163,7 +165,7 @@ def measures_of(rows: Sequence[Row]) -> list[str]:
 
 
 def order(value: Cell) -> tuple[bool, float, str]:
-    """Numbers by their size, and then texts."""
+    """The key by which numbers are sorted by their size, before texts."""
     return (True, 0.0, str(value)) if value is None or type(value) is str else (False, float(value), '')
 
 
@@ -180,7 +182,7 @@ def _check(rows: Sequence[Row], wish: Wish) -> None:
 
 
 def number_of(row: Row, measure: str) -> float | None:
-    """The value of a measure; a text is a fault."""
+    """The value of a measure; raises a fault for a text."""
     value = row[measure]
     if type(value) is str:
         raise Fault('the measure %s has texts, such as %r' % (measure, value))
@@ -188,17 +190,18 @@ def number_of(row: Row, measure: str) -> float | None:
 
 
 def is_seed(name: str) -> bool:
-    """Returns whether a parameter only repeats runs, unless somebody names others: `seed`, `net_seed`."""
+    """Returns whether a parameter only repeats runs by default: `seed`, `net_seed`."""
     return name == SEED or name.endswith(SEEDS)
 
 
 def repeats_of(varying: Sequence[str], over: str) -> list[str]:
-    """The parameters that only repeat a run: those in `over`, or, if it is empty, `seed` and those in `_seed`."""
+    """The parameters that only repeat a run: those in `over`, or, if it is empty, `seed` and those that end in
+    `_seed`."""
     return [it for it in over.split(',') if it] or [it for it in varying if is_seed(it)]
 
 
 def check_mixture(rows: Sequence[Row], mixed: Sequence[str], repeats: Sequence[str], by: str, what: str) -> None:
-    """Refuses to mix runs that differ in more than what only repeats them."""
+    """Refuses to mix runs that differ in a parameter that doesn't only repeat them."""
     if not mixed:
         return
     first = mixed[0]
@@ -213,12 +216,12 @@ def check_mixture(rows: Sequence[Row], mixed: Sequence[str], repeats: Sequence[s
 
 
 def is_repeat(name: str, over: str) -> bool:
-    """Returns whether a parameter only repeats runs: one that is named, or if none is named, a seed."""
+    """Returns whether a parameter only repeats runs: it is in `over`, or, if `over` is empty, it is a seed."""
     return name in over.split(',') if over else is_seed(name)
 
 
 def check_made(rows: Sequence[Row], names: Sequence[str], wish: Wish) -> None:
-    """Refuses to mix runs of several plans or sets of measures that have the same values of these names."""
+    """Refuses to mix runs of several plans or sets of measures that have the same values of these parameters."""
     for column, what in MADE_BY.items():
         if column == wish.by:
             continue
@@ -244,7 +247,7 @@ def check_pairs(rows: Sequence[Row], wish: Wish, kept: Sequence[str]) -> None:
 
 
 def shared_nets(rows: Sequence[Row], names: Sequence[str], measure: str) -> tuple[int, int] | None:
-    """The numbers of runs and nets of the first point whose runs are in several nets, but in fewer than runs."""
+    """The numbers of runs and nets of the first point that has several nets, but fewer nets than runs."""
     groups: dict[tuple[Cell, ...], list[Cell]] = {}
     for row in rows:
         if row.get(PLACES) is not None and number_of(row, measure) is not None:
@@ -254,7 +257,7 @@ def shared_nets(rows: Sequence[Row], names: Sequence[str], measure: str) -> tupl
 
 
 def names_of_nets(rows: Sequence[Row], over: str) -> list[str]:
-    """The parameters that repeat runs and don't vary within nets: they are the names of the nets."""
+    """The parameters that repeat runs and don't vary within nets: their values name the nets."""
     if PLACES not in rows[0]:
         raise Fault('the results have no column %s, by which nets are known: run the sweep again' % PLACES)
     good = [row for row in rows if not row['fault']]
@@ -339,7 +342,7 @@ def _nets(rows: Sequence[Row], wish: Wish) -> list[Net]:
 
 
 def _of_two_measures(rows: Sequence[Row], good: Sequence[Row], varying: Sequence[str], wish: Wish) -> Shown:
-    """Points with a measure on either axis: the runs that differ only in repetitions are one point."""
+    """Points with a measure on each axis: runs that only repeat one another are one point."""
     over = repeats_of(varying, wish.over)
     kept = [name for name in varying if name not in over]
     along = [name for name in kept if name != wish.by]
@@ -354,7 +357,7 @@ def _of_two_measures(rows: Sequence[Row], good: Sequence[Row], varying: Sequence
         x, y = number_of(row, wish.against), number_of(row, wish.measure)
         key = tuple(row[name] for name in kept)
         empty += _lacking_runs(row, None if x is None else y)
-        # (the mean of a net doesn't say which of the two its runs lack)
+        # (the mean of a net doesn't show which of the two measures its runs lack)
         is_net = bool(row.get(WITHOUT))
         lacked |= {name for name, value in ((wish.against, x), (wish.measure, y)) if value is None or is_net}
         if x is None or y is None:

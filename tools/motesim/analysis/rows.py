@@ -1,4 +1,4 @@
-"""The rows of a sweep before they become points: rows that are there twice, and the means of nets."""
+"""The rows of a sweep before they become points: leaves out repeated rows, and computes the means of nets."""
 from __future__ import annotations
 
 import statistics
@@ -13,7 +13,7 @@ from motesim.experiments.results import Row, text_of
 from motesim.faults import Fault
 
 Key = tuple[Cell, ...]
-# The digests that say whether two rows are of one run.
+# The digests that show whether two rows are of one run.
 DIGESTS = 'scenario_sha256', 'report_sha256'
 
 
@@ -23,7 +23,7 @@ def shown_key(names: Sequence[str], key: Key) -> str:
 
 
 def once(rows: Sequence[Row], file: str, apart: Sequence[str] = ()) -> tuple[list[Row], list[str]]:
-    """The rows, each run once, and a line about those that are left out.
+    """The rows with each run once, and a line about the rows that are left out.
 
     Rows that differ in a column of `apart`, such as the digest of motesim, are two runs. Raises a fault if others have
     the same parameters and another result: they are of two plans or two programs.
@@ -58,7 +58,7 @@ def by_net(rows: Sequence[Row], wish: Wish) -> list[Row]:
     """The rows, with one row for each net: the means of the measures, over its runs in which all have a value.
 
     Parameters that vary within nets, such as a seed of chance, have no value in these rows. The columns RUNS, WITH,
-    WITHOUT and NET say how many runs a net has, how many have values and how many not, and how it is called. Rows with
+    WITHOUT and NET say how many runs a net has, how many have values and how many don't, and its name. Rows with
     a fault stay; they count as runs of the net with the same name.
     """
     names = names_of_nets(rows, wish.over)
@@ -84,8 +84,8 @@ def by_net(rows: Sequence[Row], wish: Wish) -> list[Row]:
 
 
 def warnings_of(rows: Sequence[Row], apart: Sequence[str] = (), has_lines: bool = True) -> list[str]:
-    """Lines about runs that draw the same numbers, about runs with a warning in their notes, and about runs of several
-    builds of motesim.
+    """Lines about runs that draw the same random numbers, about runs with a warning in their notes, and about runs of
+    several builds of motesim.
 
     apart      the columns by which runs are separated on purpose
     has_lines  whether `--by` can separate runs

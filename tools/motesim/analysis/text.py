@@ -19,7 +19,7 @@ from motesim.summary.counts import table
 
 Row = dict[str, Any]
 
-# The column that names the nets with missing runs, and how many points or nets the words below a picture name.
+# The column that names the nets with missing runs, and the most points or nets that the text below a picture names.
 NETS, MOST_BELOW = 'nets with missing runs', 6
 
 # The methods that draw runs again.
@@ -57,12 +57,12 @@ def rows_of(shown: Shown, wish: Wish) -> list[Row]:
 
 
 def some(number: int, word: str) -> str:
-    """A number of things."""
+    """A count with its noun, such as `3 runs`."""
     return '%d %s%s' % (number, word, '' if number == 1 else 's')
 
 
 def counted(wish: Wish) -> str:
-    """The word for what a point counts."""
+    """The noun for the things that a point counts."""
     return 'nets' if wish.nets else 'runs'
 
 
@@ -104,7 +104,8 @@ def of_missing(nets: Sequence[Net], by: str, against: str, what: str, most: int 
 
 
 def _steps(curve: Curve) -> list[tuple[int, float | None]]:
-    """The number of runs with at most each value, and the value; a curve without values has one row, of 0 runs."""
+    """Each value, with the number of runs that have at most this value; a curve without values has one row, of 0
+    runs."""
     return [*enumerate(curve.values, 1)] if curve.values else [(0, None)]
 
 
@@ -113,7 +114,7 @@ def _of_by(point: Point, wish: Wish) -> Row:
 
 
 def _of_run(x: Cell, wish: Wish) -> Row:
-    """The place of one run, from left to right."""
+    """The place of one run on the horizontal axis."""
     return {wish.against: x} if wish.against else {}
 
 
@@ -127,7 +128,7 @@ def _of_against(point: Point, wish: Wish) -> Row:
 
 
 def table_of(shown: Shown, wish: Wish) -> list[str]:
-    """The points as a table, with what it leaves out."""
+    """The points as a table, and lines about the runs that it omits."""
     rows = rows_of(shown, wish)
     return [heading(shown, wish), *table(rows, list(rows[0])), *crossings(shown, wish), *left_out(shown, wish),
             *remarks(shown, wish)]
@@ -146,7 +147,7 @@ def heading(shown: Shown, wish: Wish) -> str:
 
 
 def how(shown: Shown, wish: Wish) -> str:
-    """The method for the intervals, if there are some."""
+    """The method of the intervals, if there are intervals."""
     found = by_methods(shown.methods())
     if wish.show != 'mean' or not found:
         return ''
@@ -210,7 +211,7 @@ def check_log_y(shown: Shown, wish: Wish) -> None:
 
 
 def remarks(shown: Shown, wish: Wish) -> list[str]:
-    """The limits of the intervals' meaning."""
+    """Notes on the limits of what the intervals mean."""
     has_crossing = any(it and it.low is not None for it in crossings_of(shown, wish).values())
     found = of_nets(shown.shared) if wish.show == 'mean' or wish.threshold and wish.show != 'cdf' else []
     found += [*of_bars(shown, wish), *shown.warnings]

@@ -1,4 +1,4 @@
-"""The columns of two reports, in which names have the same numbers."""
+"""The columns of two reports, in which the same names have the same numbers."""
 from __future__ import annotations
 
 from array import array
@@ -11,7 +11,7 @@ from motesim.report import KINDS, MASKS, Report
 
 # The log of the medium, as the number of a mote.
 MEDIUM = -1
-# As many numbers are compared at once.
+# The amount of numbers that are compared at once.
 CHUNK = 1 << 12
 
 
@@ -33,7 +33,7 @@ class Both:
         known = {name: place for place, name in enumerate(ours)}
         for name in others:
             known.setdefault(name, len(known))
-        # (of the second report each name's number in the first, unless they are the same)
+        # (for each name of the second report, its number in the first, unless both have the same names)
         self.places = None if ours == others else [known[name] for name in others]
 
     def length(self, side: int, mote: int) -> int:
@@ -75,7 +75,7 @@ class Both:
         same = min((it for it in found if it is not None), default=min(len(at), len(other_at)))
         for code, kind in enumerate(KINDS):
             if kinds.count(code, 0, same):
-                # (up to there both have the same kinds, so their fields correspond)
+                # (up to this place both have the same kinds, so their fields correspond)
                 rows = list(compress(range(same), kinds.translate(MASKS[code])))
                 for one, other in zip(self.fields(0, mote, kind), self.fields(1, mote, kind)):
                     place = first_unequal(one[:len(rows)], other[:len(rows)])

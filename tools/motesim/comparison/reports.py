@@ -1,4 +1,4 @@
-"""The place at which two reports diverge first, and how many of their lines differ. tools/compare is the command."""
+"""The first place at which two reports diverge, and how many of their lines differ. tools/compare is the command."""
 from __future__ import annotations
 
 import argparse
@@ -31,7 +31,7 @@ class Difference(NamedTuple):
 
 
 class Collision(NamedTuple):
-    """Packets that met at a mote, on one side or with others on the other."""
+    """Packets that met at a mote on one side; on the other side they didn't meet, or met others."""
     at: int
     mote: int
     packets: tuple[list[tuple[int, int]], list[tuple[int, int]]]
@@ -51,7 +51,7 @@ def lists_of(report: Report) -> dict[int, Sequence[Any]]:
 def differences(a: Report, b: Report) -> list[Difference]:
     """The first difference of each mote's traces, and of the logs of the medium, in the order of moments.
 
-    At one moment the motes are in their order, and the medium comes after them.
+    At one moment the motes are in their order, and the medium is after them.
     """
     ours, others, found = lists_of(a), lists_of(b), []
     columns = Both(a, b)
@@ -64,7 +64,7 @@ def differences(a: Report, b: Report) -> list[Difference]:
 
 
 def heads(a: Report, b: Report) -> list[str]:
-    """The motes that run something else, or that only one report has."""
+    """The motes that run another program, or that only one report has."""
     found = []
     for number in range(max(len(a.motes), len(b.motes))):
         names = [it.motes[number].program if number < len(it.motes) else None for it in (a, b)]
@@ -162,7 +162,7 @@ def before(lines: Sequence[Line]) -> list[Line]:
 
 
 def packet_of(reports: Pair, it: Difference) -> Packet:
-    """The packet by which two logs of the medium part first."""
+    """The first packet at which two logs of the medium differ."""
     found = [report.medium[it.place] for report in reports if it.place < len(report.medium)]
     return min(found, key=lambda packet: packet[:3])
 
@@ -218,7 +218,7 @@ def only_in(reports: Pair, found: list[Difference]) -> Counts:
 
 
 def table(name: str, rows: list[tuple[str, int, int]], most: int) -> Iterator[str]:
-    """A table of the lines that only A or only B has, with at most so many rows."""
+    """A table of the lines that only A or only B has, with at most this many rows."""
     shown = rows[:most]
     if len(rows) > most:
         rest = rows[most:]
@@ -280,7 +280,7 @@ def compared(a: Run, b: Run, most: int) -> tuple[list[str], Difference | None, b
 
 
 def write_html(path: str, a: Run, b: Run, first: Difference | None) -> None:
-    """Writes both timelines above one another, from the first difference on."""
+    """Writes both timelines, one above the other, from the first difference on."""
     mote = first.mote if first else None
     if first and first.mote == MEDIUM:
         mote = packet_of((a.report, b.report), first).sender

@@ -19,7 +19,7 @@ def both(what: str, one: object, other: object) -> str:
 
 
 def of_keys(a: Scenario, b: Scenario) -> Iterator[str]:
-    """The keys that a scenario has once."""
+    """The keys that occur once in a scenario."""
     for name in 'version', 'end':
         if getattr(a, name) != getattr(b, name):
             yield both(name, getattr(a, name), getattr(b, name))
@@ -72,7 +72,7 @@ def differences(a: Scenario, b: Scenario) -> list[str]:
 
 
 def in_words(a: Scenario, b: Scenario, most: int) -> list[str]:
-    """At most so many of these lines, with a line above them."""
+    """At most this many of these lines, with a line above them."""
     lines = differences(a, b)
     if not lines:
         return ['The scenarios are the same.']

@@ -41,7 +41,7 @@ class Coverage:
         return Counter({'line %s' % name: 1 for name, form in EXPRESSIONS.items() if form.search(report)})
 
     def wanted(self) -> dict[str, list[str]]:
-        """All that can be reached, by its sort."""
+        """All features that can be reached, by their sort."""
         alternatives = {symbol: ['%s %s' % (symbol, name_of(it)) for it in productions()[symbol]]
                         for symbol in ('statement', 'expression', 'operator', 'cast', 'sent', 'any')}
         return {'statements': alternatives['statement'], 'expressions': alternatives['expression'],
@@ -51,7 +51,7 @@ class Coverage:
                 'parts of scenarios': list(OF_SCENARIO), 'forms of lines': ['line %s' % it for it in FORMS]}
 
     def lines(self) -> Iterator[str]:
-        """Lists for each sort of feature those that were reached, and those that weren't."""
+        """Lists, for each sort, the features that were reached and those that weren't."""
         for sort, names in self.wanted().items():
             missing = [it.split(' ', 1)[-1] if sort != 'parts of programs' else it for it in names
                        if not self.reached[it]]

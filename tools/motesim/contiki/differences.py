@@ -1,11 +1,11 @@
-"""The comment at the beginning of a C file: what it is, and what differs from Contiki for what the program uses."""
+"""The comment at the beginning of a C file: its origin, and how motesim differs from Contiki for this program."""
 from __future__ import annotations
 
 from motesim.contiki.layout import comment_lines
 from motesim.contiki.tree import Program
 from motesim.contiki.use import Use
 
-# The differences, each with the words of the notation that it concerns.
+# The differences, each with the words of the notation to which it applies.
 DIFFERENCES: tuple[tuple[frozenset[str], str], ...] = (
     (frozenset({'kill', 'start', 'exit'}),
      'In motesim a process that is in the middle of a call can be neither started nor killed (`busy`); Contiki allows '

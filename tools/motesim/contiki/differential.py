@@ -35,7 +35,7 @@ from motesim.scenario import Scenario, ScenarioFault
 from motesim.words import words_of
 
 GATE_COUNT = 300
-# (how many of the scenarios that differ are written to files)
+# (the most scenarios that are written to files because they differ)
 MOST_SHOWN = 3
 TOP = HERE.parent.parent.parent
 WORKERS: tuple[tuple[str, ...], ...] = (('--workers', '2', '--cut', 'block', '--sync', 'joins'),
@@ -44,7 +44,7 @@ LIMITS = Limits(seconds=60.0, memory=2 << 30, report=256 << 20)
 
 
 class Item(NamedTuple):
-    """A scenario to be compared: its name, and its text or the seed that makes it."""
+    """A scenario to be compared: its name, and its text or the seed from which it is made."""
     name: str
     scenario: bytes = b''
     seed: str = ''
@@ -52,7 +52,8 @@ class Item(NamedTuple):
 
 
 class Compared(NamedTuple):
-    """The result of a comparison: which simulator differs and how, or ''; and what the scenario reached."""
+    """The result of a comparison: which simulator differs and how, or ''; and the features that the scenario
+    reached."""
     difference: str
     reached: Counter[str]
     bytes: int = 0
@@ -77,7 +78,8 @@ class Comparison:
         self.with_workers = with_workers
 
     def difference(self, scenario: bytes, is_strict: bool = False) -> tuple[str, bytes]:
-        """Which simulator differs from motesim on one thread, and how, or ''; and the report of the latter."""
+        """The simulator that differs from motesim on one thread, and how, or ''; and the report of motesim on one
+        thread."""
         answer = self.runner.answer(scenario)
         if answer.status:
             raise ScenarioFault('motesim refuses it: %s' % answer.fault.decode(errors='replace').strip())
@@ -102,7 +104,7 @@ class Comparison:
 
     def smallest(self, scenario: bytes, is_strict: bool = False) -> bytes:
         """The smallest scenario that still differs: everything that isn't needed for the difference is removed."""
-        # (needed when something differs only)
+        # (this import is needed only if a scenario differs)
         from motesim.search.net import loss_steps, mote_steps, net_of, number_steps, program_steps
         net = net_of(Scenario.parse(scenario))
         is_smaller = True
@@ -137,7 +139,7 @@ def items_of_files(names: list[str]) -> Iterator[Item]:
 
 
 def random_items(seed: str, count: int, is_strict: bool = False) -> Iterator[Item]:
-    """The items of seeds: those from a number on, or those of a word, such as a commit."""
+    """The items of consecutive seeds: from a number on, or of a word, such as a commit, with -0, -1, .."""
     for number in range(count):
         name = str(int(seed) + number) if seed.isdecimal() else '%s-%d' % (seed, number)
         yield Item('the scenario of seed %s' % name, seed=name, is_strict=is_strict)
@@ -150,7 +152,7 @@ def commit(top: Path) -> str:
 
 
 def compare_all(items: Iterable[Item], work: Comparison, folder: Path, jobs: int | None) -> tuple[int, int, Coverage]:
-    """Compares items; returns how many agree and differ, and what was reached."""
+    """Compares items; returns how many agree and differ, and the features that were reached."""
     agreed = differing = size = 0
     coverage = Coverage()
     begin = last = time.monotonic()
@@ -226,7 +228,7 @@ def fixed_items(top: Path) -> Iterator[Item]:
 
 
 def made_items(top: Path) -> Iterator[Item]:
-    """The cases whose scenarios are made by Python, because they are long."""
+    """The cases whose scenarios are so long that Python makes them."""
     for path in sorted((top / 'tests/cases').glob('*/*.make')):
         if path.with_suffix('.stderr').exists():
             continue

@@ -1,8 +1,8 @@
-"""Expressions of the notation in C, exact at 16 bits wherever `int` has 16 or 32.
+"""Expressions of the notation in C, with exactly 16 bits on machines whose `int` has 16 or 32.
 
 An expression in C is `Made` with the least and the greatest value that it can have before it is cut to 16 bits. It is
-cut, by a cast to uint16_t, only if the expression around it would see the difference: a sum that is assigned to a
-uint16_t needs no cast, one that is compared does.
+cut, by a cast to uint16_t, only if the expression around it would have another value otherwise: a sum that is assigned
+to a uint16_t needs no cast, but a sum that is compared needs one.
 """
 from __future__ import annotations
 
@@ -14,7 +14,7 @@ from motesim.contiki.names import Names
 from motesim.contiki.tree import Expression, Is, Not, Number, Operation, Test, Variable, Word
 
 MOST, MOST_INT16, MOST_INT32 = 0xffff, 0x7fff, 0x7fff_ffff
-# How tightly the parts of an expression bind.
+# The precedence of operators: a greater one binds more tightly.
 ATOM, UNARY, PRODUCT, SUM, ORDER, EQUAL, AND, OR = 16, 14, 12, 11, 9, 8, 4, 3
 LEVELS = {'*': PRODUCT, '/': PRODUCT, '%': PRODUCT, '+': SUM, '-': SUM, '==': EQUAL, '!=': EQUAL, '<': ORDER,
           '<=': ORDER, '>': ORDER, '>=': ORDER, '&&': AND, '||': OR}
@@ -25,7 +25,7 @@ EVENTS = {'continue': 'PROCESS_EVENT_CONTINUE', 'msg': 'PROCESS_EVENT_MSG', 'com
 
 
 class Known(NamedTuple):
-    """The event with which the process is known to have been called, and the timer or process that it names."""
+    """The event with which the process is known to have been called, and the timer or process that the event names."""
     event: str
     name: str = ''
 
@@ -74,7 +74,7 @@ def is_constant(made: Made) -> bool:
 def condition(made: Made) -> Made:
     """An expression that is 0 exactly if its value of 16 bits is 0."""
     if made.level in (PRODUCT, SUM) and not is_constant(made):
-        # (compilers warn of a product as a condition, and mistake some sums for one)
+        # (compilers warn about a product as a condition, and about some sums that they mistake for a product)
         is_exact = made.type != 'unsigned' and max(-made.low, made.high) <= MOST
         return truth('%s != 0' % (made if is_exact else cut(made)).inside(ORDER), EQUAL)
     return cut(made)
@@ -115,7 +115,7 @@ def range_of(operator: str, left: Made, right: Made) -> tuple[int, int]:
 
 
 def decided(operator: str, left: Made, right: Made) -> bool | None:
-    """The answer of a comparison that the ranges of its sides decide."""
+    """The result of a comparison if the ranges of its sides decide it, otherwise None."""
     if operator in OPPOSITE:
         if left.high < right.low or right.high < left.low:
             return operator == '!='
@@ -130,7 +130,7 @@ def decided(operator: str, left: Made, right: Made) -> bool | None:
 
 
 def implied(expression: Expression | None) -> Known | None:
-    """The event that a process must have been called with if an expression is true."""
+    """The event with which a process must have been called if an expression is true."""
     if isinstance(expression, Is):
         return Known(expression.event)
     if isinstance(expression, Test) and expression.kind in ('fired', 'gone'):
@@ -144,8 +144,8 @@ def implied(expression: Expression | None) -> Known | None:
 class Expressions:
     """Writes the expressions of one block in C.
 
-    `known` is the event, if that is known. A simple block has one event for its whole length, and C has no `ev` there:
-    `has_event` is false. `word` is the function that returns the word of any event.
+    `known` is the event, or None if it isn't known. A simple block has one event for its whole length, and C has no
+    `ev` there: `has_event` is false. `word` is the function that returns the word of any event.
     """
 
     def __init__(self, names: Names, process: str, timers: dict[tuple[str, str], int], ctimers: set[str],
@@ -172,7 +172,7 @@ class Expressions:
         constant = self.constant(expression)
         if isinstance(expression, Operation):
             made = self.operation(expression)
-            # (a constant is calculated here if C would get another value on its way, or warn)
+            # (a constant is calculated here if C would compute another value, or if its compiler would warn)
             if constant is None:
                 return number(made.low & MOST) if is_constant(made) else made
             is_plain = made.type == 'signed' and made.low == made.high == constant
@@ -252,7 +252,7 @@ class Expressions:
         return 'ctimer' if name in self.ctimers else 'etimer', self.names.inside(self.process, name)
 
     def etimer(self, name: str) -> str:
-        """The event timer of a timer, which is what the data of its event points to."""
+        """The event timer of a timer; the data of the timer's event points to it."""
         prefix, cname = self.timer(name)
         return cname + '.etimer' if prefix == 'ctimer' else cname
 
@@ -337,10 +337,10 @@ class Expressions:
         answer = decided(operator, left, right)
         if answer is not None:
             return number(int(answer))
-        # (compilers warn if they believe that an operand of an unsigned comparison is negative)
+        # (compilers warn if an operand of an unsigned comparison seems to be negative)
         if 'unsigned' in (left.type, right.type):
             left, right = (it if it.type == 'unsigned' or it.type == 'short' and it.level >= UNARY else
                            Made('(uint16_t)%s' % it.inside(UNARY), UNARY, it.low, it.high) for it in (left, right))
-        # (they warn of a negation there, too)
+        # (they warn about a negation there, too)
         one, other = ('(%s)' % it.text if it.text.startswith('!') else it.inside(SUM) for it in (left, right))
         return truth('%s %s %s' % (one, operator, other), LEVELS[operator])

@@ -47,7 +47,7 @@ def text_of(lines: list[str]) -> str:
 
 
 def host_tables(scenario: Scenario, files: dict[str, ProgramFile]) -> Iterator[tuple[str, str]]:
-    """The names and texts of the tables for the host: those of the programs that motes run, and of the net."""
+    """The names and texts of the tables for the host: one for each program that motes run, and one for the net."""
     used = {it.program for it in scenario.places}
     file_of = file_names(files)
     numbers = {name: number for number, name in enumerate(files) if name in used}
@@ -83,7 +83,7 @@ def _host_text(name: str) -> str:
 
 
 def _queues(scenario: Scenario) -> dict[str, int]:
-    """The lengths of event queues that aren't Contiki's own, by the files of the programs."""
+    """The lengths of event queues that differ from Contiki's, by the files of the programs."""
     file_of = file_names(scenario.programs)
     return {file_of[name]: length for name, length in sorted(scenario.queue.items()) if length != QUEUE}
 
@@ -124,7 +124,7 @@ def write_folder(data: bytes, path: str, folder: Path, with_host: bool) -> list[
 
 
 def _written(path: Path, text: str) -> Path:
-    """Writes a file as a whole."""
+    """Writes a complete file."""
     beside = path.with_name(path.name + '.new')
     try:
         path.parent.mkdir(parents=True, exist_ok=True)

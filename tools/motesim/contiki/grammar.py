@@ -49,7 +49,7 @@ class Text:
 
 @dataclass(frozen=True)
 class Symbol:
-    """Another production, or a name or number if it has capitals."""
+    """Another production; if the symbol is in capitals, a name or a number."""
     name: str
 
 
@@ -77,7 +77,7 @@ class Form(NamedTuple):
 
 
 def name_of(alternative: Alternative) -> str:
-    """The name of an alternative: its first text; the symbol of one that has none."""
+    """The name of an alternative: its first text, or its symbol if it has no text."""
     first = alternative[0]
     if isinstance(first, Text):
         return first.text

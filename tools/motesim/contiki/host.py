@@ -1,4 +1,4 @@
-"""The tables by which the host, tools/contiki_host, knows a scenario: PROGRAM_host.c of each program, and net.c."""
+"""The tables that describe a scenario to the host, tools/contiki_host: PROGRAM_host.c for each program, and net.c."""
 from __future__ import annotations
 
 from collections.abc import Iterable
@@ -15,7 +15,7 @@ def _table(kind: str, name: str, entries: Iterable[str]) -> list[str]:
 
 
 def program_tables(number: int, name: str, file: str, image: Image) -> list[str]:
-    """PROGRAM_host.c, which includes the program itself: so it sees all that is static there."""
+    """PROGRAM_host.c, which includes the program itself, and so can use the program's static names."""
     timers = ['HOST_NO_TIMER' if not cname else 'HOST_%s(%s)' % (prefix.upper(), cname)
               for prefix, cname in image.timers]
     events = ['{ %s, "%s" }' % ('&' + cname if cname else 'NULL', event) for event, cname in image.events]

@@ -1,4 +1,4 @@
-"""Runs scenarios on the host: the host's own files are compiled once, the programs of each scenario by themselves."""
+"""Runs scenarios on the host: the host's own files are compiled once, and the programs of each scenario separately."""
 from __future__ import annotations
 
 import itertools
@@ -18,11 +18,11 @@ SECONDS = 60.0
 
 
 class HostFault(Fault):
-    """The programs of a scenario can't be compiled, or the host ends by a fault."""
+    """The programs of a scenario can't be compiled, or the host ends with a fault."""
 
 
 def compilers() -> tuple[str, str]:
-    """The compiler of the host's own files, and that of the programs, which has to be fast."""
+    """The compiler of the host's own files, and the compiler of the programs, which has to be fast."""
     found = [it for it in ('gcc', 'clang', 'cc', 'tcc') if shutil.which(it)]
     if not found:
         raise HostFault(HOW_TO_INSTALL)

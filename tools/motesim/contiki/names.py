@@ -32,7 +32,7 @@ def is_reserved(name: str) -> bool:
 
 
 def file_names(programs: Iterable[str]) -> dict[str, str]:
-    """The names of the programs' files, without their ends: all different, even if capitals don't count."""
+    """The names of the programs' files without `.c`: all different, even on a system that ignores capitals."""
     names = sorted(programs)
     taken = FILES | {it.lower() for it in names}
     found: dict[str, str] = {}
@@ -48,7 +48,7 @@ def file_names(programs: Iterable[str]) -> dict[str, str]:
 
 
 class Names:
-    """The C names of a program's parts, all different: those of a code are found by its process and name."""
+    """The C names of a program's parts, all different; parts of a code are found by their process and name."""
 
     def __init__(self, program: Program):
         self._taken: set[str] = set()
@@ -71,7 +71,7 @@ class Names:
             self._locals[process, name] = self._claim(*wished, '%s_%s' % (process, name))
 
     def _claim(self, *wished: str) -> str:
-        """The first of these names that is free, or the last one with a number behind it."""
+        """The first of these names that isn't in use, or the last one with a number behind it."""
         for name in wished:
             if name not in self._taken and not is_reserved(name):
                 self._taken.add(name)
@@ -87,7 +87,7 @@ class Names:
         return self._claim(wished)
 
     def derived(self, name: str, what: str) -> str:
-        """The name of what belongs to a C name, such as the callback of a timer."""
+        """The name of something that belongs to a part with this C name, such as the callback of a timer."""
         if (name, what) not in self._derived:
             self._derived[name, what] = self._claim('%s_%s' % (name, what))
         return self._derived[name, what]

@@ -39,7 +39,7 @@ class Image:
 
 
 class _Function:
-    """The lines of one function, and which of `ev` and `data` they use."""
+    """The lines of one function, and whether they use `ev` and `data`."""
 
     def __init__(self) -> None:
         self.lines: list[str] = []
@@ -58,14 +58,14 @@ class ProgramFile:
         self.program = program
         self.counts_work = counts_work
         self.use = use_of(program)
-        # (the callbacks that something names: those that are only reset are named in code that runs once)
+        # (the callbacks that the code names; the code that runs once names those of timers that are only reset)
         self.called = self.use.set_timers | (self.use.again if program.autostart else set())
         self.names = Names(program)
         self.numbers = {timer: number for number, timer in enumerate(program.timers())}
         self.init = self.names.helper('init_program')
         self.init_done = self.names.helper('init_done')
         self.word = self.names.helper('word_of')
-        # (for each thread, what it needs in addition to its pt)
+        # (for each thread, the variables that it needs in addition to its pt)
         self.needs: dict[tuple[str, str], list[str]] = {}
         self.image = Image()
         self._find_image()
@@ -105,7 +105,7 @@ class ProgramFile:
         return bool(self.program.autostart and self._init_lines())
 
     def _init_lines(self) -> list[str]:
-        """The lines that must run once, before all others."""
+        """The lines that must run once, before all other lines."""
         lines = ['%s = process_alloc_event();' % name for _, name in self.image.events if name]
         lines += ['PT_SEM_INIT(&%s, %d);' % (self.names.of(it.name), it.value) for it in self.program.semaphores
                   if it.name in self.use.names]
@@ -155,7 +155,7 @@ class ProgramFile:
         return [*lines, *code_lines('AUTOSTART_PROCESSES(%s);' % started, '')]
 
     def _declared(self, comments: Comments, code: str, name: str, cname: str, indent: str = '') -> list[str]:
-        """A declaration with its comments, and the name in the notation if that was changed."""
+        """A declaration with its comments, and its name in the notation if the C name is another."""
         beside = list(comments.beside)
         if cname != name:
             beside.insert(0, '"%s" in the notation' % name)
@@ -259,7 +259,7 @@ class ProgramFile:
         return [*lines, *self._body(code, handlers)]
 
     def _said(self, part: Part, name: str) -> list[str]:
-        """The comments of a part, and its name in the notation if that is another one."""
+        """The comments of a part, and its name in the notation if the C name is another."""
         other = [] if name == part.name else ['"%s" in the notation' % part.name]
         return comment_lines(part.comments.above + part.comments.beside + other, '')
 
@@ -295,7 +295,7 @@ class ProgramFile:
 
 
 class _Block:
-    """Writes the statements of one block of a code, with those inside of it."""
+    """Writes the statements of one block of a code, with those of its inner blocks."""
 
     def __init__(self, file: ProgramFile, code: Code, function: _Function, is_thread: bool, is_simple: bool = False):
         self.file = file
@@ -323,7 +323,7 @@ class _Block:
             own.add(code + ';', indent)
         written = self.file._with_comments(statement.comments, own.lines, indent)
         at = len(written) - len(own.lines)
-        # (the unit of work is counted below the comments)
+        # (the line that counts a unit of work is below the comments)
         work = [indent + WORK] if self.file.counts_work else []
         self.function.lines += written[:at] + work + written[at:]
         self.function.uses |= own.uses
@@ -336,7 +336,7 @@ class _Block:
             self.function.lines.append(indent + WORK)
 
     def known_after(self, statement: Statement) -> Known | None:
-        """The event that is known to be there when a waiting statement is left."""
+        """The event that is known to be present when a waiting statement ends."""
         if statement.kind in ('yield_until', 'wait_until'):
             return implied(statement.value)
         return Known('continue') if statement.kind == 'pause' else None
@@ -368,7 +368,7 @@ class _Block:
         kind, value = statement.kind, statement.value
         if kind == '=':
             name, text = self.local(statement.target), self.expressions.loose(value).text
-            # (compilers warn of an assignment of a variable to itself)
+            # (compilers warn about an assignment of a variable to itself)
             return ['%s = %s%s' % (name, '(uint16_t)' if text == name else '', text)]
         if kind == 'print':
             return ['MOTESIM_PRINT(%s)' % self.expressions.value(value).text]
@@ -430,7 +430,7 @@ class _Block:
         if statement.kind == 'acquire':
             return [form % self.file.names.of(statement.target)]
         before = self.expressions.known
-        # (the event of a later call is another one)
+        # (a later call has another event)
         self.expressions.known = None
         text = self.expressions.condition(statement.value).text
         self.expressions.known = before

@@ -1,7 +1,8 @@
-"""Random programs, by the grammar as data: each statement and expression can occur, in each place that allows it.
+"""Random programs, made from the grammar as data: each statement and expression can occur in each place that allows
+it.
 
-The weights make programs that do something: most wait in a loop, set their timers to near moments, and post to one
-another. Everything else is chance.
+The weights make programs that do something: most of them wait in a loop, set their timers to near moments, and post to
+one another. Everything else is random.
 """
 from __future__ import annotations
 
@@ -12,7 +13,7 @@ from collections.abc import Sequence
 from motesim.contiki.grammar import Alternative, Form, Maybe, Symbol, Text, form_of, forms
 
 WAITS = frozenset({'yield', 'yield_until', 'wait_until', 'wait_while', 'spawn', 'restart', 'exit', 'acquire', 'pause'})
-# How often a statement comes, compared with one of weight 4.
+# The weights of statements: a statement without one has weight 4.
 WEIGHTS = {'exit': 1, 'restart': 1, 'while': 2, 'if': 5, 'kill': 2, 'print': 6, 'VARIABLE': 5, 'set': 6, 'post': 7,
            'send': 5, 'yield': 3, 'yield_until': 6, 'wait_until': 3, 'acquire': 2, 'wait_while': 2, 'broadcast': 3}
 EXPRESSION_WEIGHTS = {'(': 9, 'NUMBER': 6, 'VARIABLE': 8, '!': 1}
@@ -21,7 +22,7 @@ LEAVES = frozenset({'NUMBER', 'VARIABLE', 'data', 'from', 'now', 'self', 'is', '
 SYMBOLS = ('VARIABLE', 'PROCESS', 'EVENT', 'TIMER', 'SEMAPHORE', 'THREAD')
 ODD_NUMBERS = (255, 256, 257, 4095, 9999, 10000, 32767, 32768, 40000, 65534, 65535)
 MOST_LEVELS, MOST_STATEMENTS, MOST_TIMERS = 32, 4096, 64
-# (names that C or Contiki has come too, so that their new names are tried)
+# (names that C or Contiki has occur too, to test the names that replace them)
 NAMES = tuple('int char log done list timer_set pt ptr main word ev motesim_self index double abcdefghijklmnop '
               'process_poll a_process t_pt case x1 y0 z9z'.split())
 
@@ -43,7 +44,7 @@ class RandomProgram:
     # Names
 
     def new_name(self, short: str) -> str:
-        """A name that nothing has yet."""
+        """A name that isn't in use yet."""
         if self.chance.random() < 0.03:
             name = self.chance.choice(NAMES)
             if name not in self.taken:
@@ -62,7 +63,7 @@ class RandomProgram:
         return name
 
     def few(self, most: int, what: str, limit: int) -> int:
-        """Draws a number of items: few, or as many as are allowed."""
+        """Draws a number of items: a small number, or the greatest that is allowed."""
         if self.limit == what:
             self.reached['limit %s' % what] += 1
             return limit
@@ -140,7 +141,7 @@ class RandomProgram:
         self.lines.append('  }')
 
     def body(self) -> None:
-        """A body: some statements, and mostly a loop that waits."""
+        """A body: some statements, and usually a loop that waits."""
         chance = self.chance
         if self.limit == 'statements':
             self.reached['limit statements'] += 1
@@ -158,7 +159,7 @@ class RandomProgram:
             self.statement_lines(['print %s7;' % ('!' * (MOST_LEVELS - 1))], '    ')
         self.block('    ', chance.randint(0, 4), 0)
         if self.names['TIMER'] and chance.random() < 0.35:
-            # (what became of a timer whose process has left)
+            # (the state of a timer whose process has exited)
             self.statement_lines(['print expired(%s);' % chance.choice(self.names['TIMER'])], '    ')
         if chance.random() < 0.75 and self.statements < MOST_STATEMENTS - 40:
             self.statement_lines(['while 1 {'], '    ')
@@ -247,7 +248,7 @@ class RandomProgram:
         return self.joined(self.expand(self.statement_form(kind).parts, 3))
 
     def test(self) -> str:
-        """A test of the event, as programs mostly wait for one."""
+        """A test of the event, which is the usual condition for which programs wait."""
         kinds = [it for it in forms('expression') if it.name in ('is', 'fired', 'gone') and self.can_come(it)]
         chosen = self.chance.choice(kinds)
         self.reached['expression %s' % chosen.name] += 1
@@ -260,7 +261,7 @@ class RandomProgram:
     # The grammar
 
     def expand(self, parts: Alternative, depth: int) -> list[str]:
-        """The tokens of an alternative, with names that are known and expressions at most so deep."""
+        """The tokens of an alternative, with declared names, and with expressions nested at most this deep."""
         tokens: list[str] = []
         for part in parts:
             if isinstance(part, Text):

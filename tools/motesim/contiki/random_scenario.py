@@ -14,7 +14,7 @@ LIMIT_EACH = 20
 
 
 def random_scenario(seed: int | str, reached: Counter[str] | None = None) -> bytes:
-    """The scenario of a seed; what it has is counted in `reached`."""
+    """The scenario of a seed; its features are counted in `reached`."""
     reached = Counter() if reached is None else reached
     chance = random.Random(seed)
     limit = _limit_of(str(seed))
@@ -52,7 +52,7 @@ def _limit_of(seed: str) -> str:
 
 
 def _end(chance: random.Random, limit: str) -> int:
-    """The end: mostly near, since a busy mote writes much in every moment."""
+    """The end: usually an early moment, because a busy mote writes many lines in every moment."""
     if limit:
         return chance.choice([0, 1, 5])
     return chance.choice([0, 1, 2, 5, 8, 12, 12, 20, 20, 20, 30, 30])

@@ -17,7 +17,7 @@ TESTS = frozenset({'fired', 'expired', 'gone', 'running', 'count'})
 class Tokens:
     """The tokens of a text, each with the comments in front of it.
 
-    A comment on the line on which the token before it ends is `beside` that token, each other one is `above` the next.
+    A comment on the line on which the token before it ends is `beside` that token; any other is `above` the next one.
     """
 
     def __init__(self, text: str):
@@ -57,7 +57,7 @@ class Tokens:
     def comments_from(self, first: int) -> Comments:
         """The comments from the token `first` to the last one that was consumed.
 
-        Those in the middle of it are above it too.
+        Comments between these tokens count as `above`.
         """
         last = self.next - 1
         above = list(self.above[first])
@@ -68,7 +68,7 @@ class Tokens:
 
 
 def read_program(text: str) -> Program:
-    """Reads the text of a program, which has no fault (`motesim.notation.faults` finds faults)."""
+    """Reads the text of a program that has no fault (`motesim.notation.faults` finds faults)."""
     return _program(Tokens(text))
 
 
@@ -107,7 +107,7 @@ def _program(tokens: Tokens) -> Program:
 
 
 def _names(tokens: Tokens) -> list[str]:
-    """A keyword, names with commas, and a semicolon."""
+    """A keyword, names with commas between them, and a semicolon."""
     tokens.take()
     names = [tokens.take()]
     while tokens.takes(','):
@@ -159,7 +159,7 @@ def _part(tokens: Tokens, begin: int, name: str) -> Part:
 
 
 def _block(tokens: Tokens) -> Block:
-    """A block of a statement, whose opening brace's comments go before its first statement."""
+    """A block of a statement; comments at its opening brace belong to its first statement."""
     tokens.take()
     beside = tokens.beside[tokens.next - 1]
     block = _statements(tokens)

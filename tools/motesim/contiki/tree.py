@@ -78,7 +78,7 @@ class Block:
 
 @dataclass
 class Declaration:
-    """A name with its first value: 0 for a name that has none."""
+    """A name with its first value, which is 0 if the text has none."""
     name: str
     comments: Comments
     value: int = 0
@@ -134,7 +134,7 @@ class Program:
 
 
 def statements_of(block: Block) -> Iterator[Statement]:
-    """All statements of a block, an outer one before the inner ones."""
+    """All statements of a block; an outer statement is before its inner ones."""
     for statement in block.statements:
         yield statement
         for inner in statement.block, statement.otherwise:
@@ -143,7 +143,7 @@ def statements_of(block: Block) -> Iterator[Statement]:
 
 
 def parts_of(expression: Expression | None) -> Iterator[Expression]:
-    """An expression and all that it is made of."""
+    """An expression and all expressions in it."""
     if expression is None:
         return
     yield expression

@@ -1,4 +1,4 @@
-"""The declarations that a program uses: C compilers warn of all others, so the file leaves them out."""
+"""The declarations that a program uses: C compilers warn about unused ones, so the C file leaves those out."""
 from __future__ import annotations
 
 from dataclasses import dataclass, field
@@ -11,7 +11,7 @@ SETS = frozenset({'set', 'reset', 'restart_timer'})
 
 @dataclass
 class Use:
-    """The names in use: names of the program, and pairs of a process and a name of its code."""
+    """The names in use: names of the program itself, and pairs of a process and a name in its code."""
     names: set[str] = field(default_factory=set)
     inside: set[tuple[str, str]] = field(default_factory=set)
     # (the callback timers that are set, and those that are reset or restarted)
@@ -38,7 +38,7 @@ class _CodeUse:
         self.seen: set[str] = set()
 
     def find(self) -> None:
-        """Goes through the blocks that can be run."""
+        """Visits the blocks that can be run."""
         for part in self.code.onpoll, self.code.onexit, self.code.body:
             if part:
                 self.block(part.block)

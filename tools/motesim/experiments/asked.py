@@ -20,12 +20,12 @@ from motesim.scenario import Scenario
 from motesim.judge.sentences import Names, SentenceFault, names_of
 
 MOST_RUNS = 1_000_000
-# How many runs are tried to find one whose plan makes a scenario.
+# The most runs that are tried in search of one whose plan makes a scenario.
 MOST_TRIED = 40
 SECONDS, MOST_SECONDS, MOST_BYTES = 60, 86_400, 200_000_000
 RANGE = re.compile(r'(-?[0-9]{1,9})\.\.(-?[0-9]{1,9})(?:\.\.([0-9]{1,9}))?')
 SWEEP = {'vary': optional(dict, {}), 'measure': optional(list, []), 'seconds': optional(int, SECONDS, 1, MOST_SECONDS)}
-# The columns that say what made a row.
+# The columns with the digests of what made a row.
 MADE = ('fault', 'note', 'plan', 'plan_sha256', 'scenario_sha256', 'places_sha256', 'rejected', 'report_sha256',
         'program', 'program_sha256', 'kit', 'measures_sha256', CHANCE, 'parameters')
 
@@ -67,12 +67,12 @@ class Sweep:
         return count
 
     def given(self) -> Iterator[dict[str, Value]]:
-        """The values of all parameters, run by run. The last of those that vary changes first."""
+        """The values of all parameters, run by run. Of the parameters that vary, the last one changes in each run."""
         for values in itertools.product(*self.vary.values()):
             yield self.plan.with_given(dict(zip(self.vary, values)))
 
     def run_at(self, place: int) -> dict[str, Value]:
-        """The values of all parameters in the run at a place of that order."""
+        """The values of all parameters in the run at this place of the order."""
         found: dict[str, Value] = {}
         for name, values in reversed(self.vary.items()):
             place, at = divmod(place, len(values))
@@ -138,7 +138,7 @@ def chance_seeds(plan: Plan, files: Sequence[str]) -> list[str]:
 
 
 def some_runs(sweep: Sweep) -> Iterator[dict[str, Value]]:
-    """The first run, the last, and others between them, each as far as possible from those before."""
+    """The first run, the last, and others between them, each as far as possible from the earlier ones."""
     count = sweep.runs()
     places = dict.fromkeys([0, count - 1])
     step = count
@@ -150,7 +150,7 @@ def some_runs(sweep: Sweep) -> Iterator[dict[str, Value]]:
 
 
 def known_names(sweep: Sweep) -> Names:
-    """The names that sentences may have. If none of the runs that are tried makes a scenario, the first fault.
+    """The names that sentences may have. Raises the first fault if none of the runs that are tried makes a scenario.
 
     The names are those of the first net that has all motes that measures name, or of the largest net.
     """
@@ -191,7 +191,7 @@ def check_flow(sweep: Sweep, words: str, names: Names) -> None:
 
 
 def columns_of(sweep: Sweep, names: Names, sources: Mapping[str, str]) -> list[str]:
-    """The columns of the results. A measure that can't be read is refused, before any run."""
+    """The columns of the results. A measure that can't be read is refused before any run."""
     measures = []
     for words in sweep.measures:
         try:

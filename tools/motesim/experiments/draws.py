@@ -1,9 +1,9 @@
-"""Runs that draw the same numbers with different seeds: the limit of the pattern for chance of EXPERIMENTS.md.
+"""Runs that draw the same numbers with different seeds: a limit of the pattern for random numbers in EXPERIMENTS.md.
 
-A mote of the pattern draws from 257 times its number, and the seed. If the seed is 257 greater, mote k draws the same
-numbers as mote k + 1, and two runs whose seeds are a multiple of 257 apart aren't independent. Each row of a sweep has
-the names of its seeds of the pattern in the column CHANCE: which rows draw the same numbers can be found from any
-rows, whether one command made them or several.
+In the pattern a mote draws from the sum of 257 times its number and the seed. If the seed is 257 greater, mote k draws
+the same numbers as mote k + 1, and two runs whose seeds are a multiple of 257 apart aren't independent. Each row of a
+sweep has the names of its seeds of the pattern in the column CHANCE: so any rows show which of them draw the same
+numbers, even if several commands made them.
 """
 from __future__ import annotations
 
@@ -13,7 +13,7 @@ from collections.abc import Iterable, Mapping
 from motesim.experiments.measures import Cell
 from motesim.experiments.results import Row
 
-# A note that begins so is about a run that has all its measures.
+# A note with this beginning is about a run that has all its measures.
 WARNING = 'warning: '
 # The column with the parameters that are seeds of the pattern, and how many consecutive seeds draw different numbers.
 CHANCE, APART = 'chance_seeds', 257
@@ -53,7 +53,7 @@ class Seeds:
         return found
 
     def lines(self) -> list[str]:
-        """A line for each parameter with values that draw the same numbers."""
+        """A line for each parameter of which several values draw the same numbers."""
         found = []
         for name, values in self.values.items():
             alike = self.earlier(name)
@@ -65,7 +65,7 @@ class Seeds:
 
 
 def apart(alike: Mapping[int, int]) -> tuple[int, int]:
-    """The least distance of two values that draw alike: in motes, and in seeds."""
+    """The least distance of two values that draw the same numbers: in motes, and in seeds."""
     least = min(value - before for value, before in alike.items())
     return least // APART, least
 
@@ -76,7 +76,7 @@ def names_in(row: Mapping[str, Cell]) -> list[str]:
 
 
 def lines_of(rows: Iterable[Row]) -> list[str]:
-    """A line for each parameter with values in these rows that draw the same numbers."""
+    """A line for each parameter of which several values in these rows draw the same numbers."""
     seeds = Seeds()
     for row in rows:
         seeds.add_row(row)
@@ -84,12 +84,12 @@ def lines_of(rows: Iterable[Row]) -> list[str]:
 
 
 def without_alike(note: Cell) -> str:
-    """A note without the part on runs that draw alike."""
+    """A note without its part about runs that draw the same numbers."""
     return NOTE.sub('', str(note or ''))
 
 
 class Notes:
-    """The notes of the rows of a file, with a part on rows that draw as others do."""
+    """The notes of the rows of a file, with a part about rows that draw the same numbers as others."""
 
     def __init__(self, seeds: Seeds) -> None:
         self.alike = {name: seeds.earlier(name) for name in seeds.values}
@@ -98,7 +98,7 @@ class Notes:
         return bool(self.alike)
 
     def of(self, row: Mapping[str, Cell]) -> str:
-        """The note of a row: the same for the same rows, in whatever order they were made."""
+        """The note of a row, which doesn't depend on the order in which the rows were made."""
         parts = [without_alike(row.get('note'))]
         for name in names_in(row):
             value = row[name]

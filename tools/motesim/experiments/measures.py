@@ -38,7 +38,7 @@ OF_PYTHON = re.compile(r'python\s*:\s*([^:]+?)\s*:\s*([A-Za-z_]\w*)')
 
 
 class MeasureFault(Fault):
-    """Words that aren't a measure, or a measure that can't be taken."""
+    """A text that isn't a measure, or a measure that can't be taken."""
 
 
 class Bench:
@@ -62,7 +62,7 @@ class Bench:
 
 @dataclass(frozen=True)
 class Measure:
-    """A measure: the name of its column, and its words."""
+    """A measure: the name of its column, and its text."""
     name: str
     words: str
     of: Callable[[Bench], Cell]
@@ -81,7 +81,8 @@ def _of_summary(name: str, mote: str | None) -> Callable[[Bench], Cell]:
 
 
 def reachable(scenario: Scenario | None) -> float | None:
-    """The part of the motes that packets of mote 0 can reach, over others, if none is lost; mote 0 is one of them."""
+    """The share of the motes that packets of mote 0 can reach, forwarded by others, if none is lost; mote 0 counts as
+    reached."""
     if scenario is None:
         return None
     reached = {0: None}
@@ -99,7 +100,7 @@ def _of_flow(name: str, words: str) -> Callable[[Bench], Cell]:
 
 
 def _events(judge: Judge, it: Does, motes: tuple[int, ...]) -> list[Event]:
-    """The lines that a sentence speaks of, in the order of their moments."""
+    """The lines that a sentence is about, in the order of their moments."""
     found = judge.within(judge.done(it.deed, motes), it.window, motes)
     return sorted(found, key=lambda event: event.line.at)
 
@@ -139,7 +140,7 @@ def _count_rows(judge: Judge, it: Copies | Packets) -> int:
 
 
 def _plain(sentence: Sentence, words: str) -> Does:
-    """A sentence that has a moment: motes that have lines of a form."""
+    """Reads a sentence that has a moment: it says that motes have lines of a form."""
     kinds = 'each', 'together', 'some'
     if not isinstance(sentence, Does) or sentence.deed.way != 'any' or sentence.than or sentence.relation:
         raise MeasureFault('%r has no moment, unlike `mote 3 prints flood 1` and `every mote sends`' % words)
@@ -149,7 +150,7 @@ def _plain(sentence: Sentence, words: str) -> Does:
 
 
 def _guarded(work: Callable[[Judge], Cell]) -> Callable[[Bench], Cell]:
-    """Nothing, if a sentence needs the hops to a mote that can't be reached."""
+    """The measure, or None if its sentence needs the hops to a mote that can't be reached."""
     def of(bench: Bench) -> Cell:
         try:
             return work(bench.judge)
@@ -245,7 +246,7 @@ def name_of(words: str) -> str:
 
 
 def _parts(words: str) -> tuple[str, str]:
-    """The name that a measure is given, or an empty text, and the measure itself."""
+    """The name that the author gave to a measure, or an empty text; and the measure itself."""
     named = NAMED.fullmatch(words)
     return (named[1], named[2].strip()) if named else ('', words.strip())
 
@@ -269,7 +270,7 @@ def mote_of(words: str) -> int | None:
 
 
 def read_measure(words: str, names: Names = Names(), sources: Mapping[str, str] = {}) -> Measure:
-    """A measure from its words, with the sources of users' files."""
+    """A measure from its text, with the sources of users' files."""
     name, text = name_of(words), _parts(words)[1]
     python, flow, sentence = OF_PYTHON.fullmatch(text), OF_FLOW.fullmatch(text), OF_SENTENCE.fullmatch(text)
     try:

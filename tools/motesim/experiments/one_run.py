@@ -1,7 +1,6 @@
-"""One run of a sweep: the scenario is made, the program runs on it, and the measures are taken.
+"""One run of a sweep: makes the scenario, runs `motesim` on it, and measures it.
 
-`run_job(job)` needs nothing but the job and the program, so that it can be called in another process, or on another
-machine.
+`run_job(job)` needs only the job and `motesim`, so it can be called in another process or on another machine.
 """
 from __future__ import annotations
 
@@ -31,8 +30,8 @@ from motesim.scenario import Scenario
 from motesim.judge.sentences import names_of
 
 DIGITS = 16
-# The time on the clock that a run may last is this many times its processor time: rows must not depend on what else
-# the machine does. A run past this time has a fault with these words, and the same sweep repeats it.
+# The time on the clock that a run may last is this many times its processor time: rows must not depend on the
+# machine's other work. A longer run has a fault with these words, and the same sweep repeats it.
 BUSY = 30
 TOO_BUSY = 'the machine is too busy'
 LONGEST_FAULT = 400
@@ -42,8 +41,8 @@ class Work(NamedTuple):
     """The data that all runs of a sweep share.
 
     files     the files next to the plan, by name; others are read from the folder
-    measures  their words, with the sources of users' files
-    program   the program's path, and its SHA-256: another one there is a fault
+    measures  their texts, with the sources of users' files
+    program   the path of `motesim`, and its SHA-256: another binary there is a fault
     seconds   the limit of a run, and of each measure, in processor time
     """
     plan: str
@@ -58,7 +57,7 @@ class Work(NamedTuple):
 
 
 class Job(NamedTuple):
-    """A run: its place in the sweep, its parameters, and the files that its scenario is made from.
+    """A run: its place in the sweep, its parameters, and the files from which its scenario is made.
 
     is_first  whether it is the first run of its treatment, whose losses are checked
     """
@@ -72,7 +71,7 @@ class Job(NamedTuple):
 class Result(NamedTuple):
     """The result of a run: the measures by name, digests of scenario and report, and a fault, or an empty text.
 
-    note      which measures failed and why: their cells are empty, and the others are there; then warnings
+    note      which measures failed and why (only their cells are empty); then warnings
     places    the digest of the motes' places
     rejected  the number of nets that were drawn before this one, and weren't connected
     """
@@ -97,13 +96,13 @@ def _digest_of_file(path: str, size: int, changed: int) -> str:
 
 
 def program_digest(path: Path) -> str:
-    """The digest of the program; its bytes are read once, unless they change."""
+    """The digest of `motesim`; its bytes are read once, unless they change."""
     about = path.stat()
     return _digest_of_file(str(path), about.st_size, about.st_mtime_ns)
 
 
 def program_here(work: Work) -> Path:
-    """The program: the one that MOTESIM names here, or that of the job; it has to be the sweep's."""
+    """The path of `motesim`: the one that MOTESIM names here, or that of the job; the binary has to be the sweep's."""
     path = Path(os.environ.get('MOTESIM') or work.program)
     try:
         if program_digest(path) != work.program_digest:
@@ -115,7 +114,8 @@ def program_here(work: Work) -> Path:
 
 @contextmanager
 def limited(seconds: float) -> Iterator[None]:
-    """Ends its block by a TimeoutError after so many seconds of processor time, in a process's main thread."""
+    """Ends its block with a TimeoutError after this many seconds of processor time; only for a process's main
+    thread."""
     if threading.current_thread() is not threading.main_thread():
         yield
         return
@@ -147,7 +147,7 @@ def reason_of(failure: BaseException) -> str:
 
 
 def measured(work: Work, bench: Bench, known: Scenario) -> tuple[dict[str, Cell], str]:
-    """The measures of a run, and a note on those that fail. Each has the same limit as the run."""
+    """The measures of a run, and a note on those that fail. Each measure has the same limit as the run."""
     found: dict[str, Cell] = {}
     notes = []
     names, sources = names_of(known), dict(work.sources)
@@ -157,14 +157,14 @@ def measured(work: Work, bench: Bench, known: Scenario) -> tuple[dict[str, Cell]
             with limited(work.seconds):
                 found[name] = read_measure(words, names, sources).of(bench)
         except BaseException as failure:
-            # (a measure of the user's may raise anything, and ask Python to exit)
+            # (a user's measure may raise any exception, even one that asks Python to exit)
             found[name] = None
             notes.append('%s: %s' % (name, reason_of(failure)))
     return found, '; '.join(notes)
 
 
 def warned(report: Report, known: Scenario, seconds: float) -> list[str]:
-    """The warnings of losses in step and of seeds, unless finding them needs more time than a run may last."""
+    """The warnings about losses in step and about seeds, unless finding them lasts longer than a run may last."""
     try:
         with limited(seconds):
             found = [*of_losses(known, report), *of_seeds(known, programs_of(known))]
@@ -174,7 +174,7 @@ def warned(report: Report, known: Scenario, seconds: float) -> list[str]:
 
 
 def run_job(job: Job) -> Result:
-    """Runs a job. What goes wrong is in the result."""
+    """Runs a job. Errors are in the result."""
     scenario = report = fault = note = places = ''
     rejected: int | None = None
     measures: dict[str, Cell] = {}

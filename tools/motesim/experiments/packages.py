@@ -1,7 +1,7 @@
-"""Packages beyond Python's standard library: which interpreter has one, and how it is installed.
+"""Packages beyond Python's standard library: finds the interpreter that has one, or explains how to install it.
 
-Debian's packages are for Debian's own interpreter, while `python3` on the path may be another one without them. A tool
-that needs one then starts again with the interpreter that has it, and says so in a line.
+Debian's packages are for Debian's own interpreter; `python3` on the path may be another interpreter, without them.
+Then a tool that needs a package starts again with the interpreter that has it, and prints a line about this.
 """
 from __future__ import annotations
 
@@ -15,7 +15,7 @@ from typing import Any
 
 from motesim.faults import Fault
 
-# The interpreter that Debian's packages are for.
+# The interpreter for which Debian's packages are made.
 SYSTEM = '/usr/bin/python3'
 HANDED_ON = 'MOTESIM_TOOLS_HANDED_ON'
 # For each module, the package of Debian that has it.

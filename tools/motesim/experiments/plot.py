@@ -37,7 +37,7 @@ PLOT = {'file': needed(str), 'measure': needed(str), 'against': optional(str, ''
         'footer': optional(str, None), 'size': optional(str, ''), 'log_y': optional(bool, False),
         'nets': optional(bool, False), 'pair': optional(str, ''), 'compare': optional(str, ''),
         WHERE: optional(dict, {}), LABELS: optional(dict, {})}
-# How many values of a column a message has.
+# The most values of a column in a message.
 MOST_SHOWN = 12
 # The views without a measure on the vertical axis.
 NOT_UPWARDS = ('cdf', 'heat')
@@ -131,8 +131,8 @@ class Source(NamedTuple):
 
 def write_tables(picture: Path, made: Sequence[text.Row], source: Source, rows: Sequence[Row],
                  notes: Sequence[str]) -> None:
-    """Writes the table behind a picture, and its origin. They replace those of a picture of the same name in another
-    format, and a line says so."""
+    """Writes the table behind a picture, and its origin. They replace the table and the origin of a picture with the
+    same name in another format; a line on standard error reports this."""
     for other in (picture.with_suffix(it) for it in FORMATS):
         if other != picture and other.exists() and origin_path(picture).exists():
             print('plot: %s and %s were those of %s, and are now those of %s' % (
@@ -146,14 +146,14 @@ def write_tables(picture: Path, made: Sequence[text.Row], source: Source, rows: 
 
 
 def warn(lines: Sequence[str], shared: tuple[int, int] | None, warnings: Sequence[str]) -> None:
-    """Prints the lines about runs that aren't independent, if they are some of these, on standard error too."""
+    """Prints those of the lines that are about runs that aren't independent on standard error too."""
     for line in [*text.of_nets(shared), *warnings]:
         if line in lines:
             print('plot: %s' % line, file=sys.stderr)
 
 
 def left_to_caption(has_room: bool, picture: Path) -> list[str]:
-    """The line about notes that have no room below a picture."""
+    """The line about notes for which there is no room below a picture."""
     return [] if has_room else ['these notes have no room below %s: they are in %s, for the caption; --footer TEXT '
                                 'writes another footer, and --footer \'\' none' % (picture, origin_path(picture))]
 
@@ -179,7 +179,7 @@ def show(rows: Sequence[Row], wish: Wish, source: Source) -> bool:
 
 
 def compare(sides: Sides, wish: Wish, source: Source) -> bool:
-    """Compares two sides run by run; returns whether there is a picture if one was wanted."""
+    """Compares two sides run by run; returns False only if a picture was wanted and there is none."""
     rows, others, names, kept, _ = sides
     if wish.measure not in measures_of(rows) or wish.measure not in measures_of(others):
         raise Fault('there is no measure %s on both sides; there are: %s' % (
@@ -255,7 +255,7 @@ def wishes(asked: argparse.Namespace) -> list[Wish]:
 
 
 def some_of(values: Iterable[Cell]) -> str:
-    """The values of a column, the first of many."""
+    """The values of a column; if it has many, the first ones."""
     found = [text_of(it) or 'none' for it in sorted(set(values), key=order)]
     return ', '.join(found[:MOST_SHOWN] + ['..'] * (len(found) > MOST_SHOWN))
 
@@ -287,12 +287,12 @@ def chosen(rows: Sequence[Row], where: Sequence[str]) -> list[Row]:
 
 
 def separated_by(wish: Wish) -> list[str]:
-    """The digests by which a wish separates runs."""
+    """The digests by which a request separates runs."""
     return [it for it in SEPARATES if it in (wish.by, wish.pair.partition('=')[0])]
 
 
 def runs_of(path: Path, where: Sequence[str], apart: Sequence[str] = ()) -> list[Row]:
-    """The runs of a file of results, each once."""
+    """The runs of a file of results, without repetitions."""
     if path.exists() and not {'fault', 'parameters'} <= set(columns_of_results(path)):
         raise Fault('%s isn\'t a file that tools/sweep wrote: it has no columns `fault` and `parameters`' % path)
     rows = read_results(path)[1]
@@ -309,7 +309,7 @@ def runs_of(path: Path, where: Sequence[str], apart: Sequence[str] = ()) -> list
 
 
 class Sides(NamedTuple):
-    """The two sides of a comparison, their names, and the parameters that say which runs are a pair.
+    """The two sides of a comparison, their names, and the parameters whose values show which runs are a pair.
 
     compared  the parameters in which two files differ, each with one value in a file
     """
@@ -321,7 +321,7 @@ class Sides(NamedTuple):
 
 
 def compared_by(rows: Sequence[Row], others: Sequence[Row], names: Sequence[str], over: str) -> list[str]:
-    """The parameters that have one value in each of two files, and not the same: they are what is compared."""
+    """The parameters that have one value in each of two files, but not the same: they distinguish the two sides."""
     found = []
     for name in names:
         one, other = ({row[name] for row in side} for side in (rows, others))
@@ -363,7 +363,7 @@ def sides_of(wish: Wish, rows: list[Row], results: Path, other: Path, where: Seq
 
 
 def drawn(wish: Wish, asked: argparse.Namespace, read: dict[tuple[str, ...], list[Row]]) -> bool:
-    """Shows a wish; returns whether it has the wanted form. `read` keeps the rows that were read."""
+    """Shows a request; returns whether the output has the wanted form. `read` keeps the rows that were read."""
     results, where = Path(asked.results), (*asked.where, *wish.where)
     folder = results.parent if asked.plan else Path()
     apart = separated_by(wish)

@@ -1,6 +1,7 @@
 """The file of a sweep: a row for each run, in CSV or in SQLite.
 
-A row is kept as soon as it exists. In CSV all values are texts; a text that reads as a number is one.
+A row is saved as soon as it exists. In CSV all values are texts; a text that has the form of a number is read as a
+number.
 """
 from __future__ import annotations
 
@@ -27,9 +28,9 @@ NOTE = 'note'
 NoteOf = Callable[[Row], str]
 SQLITE = ('.sqlite', '.sqlite3', '.db')
 NUMBER = re.compile(r'0|-?[1-9][0-9]*')
-# How many bits of a spot of CSV have the length of a row, and how much of a file is read at a time.
+# The number of bits of a spot of CSV for the length of a row, and the number of bytes that are read at a time.
 LENGTH, PIECE = 24, 1 << 16
-# How long rows of SQLite wait at most until they are kept.
+# The longest time until a row of SQLite is saved.
 SECONDS_OPEN = 0.5
 REAL = re.compile(r'-?[0-9]+(\.[0-9]+)?(e[-+][0-9]+)?')
 
@@ -38,7 +39,7 @@ def cell(text: str) -> Cell:
     """A value from its text."""
     if NUMBER.fullmatch(text):
         return int(text)
-    # (only if it would be written in the same way; any other text stays a text)
+    # (a real number only if it would be written in the same way; any other text stays a text)
     return float(text) if REAL.fullmatch(text) and repr(float(text)) == text else text or None
 
 
@@ -54,9 +55,9 @@ def line_of(values: Iterable[Cell]) -> str:
 
 
 class CsvFile:
-    """Rows in a file of CSV. Each is written as a whole; the rest of a last line that was cut off is dropped.
+    """Rows in a file of CSV. Each is written completely; an incomplete last line is dropped.
 
-    A row is known by its spot: its first byte and its length, in one number. No row is kept in memory.
+    A row is identified by its spot: its first byte and its length, in one number. Rows aren't kept in memory.
     """
 
     def __init__(self, path: Path, columns: Sequence[str]) -> None:
@@ -165,7 +166,8 @@ class SqliteFile:
         return ', '.join(map(quoted, self.columns))
 
     def add(self, row: Mapping[str, Cell]) -> int:
-        """Adds a row. Rows are kept together, some times a second: to keep each would last longer than a short run."""
+        """Adds a row. Several rows are saved together, twice a second: saving each would last longer than a short
+        run."""
         now = time.monotonic()
         try:
             if not self.base.in_transaction:
@@ -227,7 +229,7 @@ class SqliteFile:
 
 
 def _locked(path: Path) -> IO[bytes]:
-    """The file of results, open, so that no other sweep writes it until it is closed."""
+    """The file of results, opened, so that no other sweep writes to it until it is closed."""
     try:
         file = open(path, 'ab')
     except OSError as fault:
@@ -298,7 +300,7 @@ def read_csv(path: Path) -> tuple[list[str], list[Row]]:
 
 
 def check_whole(path: Path, rows: Sequence[Row]) -> None:
-    """Raises a fault if the last row of a file of CSV is cut off within its last value, which all rows have."""
+    """Raises a fault if the last row of a file of CSV ends within its last value, which each row has."""
     if is_sqlite(path) or not rows:
         return
     with open(path, 'rb') as file:
@@ -314,7 +316,7 @@ def is_sqlite(path: Path) -> bool:
 
 
 def open_results(path: Path, columns: Sequence[str]) -> CsvFile | SqliteFile:
-    """The file to add rows to. One that is there already has to have these columns."""
+    """The file to which rows are added. If it exists already, it must have these columns."""
     file: CsvFile | SqliteFile = SqliteFile(path, columns) if is_sqlite(path) else CsvFile(path, columns)
     if file.found != list(columns):
         more, less = [[it for it in one if it not in other] for one, other in (

@@ -18,9 +18,10 @@ from motesim.runner.batch import run_each
 
 PACKAGE = Path(__file__).resolve().parents[1]
 DASK_SECONDS = 10
-# Seconds between two looks at Ctrl-C while a cluster works, and how many tasks each of its workers has at a time.
+# The seconds between two checks for Ctrl-C while a cluster works, and the number of tasks that each of its workers has
+# at a time.
 DASK_TICK, TASKS_AHEAD = 1, 4
-# The most runs of a task of Dask.
+# The most runs in a task of Dask.
 MOST_IN_TASK = 50
 # A job has limits of processor time: for the scenario, for the run and for each measure. If it still runs after the
 # time that these limits allow, and these seconds more, its process is ended.
@@ -28,11 +29,11 @@ SECONDS_MORE = 5
 
 
 class Stopped(Exception):
-    """Ctrl-C: the jobs that had begun have ended, and no others were begun."""
+    """Ctrl-C was pressed: the jobs that had begun have ended, and no others were begun."""
 
 
 class Break:
-    """Ctrl-C during runs: the first is noted, the second ends the tool at once."""
+    """Handles Ctrl-C during runs: the first is noted, the second ends the tool at once."""
 
     def __init__(self, stop: threading.Event | None = None) -> None:
         self.stop = stop or threading.Event()
@@ -62,9 +63,10 @@ def longest(seconds: float, measures: int) -> float:
 
 
 def run_here(jobs: Iterable[Job], processes: int, seconds: float) -> Generator[Result, None, None]:
-    """The results of the jobs, in the order in which they end, by so many processes.
+    """The results of the jobs, in the order in which they end, computed by this many processes.
 
-    A job that lasts longer than so many seconds is ended with its process, and its result is a fault that says so.
+    A job that lasts longer than this many seconds is ended with its process, and its result is a fault that reports
+    this.
     """
     stop, left = threading.Event(), iter(jobs)
     with Break(stop):
@@ -75,7 +77,7 @@ def run_here(jobs: Iterable[Job], processes: int, seconds: float) -> Generator[R
 
 
 def packed(folder: Path) -> Path:
-    """The package of these tools, as workers elsewhere import it."""
+    """The package of these tools in a form that workers on other machines can import."""
     path = folder / 'motesim_tools.zip'
     with zipfile.ZipFile(path, 'w') as file:
         for source in sorted(PACKAGE.rglob('*.py')):
@@ -96,9 +98,9 @@ def in_lists(jobs: Iterable[Job], length: int) -> Iterator[list[Job]]:
 
 
 def run_by_dask(jobs: Iterable[Job], count: int, address: str) -> Iterator[Result]:
-    """The results of so many jobs, in the order in which they end, by the workers of a Dask cluster.
+    """The results of this many jobs, in the order in which they end, computed by the workers of a Dask cluster.
 
-    No more jobs are made than the cluster needs next. Ctrl-C ends it within a second, whatever the cluster does.
+    Jobs are made only when the cluster needs them. Ctrl-C ends the call within a second, even if the cluster is stuck.
     """
     distributed: Any = packages.load('distributed')
     try:

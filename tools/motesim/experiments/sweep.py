@@ -1,4 +1,4 @@
-"""Runs a plan with many parameters, and keeps the measures. tools/sweep is the command."""
+"""Runs a plan with many values of its parameters, and saves the measures. tools/sweep is the command."""
 from __future__ import annotations
 
 import argparse
@@ -27,7 +27,7 @@ from motesim.experiments.progress import Progress
 from motesim.experiments.runs import Stopped, longest, run_by_dask, run_here
 from motesim.runner.versions import kit_version, program_version
 
-# The place of a row with values that the sweep doesn't have.
+# The place of a row whose values aren't those of the sweep.
 OTHER = -1
 
 
@@ -85,7 +85,7 @@ class Sweeper:
             ('the measures', row['measures_sha256'] != self.made['measures_sha256'])) if is_changed]
 
     def keep(self, is_renewed: bool, retries: bool) -> None:
-        """Looks through the rows of the file. Rows of another plan or program are an error, or are dropped."""
+        """Reads the rows of the file. Rows of another plan or program are an error, or are dropped."""
         count = unchanged = 0
         others: Counter[str] = Counter()
         spots, places = array('Q'), array('q')
@@ -96,7 +96,7 @@ class Sweeper:
             if changes:
                 continue
             unchanged += 1
-            # (a run for which the machine had no time says nothing)
+            # (a run for which the machine was too busy has no result)
             if str(row['fault'] or '').startswith(TOO_BUSY) or retries and (row['fault'] or lacks_measure(row)):
                 continue
             place = self.place_of(row)
@@ -119,11 +119,11 @@ class Sweeper:
         return self.spots.count(0)
 
     def missing(self) -> Iterator[int]:
-        """The places of the missing runs: of those that are still missing when their turn comes."""
+        """The places of the missing runs; runs that are no longer missing when their turn comes are skipped."""
         return (place for place, spot in enumerate(self.spots) if not spot)
 
     def jobs(self, places: Iterable[int]) -> Iterator[Job]:
-        """The runs of these places; each is made when it begins."""
+        """The jobs for these places; each is made when its run begins."""
         work = Work(self.plan.name, self.plan.text, str(self.plan.files.folder.resolve()), tuple(self.sweep.measures),
                     tuple(self.sources.items()), str(self.program), str(self.made['program_sha256']),
                     self.sweep.seconds, self.sweep.most_bytes)
@@ -169,7 +169,7 @@ class Sweeper:
                 'note': result.note or None, CHANCE: ' '.join(self.chance_seeds(given)) or None}
 
     def run(self, processes: int, address: str | None) -> int:
-        """Makes the missing runs; returns how many."""
+        """Makes the missing runs; returns their number."""
         count = self.left()
         jobs = self.jobs(self.missing())
         progress = Progress(count)
@@ -189,7 +189,7 @@ class Sweeper:
         return count
 
     def in_order(self) -> None:
-        """Writes the rows in the order of the sweep, then others, and notes on those that draw the same numbers."""
+        """Writes the rows in the order of the sweep, then other rows, and notes on rows that draw the same numbers."""
         seeds = Seeds()
         if self.drawn.values or any(self.chances.values()):
             for _, row in self.file.rows():

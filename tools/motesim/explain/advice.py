@@ -1,4 +1,4 @@
-"""Advice on a fault of a program: what was most likely meant, and the line as it should be."""
+"""Advice on a fault of a program: the most likely intention, and the corrected line."""
 from __future__ import annotations
 
 from typing import NamedTuple
@@ -16,9 +16,9 @@ CUT_CHAIN = 'one more `}` closes it'
 
 
 class Advice(NamedTuple):
-    """A hint, and the line that should be there; the lines (from 1) that it replaces. An empty line is left out.
+    """A hint, the correct line, and the lines (from 1) that it replaces. If it is empty, those are left out.
 
-    above  a line that belongs elsewhere too, mostly further up, and the number of the line below which it is
+    above  another line to be inserted, usually further up, and the number of the line below which it belongs
     """
     hint: str
     line: str | None = None
@@ -54,7 +54,7 @@ def _inserted(above: tuple[int, str], offset: int | None) -> str:
 
 
 def _indented(source: str, number: int, line: str) -> str:
-    """A line that begins in the same column as a line of the program, or behind that if it opens a block."""
+    """A line that begins in the same column as a line of the program, or further right if that opens a block."""
     there = source.split('\n')[number - 1] if number and not line.startswith('event ') else ''
     indent = len(there) - len(there.lstrip(' '))
     opens = there.rstrip().endswith('{') and not line.rstrip().endswith('{') and line.startswith(
@@ -63,7 +63,7 @@ def _indented(source: str, number: int, line: str) -> str:
 
 
 def advice(source: str, fault: ProgramError) -> Advice | None:
-    """Advice on the first fault of a program's text; None if nothing better is known than the rule."""
+    """Advice on the first fault of a program's text; None if nothing better than the rule is known."""
     found = correction(source, fault)
     hint = hints.of_program(source, fault) or names.of_name(source, fault) or forms.of_statement(source, fault)
     small = forms.of_capitals(source, fault)

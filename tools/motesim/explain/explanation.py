@@ -35,7 +35,7 @@ def error_line(got: Answer) -> str | None:
 
 
 def marked(line: str, column: int, length: int) -> list[str]:
-    """A line with a mark under a part of it; of a long line, only the surroundings of that part."""
+    """A line with a mark under a part of it; for a long line, only the surroundings of that part."""
     begin = max(0, column - WIDTH // 2) if len(line) > WIDTH else 0
     shown, before = CONTROL.sub('\ufffd', line[begin:begin + WIDTH]), column - begin
     blank = re.sub(r'[^\t]', ' ', shown[:before])
@@ -43,7 +43,7 @@ def marked(line: str, column: int, length: int) -> list[str]:
 
 
 def shown_place(name: str, text: str, place: Place) -> list[str]:
-    """A place of the scenario."""
+    """The lines that show a place of the scenario."""
     lines = text.split('\n')
     line = lines[place.line - 1].rstrip('\r') if place.line <= len(lines) else ''
     return ['%s, line %d:' % (one_line(name), place.line), *marked(line, place.column, place.length)]
@@ -75,7 +75,7 @@ def offset_of(text: str, program: str) -> int | None:
     rows, at = text.split('\n'), scenario_faults.place_of(text, ('programs', program)).line
     for offset in (at, at - 1) if len(source) > 2 else ():
         its = rows[offset:offset + len(source) - 1]
-        # (the first and the last may have the quotes too)
+        # (the first and the last line may also have the quotes)
         inner = [it.rstrip('\r') for it in source[1:-1]]
         if [it.rstrip('\r') for it in its[1:]] == inner and source[0].strip() in its[0]:
             return offset
@@ -114,13 +114,13 @@ def wrapped(text: str) -> list[str]:
 
 
 def of_program(name: str, text: str, program: str, its: program_faults.ProgramError) -> list[str]:
-    """The words on a fault in a program's text, with its place."""
+    """The lines about a fault in a program's text, with its place."""
     source: str = tables_of(text)['programs'][program]
     return shown_program(name, text, program, its.token) + rule_and_advice(source, its, offset_of(text, program))
 
 
 def of_program_file(name: str, source: str, its: program_faults.ProgramError) -> list[str]:
-    """The words on a fault in a file that has a program, and nothing else."""
+    """The lines about a fault in a file that has only a program."""
     line = source.split('\n')[its.token.line - 1].rstrip('\r')
     where = '%s, line %d:' % (one_line(name), its.token.line)
     return [where, *marked(line, its.token.column, len(its.token.text)), *rule_and_advice(source, its, 0)]
@@ -137,12 +137,13 @@ def rule_and_advice(source: str, its: program_faults.ProgramError, offset: int |
 
 
 def repaired(found: Repair) -> list[str]:
-    """The repair of a scenario, with the lines as they should be."""
+    """The repair of a scenario, with the corrected lines."""
     return hinted(found.hint) + [found.head()] + ['  ' + line for line in found.lines]
 
 
 def allowed(may: str) -> list[str]:
-    """All that is allowed at the place of an error. A hint is above it, since it is more likely what was meant."""
+    """All words that are allowed at the place of an error. A hint is above this list, because it is more likely the
+    intention."""
     return wrapped('Allowed here: %s' % may)
 
 
@@ -163,7 +164,7 @@ def tables_or_none(text: str) -> dict[str, Any] | None:
 
 
 def rule_of(line: str) -> str:
-    """The rule behind a fault's line, whatever the scenario."""
+    """The rule behind a fault's line, for any scenario."""
     program = PROGRAM.fullmatch(line)
     if program and int(program[2]) in program_faults.RULES:
         return '%s: %s' % program_faults.RULES[int(program[2])]
@@ -198,7 +199,7 @@ def explanation(name: str, data: bytes, line: str) -> list[str]:
 
 
 def where_told(name: str, text: str, fault: ScenarioError) -> list[str]:
-    """The place of a fault of the scenario's own, or what it lacks."""
+    """The place of a fault outside the programs, or the key or table that the scenario lacks."""
     place = place_of_scenario(text, fault)
     if place or not fault.lacks:
         return shown_place(name, text, place or Place(1, 0, 1))
@@ -217,7 +218,7 @@ def warned(name: str, text: str, warning: Warned) -> list[str]:
 
 
 def with_instead(text: str, program: str, token: program_faults.Token, word: str) -> list[str]:
-    """The line of a token of a program with another word in its place."""
+    """The line of a token of a program, with another word instead of the token."""
     line, place = program_line(text, program, token), place_of_token(text, program, token)
     row = 'line %d' % place.line if place else 'line %d of program %s' % (token.line, program)
     return ['Write, as %s:' % row, '  %s%s%s' % (line[:token.column], word, line[token.column + len(token.text):])]
@@ -233,12 +234,12 @@ def all_warnings(name: str, data: bytes, report: bytes) -> list[str]:
 
 
 def is_plan(tables: dict[str, Any] | None) -> bool:
-    """Returns whether tables are those of a plan, and of no scenario."""
+    """Returns whether tables are those of a plan, not of a scenario."""
     return tables is not None and 'places' in tables and 'mote' not in tables and 'version' not in tables
 
 
 def program_instead(name: str, data: bytes) -> list[str]:
-    """The lines on a file with a program instead of a scenario: how to put it into a scenario, and its error."""
+    """The lines about a file with a program instead of a scenario: how to write it into a scenario, and its error."""
     source = data.decode('utf-8', 'replace').removeprefix(MARK)
     its = program_faults.find_fault(source)
     lines = ['%s is the text of a program, not a scenario.' % one_line(name), *hinted(hints.OF_PROGRAM)]

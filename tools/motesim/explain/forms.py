@@ -1,4 +1,4 @@
-"""Hints on statements that lack a word, have a blank in one, or name something with capitals."""
+"""Hints on statements that lack a word, have a blank inside a word, or have a name with capitals."""
 from __future__ import annotations
 
 import re

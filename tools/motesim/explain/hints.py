@@ -1,8 +1,8 @@
 """Hints on faults: what the writer most likely meant, and how it is written here.
 
-`of_program(text, fault)` and `of_scenario(tables, fault, text)` return one sentence, or None if nothing better is
-known than the rule. They go by the word that is not allowed and the words before it. The next run shows
-whether a hint is right.
+`of_program(text, fault)` and `of_scenario(tables, fault, text)` return one sentence, or None if nothing better than
+the rule is known. They depend on the word that is not allowed and on the words before it. The next run shows whether a
+hint is right.
 """
 from __future__ import annotations
 
@@ -108,7 +108,7 @@ def of_program(text: str, fault: ProgramError) -> str | None:
 
 
 def _of_letter(before: list[Token], here: Token) -> str | None:
-    """A number in which letters are written that look like digits."""
+    """A number with letters that look like digits."""
     last = before[-1] if before else here
     is_behind = last.line == here.line and last.column + len(last.text) == here.column
     word = (last.text if is_behind and last.text.isdecimal() else '') + here.text
@@ -224,12 +224,12 @@ def _of_operator(tokens: list[Token], at: int, may: list[str]) -> str | None:
 
 
 def _of_unknown(before: list[Token], here: Token, behind: Token, may: list[str]) -> str | None:
-    """An unknown name: it was misspelt, or nothing like it exists. (A single letter is hardly misspelt.)"""
+    """An unknown name: it was misspelt, or nothing similar exists. (A single letter is probably not misspelt.)"""
     begins = not before or before[-1].text in ('{', '}', ';')
     if here.text in WISHES:
         return WISHES[here.text]
     declared = {one.text for one in before if one.kind == 'name'}
-    # (may lists the names of the kind that is wanted, in brackets after it)
+    # (`may` lists the names of the wanted kind, in parentheses after the kind)
     wanted = {name for it in may if '(' in it for name in it[it.index('(') + 1:].rstrip(')').split(', ')}
     ticked = {it.strip('`') for it in may if it.startswith('`')}
     known = (wanted | (set(STATEMENTS) if begins else ticked)) - {'none is declared here'}
@@ -277,7 +277,7 @@ def of_scenario(tables: dict[str, object] | None, fault: ScenarioError, text: st
 
 
 def _of_missing(tables: dict[str, object], fault: ScenarioError) -> str | None:
-    """The most likely intention with a key that is missing."""
+    """The most likely intention if a key is missing."""
     wanted = fault.missing
     like = like_of_missing(tables, fault)
     if like:

@@ -1,7 +1,7 @@
-"""Warnings of things that are legal in a scenario, and surely not meant.
+"""Warnings about things that are legal in a scenario, but surely not meant.
 
 `warnings(scenario, report)` returns them in the order of the programs and motes, each with its place: a token of a
-program's text, or the number of a mote. A scenario with warnings is in order, and has its report.
+program's text, or the number of a mote. A scenario with warnings is valid, and has a report.
 """
 from __future__ import annotations
 
@@ -29,7 +29,8 @@ LOOPS = ENDLESS, STILL_TRUE, BUSY_FOR_STATE, BUSY_FOR_EVENT
 CHANGES = frozenset(('spawn', 'synch', 'set', 'reset', 'restart_timer', 'stop', 'start', 'kill', 'acquire', 'signal'))
 OF_CTIMER = ('`%s` is a `ctimer`: its event goes to the process ctimer, which runs its block, so `fired(%s)` is never '
              'true here; an `etimer` posts its event to its own process')
-# The factor of the pattern for chance, by which so many motes and seeds draw different numbers, and its warning.
+# The factor of the pattern for random numbers, the most motes and seeds that draw different numbers by it, and the
+# warning.
 FACTOR, MOST_DRAWING = '257', 255
 SAME_DRAWS = ('in a net of more than 255 motes, mote k + 255 with one seed draws the same numbers as mote k with '
               'the seed before (255 * 257 is -1 in 16 bits), so that runs of neighbouring seeds are not independent: '
@@ -38,14 +39,14 @@ NATURAL = ('no number is below 0, so this test is %s true: values are 0 to 65,53
            'counts down ends by `while (x > 0)`')
 BEHIND = 'the timer `%s` is set only behind this wait for it, so the wait never ends: set it before'
 FOR_TIMER, SETS = ('yield_until', 'wait_until'), ('set', 'restart_timer', 'reset')
-# How many other places are named.
+# The most other places that a warning names.
 MOST_PLACES = 8
 
 
 class Warned(NamedTuple):
     """A warning in words. Its place is a token of a program, a mote, a loss, or nothing in particular.
 
-    instead  the word that is most likely meant instead of the token
+    instead  the word that the author most likely meant instead of the token
     """
     text: str
     program: str | None = None
@@ -64,7 +65,7 @@ class Warned(NamedTuple):
 
 
 class Program:
-    """The parts of a program that warnings need, from its tokens. The text is a program."""
+    """The parts of a program that warnings need, from its tokens. The text has no fault."""
 
     def __init__(self, name: str, text: str):
         self.name, self.tokens = name, tokens_of(text)[:-1]
@@ -74,7 +75,7 @@ class Program:
         self.receivers = self._names('receiver')
 
     def _names(self, word: str) -> list[Token]:
-        """The names after each of these words, up to a semicolon."""
+        """The names after each occurrence of this word, up to a semicolon."""
         found = []
         for at, it in enumerate(self.words):
             if it == word:
@@ -100,8 +101,8 @@ class Program:
         return len(self.words) - 1
 
     def endless_loops(self) -> Iterator[tuple[str, Token]]:
-        """Each `while` of a number above 0 in which nothing waits, exits or begins again, or only a `wait_until` of an
-        event, with the warning."""
+        """Each loop that may turn without end, with the warning: no statement in it waits, exits or restarts, or only
+        a `wait_until` for an event does."""
         for at, word in enumerate(self.words):
             if word == 'while' and self.tokens[at + 1].kind == 'number' and self.words[at + 1] != '0':
                 block = self.words[at + 2:self.end_of_block(at + 2)]
@@ -147,7 +148,7 @@ class Program:
     def waits_before_set(self) -> Iterator[Token]:
         """Each timer whose first wait can't be skipped, if the timer is only set after that wait."""
         for code, body in self.bodies():
-            # (of the blocks around a place, whether each is always entered)
+            # (for each block around a place, whether it is always entered)
             around: list[bool] = []
             done: set[str] = set()
             for at in body:
@@ -213,7 +214,7 @@ def of_program(program: Program) -> Iterator[Warned]:
 
 
 def of_losses(scenario: Scenario, report: Report) -> Iterator[Warned]:
-    """Yields the warnings of losses that hit one kind of packet, or all links of a mote at once."""
+    """Yields the warnings about losses that hit one kind of packet, or all links of a mote at once."""
     for it in resonances(scenario, report):
         yield Warned(str(it), loss=it.place, cause='step %d' % it.every)
     for sender in all_at_once(scenario, report):
@@ -221,7 +222,7 @@ def of_losses(scenario: Scenario, report: Report) -> Iterator[Warned]:
 
 
 def of_seeds(scenario: Scenario, programs: dict[str, Program]) -> Iterator[Warned]:
-    """Yields the warnings of programs that draw by chance, in more motes than have numbers of their own."""
+    """Yields the warnings about programs that draw random numbers, in more motes than can draw different ones."""
     for name, program in programs.items():
         token = program.first('self', '*', FACTOR)
         motes = [number for number, place in enumerate(scenario.places) if place.program == name]
@@ -247,7 +248,7 @@ def of_net(scenario: Scenario, programs: dict[str, Program], report: Report | No
             what = 'sends, and nobody hears it' if number in speaks else 'hears nobody'
             yield Warned('mote %d %s: no mote is within `range`' % (number, what), mote=number, cause='range: ' + what)
     for number, (s, r) in enumerate(scenario.losses):
-        # (a mote that nobody is near to has a warning of its own)
+        # (a mote without a neighbour has another warning)
         if not scenario.hears(r, s) and not {s, r} & set(lonely):
             what = 'a loss from mote %d to mote %d, which doesn\'t hear it, loses nothing' % (s, r)
             yield Warned(what, loss=number, cause='loss')
@@ -268,7 +269,7 @@ def warnings(scenario: Scenario, report: Report | None = None) -> list[Warned]:
 
 
 def by_cause(found: list[Warned]) -> list[Warned]:
-    """One warning for each cause, at its first place, with how many places have it."""
+    """One warning for each cause, at its first place, with the number of its places."""
     loops = {it.program: it.text for it in found if it.text in LOOPS}
     groups: dict[object, list[Warned]] = {}
     for number, it in enumerate(found):
@@ -282,7 +283,7 @@ def by_cause(found: list[Warned]) -> list[Warned]:
 
 
 def together(its: list[Warned]) -> Warned:
-    """The first of some warnings of one cause, with the places of the others."""
+    """The first of several warnings with one cause, with the places of the others."""
     first, others = its[0], its[1:]
     if not others:
         return first

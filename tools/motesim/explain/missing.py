@@ -17,7 +17,7 @@ OF_PROGRAMS = 'a key for each program: its name, with its text as the value'
 
 
 def head_of(name: str) -> str:
-    """A key or a table in the words of a message."""
+    """The name of a key or a table, as messages have it."""
     return WRITTEN[name][0] if name in ('medium', 'programs', 'mote') else name
 
 
@@ -38,7 +38,7 @@ def written(name: str, tables: dict[str, Any]) -> list[str]:
 
 
 def where(name: str, first_table: int | None) -> str:
-    """The place at which it is added."""
+    """The place at which a missing key or table is added, as the beginning of a sentence."""
     if name == 'mote':
         return 'Each mote is one. Add at the end of the text'
     if name in ('medium', 'programs'):

@@ -1,4 +1,4 @@
-"""Hints on names: those that nothing has, that are taken already, or that are known as something else."""
+"""Hints on names that aren't declared, that are already in use, or that are declared as something else."""
 from __future__ import annotations
 
 from typing import NamedTuple
@@ -97,7 +97,7 @@ def _of_thread(own: Declared, here: Token) -> str:
 
 
 def otherwise(text: str, fault: ProgramError) -> str:
-    """The advice for a name that may be a variable of its own, though another name was guessed; or an empty text."""
+    """The advice to declare a name as a variable, if another hint guesses that it is misspelt; or an empty text."""
     tokens = tokens_of(text)
     called = [it.text for it in tokens[tokens.index(fault.token) + 1:][:1]] == ['('] if fault.token in tokens else True
     if fault.kind != 3 or called or _wanted(fault.may) != 'variable' or fault.token.text in NO_VARIABLES:
@@ -107,7 +107,7 @@ def otherwise(text: str, fault: ProgramError) -> str:
 
 
 def undeclared(text: str, fault: ProgramError) -> tuple[str, Correction | None] | None:
-    """A hint on a name that nothing has, with the declaration that it needs."""
+    """A hint on a name that isn't declared, with the declaration that it needs."""
     wanted, name, lines = _wanted(fault.may), fault.token.text, text.split('\n')
     if fault.kind != 3 or not wanted:
         return None

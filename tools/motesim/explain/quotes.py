@@ -1,4 +1,4 @@
-"""Texts of several lines in a scenario whose quotes are missing, too few, or in a comment."""
+"""Hints on texts of several lines in a scenario: their quotes are missing, too few, or in a comment."""
 from __future__ import annotations
 
 import re
@@ -30,7 +30,7 @@ def closed_in_comment(text: str, place: tuple[int, int]) -> tuple[int, str] | No
     last, quotes = texts[-1], texts[-1][0][:3]
     rest = text[last.end():].split('\n', 1)
     is_early = bool(rest[0].strip(' \t\r,}')) and not rest[0].lstrip().startswith('#')
-    # (after the right end, each text that begins also ends)
+    # (after the correct end, each text that begins also ends)
     is_early = is_early or text.count(quotes, last.end()) % 2 == 1
     if '//' not in last[0].rsplit('\n', 1)[1] or not is_early:
         return None

@@ -1,7 +1,7 @@
-"""Lines of a scenario as they should be: the repair of its first fault, if the line makes sense in another way.
+"""Repairs the first fault of a scenario: shows the corrected lines, if the author's intention can be guessed.
 
-`repair(text, fault)` tries what people write who know other formats, and returns the first change with which the fault
-is gone, or is further down. A change of a program's text is made by motesim.from_c.
+`repair(text, fault)` tries the forms that people who know other formats write, and returns the first change with which
+the fault is gone, or is further down. A change of a program's text is made by motesim.from_c.
 """
 from __future__ import annotations
 
@@ -27,7 +27,7 @@ WHOLE = 'Places, times and distances are whole numbers, without a point and with
 
 
 class Repair(NamedTuple):
-    """A hint, and the lines that should be there; the lines (from 1) that they replace. If there are none, those are
+    """A hint, the lines (from 1) to be replaced, and the correct lines. If there are no correct lines, the others are
     left out.
     """
     hint: str
@@ -36,7 +36,7 @@ class Repair(NamedTuple):
     lines: tuple[str, ...]
 
     def head(self) -> str:
-        """The words above the lines."""
+        """The text above the lines."""
         which = 'line %d' % self.first if self.first == self.last else 'lines %d to %d' % (self.first, self.last)
         return 'Write, as %s:' % which if self.lines else 'Leave %s out.' % which
 
@@ -266,7 +266,7 @@ def _attempts_at_key(text: str, rows: list[str], tables: object, fault: Scenario
 
 
 def _attempts_at_name(text: str, rows: list[str], tables: object, fault: ScenarioError) -> Iterator[Repair]:
-    """A program that isn't there."""
+    """The name of a program that doesn't exist."""
     programs = synonyms.at(tables, ('programs',))
     names = list(programs) if isinstance(programs, dict) else []
     value = synonyms.at(tables, fault.path)

@@ -1,10 +1,11 @@
 """Losses that hit one kind of packet: the rhythm in which a mote sends, and the period of a loss.
 
-A loss with `every = 2` loses each second packet of its sender. If the sender alternates between two kinds of packets,
-it loses all of one kind and none of the other, though the summary says 0.500. `resonances(scenario, report)` finds the
-losses for which that is so in a run: one kind of packet is lost far more often than the period says.
+A loss with `every = 2` loses every second packet of its sender. If the sender alternates between two kinds of packets,
+the loss hits all packets of one kind and none of the other, though the ratio in the summary is 0.500.
+`resonances(scenario, report)` finds such losses in a run: one kind of packet is lost far more often than the period
+implies.
 
-`all_at_once(scenario, report)` finds the senders whose links all lose the same packets, since their periods have a
+`all_at_once(scenario, report)` finds the senders whose links all lose the same packets, because the periods have a
 common multiple that is too small: with `every = 2` on each link, every second packet reaches nobody.
 
 A kind is a flow of packets, which a report doesn't name. So the packets are divided in several ways:
@@ -24,20 +25,20 @@ from typing import NamedTuple
 from motesim.report import Report
 from motesim.scenario import Scenario
 
-# A value that is sent so often, or that makes up this part of the packets, is a kind of its own.
+# A value that is sent at least this often, or that makes up this part of the packets, is its own kind.
 REPEATED = 3
 FREQUENT = 1 / 8
-# A kind of fewer packets says nothing; nor does a loss that chance causes once in so many runs.
+# A kind with fewer packets is ignored, and so is a result that has more than this probability by chance.
 LEAST_PACKETS = 5
 RARE = 1e-3
-# A kind is hit if it loses so many times the part that the period says.
+# A kind is hit if the lost part of it is this many times the part that the period implies.
 MORE = 1.8
 PRIMES = (2, 3, 5, 7, 11, 13, 17, 19, 23, 29, 31, 37, 41, 43, 47)
 
 
 class Kind(NamedTuple):
-    """A kind of packet on a link: how many there are, how many are lost, the least and the greatest value, and what
-    they are: packets, first packets or repeated packets."""
+    """A kind of packet on a link: how many there are, how many are lost, the least and the greatest value, and their
+    name: packets, first packets or repeated packets."""
     packets: int
     lost: int
     least: int
@@ -52,7 +53,7 @@ class Kind(NamedTuple):
 
 
 class Resonance(NamedTuple):
-    """A loss by its place in the scenario and its link, the kind that it hits, and a period that doesn't."""
+    """A loss by its place in the scenario and its link, the kind that it hits, and a period that doesn't hit it."""
     place: int
     sender: int
     to: int
@@ -88,7 +89,7 @@ Division = list[tuple[str, int, int]]
 
 
 def by_value(values: Sequence[int], least: float) -> Division:
-    """The kind of each packet: its value, if that is sent so often, and otherwise its upper byte."""
+    """The kind of each packet: its value if that is sent at least `least` times, otherwise its upper byte."""
     counts = Counter(values)
     return [('packets', 1, value) if counts[value] >= least else ('packets', 0, value >> 8) for value in values]
 
@@ -111,7 +112,7 @@ def divisions(values: Sequence[int]) -> list[Division]:
 
 
 def _chance(packets: int, lost: int, of: int, all_lost: int) -> float:
-    """The chance that so many or more of a kind are lost, if as many packets were lost anywhere."""
+    """The probability that at least this many packets of a kind are lost, if the lost packets are chosen at random."""
     most = min(packets, all_lost)
     if comb(of, all_lost) == 0:
         return 1.0
@@ -128,7 +129,7 @@ def hit(values: Sequence[int], every: int) -> Kind | None:
 
 
 def hits(values: Sequence[int], every: int, division: Division) -> Iterator[tuple[float, Kind]]:
-    """The kinds that are hit far more than others, with the chance that it happens without a reason."""
+    """The kinds that are hit far more than others, with the probability that this happens by chance."""
     groups: dict[tuple[str, int, int], list[int]] = defaultdict(list)
     for number, kind in enumerate(division):
         groups[kind].append(number)

@@ -1,4 +1,4 @@
-"""Keys that people write who know other formats, and the keys of a scenario that they mean."""
+"""Keys that people who know other formats write, and the keys of a scenario that they mean."""
 from __future__ import annotations
 
 import difflib
@@ -20,7 +20,7 @@ SYNONYMS = {
     'mote': ('node', 'nodes', 'sensor', 'sensors', 'device', 'devices'), 'loss': ('link', 'links', 'error', 'errors'),
     'medium': ('radio', 'channel', 'network', 'net'),
 }
-# Keys that wish for chance, which the medium doesn't have.
+# Keys that ask for random losses or delays, which the medium doesn't have.
 CHANCE = ('probability', 'prob', 'p', 'rate', 'loss_rate', 'random', 'seed', 'noise', 'per_link', 'chance')
 _NUMBERED = 'Motes have no `%s`: they are numbered from 0, in the order of the file.'
 LEFT_OUT = {name: _NUMBERED % name for name in ('id', 'name', 'number', 'node_id', 'address')}
@@ -38,13 +38,13 @@ def at(tables: object, path: tuple[str | int, ...]) -> object:
 
 
 def nearest(word: str, known: Iterable[str]) -> str | None:
-    """The known word that this one is most like, if one is near."""
+    """The known word that is most similar to this one, if one is similar."""
     found = difflib.get_close_matches(word.lower(), list(known), 1, 0.6)
     return found[0] if found and found[0] != word else None
 
 
 def known(name: str, names: Sequence[str], others: Sequence[str] = ()) -> str:
-    """The names that there are, others that are measures, and the one that was likely meant."""
+    """The end of a message: the existing names, the measures, and the name that was most likely meant."""
     near = nearest(name, [*names, *others])
     more = '; and the measures: %s' % ', '.join(others) if others else ''
     return 'there are: %s%s%s' % (', '.join(names), more, '; did you mean %s?' % near if near else '')
@@ -57,7 +57,7 @@ def meant(name: str, known: Iterable[str]) -> str | None:
 
 
 def like_of_missing(tables: object, fault: ScenarioError) -> str | None:
-    """A key that isn't known, and most likely means the one that is missing next to it."""
+    """An unknown key that most likely means the key that is missing in the same table."""
     wanted, table = fault.missing, at(tables, fault.path)
     if not isinstance(table, dict):
         return None

@@ -19,7 +19,7 @@ def encoded(lines: Iterable[str]) -> Iterable[bytes]:
 
 
 def parts_of(report: Report, form: str) -> dict[str, Iterable[bytes]]:
-    """The files of a form: the end of each name, and its bytes."""
+    """The files of a form: for each, the ending of its name, and its bytes."""
     if form == 'csv':
         return {'.%s.csv' % name: (line.encode() for line in tables.table(report, name)) for name in tables.TABLES}
     work: dict[str, Callable[[], Iterable[bytes]]] = {

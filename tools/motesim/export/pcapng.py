@@ -4,10 +4,10 @@ Each packet that is sent is a record, and so is the end of each of its copies. A
 nothing else; numbers are in network order:
 
     byte 0      1, the version of this header
-    byte 1      what it is: 0 sent, 1 received, 2 lost by the medium, 3 lost because eight waited, 4 collided,
+    byte 1      the kind: 0 sent, 1 received, 2 lost by the medium, 3 lost because eight waited, 4 collided,
                 5 arrived at a mote that had halted, 6 would have arrived after the end
     bytes 2-3   the mote that sends
-    bytes 4-5   the mote that the copy goes to; 65535 of a packet that is sent, which is for all that hear it
+    bytes 4-5   the mote to which the copy goes; 65535 for a packet that is sent, which goes to all motes that hear it
     bytes 6-13  the packet's number at its sender
     bytes 14-15 its value
     bytes 16-19 the moment of sending

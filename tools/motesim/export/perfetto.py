@@ -1,7 +1,8 @@
 """A trace for Perfetto (ui.perfetto.dev), in the trace event format in JSON.
 
-A mote is a process there and each of its processes a thread, whose slices are its runs. Packets are slices of a thread
-of their own, with arrows from their senders to their receivers. Times are in microseconds, a moment being 1,000.
+In the trace a mote is a process, and each process of the mote is a thread, whose slices are its runs. Packets are
+slices of another thread, with arrows from their senders to their receivers. Times are in microseconds; a moment is
+1,000.
 """
 from __future__ import annotations
 
@@ -32,7 +33,7 @@ class MoteEvents:
 
     def __init__(self, mote: Mote) -> None:
         self.mote = mote
-        # (numbers of threads are the trace's, and not the process's; the first is that of packets)
+        # (the numbers of threads are unique in the whole trace; the first thread is that of packets)
         self.packets = (mote.number + 1) * THREADS
         names = dict.fromkeys(it.process for it in mote.lines if it.process and it.process != 'all')
         self.threads = {str(name): self.packets + place for place, name in enumerate(names, 1)}
@@ -71,7 +72,8 @@ class MoteEvents:
                        'tid': thread, 'ts': microseconds(time), 'args': {'moment': line.at}}
 
     def ends(self, turn: Turn) -> list[int]:
-        """The end of what each line of a turn begins: the next `start` or `take`, or the end of the turn."""
+        """For each line of a turn, the end of the run that it begins: the next `start` or `take`, or the end of the
+        turn."""
         ends, next_end = [], turn.time(len(turn.lines))
         for place in reversed(range(len(turn.lines))):
             ends.append(next_end)
@@ -81,7 +83,7 @@ class MoteEvents:
 
 
 def of_packets(report: Report, motes: dict[int, MoteEvents]) -> Iterator[Event]:
-    """The packets, and an arrow for each copy that came to its mote."""
+    """The packets, and an arrow for each copy that reached its mote."""
     dur = MOMENT // 2_000
     for it in sends(report):
         yield slice_of(it.sender, motes[it.sender].packets, 'send %d' % it.value, it.time, it.time + dur,
@@ -99,7 +101,7 @@ def of_packets(report: Report, motes: dict[int, MoteEvents]) -> Iterator[Event]:
 
 
 def perfetto(report: Report) -> Iterator[str]:
-    """The file, an event a line."""
+    """The file, with one event in each line."""
     motes = {mote.number: MoteEvents(mote) for mote in report.motes}
     yield '{"displayTimeUnit": "ms", "traceEvents": ['
     before = ''

@@ -1,7 +1,7 @@
-"""Times for what happens within a moment.
+"""Times for events within a moment.
 
-In a report all lines of a turn have the same moment. Programs that show a time axis would put them onto one point. So
-a moment counts as a millisecond here, and the lines of a turn are a microsecond apart, in their order; or closer,
+In a report all lines of a turn have the same moment, and programs with a time axis would draw them at one point. So
+here a moment counts as a millisecond, and the lines of a turn are a microsecond apart, in their order. They are closer
 if a turn has so many lines that they would reach the next moment. Times are in nanoseconds.
 """
 from __future__ import annotations
@@ -16,7 +16,8 @@ MOMENT, STEP = 1_000_000, 1_000
 
 
 class Turn(NamedTuple):
-    """The lines that a mote writes at a moment: when it begins, how far its lines are apart, and its lines."""
+    """The lines that a mote writes at a moment: when the turn begins, the distance of its lines in time, and its
+    lines."""
     begin: int
     step: int
     lines: list[Line]
@@ -46,7 +47,7 @@ class CopyTime(NamedTuple):
 
 
 class SendTime(NamedTuple):
-    """A packet that was sent, and when."""
+    """A packet that was sent, and the time of sending."""
     sender: int
     number: int
     value: int
@@ -65,7 +66,7 @@ def sends(report: Report) -> list[SendTime]:
 
 
 def copies(report: Report) -> list[CopyTime]:
-    """All copies. One that the medium loses ends when it is sent, and one without a line at its arrival."""
+    """All copies. A copy that the medium loses ends when it is sent, and a copy without a line ends at its arrival."""
     ends = {(mote.number, line.sender, line.number): turn.time(place) for mote in report.motes for turn in turns(mote)
             for place, line in enumerate(turn.lines) if line.kind in ('recv', 'lost', 'collide')}
     begins = {(it.sender, it.number): it.time for it in sends(report)}

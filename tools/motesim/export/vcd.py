@@ -1,4 +1,4 @@
-"""Waveforms of a run: a value change dump (IEEE 1364), as GTKWave and other viewers of signals read it."""
+"""Waveforms of a run: a value change dump (IEEE 1364), which GTKWave and other viewers of signals read."""
 from __future__ import annotations
 
 from collections.abc import Iterator
@@ -36,7 +36,7 @@ class Signal:
 
 
 class Dump:
-    """The signals of a run and what they do."""
+    """The signals of a run, and their changes."""
 
     def __init__(self, report: Report) -> None:
         self.signals: list[Signal] = []
@@ -57,7 +57,7 @@ class Dump:
         self.changes.append((time + max(1, step // 2), signal, 0))
 
     def add_mote(self, mote: Mote) -> None:
-        """The signals of a mote: its event queue, what it sends and gets, and its processes."""
+        """The signals of a mote: its event queue, the packets that it sends and gets, and its processes."""
         top = ('mote_%d' % mote.number,)
         queue, halted = self.signal(top, 'queue', 8), self.signal(top, 'halted')
         packets = top + ('packets',)
@@ -136,7 +136,7 @@ class Dump:
         yield from ['$upscope $end'] * len(scope)
 
     def values(self) -> Iterator[str]:
-        """The changes by their times; of several at one time the last counts."""
+        """The changes by their times; if there are several at one time, the last one counts."""
         last = {signal.short: signal.first for signal in self.signals}
         pending: dict[str, tuple[Signal, int | None]] = {}
         now, end = 0, [(-1, None, None)]

@@ -8,7 +8,7 @@ from motesim.from_c.lines import Lines
 from motesim.from_c.scope import allowed
 
 # Calls that have no value. Each has its statement: a keyword, and for each operand its kind and the number of the
-# argument that it comes from.
+# argument from which it comes.
 ARGUMENT = re.compile(r'(expression|interval|seconds|process|timer|thread|semaphore|event)([0-9])')
 CALLS = {
     'process_yield': 'yield', 'process_wait_event': 'yield', 'process_pause': 'pause', 'process_exit()': 'exit',
@@ -143,7 +143,7 @@ class Calls(Lines):
             form = CALLS['process_broadcast']
         self.why('`%s` is `%s` here.' % (call.text, form.split()[0]))
         self.writer.of_timer = 'fired' if form.startswith('yield_until') else 'expired'
-        # (a name can be declared only inside of a code)
+        # (a name can be declared only inside a code)
         self.writer.unknown = {} if self.place.head else None
 
         def argument(found: re.Match[str]) -> str:
@@ -172,7 +172,7 @@ class Calls(Lines):
         return written
 
     def declare(self, word: str, kind: str, name: str, value: str) -> None:
-        """Declares a name that a call uses and nothing declares, and says so after the first reason."""
+        """Declares a name that a call uses without a declaration, and reports this after the first reason."""
         if self.scope.kinds.get(name) == kind:
             return
         line = {'variable': 'var %s = %s;' % (name, value), 'timer': 'etimer %s;' % name, 'event': 'event %s;' % name}

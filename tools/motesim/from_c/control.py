@@ -34,7 +34,7 @@ class Control(Lines):
         return '}'
 
     def other(self) -> str:
-        """An `else` with what follows."""
+        """An `else` with its block or its `if`."""
         if not self.accept('else'):
             return ''
         if self.token.text != 'if':
@@ -45,7 +45,7 @@ class Control(Lines):
         return 'else { %s' % inner if self.is_cut else 'else { %s }' % inner
 
     def body(self) -> str:
-        """A block; a single statement without braces gets some."""
+        """A block; a single statement without braces gets braces."""
         if self.token.kind == 'end' and self.opens:
             self.why('A block always has its braces: the one that opens it is missing.')
             self.is_cut = True
@@ -100,7 +100,7 @@ class Control(Lines):
                             'is tested for `x`.' % (case, block))
 
     def of_break(self) -> str:
-        """A `break`, by what makes the test of the loop false."""
+        """A `break`, as an assignment that makes the test of the loop false."""
         ends = [it for it in map(ends_loop, conjuncts(self.place.loop)) if it]
         before = last_statement([it.text for it in self.tokens[:self.at]]) or self.place.before
         if before in ends:
@@ -150,7 +150,7 @@ class Control(Lines):
         return is_alone and all(self.ahead(it).text not in STATEMENTS for it in range(at))
 
     def for_loop(self) -> str:
-        """A `for`, by a `while`; if its block continues below these lines, so does the last step."""
+        """A `for`, as a `while`; if its block continues below these lines, its last step is below them, too."""
         self.at += 2
         first = '' if self.accept(';') else self.first_of_loop()
         test = '1' if self.token.text == ';' else self.writer.text(self.expression())

@@ -16,12 +16,12 @@ from motesim.notation.faults import ProgramError, find_fault, tokens_of
 
 MOST_LINES = 4
 MOST_REASONS = 2
-# In a longer text or on longer lines, nobody is helped by a line.
+# No correction is tried in a longer text, or for longer lines.
 LONGEST_TEXT, LONGEST_LINES = 200_000, 2_000
 
 
 class Correction(NamedTuple):
-    """Lines of a program (from 1) and what should be there, or None if no line is known; and the reasons.
+    """The lines of a program (from 1) to be replaced; the new text, or None if none is known; and the reasons.
 
     above  a line that is to be inserted elsewhere, mostly further up, and the number of the line below which it belongs
     """
@@ -85,7 +85,7 @@ def _readings(source: str, scope: Scope, above: list[str], lacks_brace: bool) ->
 
 
 def _structural(text: str) -> Correction | None:
-    """The line that repairs the order of the processes, or a block that isn't closed, if that is all."""
+    """The line that repairs the order of the processes, or a block that isn't closed, if there is no other fault."""
     for line, written, reason in (process_line(text), unclosed_block(text)):
         made = Correction(line, line, written, (reason,))
         if line and _rank(text, made) == 2:
@@ -94,7 +94,7 @@ def _structural(text: str) -> Correction | None:
 
 
 def _is_only_named(text: str, fault: ProgramError) -> bool:
-    """True if a fault is an unknown name that is neither assigned nor called: what follows isn't about it."""
+    """True if a fault is an unknown name that is neither assigned nor called: then later lines aren't about it."""
     tokens = tokens_of(text)
     at = next((at for at, it in enumerate(tokens) if it == fault.token), None)
     return fault.kind == 3 and at is not None and tokens[at + 1].text not in ('(', '[', '=')
@@ -113,7 +113,7 @@ def _insertions(text: str, reader: Statements) -> list[tuple[int, str] | None]:
 
 
 def correction(text: str, fault: ProgramError) -> Correction | None:
-    """The lines that repair a fault, or, without a line, what to do; None if nothing is known."""
+    """The lines that repair a fault, or only advice if no line is known; None if nothing is known."""
     if len(text) > LONGEST_TEXT:
         return None
     lines = text.split('\n')

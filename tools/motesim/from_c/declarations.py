@@ -136,7 +136,8 @@ class Declarations(Lines):
         return 'thread %s {' % name
 
     def parameters(self, of_thread: bool) -> None:
-        """Leaves out parameters. Those of a thread become variables of its process, if such can be declared above."""
+        """Leaves out parameters. Those of a thread become variables of its process, if variables can be declared
+        above."""
         self.need('(')
         words: list[str] = ['']
         while self.token.kind != 'end' and not self.accept(')'):

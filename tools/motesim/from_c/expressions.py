@@ -1,7 +1,8 @@
 """Expressions of C, as the notation writes them.
 
 `Expressions(tokens, scope).expression()` reads one and returns a `Node`; `Writer(scope).text(node)` writes it with the
-parentheses that the notation wants. What has no counterpart is a `NoCounterpart`, whose text says what to do.
+parentheses that the notation needs. An expression without a counterpart raises a `NoCounterpart`, whose text says what
+to do instead.
 """
 from __future__ import annotations
 
@@ -12,7 +13,7 @@ from motesim.from_c.scope import Scope, allowed
 from motesim.from_c.tokens import END, Token
 from motesim.notation.faults import MOST_LEVELS
 
-# The operators, those that bind least first.
+# The operators, in the order of precedence, the lowest first.
 LEVELS = (('||', 'or'), ('&&', 'and'), ('|',), ('^',), ('&',), ('==', '!=', '='), ('<', '<=', '>', '>='), ('<<', '>>'),
           ('+', '-'), ('*', '/', '%'))
 PLAIN = frozenset(('||', '&&', '==', '!=', '<', '<=', '>', '>=', '+', '-', '*', '/', '%'))
@@ -27,7 +28,7 @@ TESTS = ('is', 'fired', 'expired', 'gone', 'running', 'count')
 CALLS = {'etimer_expired': 'expired', 'ctimer_expired': 'expired', 'timer_expired': 'expired',
          'stimer_expired': 'expired',
          'process_is_running': 'running', 'pt_sem_count': 'count', 'sem_count': 'count'}
-# Calls that are a word here.
+# Calls that are a word in the notation.
 WORDS_OF_CALLS = {
     'clock_time': ('now', 'The moment is `now`.'), 'clock_seconds': ('now', 'The moment is `now`.'),
     'rtimer_now': ('now', 'The moment is `now`.'),
@@ -52,7 +53,7 @@ NO_REALS = ('Numbers are whole, 0 to 65,535. Count in smaller units, such as ten
             'tenths of x.')
 NO_CALLS = ('There are no functions: a `thread` without waits serves as one. It is run by `spawn`, and shares the '
             'variables of its process.')
-# A generator of numbers that seem to come by chance: its variable, its step, and the number that it yields.
+# A generator of pseudo-random numbers: its variable, its step, and the number that it yields.
 DICE, STEP, DRAWN = 'dice', 'dice = ((dice * 25173) + 13849);', '(dice / 256)'
 NO_CHANCE = ('There is no chance in a mote: each run is the same. A generator of its own serves, as below, with a '
              'seed that differs by mote, mixed so that motes don\'t draw in step. At the start of `body`: `dice = ((self '
@@ -71,7 +72,7 @@ ONE_TOO_MANY = 'One `)` is too many.'
 
 
 class NoCounterpart(Exception):
-    """Something of C that the notation hasn't: what to do instead. An empty text says that it isn't C either."""
+    """Something in C that the notation lacks; the text says what to do instead, and is empty if it isn't C either."""
 
 
 @dataclass(frozen=True)
@@ -146,7 +147,7 @@ class Expressions:
         return left
 
     def why(self, reason: str) -> None:
-        """Notes why a line is written in another way."""
+        """Notes the reason why a line is written in another way."""
 
     def close(self) -> None:
         """A closing parenthesis, which may be missing at the end of a statement or before a block."""
@@ -157,7 +158,7 @@ class Expressions:
         self.why(NO_END)
 
     def skip_types(self) -> None:
-        """Types before a name, as in the parameters of a function."""
+        """Skips types before a name, as in the parameters of a function."""
         while self.token.text in TYPES | QUALIFIERS | {'struct'} and self.ahead(1).kind in ('name', 'sign'):
             self.at += 1
             if self.ahead(-1).text == 'struct':
@@ -228,14 +229,14 @@ class Expressions:
 
 @dataclass
 class Writer:
-    """Writes expressions as the notation has them, and collects why they differ."""
+    """Writes expressions in the notation, and collects the reasons why they differ from C."""
     scope: Scope
-    # What a timer means as a test: `fired` in a wait, otherwise `expired`.
+    # The test that a timer as a value means: `fired` in a wait, otherwise `expired`.
     of_timer: str = 'expired'
     reasons: list[str] = field(default_factory=list)
     # Whether a random number is used, for which the generator makes a step first.
     draws: bool = False
-    # The names in a call of Contiki that nothing declares: each with its kind and how it is written.
+    # The names in a call of Contiki that aren't declared: each with its kind and its form in the notation.
     unknown: dict[str, tuple[str, str]] | None = None
 
     def why(self, reason: str) -> None:
@@ -319,7 +320,7 @@ class Writer:
         return found
 
     def new_name(self, word: str, kind: str) -> str:
-        """A name in a call of Contiki that nothing declares, as it may be declared."""
+        """The form in which a name in a call of Contiki that isn't declared can be declared."""
         assert self.unknown is not None
         name = allowed(word)
         name = name if name not in self.scope.kinds else allowed('my_' + name)

@@ -1,4 +1,4 @@
-"""Lines of C and Contiki: what all their statements share."""
+"""The base of the readers of C and Contiki: the methods that all kinds of statements share."""
 from __future__ import annotations
 
 from motesim.from_c.expressions import ONE_TOO_MANY, READ_ONLY, Expressions, NoCounterpart, Node, Writer
@@ -8,14 +8,14 @@ from motesim.from_c.tokens import tokens_of
 
 
 class Lines(Expressions):
-    """Reads lines, and collects what they are in the notation."""
+    """Reads lines, and collects their translation into the notation."""
 
     def __init__(self, text: str, scope: Scope, place: Surroundings = Surroundings(), end: str = ''):
         """`end` is written for `PROCESS_END`: nothing, or a brace if `PROCESS_BEGIN` became one."""
         super().__init__([it for it in tokens_of(text) if it.kind != 'comment'], scope)
         self.comments = [it.text for it in tokens_of(text) if it.kind == 'comment']
         self.place, self.writer = place, Writer(scope)
-        # Whether a block continues below these lines, and whether a header without its brace opens one.
+        # True if a block continues below these lines; true if a header without its brace opens a block.
         self.is_cut = self.opens = False
         self.nested = 0
         self.end_of_process = end
@@ -42,7 +42,7 @@ class Lines(Expressions):
         return self.writer.text(self.expression())
 
     def stepped(self, name: str, sign: str) -> str:
-        """A variable that is one more, or one less."""
+        """A variable that is incremented or decremented."""
         found = self.variable(name)
         self.why('There is no `%s`.' % sign)
         return '%s = (%s %s 1)' % (found, found, sign[0])

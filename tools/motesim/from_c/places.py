@@ -24,13 +24,13 @@ class Surroundings(NamedTuple):
     """The place of lines.
 
     is_head  whether declarations of a `code` may be there
-    is_top   whether those above `process` may
-    loop     the test of the innermost `while` around them, or nothing
+    is_top   whether declarations above `process` may be there
+    loop     the test of the innermost `while` around the lines, or nothing
     code     the process whose code it is, or nothing
     head     the line (from 1) below which a variable of this code may be declared, or 0
-    variables  those of this code
-    last     the first word of the statement above them, or nothing
-    before   the whole of that statement, without its semicolon
+    variables  the variables of this code
+    last     the first word of the statement above the lines, or nothing
+    before   that complete statement, without its semicolon
     """
     is_head: bool = False
     is_top: bool = False
@@ -43,7 +43,7 @@ class Surroundings(NamedTuple):
 
 
 def place_below(above: list[str]) -> Surroundings:
-    """The place of the line below these."""
+    """The place of the line below these lines."""
     tokens = tokens_of('\n'.join(above))
     words = [it.text for it in tokens]
     opened: list[str] = []

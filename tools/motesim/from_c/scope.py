@@ -23,7 +23,7 @@ def allowed(name: str) -> str:
 
 
 def nearest(word: str, known: Iterable[str]) -> str | None:
-    """The known word that this one is most like, if one is near."""
+    """The known word that is most similar to this one, if one is similar."""
     found = difflib.get_close_matches(word.lower(), sorted(known), 1, 0.65)
     return found[0] if found else None
 
@@ -61,7 +61,7 @@ class Scope:
         return [name for name, its in self.kinds.items() if its == kind]
 
     def meant(self, name: str, kind: str) -> str:
-        """The name of this kind that was most likely meant: the name itself if nothing is near."""
+        """The name of this kind that was most likely meant: the name itself if no other is similar."""
         for its in name, name.lower(), allowed(name):
             if self.kinds.get(its) == kind:
                 return its

@@ -1,7 +1,7 @@
 """Statements of C and Contiki, as the notation writes them.
 
-`Statements(text, scope, place).written()` reads the lines as a run of statements and declarations, whole or cut off at
-a brace, and returns them in the notation.
+`Statements(text, scope, place).written()` reads the lines as a sequence of statements and declarations, complete or
+cut off at a brace, and returns them in the notation.
 """
 from __future__ import annotations
 
@@ -21,7 +21,7 @@ PRINTS = ('printf', 'print', 'println', 'puts', 'putchar', 'log_info', 'log_dbg'
 SENDS = ('send_packet', 'sendpacket', 'radio_send', 'send_value')
 UNICAST = ('A packet goes to all motes that hear it; its value may say for whom it is: `send ((dest * 256) + x);`, '
            'and the receiver tests `((data / 256) == self)`.')
-# A packet that says for whom it is has 8 bits for that, and 8 for its value.
+# A packet that names its receiver has 8 bits for the receiver, and 8 for the value.
 LARGEST_PART = 255
 TOO_LARGE_PART = ('A packet goes to all motes that hear it, and has 16 bits. If the upper 8 say for whom it is, its '
                   'value is at most 255, and this one may be larger: send a smaller one, `send ((dest * 256) + x);`, '
@@ -34,7 +34,7 @@ CLOSES = re.compile(r'(broadcast|abc|unicast|runicast|mesh|collect)_close\b')
 OF_HANDLER = 'The handler is a block of the `code`, `%s { .. }`, below its timers and threads and above its `body`.'
 WAIT = ('A process waits by an event timer: `set t 5; yield_until fired(t);`, with `etimer t;` at the head of its '
         '`code`.')
-# Words without a counterpart, each with what to do instead.
+# Words without a counterpart, each with the advice what to do instead.
 ADVICE = {
     'unicast_send': UNICAST, 'runicast_send': UNICAST, 'simple_udp_sendto': UNICAST, 'mesh_send': UNICAST,
     'broadcast_send': BROADCAST, 'abc_send': BROADCAST, 'packetbuf_copyfrom': BROADCAST, 'netstack_network': BROADCAST,
@@ -226,7 +226,7 @@ class Statements(Declarations, Calls, Control):
         return '%s { %s }' % (head, text)
 
     def of_semaphore(self, name: str) -> str:
-        """A semaphore whose count is one more or one less."""
+        """A semaphore whose count is incremented or decremented."""
         words = []
         while self.token.kind != 'end' and self.token.text != ';':
             words.append(self.token.text)
@@ -277,7 +277,7 @@ class Statements(Declarations, Calls, Control):
         return self.end('%s = %s' % (variable, self.writer.text(right)))
 
     def of_event(self, name: str) -> str:
-        """An event that is made: it is declared at the top."""
+        """An event that is created by a call: it is declared at the top."""
         self.expression()
         self.end('')
         self.why('An event is declared by `event`, above the `process` line.')
@@ -333,7 +333,7 @@ class Statements(Declarations, Calls, Control):
         return self.end(text)
 
     def of_pair(self) -> str:
-        """The first of two numbers in parentheses, as in `send(3, data)`; nothing if there is one, or none."""
+        """The first of two numbers in parentheses, as in `send(3, data)`; nothing if there are fewer."""
         begin = self.at
         if self.accept('('):
             try:

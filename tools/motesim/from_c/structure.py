@@ -1,6 +1,6 @@
-"""Mistakes that are elsewhere than the fault: the line that names the processes, and a block that isn't closed.
+"""Mistakes at another place than the fault: in the line that names the processes, or a block that isn't closed.
 
-Each returns a line (from 1, or 0 if nothing is found), the line as it should be, and the reason.
+Each function returns the number of a line (from 1, or 0 if nothing is found), the corrected line, and the reason.
 """
 from __future__ import annotations
 
@@ -15,7 +15,7 @@ PROCESSES = re.compile(r'\s*process\s+([a-z0-9_]+(?:\s*,\s*[a-z0-9_]+)*)\s*;\s*(
 
 
 def process_line(text: str) -> Repair:
-    """The line that names the processes, if it doesn't have those of the codes, in their order."""
+    """The line that names the processes, if its names aren't those of the codes, in their order."""
     codes = Scope.of(text).codes
     for number, line in enumerate(text.split('\n'), 1):
         found = PROCESSES.fullmatch(line)

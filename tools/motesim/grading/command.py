@@ -23,12 +23,12 @@ from motesim.runner import Limits, program_path, run_each
 from motesim.terminal import one_line
 
 MEGABYTE = 1 << 20
-# A run that lasts so many times its limit of processor time is ended without a mark: the machine has other work.
+# A run that lasts this many times its limit of processor time is ended without a mark: the machine has other work.
 PATIENCE = 10
-# How many names of solutions an error lists.
+# The most names of solutions that an error lists.
 MOST_NAMES = 20
 MOST_SKIPPED = 5
-# Seconds of a net for what isn't the run: reading and judging its report.
+# The seconds for each net in addition to its run: for reading and judging its report.
 SPARE = 60
 
 
@@ -62,7 +62,7 @@ def task_of(asked: argparse.Namespace, pictures: Path | None) -> Task:
 
 
 def spoken_of_by_none(marked: Sequence[Marks], sentences: Sequence[str]) -> list[str]:
-    """Sentences that name what no solution has: most likely a mistake in the sentences."""
+    """Lines about sentences with names that no solution has: most likely a mistake in the sentences."""
     known = [it for it in marked if it.lacks and not it.why]
     lines = []
     for number, (sentence, *lacks) in enumerate(zip(sentences, *(it.lacks for it in known)), 1):
@@ -73,13 +73,13 @@ def spoken_of_by_none(marked: Sequence[Marks], sentences: Sequence[str]) -> list
 
 
 def written(path: Path, text: str) -> None:
-    """Writes a file whole, or not at all. A link is replaced."""
+    """Writes a file completely or not at all. A symbolic link is replaced."""
     replace_whole(path, [text.encode('utf-8')])
 
 
 def write(path: Path, marked: Sequence[Marks], sentences: Sequence[str], task: Task, expectations: Path,
           is_for_excel: bool = False) -> None:
-    """Writes the marks into a file, in the form that its name says."""
+    """Writes the marks into a file, in the format that its ending names."""
     if path.suffix == '.csv':
         text = tables.csv_of(marked, sentences, is_for_excel)
     elif path.suffix == '.toml':
@@ -110,15 +110,15 @@ def write_scenarios(folder: Path, entries: Sequence[Entry], task: Task) -> None:
 
 
 def key_of(entries: Sequence[Entry], folder: Path) -> str:
-    """Which solution has which number, as CSV."""
+    """The numbers of the solutions, as CSV."""
     rows = ['"%s","%s"' % (it.name, tables.cell(tables.without_separators(one_line(str(it.path.relative_to(folder)))))
                             .replace('"', '""')) for it in entries]
     return OF_KEY + ''.join(it + '\n' for it in rows)
 
 
 def entry_of(name: str, entries: Sequence[Entry], folder: Path) -> Entry:
-    """The solution that a name means, with or without its ending. Raises a `Fault` that lists the solutions if it
-    means none, as when the file was renamed."""
+    """The solution that a name means, with or without its ending. Raises a `Fault` that lists the solutions if there
+    is none, for instance because the file was renamed."""
     found = next((it for it in entries if name in (it.name, it.name.rpartition('.')[0])), None)
     if found:
         return found

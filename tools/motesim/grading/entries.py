@@ -1,7 +1,7 @@
 """The entries of a folder that somebody else filled.
 
-Everything in it becomes an `Entry`: a file to grade, or the reason why it can't be. Nothing is opened but plain files,
-and of these no more is read than a scenario may have.
+Everything in it becomes an `Entry`: a file to grade, or the reason why it can't be graded. Only plain files are
+opened, and at most as many bytes are read as a scenario may have.
 """
 from __future__ import annotations
 
@@ -41,7 +41,7 @@ def _kind(mode: int) -> str:
 
 
 def _entries(folder: Path, top: Path, depth: int) -> Iterator[Entry]:
-    """The entries of a folder and of those in it. An empty folder is an entry."""
+    """The entries of a folder and of the folders in it. An empty folder is an entry."""
     name = one_line(str(folder.relative_to(top)))
     try:
         found = sorted(os.scandir(folder), key=lambda it: os.fsencode(it.name))
@@ -93,7 +93,7 @@ def entries_of(folder: Path) -> list[Entry]:
 
 
 def anonymous(entries: Sequence[Entry], chance: random.Random | None = None) -> list[Entry]:
-    """The entries with numbers for names, in an order by chance: another one for each marking, unless `chance` has a
+    """The entries with numbers as names, in a random order: another order for each marking, unless `chance` has a
     seed."""
     mixed = list(entries)
     (chance or random.SystemRandom()).shuffle(mixed)
@@ -108,7 +108,7 @@ def skipped_of(folder: Path) -> list[str]:
 
 
 def data_of(entry: Entry) -> bytes:
-    """The bytes of a plain file; of a longer one as many as show that it is too long."""
+    """The bytes of a plain file; if it is too long, only enough bytes to show this."""
     # (it may have been replaced since the folder was read: a pipe isn't waited for, and a link isn't followed)
     try:
         number = os.open(entry.path, os.O_RDONLY | os.O_NONBLOCK | os.O_NOFOLLOW | os.O_CLOEXEC)

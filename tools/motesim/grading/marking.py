@@ -34,18 +34,18 @@ MOST_SHOWN = 4_000_000
 TOO_LONG = ('no page of this run: its report has {:,} bytes, and a page shows at most {:,}; with a smaller `end` in '
             'the scenario or net it is shorter, and tools/expect shows the lines without a page')
 LONGEST_WHY = 300
-# The names of solutions in a table have at most so many signs.
+# The most characters of a solution's name in a table.
 WIDEST_NAME = 40
-# Signs that no name of a page has: all but letters, digits and two more, and a dot in front.
+# Characters that the name of a page can't have: all but letters, digits and two others; and a dot at its beginning.
 UNSAFE = re.compile(r'[^A-Za-z0-9.-]|^\.')
 LONGEST_NAME = 80
 OF_HIDDEN = 'in a hidden net'
-# How many lines of an error are shown.
+# The most lines of an error that are shown.
 MOST_LINES = 40
 
 
 class Mark(NamedTuple):
-    """A sentence: in which nets it doesn't hold, and why in the first of them.
+    """A sentence: the nets in which it doesn't hold, and the reason in the first of them.
 
     shown        the net and the reason as a page may show them to students: nothing of a hidden net
     is_required  whether a solution that doesn't meet it earns nothing
@@ -70,12 +70,12 @@ def lines_of(rows: Iterable[str]) -> tuple[str, ...]:
 
 @dataclass(frozen=True)
 class Marks:
-    """A solution: its name, a mark for each sentence, or why there are none, and what it lacks.
+    """A solution: its name; a mark for each sentence, or the reason why there are none; and the names that it lacks.
 
-    is_open  whether it has to be marked again: the reason isn't its own
+    is_open  whether it has to be marked again, because the reason isn't in the solution
     picture  the page with the timeline of its first failed sentence, in the folder of pictures
     no_page  the reason why there is no such page, though pages were asked for
-    fix      of a refused scenario or program, the place of its error and how it is put right
+    fix      for a refused scenario or program, the place of its error, and the correction
     halts    the first mote that halts in a net, if one does
     """
     name: str
@@ -89,7 +89,8 @@ class Marks:
     halts: str = ''
 
     def in_lines(self) -> Marks:
-        """The same, with each text in one line: names in a solution may have signs that would end or change a row."""
+        """The same, with each text in one line: names in a solution may have characters that would end or change a
+        row."""
         marks = tuple(it._replace(more=lines_of(it.more), shown=lines_of(it.shown)) for it in self.marks)
         lacks = tuple(cut(one_line(it), LONGEST_WHY) for it in self.lacks)
         return replace(self, marks=marks, why=cut(one_line(self.why), LONGEST_WHY), lacks=lacks,
@@ -155,7 +156,7 @@ class Task:
             if entry.path.suffix == '.mote' and begins_as_scenario(data):
                 return Marks(entry.name, why='it is a scenario, not the text of a program: a file of a scenario is '
                                              'NAME.toml')
-            # (lines are named by the solution's file; an anonymous one has the same ending)
+            # (messages name lines by the solution's file; the name of an anonymous solution has the same ending)
             file = entry.name.removesuffix(entry.path.suffix).rpartition('/')[2] + entry.path.suffix
             if not self.nets:
                 found = [self.in_net(data.decode('utf-8'), (file, data.decode('utf-8')))]
@@ -183,7 +184,7 @@ class Task:
         return replace(marks, picture=picture, no_page=no_page)
 
     def fix(self, entry: Entry, data: bytes) -> tuple[str, ...]:
-        """The place of the error of a solution, and how it is put right, as tools/explain shows them."""
+        """The place of the error in a solution, and its correction, as tools/explain shows them."""
         if entry.path.suffix == '.mote':
             source = data.decode('utf-8', 'replace').removeprefix(MARK)
             error = find_program_fault(source) if source else None
@@ -226,7 +227,7 @@ class Task:
                      halts=halt_of(report))
 
     def spread(self, held: Iterator[Mark], lacks: list[str]) -> list[Mark]:
-        """A mark for each sentence: one on what a scenario lacks doesn't hold."""
+        """A mark for each sentence: a sentence about something that the scenario lacks doesn't hold."""
         return [Mark(it, False, (), ('the scenario has %s' % lack,)) if lack else next(held)
                 for it, lack in zip(self.part.sentences, lacks)]
 
@@ -251,7 +252,7 @@ class Task:
     def picture(self, number: int, marks: Marks, found: list[InNet]) -> tuple[str, str]:
         """Writes the timeline that shows the first failed sentence; returns its name, or the reason why there is none.
 
-        There is none of a run in a hidden net.
+        A run in a hidden net has no timeline.
         """
         place = marks.first_failed
         if place is None or self.pictures is None:
@@ -274,12 +275,12 @@ def halt_of(report: Report) -> str:
 
 
 def unmarked(name: str, why: str) -> Marks:
-    """A solution that has to be marked again, because the reason isn't its own."""
+    """A solution that has to be marked again, because the reason isn't in the solution."""
     return Marks(name, why='not marked, run it again: %s' % why, is_open=True)
 
 
 def shown_of(failed: Sequence[tuple[InNet, Mark]]) -> tuple[str, ...]:
-    """The net and the reason that a page may show of a sentence that doesn't hold."""
+    """The net and the reason that a page may show for a sentence that doesn't hold."""
     shown = next(((its, mark) for its, mark in failed if not its.is_hidden), None)
     if shown is None:
         return (OF_HIDDEN,) if failed else ()
@@ -298,7 +299,8 @@ def page_name(number: int, solution: str, net: str) -> str:
 
 
 def fix_of_program(name: str, text: str, wanted: str) -> list[str]:
-    """The place of the error in the program that is taken from a scenario, whatever else that lacks."""
+    """The place of the error in the program that is taken from a scenario, even if the scenario lacks something
+    else."""
     programs = (tables_or_none(text) or {}).get('programs')
     if type(programs) is not dict or not programs:
         return []

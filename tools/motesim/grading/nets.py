@@ -20,15 +20,15 @@ from motesim.terminal import cut
 from motesim.toml import MARK, NoToml, read_toml
 
 MOST_NETS = 1_000
-# How many names of programs a message has, and how long each may be.
+# The most names of programs in a message, and the greatest length of each.
 MOST_NAMES, LONGEST_NAME = 5, 40
 
 
 @dataclass(frozen=True)
 class Net:
-    """A net by its name, its scenario, and which of its programs is the one that solutions have.
+    """A net: its name, its scenario, and the name of the program that solutions replace.
 
-    is_hidden  whether students may not see it
+    is_hidden  whether students must not see it
     """
     name: str
     scenario: Scenario
@@ -81,7 +81,7 @@ def _net(name: str, text: str, program: str | None) -> Net:
 
 
 class NoProgram(Fault):
-    """A solution has several programs, and none of the wanted name; and what to do."""
+    """A solution has several programs, none with the wanted name; the message says what to do."""
 
     def __init__(self, wanted: str, names: Iterable[str]):
         known = list(names)

@@ -1,4 +1,4 @@
-"""The files that a marking wrote: if they are in a folder of solutions, they are not solutions."""
+"""The files that a marking wrote: even in a folder of solutions they are not solutions."""
 from __future__ import annotations
 
 import os
@@ -18,7 +18,7 @@ HEADS = {'.toml': (OF_TOML + '\n',), '.html': (OF_PAGE,), '.csv': (
 
 
 def is_marks(path: Path) -> bool:
-    """True if a plain file begins as the marks do that tools/grade writes."""
+    """True if a plain file begins like the marks that tools/grade writes."""
     heads = [it.encode() for it in HEADS.get(path.suffix, ())]
     try:
         number = os.open(path, os.O_RDONLY | os.O_NONBLOCK | os.O_NOFOLLOW | os.O_CLOEXEC)

@@ -1,7 +1,7 @@
-"""The pages of runs of a marking, and which of them an earlier marking made.
+"""The pages of a marking's runs: keeps a list of them, so that the next marking can remove them.
 
-The folder of the pages has a file with their names. The next marking into the same folder removes those, and nothing
-else.
+The folder of the pages has a file with their names. The next marking into the same folder removes these pages, and
+nothing else.
 """
 from __future__ import annotations
 
@@ -32,9 +32,9 @@ def names_in(folder: Path) -> list[str]:
 
 
 def remove_earlier(folder: Path) -> None:
-    """Removes the pages that an earlier marking made in a folder, which is made if it isn't there.
+    """Removes the pages that an earlier marking made in a folder; creates the folder if it doesn't exist.
 
-    Raises a `Fault` if the folder is a link: somebody else may have set it to a folder of other files.
+    Raises a `Fault` if the folder is a link: somebody else may have made it point to a folder of other files.
     """
     if folder.is_symlink():
         raise Fault('%s is a link, and not a folder: remove it, or write the page elsewhere' % folder)

@@ -11,7 +11,7 @@ from motesim.grading.own import COLUMNS, OF_TOML
 from motesim.judge.expectations import REQUIRED
 from motesim.toml import MARK
 
-# A cell that begins so is a formula to some spreadsheets.
+# Some spreadsheets treat a cell with this beginning as a formula.
 OF_FORMULA = ('=', '+', '-', '@', '\t', '\r', '|', '%')
 RENAMED = 'Hint: sentences use the names of the task: if a process was renamed, rename it back, and grade again'
 ESCAPES = {'\\': '\\\\', '"': '\\"', '\n': '\\n', '\t': '\\t', '\r': '\\r'}
@@ -54,27 +54,28 @@ def below(marked: Sequence[Marks], sentences: Sequence[str]) -> list[str]:
 
 
 def pointer(marked: Sequence[Marks]) -> list[str]:
-    """The line that says how to see the errors of refused solutions."""
+    """The line about the option that shows the errors of refused solutions."""
     refused = [it.name for it in marked if any(line.startswith('Hint: ') for line in it.fix)]
     return ['', '--why %s shows the place of its error, and how to correct it' % refused[0]] if refused else []
 
 
 def cell(text: str) -> str:
-    """A text that no spreadsheet runs: one that begins as a formula has an apostrophe in front.
+    """A text that no spreadsheet runs: one that begins like a formula has an apostrophe in front.
 
-    A sign counts in each of its widths, and behind blanks too.
+    A character counts in each of its widths, also after blanks.
     """
     begin = unicodedata.normalize('NFKC', text.lstrip(' \u3000'))
     return "'" + text if begin.startswith(OF_FORMULA) else text
 
 
 def without_separators(text: str) -> str:
-    """A text of a solution that is one cell too if `;` or a tab separates cells: these signs are escaped."""
+    """A text of a solution that is one cell, even if `;` or a tab separates cells: these characters are escaped."""
     return text.replace(';', '\\x3b').replace('\t', '\\x09')
 
 
 def csv_of(marked: Sequence[Marks], sentences: Sequence[str], is_for_excel: bool = False) -> str:
-    """A row for each solution, with 1 for a sentence that holds and otherwise 0; nothing if it isn't marked.
+    """A row for each solution, with 1 for a sentence that holds and otherwise 0; its cells are empty if it isn't
+    marked.
 
     All texts are in quotes. A file for Excel begins with a byte order mark, and `;` separates its cells.
     """
@@ -123,9 +124,9 @@ def toml_of(marked: Sequence[Marks], sentences: Sequence[str], expectations: str
 
 
 def why(marks: Marks) -> list[str]:
-    """The lines on the sentences of one solution, and what to do if they name what it doesn't have."""
+    """The lines about the sentences of one solution, with a hint if they have names that the solution lacks."""
     lines = [*([marks.why] if marks.why else []), *marks.fix]
-    # (without a report no sentence holds, and none has another reason)
+    # (without a report no sentence holds, all for the same reason)
     for it in marks.marks if not marks.why else ():
         lines.append(('holds   ' if it.holds else 'broken  ') + it.words)
         nets = ['in %s' % ', '.join(it.nets)] if it.nets else []

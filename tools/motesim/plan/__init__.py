@@ -1,1 +1,1 @@
-"""Plans: scenarios by rule, with parameters."""
+"""Plans: scenarios that are described by rules, with parameters."""

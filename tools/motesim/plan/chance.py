@@ -1,8 +1,9 @@
 """Pseudo-random numbers that are the same on any machine and by any version of Python.
 
 The generator is SplitMix64 (Steele, Lea and Flood, "Fast splittable pseudorandom number generators", OOPSLA 2014): a
-state of 64 bits grows by a constant, and each number is the state with its bits mixed. All of it is whole numbers
-modulo 2 to the power of 64. Python's own `random` doesn't promise the same numbers from one version to the next.
+state of 64 bits grows by a constant, and each number is the state with its bits mixed. All arithmetic is with whole
+numbers, modulo 2 to the power of 64. Python's own `random` doesn't promise the same numbers from one version to the
+next.
 """
 from __future__ import annotations
 
@@ -18,7 +19,8 @@ def mixed(state: int) -> int:
 
 
 class Chance:
-    """Numbers from a seed, 0 or greater. Streams of one seed with different numbers share nothing."""
+    """Random numbers from a seed, which is 0 or greater. Streams of one seed with different numbers have nothing in
+    common."""
 
     def __init__(self, seed: int, stream: int = 0) -> None:
         self.state = (seed + mixed(stream)) & MASK
@@ -38,7 +40,7 @@ class Chance:
                 return word % count
 
     def some_below(self, count: int, number: int) -> list[int]:
-        """So many numbers from 0 to `count - 1`: those of as many calls of `below`, in less time."""
+        """This many numbers from 0 to `count - 1`: the same as from this many calls of `below`, in less time."""
         most, state = MASK + 1 - (MASK + 1) % count, self.state
         found: list[int] = []
         while len(found) < number:

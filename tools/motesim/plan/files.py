@@ -15,7 +15,7 @@ from motesim.scenario.faults import Place
 
 
 class Files:
-    """The files next to a plan, by its names for them."""
+    """The files next to a plan, by the names that the plan has for them."""
 
     def __init__(self, folder: Path, known: Mapping[str, bytes] | None = None) -> None:
         self.folder = folder
@@ -37,7 +37,7 @@ class Files:
                 if type(key) is str and key.strip() == column and type(value) is str and value.strip()}
 
     def digest(self, text: str, names: Sequence[str]) -> str:
-        """The SHA-256 of a plan's text and of these files with their names; one that isn't there counts as empty."""
+        """The SHA-256 of a plan's text and of these files with their names; a missing file counts as empty."""
         made = hashlib.sha256(text.encode())
         for name in names:
             try:

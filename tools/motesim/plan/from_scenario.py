@@ -1,4 +1,5 @@
-"""A plan from a scenario: its numbers as parameters, and its programs, places and losses in files next to the plan.
+"""Makes a plan from a scenario: its numbers become parameters, and its programs, places and losses are in files next
+to the plan.
 
 The plan makes the same net: the same motes by their numbers, programs, losses and lengths of queues.
 """
@@ -50,7 +51,7 @@ def files_of(scenario: Scenario, source: str, plan: str) -> dict[str, str]:
 
 
 def _text(name: str, text: str) -> str:
-    """A program's text: one that has `${` would have parameters."""
+    """A program's text; one with `${` is refused, because it would have parameters."""
     if '${' in text:
         raise Fault('the program %s has `${` in a comment, which names a parameter in a plan: change it first' % name)
     return text
@@ -70,7 +71,7 @@ def _plan(scenario: Scenario, source: str, stem: str) -> Iterator[str]:
 
 
 def write_plan(scenario: Scenario, source: str, plan: Path) -> list[Path]:
-    """Writes a plan and the files next to it. It overwrites no file that has another text."""
+    """Writes a plan and the files next to it. Doesn't overwrite a file that has another text."""
     files = files_of(scenario, source, str(plan))
     for name, text in files.items():
         path = plan.parent / name

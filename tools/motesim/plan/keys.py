@@ -1,4 +1,4 @@
-"""Which tables and keys a plan has, and their limits. docs/use/EXPERIMENTS.md says what they are."""
+"""The tables and keys of a plan, and their limits. docs/use/EXPERIMENTS.md describes them."""
 from __future__ import annotations
 
 from motesim.plan.tables import Key, any_kind, needed, optional
@@ -36,8 +36,8 @@ LOSSES: dict[str, dict[str, Key]] = {
     'link': {'from': NUMBER, 'to': NUMBER, 'every': EVERY},
     'csv': {'file': needed(str)},
 }
-# The streams of random numbers of a seed: 0 has the places, this one the losses, and with `by_count` each number of
-# motes has one for its places, this one or a later one.
+# The streams of random numbers of a seed: stream 0 is for the places, and this one for the losses. With `by_count`
+# each number of motes has its own stream for the places, this one or a later one.
 LOSS_STREAM, FIRST_OF_COUNTS = 1, 2
-# How many primes the rule `primes` has to choose from.
+# The number of primes from which the rule `primes` chooses.
 PRIMES = 6

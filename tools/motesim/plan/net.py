@@ -47,7 +47,7 @@ class Builder:
         self.sources: dict[str, str] = {}
 
     def _top_of_plan(self) -> dict[str, Any]:
-        """The keys at the top; those that are tables or arrays are looked at by themselves."""
+        """The keys at the top; tables and arrays are checked separately."""
         for name, key in TOP.items():
             if key.is_needed and name not in self.tables.top:
                 rule = 'A plan needs the key `%s`, but it is missing.' % name
@@ -90,7 +90,7 @@ class Builder:
 
     def rule(self, table: object, path: Path, rules: Mapping[str, Mapping[str, Key]], more: Mapping[str, Key],
              what: str) -> dict[str, Any]:
-        """A table whose key `rule` says which other keys it has."""
+        """A table whose key `rule` determines its other keys."""
         may = ', '.join('`"%s"`' % it for it in rules)
         if type(table) is not dict:
             raise self.tables.fault(path, '%s is a table with a key `rule`.' % what, 'a table')
@@ -103,7 +103,7 @@ class Builder:
         return self.tables.read(table, path, keys, '%s by the rule `%s`' % (what, name))
 
     def program(self, file: str, path: Path) -> str:
-        """The name of the program in a file, which becomes one of the scenario's."""
+        """The name of the program in a file; the program becomes one of the scenario's."""
         name = PurePath(file).stem
         if name in self.sources:
             if self.sources[name] != file:
@@ -139,7 +139,7 @@ class Builder:
         return text
 
     def motes(self) -> list[Mote]:
-        """The motes of all groups, in the order of these."""
+        """The motes of all groups, in the order of the groups."""
         groups = self.tables.array('places')
         motes = [mote for path, table in groups for mote in self.group(table, path)]
         if not 1 <= len(motes) <= MOST_MOTES:
@@ -229,7 +229,7 @@ class Builder:
         return CsvTable(file, self.read_file(file, path), columns, more)
 
     def numbers(self, value: object, path: Path, count: int) -> list[int]:
-        """Motes by their numbers: one, an array of them, or a text as `0, 3 to 5`."""
+        """Motes by their numbers: one, an array of them, or a text such as `0, 3 to 5`."""
         value = self.tables.filled(value, path)
         found: list[int] = []
         for part in value if type(value) is list else str(value).split(','):

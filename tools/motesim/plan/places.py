@@ -1,6 +1,6 @@
 """Places of motes by a rule: grid, line, ring, random, clusters.
 
-Everything is done with whole numbers, so that the same words give the same places everywhere. docs/use/EXPERIMENTS.md
+All arithmetic is with whole numbers, so the same rule has the same places on any machine. docs/use/EXPERIMENTS.md
 has the rules.
 """
 from __future__ import annotations
@@ -12,7 +12,7 @@ from motesim.plan.chance import Chance
 
 Point = tuple[int, int]
 
-# How often a place, and a whole net, is drawn again before the rule counts as one that can't be met.
+# The most draws of one place, and of a whole net, before the rule counts as one that can't be met.
 TRIES_FOR_A_PLACE = 1_000
 TRIES_FOR_A_NET = 300
 
@@ -22,11 +22,11 @@ PI = 31_415_926_535_897_932_384_626_433_832_795_028_841_971
 
 
 class NoPlace(Exception):
-    """The rule can't be met: why, in a sentence."""
+    """The rule can't be met; the reason, in a sentence."""
 
 
 class Crowd:
-    """Points by the squares in which they are, to find near ones."""
+    """Points, sorted into squares, to find near ones."""
 
     def __init__(self, side: int) -> None:
         self.side = max(1, side)
@@ -39,7 +39,8 @@ class Crowd:
         self.squares.setdefault(self.square(point), []).append(point)
 
     def near(self, point: Point) -> Iterable[Point]:
-        """The points of the square and of those around it: all that are at most a side away, and some farther ones."""
+        """The points of the square and of the squares around it: all that are at most a side away, and some farther
+        ones."""
         x, y = self.square(point)
         for dx in (-1, 0, 1):
             for dy in (-1, 0, 1):
@@ -52,7 +53,7 @@ def squared(one: Point, other: Point) -> int:
 
 
 def is_connected(points: list[Point], reach: int) -> bool:
-    """Returns whether each point is reached from the first, by steps that are not longer than `reach`."""
+    """Returns whether each point can be reached from the first by steps that are not longer than `reach`."""
     crowd = Crowd(reach)
     for point in points:
         crowd.add(point)
@@ -144,7 +145,7 @@ def scattered(count: int, width: int, height: int, seed: int, least: int, reach:
 
 def clusters(count: int, motes: int, spread: int, width: int, height: int, seed: int, least: int,
              reach: int | None, stream: int = 0) -> Drawn:
-    """So many motes around each of `count` centres, at most `spread` away from it to each side."""
+    """This many motes around each of `count` centres, at most `spread` away from it to each side."""
     chance = Chance(seed, stream)
 
     def net() -> list[Point]:

@@ -1,4 +1,5 @@
-"""Scenarios from a plan: places, programs and losses by rule. docs/use/EXPERIMENTS.md has all that a plan may say.
+"""Makes scenarios from a plan, which describes places, programs and losses by rules. docs/use/EXPERIMENTS.md describes
+all tables and keys of plans.
 
     plan = Plan.read('examples/studies/trickle.plan.toml')
     text = plan.scenario({'seed': 7})       # parameters that aren't named have the plan's own values
@@ -20,7 +21,7 @@ from motesim.runner.run import read_file
 
 
 class Plan:
-    """A plan's text, with the files next to it. Faults name it by `shown_as`, if that is given: the typed path."""
+    """A plan's text, with the files next to it. Faults name it by the typed path, `shown_as`, if that is given."""
 
     def __init__(self, name: str, text: str, files: Files, shown_as: str = '') -> None:
         self.name, self.text, self.files, self.shown_as = name, text, files, shown_as or name
@@ -57,7 +58,7 @@ class Plan:
         return dict(table)
 
     def with_given(self, given: Mapping[str, Value]) -> dict[str, Value]:
-        """All parameters, some of them with other values; `True`, as Python writes it in a table, is true."""
+        """All parameters, some of them with other values; `True`, which Python writes in tables, is true."""
         for name in given:
             if name not in self.parameters:
                 known = ', '.join(self.parameters) or 'none'
@@ -78,5 +79,5 @@ class Plan:
         return files_of(self.tables.with_parameters(self.with_given(given)), self.files)
 
     def digest(self, given: Mapping[str, Value]) -> str:
-        """The SHA-256 of the parts of the plan that decide about a run, and of the files that it needs."""
+        """The SHA-256 of the parts of the plan that determine a run, and of the files that it needs."""
         return self.files.digest(self.tables.of_runs(), self.used_files(given))

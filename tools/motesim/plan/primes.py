@@ -14,7 +14,8 @@ def is_prime(number: int) -> bool:
 
 
 def near(about: int, count: int = PRIMES) -> list[int]:
-    """Consecutive primes: losses of one packet in each are, on average, as near as possible to one in `about`."""
+    """Consecutive primes: on average over them, losses of one packet in each prime are as near as possible to one in
+    `about`."""
     primes = [it for it in range(2, 20 * about + 100) if is_prime(it)]
     rows = [primes[begin:begin + count] for begin in range(len(primes) - count + 1)]
     return min(rows, key=lambda row: abs(sum(1 / it for it in row) / count - 1 / about))

@@ -68,7 +68,7 @@ def optional(kind: type, default: object, least: int = 0, most: int = 0) -> Key:
 
 
 def any_kind(words: str, is_needed: bool) -> Key:
-    """A key that holds values of several kinds, which these words name."""
+    """A key that may have values of several kinds, which this text names."""
     return Key(object, is_needed=is_needed, words=words)
 
 
@@ -80,7 +80,7 @@ def value_of_text(text: str) -> Value:
 
 
 def as_truth(value: Value) -> Value:
-    """A value that a row of results has for true or false: its text, as TOML or as Python writes it."""
+    """A value from a row of results; true and false may be written as in TOML or as in Python."""
     found = value.lower() if type(value) is str else value
     return found == 'true' if found in ('true', 'false') else value
 
@@ -124,8 +124,8 @@ class Tables:
         return made
 
     def of_runs(self) -> str:
-        """A text of all that decides about a run, once the parameters are given: no pictures, sweeps or default values,
-        and no comments."""
+        """The parts of the plan that determine a run with given parameters, as a text: no pictures, sweeps, default
+        values or comments."""
         deciding = {name: value for name, value in self.top.items() if name not in ('parameters', 'plot', 'sweep')}
         return json.dumps(deciding, sort_keys=True, default=str)
 

@@ -1,4 +1,4 @@
-"""Writes a scenario as docs/use/SCENARIO.md has it."""
+"""Writes a scenario in the form that docs/use/SCENARIO.md describes."""
 from __future__ import annotations
 
 from collections.abc import Iterator, Mapping, Sequence
@@ -61,7 +61,7 @@ def _lines(net: Net) -> Iterator[str]:
 
 
 def comment(line: str) -> str:
-    """A line of comment, with only the signs that TOML allows there."""
+    """A line of comment, with only the characters that TOML allows there."""
     return '# ' + ''.join(sign if sign.isprintable() else '?' for sign in line)
 
 

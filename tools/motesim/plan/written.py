@@ -1,4 +1,4 @@
-"""Scenarios that plans make, and plans of scenarios, as files. tools/scenario is the command."""
+"""Writes the scenario of a plan, or the plan of a scenario, to a file. tools/scenario is the command."""
 from __future__ import annotations
 
 import argparse
@@ -18,7 +18,7 @@ from motesim.scenario import Scenario
 
 
 def given_of(words: Sequence[str]) -> dict[str, Value]:
-    """The parameters of words as `period=20`."""
+    """The parameters from arguments such as `period=20`."""
     given: dict[str, Value] = {}
     for word in words:
         name, sign, value = word.partition('=')
