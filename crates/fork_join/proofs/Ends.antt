@@ -1,4 +1,4 @@
--- The error that is reported of several threads.
+-- The error that is reported for several threads.
 use Rattle.std.proofs.Common.{◌≡◌, refl, ap, subst, ◌∙◌, List, [], ◌∷◌, ◌++◌, length, take, Option, Some, None, Result, Ok, Err}
 use Rattle.std.specs.List.{AllZip, fold}
 use Rattle.std.specs.Result.{IfErr, result_err}
@@ -8,14 +8,14 @@ use Rattle.fork_join.specs.Gravest.{gravest}
 use Rattle.fork_join.specs.Reported.{MayEnd, IsOwn, IsReported, IsReportedOf, with_end, reported}
 use Rattle.fork_join.proofs.Zips.{push_zip, zip_zip, zip_length}
 
--- with the end of one more thread
+-- the reported error after the end of one more thread
 pub reported_snoc : (so_far : Option WorkerError) (ends : List (Option WorkerError)) (end : Option WorkerError)
     → fold with_end so_far (ends ++ end ∷ []) ≡ with_end (fold with_end so_far ends) end
 reported_snoc so_far [] end = refl
 reported_snoc so_far (x ∷ xs) end = reported_snoc (with_end so_far x) xs end
 
 module _ {A : Type 0} (P : A → Option WorkerError → Type 0) where
-  -- the error of these threads
+  -- the error that is reported for these threads
   abbrev pub Ended : List A → Option WorkerError → Type 0
   Ended ys failed = (ends : List (Option WorkerError)) × AllZip P ys ends × (reported ends ≡ failed)
 
@@ -28,7 +28,7 @@ pub own_alone : {W T : Type 0} (errs : W → T → WorkerError → Type 0) (work
 own_alone errs work workers own h = ([], Some own, tt, h, (λ none. absurd (cc)), refl)
 
 module _ {A W T : Type 0} (errs : W → T → WorkerError → Type 0) (work : W) where
-  -- by the promises of the first threads, the ends of these threads are those of the first workers
+  -- by the promises of their threads, these are the ends of the first workers
   pub ends_of_workers : (workers first : List T) (handles : List (Handle A W T)) (ends : List (Option WorkerError))
       → first ≡ take (length first) workers → AllPromised work first handles
       → AllZip (λ handle end. MayEnd (errs handle.promise.work.value handle.promise.worker.value) end) handles ends
@@ -43,7 +43,7 @@ module _ {A W T : Type 0} (errs : W → T → WorkerError → Type 0) (work : W)
       let same : first ≡ take (length ends) workers = rw long e in
       (long, subst (λ xs. AllZip (λ worker end. MayEnd (errs work worker) end) xs ends) same zipped)
 
-  -- all were started, or the fork failed after these
+  -- all workers were started, or the fork failed after these
   pub with_own : (workers first : List T) (handles : List (Handle A W T)) (own : Option WorkerError) (e : WorkerError) (joined : Option WorkerError)
       → first ≡ take (length first) workers → AllPromised work first handles
       → Ended (λ handle end. MayEnd (errs handle.promise.work.value handle.promise.worker.value) end) handles joined

@@ -1,25 +1,25 @@
--- Tokens of several workers, added up.
+-- The sum of the tokens of several workers.
 use Rattle.std.proofs.Common.{◌≡◌, ◌+◌, ◌%◌, ◌<◌, ℕ, Option, Some, None, Result, Ok, Err, subst, arith}
 use Rattle.fork_join.specs.declared.work.WorkerError.{WorkerError}
 use Rattle.fork_join.specs.declared.work.WorkerError.TheVariants.{Memory, Thread, Stopped}
 use Rattle.fork_join.specs.Gravest.{gravest}
 use Rattle.fork_join.specs.Tokens.{HasTokens}
 
--- the same as `HasTokens`, of an error if there is one
+-- the same as `HasTokens`, for an error, if there is one
 abbrev pub HaveTokens : Option WorkerError → ℕ → Type 0
 HaveTokens None amount = amount % 2 ≡ 0
 HaveTokens (Some Stopped) amount = (amount % 2 ≡ 0) × (0 < amount)
 HaveTokens (Some Memory) amount = Unit {0}
 HaveTokens (Some Thread) amount = Unit {0}
 
--- with the tokens of one more worker, which has no error
+-- the tokens with those of one more worker, which has no error
 pub one_without : (failed : Option WorkerError) (a b : ℕ) → HaveTokens failed a → b % 2 ≡ 0 → HaveTokens failed (a + b)
 one_without None a b h k = grind arith
 one_without (Some Stopped) a b h k = (grind arith, omega (arith, h.1))
 one_without (Some Memory) a b h k = tt
 one_without (Some Thread) a b h k = tt
 
--- with the tokens of one more worker, which has this error
+-- the tokens with those of one more worker, which has this error
 pub one_with : (failed : Option WorkerError) (r : WorkerError) (a b : ℕ) → HaveTokens failed a → HaveTokens (Some r) b → HaveTokens (Some (gravest failed r)) (a + b)
 one_with None Stopped a b h k = (grind arith, omega (arith, k.1))
 one_with None Memory a b h k = tt
@@ -35,7 +35,7 @@ as_some T Stopped n h = h
 as_some T Memory n h = tt
 as_some T Thread n h = tt
 
--- by what a worker returned
+-- the tokens by the result of a worker
 pub tokens_of_ok : {T : Type 0} (r : Result T WorkerError) (x : T) (n : ℕ) → r ≡ Ok x → HasTokens r n → n % 2 ≡ 0
 tokens_of_ok r x n e h = subst (λ s. HasTokens s n) e h
 

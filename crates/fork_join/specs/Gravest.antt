@@ -3,8 +3,8 @@ use Rattle.std.specs.Prelude.{Bool, true, false, Option, Some, None}
 use Rattle.fork_join.specs.declared.work.WorkerError.{WorkerError}
 use Rattle.fork_join.specs.declared.work.WorkerError.TheVariants.{Memory, Thread, Stopped}
 
--- a worker with `Stopped` stopped because another failed, whose reason takes precedence; otherwise the first is
--- reported
+-- a worker returns `Stopped` because another one failed, and the other's reason takes precedence; otherwise, the first
+-- reason is reported
 abbrev pub graver : (first other : WorkerError) → WorkerError
 graver Memory other = Memory
 graver Thread other = Thread
@@ -14,7 +14,7 @@ abbrev pub gravest : (so_far : Option WorkerError) → (other : WorkerError) →
 gravest None other = other
 gravest (Some first) other = graver first other
 
--- whether a worker failed itself
+-- the worker itself failed
 abbrev pub is_own : WorkerError → Bool
 is_own Memory = true
 is_own Thread = true

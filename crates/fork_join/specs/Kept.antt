@@ -4,11 +4,11 @@ use Rattle.std.specs.List.{AllZip}
 use Rattle.std.specs.declared.thread.PromisedHandle.{PromisedHandle}
 use Rattle.fork_join.specs.declared.fork.Promised.{Promised}
 
--- a worker's thread, which ends with an A
+-- the handle of a worker's thread, which ends with an A
 abbrev pub Handle : (A W T : Type 0) → Type 0
 Handle A W T = PromisedHandle A (Promised W T)
 
--- each is the one that its thread promised
+-- each result is the one that its thread promised
 abbrev pub AllKept : {A W T : Type 0} → (W → T → T → Type 0) → List (Handle A W T) → List T → Type 0
 AllKept makes handles done = AllZip
     (λ handle worker. makes handle.promise.work.value handle.promise.worker.value worker) handles done

@@ -6,17 +6,18 @@ use Rattle.fork_join.specs.declared.work.WorkerError.TheVariants.{Memory, Thread
 use Rattle.fork_join.specs.Gravest.{gravest}
 use Rattle.fork_join.specs.Kept.{Handle}
 
--- how a thread ended: without an error, with one that the work allows, or without memory for its result
+-- the possible ends of a thread: without an error, with an error that the work allows, or without memory for its
+-- result
 abbrev pub MayEnd : (WorkerError → Type 0) → Option WorkerError → Type 0
 MayEnd errs None = Unit {0}
 MayEnd errs (Some e) = errs e ⊎ (e ≡ Memory)
 
--- the error that is reported, with one more thread
+-- the error that is reported after one more thread
 abbrev pub with_end : Option WorkerError → Option WorkerError → Option WorkerError
 with_end so_far None = so_far
 with_end so_far (Some e) = Some (gravest so_far e)
 
--- the error that is reported of all threads, in their order
+-- the error that is reported for all threads, in their order
 abbrev pub reported : List (Option WorkerError) → Option WorkerError
 reported ends = fold with_end None ends
 
@@ -24,9 +25,9 @@ reported ends = fold with_end None ends
 abbrev pub IsOwn : Option WorkerError → Type 0
 IsOwn own = IfSome own (λ e. (e ≡ Memory) ⊎ (e ≡ Thread))
 
--- The error of the first workers, which were started, and of the fork itself. If the fork has none, all were started.
--- An error of a worker's own takes precedence over `Stopped`; of several the lowest worker's is reported, and the
--- fork's comes last.
+-- The error that is reported for the first workers, which were started, and the fork itself. If the fork has no error,
+-- all workers were started. A worker's own error takes precedence over `Stopped`. If there are several, that of the
+-- worker with the lowest number is reported; the fork's error comes last.
 abbrev pub IsReported : {T : Type 0} → (T → WorkerError → Type 0) → List T → WorkerError → Type 0
 IsReported errs workers e =
     (ends : List (Option WorkerError)) × (own : Option WorkerError)
@@ -34,7 +35,7 @@ IsReported errs workers e =
     × IsOwn own × (own ≡ None → length ends ≡ length workers)
     × (reported (ends ++ own ∷ []) ≡ Some e)
 
--- the error of the threads that were started
+-- the error that is reported for the threads that were started
 abbrev pub IsReportedOf : {A W T : Type 0} → (W → T → WorkerError → Type 0) → List (Handle A W T) → WorkerError → Type 0
 IsReportedOf errs handles e =
     (ends : List (Option WorkerError))

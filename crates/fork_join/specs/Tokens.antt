@@ -1,14 +1,15 @@
--- The tokens of workers, which show that one stopped only after it had seen the flag set.
+-- The tokens of workers. They show that a worker stopped only after it had seen that the flag was set.
 use Rattle.std.specs.Prelude.{◌≡◌, ◌<◌, ◌%◌, ℕ, Bool, true, false, Result, Ok, Err}
 use Rattle.fork_join.specs.declared.work.WorkerError.{WorkerError}
 use Rattle.fork_join.specs.declared.work.WorkerError.TheVariants.{Memory, Thread, Stopped}
 
--- a worker's: two, if it saw the flag set
+-- the number of a worker's tokens: two, if it saw that the flag was set
 abbrev pub tokens_of : Bool → ℕ
 tokens_of false = 0
 tokens_of true = 2
 
--- Of workers with this result, as far as none of them failed: an even number, which isn't 0 if one stopped.
+-- The number of tokens of workers with this result, if none of them failed: it is even, and it isn't 0 if a worker
+-- stopped.
 abbrev pub HasTokens : {T : Type 0} → Result T WorkerError → ℕ → Type 0
 HasTokens (Ok done) amount = amount % 2 ≡ 0
 HasTokens (Err Stopped) amount = (amount % 2 ≡ 0) × (0 < amount)

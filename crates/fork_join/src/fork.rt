@@ -17,14 +17,14 @@ use std::sync::ledger::{Blank, Ledger, Share};
 use std::thread;
 use std::thread::{Promise, PromisedHandle, Scope, Threads};
 
-/// The end of a worker's thread: the result of its work, and its part of the tokens.
+/// The end of a worker's thread: the result of the worker's work, and its part of the tokens.
 #[derive(Drop)]
 struct Ended<T, L: Ledger> {
     result: Result<T, WorkerError>,
     share: Share<L>,
 }
 
-/// The promise of a thread: the effect of the work on this record, and that it stopped only if it saw the flag set.
+/// The promise of a thread: the effect of the work on this record. It stopped only if it saw that the flag was set.
 pub struct Promised<W, T> {
     work: Snapshot<W>,
     worker: Snapshot<T>,
@@ -42,15 +42,16 @@ impl<T, W: Work<T>, L: Ledger> Promise<Ended<T, L>> for Promised<W, T> {
         × (ended.share.parts ≡ 1) × HasTokens ended.result ended.share.amount };
 }
 
-/// Has each worker work in a thread of its own. The threads are started one after another, and all that were started
-/// are joined. After a failed start no further worker is started, and the workers' flag is set. The workers come back
-/// in their order.
+/// Has each worker work in a thread of its own. The threads are started one after another, and all started threads are
+/// joined. If a start fails, no further worker is started, and the workers' flag is set. The workers are returned in
+/// their order.
 ///
 /// # Errors
-/// The error of the first worker that failed, of those whose handle was kept; otherwise `Thread` if a thread couldn't
-/// be started, or `may_start` refused it, or `Memory` if an allocation for the handles failed. A worker whose handle
-/// couldn't be stored is joined, and its answer dropped. A worker for whose result an allocation failed counts as one
-/// that returned `Memory`. It is never `Stopped`: a worker stops only after another, or a start, has failed.
+/// The error of the first failed worker among those whose handle was kept. Otherwise, `Thread` if a thread couldn't be
+/// started or `may_start` refused the start, or `Memory` if an allocation for the handles failed. If a worker's handle
+/// couldn't be stored, the worker is joined and its result is dropped. If an allocation for a worker's result failed,
+/// the worker counts as one that returned `Memory`. The error is never `Stopped`: a worker stops only after another
+/// worker or a start has failed.
 pub fn fork_join<R, T, W>(
     rt: &R,
     alloc: Global,
@@ -72,7 +73,7 @@ where
     fork_parts::<R, T, W, Brand>(rt, alloc, workers, work, Blank::new(parts))
 }
 
-/// [`fork_join`], with a part of the tokens for each worker and one for the fork.
+/// Does the work of [`fork_join`], with one part of the tokens for each worker and one for the fork.
 fn fork_parts<R, T, W, L>(
     rt: &R,
     alloc: Global,
@@ -135,7 +136,7 @@ where
     )
 }
 
-/// Runs a worker's work in its thread; if it failed, sets the flag.
+/// Runs a worker's work in its thread, and sets the flag if the work failed.
 fn run_worker<R, T, W, L>(
     rt: &R,
     work: &W,
@@ -223,7 +224,8 @@ where
     }
 }
 
-/// Joins each thread, and gathers the tokens. Returns the results of the threads, or the first of the gravest errors.
+/// Joins each thread, and gathers the tokens. It returns the results of the threads, or the first of the most serious
+/// errors.
 fn join_all<R: Threads, T: Send + Drop, W: Work<T>, L: Ledger + Send>(
     rt: &R,
     alloc: Global,
@@ -257,7 +259,8 @@ fn join_all<R: Threads, T: Send + Drop, W: Work<T>, L: Ledger + Send>(
     }
 }
 
-/// The results of the threads, once all were started and joined: no worker stopped unless another failed.
+/// Returns the results of the threads after all of them were started and joined. No worker stopped unless another
+/// failed.
 fn none_stopped<R: Wait, T: Drop, L: Ledger>(
     rt: &R,
     flag: &Flag<L>,

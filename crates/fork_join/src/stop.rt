@@ -1,5 +1,6 @@
-//! The stop flag: a worker that fails sets it, and so does a start that fails, so that workers that wait for one
-//! another stop. A worker stops only after it has seen the flag set: tokens of a ledger say so after the join.
+//! The stop flag. A worker that fails sets it, and so does a start that fails, so that workers that wait for one
+//! another stop. A worker stops only after it has seen that the flag is set: after the join, the tokens of a ledger
+//! prove this.
 
 ghost use Rattle.std.specs.Prelude.{◌≡◌, ◌+◌, ◌%◌, ◌<◌, true, false, IsTrue};
 ghost use Rattle.fork_join.specs.Tokens.{tokens_of};
@@ -8,7 +9,8 @@ use std::sync::atomic::{AtomicBool, Ordering};
 use std::sync::ledger::{Book, Ledger, Share};
 use std::sync::{Mutex, Wait};
 
-/// The flag, and the tokens: one for the failure that set it first, and two for each worker that saw it set.
+/// The flag, and the tokens: one for the failure that set the flag first, and two for each worker that saw that it was
+/// set.
 #[derive(Drop)]
 struct Failure<L: Ledger> {
     is_set: bool,
@@ -50,7 +52,7 @@ impl<L: Ledger> Failure<L> {
         *is_set
     }
 
-    /// If no worker failed, none saw the flag set.
+    /// Proves that no worker saw the flag set, if no worker failed.
     fn audit(&mut self, all: &mut Share<L>)
         requires parts { all.old.parts ≡ L.parts }
         requires even { all.old.amount % 2 ≡ 0 }
@@ -64,7 +66,7 @@ impl<L: Ledger> Failure<L> {
 /// The flag that all workers share.
 #[derive(Drop)]
 pub struct Flag<L: Ledger> {
-    /// Set before `failure`, so that a look mostly needs no lock.
+    /// A copy of the flag, so that most reads need no lock. It is set after `failure`.
     hint: AtomicBool,
     failure: Mutex<Failure<L>>,
 }
@@ -96,7 +98,7 @@ impl<L: Ledger> Flag<L> {
         self.failure.lock(rt).see(share)
     }
 
-    /// Once all workers have ended: if none of them failed, none saw the flag set.
+    /// Proves, after all workers have ended, that no worker saw the flag set, if no worker failed.
     pub(crate) fn audit<R: Wait>(&self, rt: &R, all: &mut Share<L>)
         requires parts { all.old.parts ≡ L.parts }
         requires even { all.old.amount % 2 ≡ 0 }
@@ -106,12 +108,12 @@ impl<L: Ledger> Flag<L> {
     }
 }
 
-/// A worker's look at the flag.
+/// A worker's access to the flag.
 #[derive(Drop)]
 pub struct Watch<'a, L: Ledger> {
     flag: &'a Flag<L>,
     share: Share<L>,
-    /// Set once the worker saw the flag set.
+    /// Is `true` once the worker has seen that the flag is set.
     pub seen: bool,
     ghost part: { share.parts ≡ 1 },
     ghost amount: { share.amount ≡ tokens_of seen },
@@ -150,7 +152,7 @@ impl<'a, L: Ledger> Watch<'a, L> {
         *seen = flag.see(rt, share);
     }
 
-    /// Ends a worker's look once the worker has ended, and sets the flag if it failed.
+    /// Ends a worker's access to the flag after the worker has ended, and sets the flag if the worker failed.
     pub(crate) fn end<R: Wait>(self, rt: &R, failed: bool) -> Share<L>
         ensures part { result.parts ≡ 1 }
         ensures amount { failed ≡ false → result.amount ≡ tokens_of self.entry.seen }

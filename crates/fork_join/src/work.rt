@@ -14,12 +14,13 @@ pub enum WorkerError {
     Memory,
     /// A thread couldn't be started, or its work failed.
     Thread,
-    /// It stopped because another worker failed or wasn't started. [`crate::fork_join`] never returns it.
+    /// The worker stopped because another worker failed or wasn't started. [`crate::fork_join`] never returns this
+    /// error.
     Stopped,
 }
 
 impl WorkerError {
-    /// Returns whether the worker failed itself.
+    /// Returns whether the worker itself failed.
     pub(crate) fn is_own(self) -> bool
         ensures value { result ≡ is_own self }
     {
@@ -29,8 +30,8 @@ impl WorkerError {
         }
     }
 
-    /// The reason that is reported, of two: `Memory` and `Thread` take precedence over `Stopped`; otherwise it is the
-    /// first.
+    /// Returns the one of two reasons that is reported: `Memory` and `Thread` take precedence over `Stopped`;
+    /// otherwise, the first reason is reported.
     fn graver(self, other: WorkerError) -> WorkerError
         ensures value { result ≡ graver self other }
     {
@@ -41,7 +42,7 @@ impl WorkerError {
     }
 }
 
-/// The reported reason, once one more worker gave up, for the reason `other`.
+/// Returns the reported reason after one more worker gave up, for the reason `other`.
 pub(crate) fn gravest(so_far: Option<WorkerError>, other: WorkerError) -> WorkerError
     ensures value { result ≡ gravest so_far other }
 {
@@ -80,23 +81,23 @@ pub trait Work<T> {
     /// The condition on a worker's record.
     ghost ready: { Self → T → Type 0 };
 
-    /// The effect of the work on it.
+    /// The effect of the work on the record.
     ghost makes: { Self → T → T → Type 0 };
 
-    /// The errors that it may return instead.
+    /// The errors that the work may return instead.
     ghost errs: { Self → T → WorkerError → Type 0 } = { λ _ _ _. Unit {0} };
 
-    /// Works on the record of one worker. Workers that wait for one another look at the flag while they wait: the flag
-    /// is set if a worker, or a start, has failed.
+    /// Works on the record of one worker. Workers that wait for one another read the flag while they wait: the flag is
+    /// set if a worker or a start has failed.
     ///
     /// # Errors
-    /// `Stopped` only if the worker saw the flag set.
+    /// `Stopped` only if the worker saw that the flag was set.
     fn work<L: Ledger>(&self, worker: T, watch: &mut Watch<'_, L>) -> Result<T, WorkerError>
         requires ready { ready self.now worker }
         ensures makes { IfOk result (makes self.now worker) }
         ensures errs { IfErr result (errs self.now worker) }
         ensures seen { IfErr result (λ e. e ≡ Stopped → watch.new.seen ≡ true) };
 
-    /// Returns whether a worker's thread may start. Called before each start; `false` counts as a start that failed.
+    /// Returns whether a worker's thread may start. It is called before each start; `false` counts as a failed start.
     fn may_start(&self, worker: &T) -> bool;
 }

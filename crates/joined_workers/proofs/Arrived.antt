@@ -1,4 +1,4 @@
--- Copies that a worker was sent are for its motes.
+-- The copies that were sent to a worker are for its motes.
 use Rattle.std.proofs.Common.{◌≡◌, ◌⊎◌, ℕ, Bool, true, false, List, [], ◌∷◌, ◌++◌, sym, ap, ◌∙◌, subst, inl, inr}
 use Rattle.std.specs.List.{filter, AllByRecursion as Each}
 use Rattle.std.proofs.lemmas.Bool.{cases_Bool, eqb-true}
@@ -33,7 +33,7 @@ module _ (P : RadioCopy → Type 0) where
       last_of (taken_by old.taker) copies
       (subst (Each P) collects.adds (every_same (taken_by new.taker) (gathered_by old.taker) collects.in_order h))
 
--- copies that a worker gathered are for its motes, and no mote of its own sent them
+-- the copies that a worker gathered are for its motes, and come from motes of other workers
 module _ (n : NetModel) (of : List ℕ) (motes : Motes) (v : ℕ) (gathered : List RadioCopy) (matches : GatheredCopies (system_of n) of motes v gathered) where
   foreign_of : (s : ℕ) → Each (λ (c : RadioCopy). (is_own of v c.to ≡ true) × (is_own of v c.sender ≡ false)) (filter (is_from_sender s) gathered)
   foreign_of s = of_case (cases_Bool (is_own of v s))

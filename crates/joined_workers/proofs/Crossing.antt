@@ -1,4 +1,4 @@
--- The window, and the rest of the data of each worker's thread, may be shared by threads.
+-- Threads may share the window and the rest of the data of each worker's thread.
 use denote.Param.Send.{IsSync, sendable}
 use denote.Param.SendFields.{declared_sync}
 use denote.Ref.{NamedLft}

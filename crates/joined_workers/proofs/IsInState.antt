@@ -1,4 +1,4 @@
--- The workers are at each moment up to the first pending event.
+-- At each moment up to the first pending event, the workers are in the state of that moment.
 use Rattle.std.proofs.Common.{◌≡◌, ◌⊎◌, ℕ, ◌<◌, ◌≤◌, Bool, true, false, not, ◌&&◌, ltb, List, [], ◌∷◌, length, get_or}
 use Rattle.std.proofs.Common.{refl, sym, ◌∙◌, subst, inl, inr, arith, Option, Some, None}
 use Rattle.std.specs.List.{filter, slice_get, AllByRecursion as Each}
@@ -27,7 +27,7 @@ not_sooner : (moment : ℕ) (first : Option ℕ) (c : RadioCopy) → NoneBefore 
 not_sooner moment None c w h = absurd h
 not_sooner moment (Some m) c w h = omega arith
 
--- a property of those that pass two tests
+-- a property of the elements that pass two tests
 unfiltered : (P : RadioCopy → Type 0) (p q : RadioCopy → Bool) (xs : List RadioCopy) → Each P (filter (λ c. p c && q c) xs) → Each (λ c. p c ≡ true → q c ≡ true → P c) xs
 unfiltered P p q [] h = tt
 unfiltered P p q (x ∷ xs) h = elim (cases_Bool (p x && q x)) [
@@ -50,7 +50,7 @@ passed P p (x ∷ xs) h = elim (cases_Bool (p x)) [
   | inr e ↦ (let g = rw e at h in (λ a. absurd (cc), passed P p xs g))
 ]
 
--- a property of the copies of each worker is one of all, if each copy has a worker
+-- a property of the copies of each worker is a property of all copies, if each copy has a worker
 by_some : (workers : ℕ) (A : ℕ → RadioCopy → Type 0) (Q : RadioCopy → Type 0) (xs : List RadioCopy) → ((v : ℕ) → v < workers → Each (λ c. A v c → Q c) xs)
     → Each (λ c. (v : ℕ) × (v < workers) × A v c) xs → Each Q xs
 by_some workers A Q [] h k = tt
@@ -99,7 +99,7 @@ module _ (n : NetModel) (fine : RunsForward (system_of n)) (of : List ℕ) (from
       let w = some_worker (length n.motes) workers of at.cut k h in
       (keeps_on w.0 (piece w.0 w.2)).quiet k (own_by of w.0 k w.1)
 
-  -- no copy for a mote of this worker comes before the moment
+  -- no copy for a mote of this worker arrives before the moment
   no_copy_to : (s v : ℕ) → Piece v → Each (λ (c : RadioCopy). is_own of v c.to ≡ true → (from ≤ c.at → moment ≤ c.at)) (copies_by (system_of n) at.motes s)
   no_copy_to s v p = of_case (cases_Bool (is_own of v s))
     where

@@ -1,4 +1,4 @@
--- The state in which a window of all workers leaves them.
+-- The state of all workers after a window.
 use Rattle.std.proofs.Common.{◌≡◌, ℕ, ◌+◌, ◌<◌, ◌≤◌, true, false, eqb, List, [], ◌∷◌, ◌++◌, length, map, get_or, refl}
 use Rattle.std.proofs.Common.{sym, ap, ◌∙◌, subst, arith, Option, Some, None}
 use Rattle.std.specs.List.{filter, flat_map, zip, slice_get, AllByRecursion as Each}
@@ -150,7 +150,7 @@ module _ (n : NetModel) (fine : RunsForward (system_of n)) (of : List ℕ) (from
       as_long _ (map make_worker (zip old.shares.items all.endpoints)) all.done all.ran
       ∙ (map_long make_worker (zip old.shares.items all.endpoints) ∙ (zip_long old.shares.items all.endpoints endpoints_long ∙ at.shares))
 
-  -- of the copies delivered to a worker, those that one mote sent
+  -- among the copies delivered to a worker, those that one mote sent
   to_one : (v s : ℕ) → filter (is_from_sender s) (delivered_to (map (λ (w : Worker). w.endpoint) all.done) v) ≡ out_to v s
   unfolding outgoing
   to_one v s = by_endpoint ∙ of_worker (slice_get of s) refl

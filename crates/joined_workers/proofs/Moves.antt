@@ -1,4 +1,4 @@
--- A window of all workers moves all of them on.
+-- A window of all workers leads all of them to its end.
 use Rattle.std.proofs.Common.{◌≡◌, ℕ, ◌+◌, ◌<◌, ◌≤◌, List, length, map, get_or, sym, ap, subst, Some}
 use Rattle.std.specs.List.{zip, slice_get, AllByRecursion as Each}
 use Rattle.mote_net.specs.Net.{NetModel}
@@ -23,7 +23,7 @@ use Rattle.all_workers.proofs.Numbered.{numbered}
 use Rattle.joined_workers.proofs.Ready.{arrived_come}
 
 module _ (n : NetModel) (of : List ℕ) (from until : ℕ) (old new : WorkerGroup) (at : IsAt n of from old) (all : GroupRunsUntil n of until old new) where
-  -- one worker of the window: its old state, and its new one
+  -- one worker in the window: its old state and its new one
   pub record Piece (v : ℕ) : Type 0 where
     pub share : Share
     pub taker : TakerView

@@ -1,4 +1,4 @@
--- Workers between two windows are ready to run once their endpoints are made.
+-- Workers between two windows are ready to run after their endpoints are made.
 use Rattle.std.proofs.Common.{◌≡◌, ℕ, suc, ◌<◌, ◌≤◌, ◌^◌, true, false, List, [], ◌∷◌, ◌++◌, length, get_or, refl}
 use Rattle.std.proofs.Common.{sym, ap, ◌∙◌, subst, arith, Option, Some, None}
 use Rattle.std.specs.List.{filter, zip, slice_get, range_with_len, AllZip, AllByRecursion as Each}

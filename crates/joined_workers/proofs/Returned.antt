@@ -1,4 +1,4 @@
--- The endpoints of workers that ran, at the end of a window.
+-- The endpoints of workers that have run, at the end of a window.
 use Rattle.std.proofs.Common.{◌≡◌, ◌⊎◌, ℕ, ◌==◌, true, false, List, [], ◌∷◌, length, map, sym, ap, ◌∙◌, arith, inl}
 use Rattle.std.proofs.Common.{inr, subst}
 use Rattle.std.specs.Prelude.{slice_index}

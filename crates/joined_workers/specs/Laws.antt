@@ -15,8 +15,8 @@ use Rattle.all_workers.specs.WorkerGroup.{IsAt}
 use Rattle.joined_workers.specs.Next.{IsNextOfAll, FirstOfAll}
 use Rattle.joined_workers.specs.Worker.{RunsWorker}
 
--- The senders of all workers were made together, each worker ran through the window with its own, and then all senders
--- were gathered.
+-- The senders of all workers were made together, each worker ran through the window with its own senders, and then all
+-- senders were gathered.
 pub record GroupRunsUntil (n : NetModel) (of : List ℕ) (until : ℕ) (old new : WorkerGroup) : Type 0 where
   pub endpoints : List Endpoint
   pub done : List Worker
@@ -30,13 +30,14 @@ pub record GroupRunsUntil (n : NetModel) (of : List ℕ) (until : ℕ) (old new 
   pub inboxes : new.inboxes.items ≡ old.inboxes.items
   pub first : FirstOfAll done new.first_out
 
--- a window that begins at the moment of the workers, and is no longer than the lookahead, leads to its end
+-- a window that begins at the moment of the workers, and isn't longer than the lookahead, leads the workers to its end
 abbrev pub WindowMovesOn : Type 0
 WindowMovesOn = (n : NetModel) → RunsForward (system_of n) → (of : List ℕ) (from until : ℕ) (old new : WorkerGroup)
     → IsAt n of from old → from < until → until ≤ from + (system_of n).lookahead
     → GroupRunsUntil n of until old new → IsAt n of until new
 
--- the first pending event isn't before the moment of the workers, and they are at each moment up to it
+-- the first pending event isn't before the moment of the workers; at each moment up to this event, the workers are in
+-- the state of that moment
 abbrev pub StaysUntilNext : Type 0
 StaysUntilNext = (n : NetModel) → RunsForward (system_of n) → (of : List ℕ) (from : ℕ) (group : WorkerGroup)
     → (next : Option ℕ) → IsAt n of from group → IsNextOfAll group.first_out group.shares.items next

@@ -6,7 +6,7 @@ use Rattle.all_workers.specs.WindowLength.{end_of_window}
 use Rattle.joined_workers.specs.Next.{IsNextOfAll}
 use Rattle.joined_workers.specs.Laws.{GroupRunsUntil}
 
--- it begins at the first pending event, or after the end, if nothing is pending up to the end
+-- a window begins at the first pending event, or after the end, if nothing is pending up to the end
 abbrev pub start_of_window : (end : ℕ) → (next : Option ℕ) → ℕ
 start_of_window end None = end + 1
 start_of_window end (Some moment) = min moment (end + 1)
@@ -17,20 +17,20 @@ pub record BeginsAt (end : ℕ) (group : WorkerGroup) (from : ℕ) : Type 0 wher
   pub is : IsNextOfAll group.first_out group.shares.items next
   pub start : from ≡ start_of_window end next
 
--- one window of all workers, which begins at the first pending event and is at most `width` long
+-- one window of all workers, which begins at the first pending event and isn't longer than `width`
 pub record GroupRunsNext (n : NetModel) (of : List ℕ) (width : ℕ) (old new : WorkerGroup) : Type 0 where
   pub from : ℕ
   pub begins : BeginsAt n.end old from
   pub there : from ≤ n.end
   pub runs : GroupRunsUntil n of (end_of_window n.end width from) old new
 
--- this many of these, one after another
+-- this many such windows, one after another
 abbrev pub GroupRunsWindows : NetModel → List ℕ → (width windows : ℕ) → (old new : WorkerGroup) → Type 0
 GroupRunsWindows n of width zero old new = new ≡ old
 GroupRunsWindows n of width (suc k) old new =
     (between : WorkerGroup) × GroupRunsWindows n of width k old between × GroupRunsNext n of width between new
 
--- all of them: then nothing is pending up to the end
+-- all windows: after them, nothing is pending up to the end
 pub record GroupRunsToEnd (n : NetModel) (of : List ℕ) (width : ℕ) (old new : WorkerGroup) : Type 0 where
   pub windows : ℕ
   pub runs : GroupRunsWindows n of width windows old new

@@ -16,9 +16,9 @@ use Rattle.worker_window.specs.Window.{CanRun, RunsWindow, IsOutgoing}
 use Rattle.all_workers.specs.WorkerGroup.{IsCut, IsNotBefore}
 use Rattle.all_workers.specs.declared.worker.Worker.{Worker}
 
--- A worker that can run through a window that ends at 2^40 or sooner: the cut fits, its share and its endpoint are
--- those of one worker, its inbox has no marks, all that was gathered is for its motes, and each copy that it takes in
--- is expected.
+-- A worker that can run through a window that ends at 2^40 or earlier. The partition fits, the share and the endpoint
+-- are those of one worker, the worker's inbox has no marks, all copies that were gathered are for its motes, and each
+-- copy that it takes in is expected.
 pub record IsReady (n : NetModel) (of : List ℕ) (inboxes : List InboxId) (until : ℕ) (worker : Worker) : Type 0 where
   pub early : until ≤ 2 ^ 40
   pub cut : IsCut (length n.motes) (length inboxes) of
@@ -35,9 +35,9 @@ pub record IsFirstOf (copies : List RadioCopy) (first : Option ℕ) : Type 0 whe
   pub none_before : Each (IsNotBefore first) copies
   pub greatest : (moment : ℕ) → Each (λ (copy : RadioCopy). moment ≤ copy.at) copies → NoneBefore moment first
 
--- If the share was at a moment that isn't after the window's end: if the window is no longer than the lookahead and
--- each copy that arrived is expected, the new share is the result of the window, on everything that the worker has then
--- taken, and these are the outgoing copies.
+-- If the share was at a moment that isn't after the window's end, if the window isn't longer than the lookahead, and
+-- if each copy that arrived is expected, then the new share is the result of the window, on all copies that the worker
+-- has then taken, and these are the outgoing copies.
 abbrev pub RunsItsMotes : NetModel → (of : List ℕ) → (until : ℕ) → (arrived outgoing : List RadioCopy)
     → (old new : Worker) → Type 0
 RunsItsMotes n of until arrived outgoing old new = (from : ℕ) (motes : Motes)
@@ -46,7 +46,8 @@ RunsItsMotes n of until arrived outgoing old new = (from : ℕ) (motes : Motes)
     → Each (IsExpected of old.endpoint.worker from) arrived
     → RunsWindow n of old.endpoint.worker from until motes (taken_by new.endpoint.taker) new.share outgoing
 
--- The worker took in all that it had gathered and not yet taken, ran its motes, and delivered the outgoing copies.
+-- The worker took in all copies that it had gathered and not yet taken, ran its motes, and delivered the outgoing
+-- copies.
 pub record RunsWorker (n : NetModel) (of : List ℕ) (inboxes : List InboxId) (until : ℕ) (old new : Worker)
     : Type 0 where
   pub arrived : List RadioCopy

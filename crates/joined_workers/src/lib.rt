@@ -1,4 +1,4 @@
-//! Workers with joins: each window has a thread for each worker, and all are joined at its end.
+//! Workers with joins: in each window, each worker has a thread, and all threads are joined at the window's end.
 #![tactic(auto)]
 
 pub mod laws;

@@ -8,21 +8,21 @@ use crate::worker::sooner;
 use all_workers::{Worker, WorkerGroup};
 use worker_window::Share;
 
-/// `Share::next`, as a function with one clause, for the loop's proof.
+/// Calls `Share::next`. This function has only one clause, for the proof of the loop.
 fn next_of(share: &Share) -> Option<u64>
     ensures tells_next { TellsNext share.now result }
 {
     share.next()
 }
 
-/// The `first_out` of a worker, as a function with one clause, for the loop's proof.
+/// Returns the `first_out` of a worker. This function has only one clause, for the proof of the loop.
 fn first_out_of(worker: &Worker) -> Option<u64>
     ensures value { result ≡ worker.now.first_out }
 {
     worker.first_out
 }
 
-/// The moment at which the first of the copies arrives that these workers delivered.
+/// Returns the moment at which the first of the copies arrives that these workers delivered.
 pub fn first_of_all(workers: &[Worker]) -> Option<u64>
     ensures first_of_all { FirstOfAll workers.now result }
 {
@@ -33,7 +33,7 @@ pub fn first_of_all(workers: &[Worker]) -> Option<u64>
     first
 }
 
-/// The moment of the first pending event, in these shares or the inboxes, if there is one.
+/// Returns the moment of the first pending event in these shares or in the inboxes, if there is one.
 fn next_of_all(first_out: Option<u64>, shares: &[Share]) -> Option<u64>
     ensures is_next_of_all { IsNextOfAll first_out shares.now result }
 {
@@ -44,7 +44,7 @@ fn next_of_all(first_out: Option<u64>, shares: &[Share]) -> Option<u64>
     next
 }
 
-/// The moment of the first pending event, in the shares or the inboxes, if there is one.
+/// Returns the moment of the first pending event in the shares or in the inboxes, if there is one.
 pub fn next_moment(group: &WorkerGroup) -> Option<u64>
     ensures is_next_of_all { IsNextOfAll group.now.first_out group.now.shares.items result }
 {

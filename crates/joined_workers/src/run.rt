@@ -22,8 +22,8 @@ use std::sync::Wait;
 use std::thread::Threads;
 use worker_window::Gate;
 
-/// The first moment of the next window: that of the first pending event, or a moment after the end, if nothing is
-/// pending up to the end.
+/// Returns the first moment of the next window: the moment of the first pending event, or the moment after the end, if
+/// nothing is pending up to the end.
 fn window_start(group: &WorkerGroup, end: u64) -> u64
     requires end_bounded { end ≤ latest_end }
     ensures value { BeginsAt end group.now result }
@@ -36,13 +36,13 @@ fn window_start(group: &WorkerGroup, end: u64) -> u64
     }
 }
 
-/// and ends before the lesser of that moment plus the lookahead (or plus `longest`, if it is above 0 and shorter) and
-/// and ends before the lesser of that moment plus the lookahead (or plus `longest`, if it is above 0 and shorter) and
-/// shorter). `of` is the worker of each mote. The inboxes have no marks.
+/// Runs all workers to the end of the net, window by window. Each window begins at the moment of the first pending
+/// event, and ends before this moment plus the lookahead, or plus `longest` if that is above 0 and below the
+/// lookahead. `of` is the worker of each mote. The inboxes have no marks.
 ///
 /// # Errors
-/// `Memory`, or `Thread` if a thread couldn't be started, the gate refused a start, or the executor returned an error:
-/// that of the first worker, by number, that has one. It is never `Stopped`.
+/// `Memory` if an allocation fails; `Thread` if a thread couldn't be started, the gate refused a start, or the
+/// executor returned an error. It is the error of the failed worker with the lowest number. It is never `Stopped`.
 pub fn run_by_joins<R, G>(
     rt: &R,
     alloc: Global,

@@ -20,12 +20,12 @@ use std::sync::Wait;
 use std::thread::Threads;
 use worker_window::Gate;
 
-/// One window: each worker takes in the copies that were sent to it, runs its motes up to `until`, and delivers the
-/// copies that they sent, each in its own thread; then all senders are gathered.
+/// Runs one window. Each worker, in a thread of its own, takes in the copies that were sent to it, runs its motes up
+/// to `until`, and delivers the copies that they sent. Then all senders are gathered.
 ///
 /// # Errors
-/// That of the first worker that has one; `Thread` if a thread couldn't be started, or the gate refused it; and
-/// `Memory`. It is never `Stopped`.
+/// The error of the first worker that failed; `Thread` if a thread couldn't be started or the gate refused a start;
+/// `Memory` if an allocation fails. It is never `Stopped`.
 pub(crate) fn run_window<'a, R, G>(
     rt: &'a R,
     alloc: Global,

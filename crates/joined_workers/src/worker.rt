@@ -18,7 +18,7 @@ use std::sync::Wait;
 use std::sync::ledger::Ledger;
 use worker_window::Gate;
 
-/// The common data of all workers of a window.
+/// The data that all workers of a window share.
 #[derive(Clone, Copy)]
 pub struct WorkersWindow<'a> {
     pub net: &'a Net,
@@ -30,7 +30,7 @@ pub struct WorkersWindow<'a> {
     pub until: u64,
 }
 
-/// The data of each thread besides its worker: the runtime, the gate into its turns, and the window.
+/// The data of each thread besides its worker: the runtime, the gate that its turns call, and the window.
 pub struct Runner<'a, R, G> {
     pub rt: &'a R,
     pub gate: &'a G,
@@ -47,7 +47,7 @@ impl<R, G> Drop for Runner<'_, R, G> {
     }
 }
 
-/// The sooner of two moments, or the only one.
+/// Returns the earlier of two moments, or the only one.
 pub fn sooner(one: Option<u64>, other: Option<u64>) -> Option<u64>
     ensures one { (copy : RadioCopy) → IsNotBefore one copy → IsNotBefore result copy }
     ensures other { (copy : RadioCopy) → IsNotBefore other copy → IsNotBefore result copy }
@@ -63,7 +63,7 @@ pub fn sooner(one: Option<u64>, other: Option<u64>) -> Option<u64>
     Some(moment.min(second))
 }
 
-/// The moment at which the first of these copies arrives.
+/// Returns the moment at which the first of these copies arrives.
 fn first_of(copies: &[RadioCopy]) -> Option<u64>
     ensures is_first_of { IsFirstOf copies.now result }
 {
@@ -74,8 +74,8 @@ fn first_of(copies: &[RadioCopy]) -> Option<u64>
     first
 }
 
-/// Runs a worker through the window: it takes in the copies that other workers sent in earlier windows, while they may
-/// already send more; runs its motes; and delivers the outgoing copies.
+/// Runs a worker through the window. The worker takes in the copies that other workers sent in earlier windows, while
+/// the others may already send more. Then it runs its motes, and delivers the outgoing copies.
 fn run_worker<R: Wait + RandomSource + AllocGlobal, G: Gate>(
     rt: &R,
     gate: &G,

@@ -1,4 +1,5 @@
--- No two senders on an inbox have the same number: there are as many as other workers, and each number is that of one.
+-- No two senders on an inbox have the same number: there are as many senders as other workers, and each number belongs
+-- to one of them.
 use Rattle.std.proofs.Common.{◌≡◌, ◌≢◌, ◌⊎◌, ℕ, zero, suc, ◌<◌, ◌≤◌, true, false, eqb, List, [], ◌∷◌, length, refl}
 use Rattle.std.proofs.Common.{sym, ap, ◌∙◌, inl, inr, arith, ne_eqb}
 use Rattle.std.specs.List.{AllByRecursion as Each, IsDistinct, list_any}
@@ -13,7 +14,7 @@ use Rattle.marked_workers.proofs.Pairs.{numbered_at}
 use Rattle.mark_laws.specs.Plan.{number_of}
 use Rattle.mark_laws.specs.RunLaws.{SendersAreApart}
 
--- ---- numbers below n, no two of them equal, are at most n
+-- ---- a list of different numbers below n has at most n elements
 values : (ℕ → ℕ) → ℕ → List ℕ
 values g zero = []
 values g (suc k) = g k ∷ values g k

@@ -1,4 +1,4 @@
--- The actions of all threads end at the end of the protocol.
+-- The actions of all threads end in the state at the end of the protocol.
 use Rattle.std.proofs.Common.{◌≡◌, ℕ, suc, ◌<◌, List, length, refl, sym, ap, ◌∙◌, subst, arith}
 use Rattle.mote_net.specs.Net.{NetModel}
 use Rattle.copy_inbox.specs.Items.{part}
@@ -20,7 +20,7 @@ each_run_has_all n of width old new cut ran =
     all_ran n of width (windows_of width n.end) new (ends_marked n of width old new cut_now ran)
 
 module _ (n : NetModel) (of : List ℕ) (width windows workers : ℕ) (all : AllRan n of width windows workers) (v u : ℕ) (lv : v < workers) (lu : u < workers) (ne : v ≡ u → ⊥) where
-  -- the number of a worker's sender is the one by which the other knows it
+  -- the number of a worker's sender is the number by which the other worker knows the sender
   pub number_is : number_of (all.sender u v) ≡ (pair n of width windows workers all u v lu lv ne).number
   number_is =
       let w = (all.are_senders u lu).of_worker v lv ne in

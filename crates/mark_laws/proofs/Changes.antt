@@ -9,7 +9,7 @@ set_same f k x = let e = eq-eqb k k refl in rw e refl
 pub set_other : {X : Type 0} (f : ℕ → X) (k : ℕ) (x : X) (j : ℕ) → j ≢ k → set_at f k x j ≡ f j
 set_other f k x j ne = let e = ne_eqb j k ne in rw e refl
 
--- a property of the new member, and of all others, which are unchanged, is one of all
+-- a property of the new member, and of all other members, which are unchanged, is a property of all members
 pub at_one : {X : Type 0} (Q : ℕ → X → Type 0) (f : ℕ → X) (k : ℕ) (x : X) → Q k x → ((j : ℕ) → j ≢ k → Q j (f j)) → (j : ℕ) → Q j (set_at f k x j)
 at_one Q f k x here there j = elim (cases_eq j k) [
   | inl e ↦ subst (λ i. Q i (set_at f k x i)) (sym e) (subst (Q k) (sym (set_same f k x)) here)

@@ -1,4 +1,4 @@
--- How long runs are.
+-- The lengths of runs.
 use Rattle.std.proofs.Common.{◌≡◌, ℕ, zero, suc, ◌+◌, ◌<◌, ◌≤◌, min, List, [], ◌∷◌, ◌++◌, length, refl, sym, ap, ◌∙◌, inl, inr, arith, length-append, eq-eqb}
 use Rattle.std.proofs.lemmas.Bool.{cases_eq, ne_eqb}
 use Rattle.copy_inbox.specs.declared.items.Carried.{Carried}
@@ -29,7 +29,8 @@ longer n f v u x lv lu =
     (λ a b ne. ap (λ r. length (r b)) (set_other f v row a ne))
 
 module _ (p : Plan) where
-  -- the steps that were made so far: one for each window that a worker has finished, each item pushed, and each taken
+  -- the number of steps that were made so far: one for each window that a worker has finished, one for each item
+  -- pushed, and one for each item taken
   abbrev pub made : State → ℕ
   made w = sum_below p.workers w.finished + (sum_pairs p.workers (lengths w.pushed) + sum_pairs p.workers (lengths w.taken))
 
@@ -111,7 +112,7 @@ module _ (p : Plan) where
         let c = pairs_same p.workers (items_for p) (lengths w.taken) (just w.taken (λ v. (s.own v).1) end.taken) in
         omega arith
 
-  -- with at most this many steps left
+  -- a run with at most this many steps left can end
   can_end : (left : ℕ) (w : State) → AreInPosition p w → steps_of p ≤ made w + left → (more : List Event) × (end : State) × Run p w more end × IsAtEnd p end
   can_end zero w s le = elim (end_or_goes_on p w s) [
     | inl end ↦ ([], w, refl, end)

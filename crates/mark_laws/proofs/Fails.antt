@@ -38,7 +38,7 @@ module _ (p : Plan) (senders : Senders p) where
   steps_run (Fails v ∷ turns) c new run = steps_run turns (after_turn senders c (Fails v)) new run.1
   steps_run (Leaves v ∷ turns) c new run = steps_run turns (after_turn senders c (Leaves v)) new run.1
 
-  -- ---- once the flag is set, each worker that is in a window has a turn, whatever the others do
+  -- ---- if the flag is set, each worker that is in a window has a possible turn, whatever the other workers do
   module _ (c : Flagged) (s : IsSound c) (stopped : c.stop ≡ true) (v : ℕ) (lv : v < p.workers) (still : c.gone v ≡ false) where
     abbrev w : State
     w = c.queued.state
@@ -80,7 +80,7 @@ module _ (p : Plan) (senders : Senders p) where
     all_over : (v : ℕ) → v < p.workers → (c.gone v ≡ true) ⊎ (c.queued.state.finished v ≡ p.windows)
     all_over v lv = elim (cases_Bool c.stop) [ inl stopped ↦ over_then stopped v lv | inr going ↦ inr (done_else going v lv) ]
 
-  -- ---- how many turns there are
+  -- ---- the number of turns
   abbrev one_if : Bool → ℕ
   one_if b = cond b 1 0
 

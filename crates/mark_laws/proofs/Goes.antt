@@ -1,4 +1,4 @@
--- While any worker has a window left, some step may happen.
+-- If a worker has a window left, some step can happen.
 use Rattle.std.proofs.Common.{◌≡◌, ℕ, suc, ◌<◌, ◌≤◌, ◌⊎◌, min, length, sym, ap, ◌∙◌, subst, inl, inr, arith}
 use Rattle.std.proofs.lemmas.Bool.{cases_eq, cases_lt}
 use Rattle.copy_inbox.specs.declared.items.Carried.{Carried}
@@ -23,7 +23,7 @@ module _ (p : Plan) (w : State) (s : AreInPosition p w) where
   abbrev IsOut : (v u : ℕ) → Type 0
   IsOut v u = IsPair p v u → w.pushed v u ≡ pushes (suc (w.finished v)) (p.sent v u)
 
-  -- all that is for the other was pushed, or the next item of it may be
+  -- all items for the other worker were pushed, or the next of them may be pushed
   module _ (v u : ℕ) (pair : IsPair p v u) (runs : w.finished v < p.windows) where
     up_to_now : BeginsWith (pushes (suc (w.finished v)) (p.sent v u)) (w.pushed v u)
     up_to_now =
@@ -81,7 +81,8 @@ module _ (p : Plan) (w : State) (s : AreInPosition p w) where
     pub phase : Next v ⊎ (MayGoOn p w v ⊎ Waits p w v)
     phase = elim (worker_pushes v lv) [ inl out ↦ inr (goes_or_waits (out runs)) | inr next ↦ inl next ]
 
-  -- if all workers in a window have pushed all of it, one that no other lags behind takes something or continues
+  -- if all workers in a window have pushed all its items, a worker with the fewest finished windows takes an item or
+  -- continues
   module _ (out : (v : ℕ) → v < p.workers → IsAllOut v) (v : ℕ) (lv : v < p.workers) (runs : w.finished v < p.windows) (least : (u : ℕ) → u < p.workers → w.finished v ≤ w.finished u) where
     marks_wait : (u : ℕ) → IsPair p u v → w.finished v < marks_in (w.pushed u v)
     marks_wait u pair =
@@ -124,7 +125,7 @@ module _ (p : Plan) (w : State) (s : AreInPosition p w) where
     | inr some ↦ (Push some.0 some.2.to some.2.x, some.2.may)
   ]
 
-  -- if all workers have finished all windows, all was pushed and taken
+  -- if all workers have finished all windows, all items were pushed and taken
   module _ (done : (v : ℕ) → v < p.workers → w.finished v ≡ p.windows) where
     all_pushed : (v u : ℕ) → IsPair p v u → w.pushed v u ≡ pushes p.windows (p.sent v u)
     all_pushed v u pair =

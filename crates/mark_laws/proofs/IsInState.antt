@@ -69,7 +69,7 @@ module _ (p : Plan) where
     abbrev finished : ℕ → ℕ
     finished = set_at w.finished v (suc k)
 
-    -- it has pushed all of one more window
+    -- the worker has pushed all items of one more window
     line_finished : (u : ℕ) → IsPair p v u → IsLine p.windows (suc k) (w.finished u) (p.sent v u) (w.pushed v u) (w.taken v u)
     line_finished u pair =
         let line = s.lines v u pair in
@@ -84,7 +84,7 @@ module _ (p : Plan) where
           heard = line.heard;
         }
 
-    -- the items that it has taken have one more mark
+    -- the items that the worker has taken have one more mark
     line_begun : (u : ℕ) → IsPair p u v → IsLine p.windows (w.finished u) (suc k) (p.sent u v) (w.pushed u v) (w.taken u v)
     line_begun u pair =
         let line = s.lines u v pair in

@@ -1,4 +1,4 @@
--- Which window an item is of that may be taken.
+-- The window of an item that may be taken.
 use Rattle.std.proofs.Common.{◌≡◌, ℕ, zero, suc, ◌+◌, ◌<◌, ◌≤◌, min, List, [], ◌∷◌, ◌++◌, map, get_or, Contains, refl, ap, ◌∙◌, subst, inl, inr, arith, append_assoc, Bool, true}
 use Rattle.std.specs.List.{AllByRecursion as Each}
 use Rattle.std.proofs.lemmas.Bool.{cases_eq}
@@ -12,7 +12,7 @@ use Rattle.mark_laws.specs.Laws.{EachTakenPasses, IsOfWindow, TakenIsOfWindow, N
 use Rattle.mark_laws.proofs.Begins.{begins_trans}
 use Rattle.mark_laws.proofs.IsInState.{all_in_position, one_window_ahead}
 
--- each item meets `D` of the number of marks before it; `marks` come before the list
+-- `D` holds for each item and the number of marks before it; `marks` is the number of marks before the list
 module _ (D : ℕ → Carried → Type 0) where
   abbrev IsPlaced : (marks : ℕ) → List Carried → Type 0
   IsPlaced k [] = Unit {0}

@@ -1,4 +1,4 @@
--- With one queue for each worker.
+-- The protocol with one queue for each worker.
 use Rattle.std.proofs.Common.{◌≡◌, ◌≢◌, ℕ, zero, suc, ◌+◌, ◌<◌, ◌≤◌, ◌⊎◌, List, [], ◌∷◌, ◌++◌, length, refl, sym, ap, ◌∙◌, subst, inl, inr, arith, append_assoc, append-nil, length-append}
 use Rattle.std.specs.List.{AllByRecursion as Each}
 use Rattle.std.proofs.lemmas.Bool.{cases_eq}
@@ -22,14 +22,14 @@ each_more P [] x h k = (k, tt)
 each_more P (y ∷ xs) x h k = (h.0, each_more P xs x h.1 k)
 
 module _ (p : Plan) (senders : Senders p) where
-  -- the item is of one of the others
+  -- the item is from one of the other workers
   pub record IsOfOther (u : ℕ) (x : Item) : Type 0 where
     pub from : ℕ
     pub pair : IsPair p from u
     pub at : x.sender ≡ senders.number from u
 
-  -- the items taken of each other worker, with its items in the queue after that, are those that it pushed, in order;
-  -- and the queue holds nothing else
+  -- for each other worker, the items taken from it, followed by its items in the queue, are those that it pushed, in
+  -- order; and the queue holds nothing else
   pub record InOrder (q : Queued) : Type 0 where
     pub in_position : AreInPosition p q.state
     pub parts : (v u : ℕ) → IsPair p v u → q.state.pushed v u ≡ q.state.taken v u ++ part (senders.number v u) (q.queue u)
@@ -137,7 +137,7 @@ module _ (p : Plan) (senders : Senders p) where
         let same : y ≡ item_of senders other.from v y.what = ap (λ n. record { sender = n; what = y.what }) other.at in
         (other.from, record { pair = other.pair; waits = waits; first = (ys, is ∙ ap (λ i. i ∷ ys) same) })
 
-    -- if something of one other may be taken, the oldest item of the queue may be taken
+    -- if an item of one other worker may be taken, the oldest item of the queue may be taken
     oldest : (v u : ℕ) (x : Carried) → MayTake p q.state v u x → (l : List Item) → q.queue v ≡ l → (e : Event) × MayHappenQueued p senders q e
     oldest v u x may [] is = absurd (
         let e : q.state.pushed u v ≡ q.state.taken u v ++ [] = h.parts u v may.pair ∙ ap (λ l. q.state.taken u v ++ part (senders.number u v) l) is in

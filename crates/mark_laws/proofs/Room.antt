@@ -1,4 +1,4 @@
--- How much one worker has pushed that another hasn't taken.
+-- The number of items that one worker has pushed and another hasn't taken.
 use Rattle.std.proofs.Common.{◌≡◌, ℕ, suc, ◌+◌, ◌≤◌, min, List, [], ◌∷◌, ◌++◌, length, map, refl, sym, ap, ◌∙◌, inl, inr, arith, length-append}
 use Rattle.std.proofs.lemmas.Bool.{cases_lt}
 use Rattle.radio_packet.specs.declared.copy.RadioCopy.{RadioCopy}
@@ -19,7 +19,7 @@ abbrev tail_of : List Carried → List Carried
 tail_of [] = []
 tail_of (y ∷ ys) = ys
 
--- of two prefixes of one list, the longer begins with the other
+-- of two prefixes of one list, the longer begins with the shorter
 shorter_in : (a b r s : List Carried) → a ++ r ≡ b ++ s → length a ≤ length b → BeginsWith b a
 shorter_in [] b r s e le = (b, refl)
 shorter_in (x ∷ a) [] r s e le = absurd (omega arith)

@@ -1,4 +1,4 @@
--- A step of one worker takes no step away from another.
+-- After a step of one worker, the other workers still have their steps.
 use Rattle.std.proofs.Common.{◌≡◌, ◌≢◌, ℕ, suc, ◌<◌, ◌≤◌, List, [], ◌∷◌, ◌++◌, refl, sym, ap, ◌∙◌, subst, subst₂}
 use Rattle.copy_inbox.specs.declared.items.Carried.{Carried}
 use Rattle.copy_inbox.specs.declared.items.Item.{Item}
@@ -80,7 +80,7 @@ nobody_is_held_up p w (Push v u x) f may other ne = push_stays p v w (after w f)
 nobody_is_held_up p w (Take v u x) f may other ne = take_stays p v w (after w f) (same_after w f v ne) u x may
 nobody_is_held_up p w (GoOn v) f may other ne = go_on_stays p v w (after w f) (same_after w f v ne) may
 
--- the oldest item in the queue of another stays there
+-- the oldest item in the queue of another worker is still the oldest
 abbrev BeginsWithItem : List Item → Item → Type 0
 BeginsWithItem l x = (rest : List Item) × (l ≡ x ∷ rest)
 

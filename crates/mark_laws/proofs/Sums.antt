@@ -1,4 +1,4 @@
--- Sums of the first n.
+-- Sums of the first n values.
 use Rattle.std.proofs.Common.{◌≡◌, ◌≢◌, ℕ, zero, suc, ◌<◌, ◌≤◌, refl, ap, inl, inr, arith}
 use Rattle.std.proofs.lemmas.Bool.{cases_eq}
 use Rattle.mark_laws.specs.State.{sum_below}
@@ -17,7 +17,7 @@ sum_low (suc n) f g h =
     let b = h n (omega arith) in
     omega arith
 
--- if one summand grows by one, so does the sum
+-- if one summand grows by one, the sum grows by one
 pub sum_up : (n : ℕ) (f g : ℕ → ℕ) (v : ℕ) → v < n → g v ≡ suc (f v) → ((k : ℕ) → k ≢ v → g k ≡ f k) → sum_below n g ≡ suc (sum_below n f)
 sum_up zero f g v low e h = absurd (omega arith)
 sum_up (suc n) f g v low e h = elim (cases_eq n v) [

@@ -1,5 +1,5 @@
--- The steps of the protocol, if a worker may fail or never start: it sets a flag, and from then on a worker that waits
--- may leave. A worker looks at its queue before it looks at the flag, so an item may have arrived in between.
+-- The steps of the protocol if a worker may fail or never start. The worker sets a flag, and from then on a worker
+-- that waits may leave. A worker reads its queue before it reads the flag, so an item may have arrived in between.
 use Rattle.std.specs.Prelude.{◌≡◌, ℕ, ◌<◌, Bool, true, false, List, [], ◌∷◌}
 use Rattle.mark_laws.specs.Queues.{Senders, Queued, start_queued, MayHappenQueued, after_queued}
 use Rattle.mark_laws.specs.Steps.{Event, worker_of, Waits}
@@ -7,14 +7,15 @@ use Rattle.mark_laws.specs.State.{Plan, set_at}
 
 pub record Flagged : Type 0 where
   pub queued : Queued
-  -- who has failed or left
+  -- the workers that have failed or left
   pub gone : ℕ → Bool
   pub stop : Bool
 
 abbrev pub start_flagged : Flagged
 start_flagged = record { queued = start_queued; gone = λ v. false; stop = false }
 
--- one of the steps above, of a worker that isn't gone; a worker fails, or will never start; a worker leaves
+-- a turn: a worker that isn't gone makes one of the steps above; a worker fails, or will never start; or a worker
+-- leaves
 pub data Turn : Type 0 where
   Does : Event → Turn
   Fails : (worker : ℕ) → Turn
@@ -57,7 +58,7 @@ steps_in (Does e ∷ turns) = e ∷ steps_in turns
 steps_in (Fails v ∷ turns) = steps_in turns
 steps_in (Leaves v ∷ turns) = steps_in turns
 
--- nobody has a step, and nobody may leave; a failure that may still happen doesn't count
+-- no worker can make a step, and no worker may leave; failures that may still happen don't count
 pub record IsStuckFlagged (p : Plan) (senders : Senders p) (c : Flagged) : Type 0 where
   pub steps : (e : Event) → MayDo p senders c e → ⊥
   pub leaves : (v : ℕ) → MayLeave p c v → ⊥

@@ -1,5 +1,4 @@
--- The laws of the exchange by marks. Each holds for all workers, in each state to which some order of their steps
--- leads.
+-- The laws of the exchange with marks. Each holds for all workers, in each state that some order of steps reaches.
 use Rattle.std.specs.Prelude.{◌≡◌, ◌≢◌, ◌⊎◌, ℕ, suc, ◌+◌, ◌<◌, ◌≤◌, Bool, true, false, List, length, [], Contains}
 use Rattle.std.specs.List.{AllByRecursion as Each}
 use Rattle.radio_packet.specs.declared.copy.RadioCopy.{RadioCopy}
@@ -13,7 +12,7 @@ use Rattle.mark_laws.specs.AreInPosition.{AreInPosition}
 use Rattle.mark_laws.specs.Queues.{Senders, Queued, start_queued, MayHappenQueued, after_queued, RunQueued}
 use Rattle.mark_laws.specs.Queues.{IsStuckQueued}
 
--- some order of steps leads here from the start
+-- some order of steps leads from the start to this state
 abbrev pub IsReached : Plan → State → Type 0
 IsReached p w = (events : List Event) × Run p start events w
 
@@ -25,23 +24,23 @@ abbrev pub OneWindowAhead : Type 0
 OneWindowAhead = (p : Plan) (w : State) → IsReached p w → (v u : ℕ) → v < p.workers → u < p.workers
     → w.finished v ≤ suc (w.finished u)
 
--- while any worker has a window left, some step may happen
+-- if a worker has a window left, some step can happen
 abbrev pub SomeoneGoesOn : Type 0
 SomeoneGoesOn = (p : Plan) (w : State) → IsReached p w → (v : ℕ) → v < p.workers → w.finished v < p.windows
     → (e : Event) × MayHappen p w e
 
--- a run that can't continue is at the end, and at the end no step is left
+-- a run that can't continue is at the end, and no step is left at the end
 abbrev pub StuckIsAtEnd : Type 0
 StuckIsAtEnd = (p : Plan) (w : State) → IsReached p w → IsStuck p w → IsAtEnd p w
 
 abbrev pub EndIsStuck : Type 0
 EndIsStuck = (p : Plan) (w : State) → IsAtEnd p w → IsStuck p w
 
--- no run is longer than this
+-- no run has more steps than this
 abbrev pub RunsAreBounded : Type 0
 RunsAreBounded = (p : Plan) (events : List Event) (w : State) → Run p start events w → length events ≤ steps_of p
 
--- every run that can't continue has exactly this many steps
+-- every run that can't continue has exactly this number of steps
 abbrev pub FullRunsAreOfOneLength : Type 0
 FullRunsAreOfOneLength = (p : Plan) (events : List Event) (w : State) → Run p start events w → IsStuck p w
     → length events ≡ steps_of p
@@ -56,13 +55,14 @@ abbrev pub NobodyIsHeldUp : Type 0
 NobodyIsHeldUp = (p : Plan) (w : State) (e f : Event) → MayHappen p w e → MayHappen p w f
     → worker_of e ≢ worker_of f → MayHappen p (after w f) e
 
--- the item is a copy that was sent in this window, or the mark of the window
+-- the item is a copy that was sent in this window, or the mark of this window
 abbrev pub IsOfWindow : (sent : ℕ → List RadioCopy) → (window : ℕ) → Carried → Type 0
 IsOfWindow sent k (Packet copy) = Contains (sent k) copy
 IsOfWindow sent k (Mark n) = n ≡ k
 
--- An item that a worker may take is of the window that the worker is in, or of the next one, which the other has then
--- begun: its window's number is the number of marks of the other that the worker took before.
+-- An item that a worker may take belongs to the worker's current window, or to the next one, which its sender has then
+-- begun: the number of the item's window is the number of the sender's marks that the worker has taken before the
+-- item.
 pub record ComesFrom (p : Plan) (w : State) (worker of window : ℕ) (x : Carried) : Type 0 where
   pub not_before : w.finished worker ≤ window
   pub not_behind : window ≤ suc (w.finished worker)
@@ -74,19 +74,22 @@ abbrev pub TakenIsOfWindow : Type 0
 TakenIsOfWindow = (p : Plan) (w : State) → IsReached p w → (v u : ℕ) (x : Carried) → MayTake p w v u x
     → ComesFrom p w v u (marks_in (w.taken u v)) x
 
--- `Holds` is true of each copy that one worker has for another in a window that it has begun, and of that window
+-- `Holds` is true for each window that one worker has begun, and each copy that it has for the other worker in this
+-- window
 abbrev pub InBegunWindows : Plan → State → (from to : ℕ) → (ℕ → RadioCopy → Type 0) → Type 0
 InBegunWindows p w u v Holds = (k : ℕ) → k ≤ w.finished u → k < p.windows → Each (Holds k) (p.sent u v k)
 
--- If windows end one after another, and in the windows that the other has begun each of its copies arrives no sooner
--- than the window's end, then a copy that a worker takes arrives no sooner than the end of the window that it is in.
+-- Suppose that windows end one after another and that, in each window that the sender has begun, none of its copies
+-- arrives before the window's end. Then a copy that a worker takes doesn't arrive before the end of the worker's
+-- current window.
 abbrev pub NoCopyIsTooSoon : Type 0
 NoCopyIsTooSoon = (ends : ℕ → ℕ) → ((k : ℕ) → ends k ≤ ends (suc k)) → (p : Plan) (w : State) → IsReached p w
     → (v u : ℕ)
     → InBegunWindows p w u v (λ k c. ends k ≤ c.at)
     → (copy : RadioCopy) → MayTake p w v u (Packet copy) → ends (w.finished v) ≤ copy.at
 
--- The same for any test of copies by which a copy that passes for a window also passes for the window before it.
+-- The same law for any test of copies, if each copy that passes the test for a window also passes it for the previous
+-- window.
 abbrev pub EachTakenPasses : Type 0
 EachTakenPasses = (passes : ℕ → RadioCopy → Bool)
     → ((k : ℕ) (c : RadioCopy) → passes (suc k) c ≡ true → passes k c ≡ true) → (p : Plan) (w : State)
@@ -94,18 +97,18 @@ EachTakenPasses = (passes : ℕ → RadioCopy → Bool)
     → InBegunWindows p w u v (λ k c. passes k c ≡ true)
     → (copy : RadioCopy) → MayTake p w v u (Packet copy) → passes (w.finished v) copy ≡ true
 
--- the items that one worker has pushed to another and the other hasn't taken are no more than those of two windows
+-- the items that one worker has pushed to another, and that the other hasn't taken, are at most those of two windows
 abbrev pub TwoWindowsLieThere : Type 0
 TwoWindowsLieThere = (p : Plan) (w : State) → IsReached p w → (v u : ℕ) → IsPair p v u
     → length (w.pushed v u) ≤ length (w.taken v u)
     + ((length (p.sent v u (w.finished u)) + 1) + (length (p.sent v u (suc (w.finished u))) + 1))
 
 -- ---- with one queue for each worker
--- senders can be numbered
+-- senders can have numbers
 abbrev pub SendersAreThere : Type 0
 SendersAreThere = (p : Plan) → Senders p
 
--- each step and each run is one of the above, so that all those laws hold for it
+-- each step and each run is one of those above, so all the laws above hold for it
 abbrev pub QueuedRunsAreRuns : Type 0
 QueuedRunsAreRuns = (p : Plan) (senders : Senders p) (events : List Event) (q : Queued)
     → RunQueued p senders start_queued events q
@@ -121,7 +124,7 @@ NobodyQueuedIsHeldUp = (p : Plan) (senders : Senders p) (q : Queued) (e f : Even
     → MayHappenQueued p senders q f → worker_of e ≢ worker_of f
     → MayHappenQueued p senders (after_queued senders q f) e
 
--- a run that can't continue has made all its steps and is at the end, with every queue empty
+-- a run that can't continue has made all its steps, is at the end, and has only empty queues
 abbrev pub QueuedStuckIsAtEnd : Type 0
 QueuedStuckIsAtEnd = (p : Plan) (senders : Senders p) (events : List Event) (q : Queued)
     → RunQueued p senders start_queued events q → IsStuckQueued p senders q
@@ -132,12 +135,12 @@ EveryQueuedRunCanEnd = (p : Plan) (senders : Senders p) (events : List Event) (q
     → RunQueued p senders start_queued events q
     → (more : List Event) × (end : Queued) × RunQueued p senders q more end × IsAtEnd p end.state
 
--- each worker that may take some step is allowed one
+-- each worker that has a possible step is allowed to take one
 abbrev pub LetsEach : (p : Plan) → Senders p → Queued → (Event → Bool) → Type 0
 LetsEach p senders q lets = (e : Event) → MayHappenQueued p senders q e
     → (f : Event) × MayHappenQueued p senders q f × (worker_of f ≡ worker_of e) × (lets f ≡ true)
 
--- The same holds if workers keep to an order of their own among the steps that they may take, such as all copies of a
+-- The same law if workers keep an order of their own among the steps that they may take, such as all copies of a
 -- window before its marks.
 abbrev pub OwnOrderDoesNotStick : Type 0
 OwnOrderDoesNotStick = (p : Plan) (senders : Senders p) (events : List Event) (q : Queued)
@@ -146,7 +149,7 @@ OwnOrderDoesNotStick = (p : Plan) (senders : Senders p) (events : List Event) (q
     → ((e : Event) → MayHappenQueued p senders q e → lets e ≡ true → ⊥) → IsAtEnd p q.state
 
 -- ---- if workers may fail
--- the steps among the turns are a run as above, so that all those laws hold
+-- the steps among the turns are a run as above, so all the laws above hold for them
 abbrev pub TurnsAreRuns : Type 0
 TurnsAreRuns = (p : Plan) (senders : Senders p) (turns : List Turn) (c : Flagged)
     → RunTurns p senders start_flagged turns c → RunQueued p senders start_queued (steps_in turns) c.queued
@@ -157,13 +160,13 @@ FlaggedStuckIsOver = (p : Plan) (senders : Senders p) (turns : List Turn) (c : F
     → RunTurns p senders start_flagged turns c → IsStuckFlagged p senders c
     → (v : ℕ) → v < p.workers → (c.gone v ≡ true) ⊎ (c.queued.state.finished v ≡ p.windows)
 
--- if nobody has failed, nobody is gone, and once the only turns left are failures, all is done
+-- if no worker has failed, no worker is gone; and if then the only turns left are failures, everything is done
 abbrev pub UnlessOneFails : Type 0
 UnlessOneFails = (p : Plan) (senders : Senders p) (turns : List Turn) (c : Flagged)
     → RunTurns p senders start_flagged turns c → c.stop ≡ false
     → ((v : ℕ) → c.gone v ≡ false) × (IsStuckFlagged p senders c → IsAtEnd p c.queued.state)
 
--- there are at most as many turns as steps, and one more for each worker
+-- the number of turns is at most the number of steps plus one for each worker
 abbrev pub TurnsAreBounded : Type 0
 TurnsAreBounded = (p : Plan) (senders : Senders p) (turns : List Turn) (c : Flagged)
     → RunTurns p senders start_flagged turns c → length turns ≤ steps_of p + p.workers

@@ -11,7 +11,7 @@ use Rattle.marked_workers.specs.All.{AllRan}
 use Rattle.marked_workers.specs.Bounds.{bound}
 use Rattle.marked_workers.specs.WorkerHistory.{WorkerHistory, RunsMotes}
 
--- the copies that the motes of each worker sent to those of each other, window by window
+-- the copies that the motes of each worker sent to the motes of each other worker, window by window
 abbrev pub plan_of : (of : List ℕ) → (windows workers : ℕ) → (histories : ℕ → WorkerHistory) → Plan
 plan_of of windows workers histories = record {
   workers = workers;
@@ -23,7 +23,8 @@ abbrev pub number_of : Option SenderView → ℕ
 number_of None = 0
 number_of (Some s) = s.state.number
 
--- the items that each has pushed to each other, and those that the other has taken, when all have run all windows
+-- the items that each worker has pushed to each other worker, and the items that the other has taken, after all
+-- workers have run all windows
 abbrev pub state_of : (n : NetModel) (of : List ℕ) (width windows workers : ℕ) → AllRan n of width windows workers
     → State
 state_of n of width windows workers all = record {

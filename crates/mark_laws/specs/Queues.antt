@@ -1,5 +1,5 @@
--- The steps of the protocol with one queue for each worker, as inboxes have it: the queue holds the items of all
--- others in the order in which they were pushed, and the worker takes the oldest.
+-- The steps of the protocol with one queue for each worker, as with inboxes. The queue holds the items of all other
+-- workers in the order in which they were pushed, and the worker takes the oldest one.
 use Rattle.std.specs.Prelude.{◌≡◌, ℕ, List, [], ◌∷◌, ◌++◌}
 use Rattle.copy_inbox.specs.declared.items.Carried.{Carried}
 use Rattle.copy_inbox.specs.declared.items.Item.{Item}
@@ -7,7 +7,8 @@ use Rattle.mark_laws.specs.State.{Plan, State, IsPair, start, set_at}
 use Rattle.mark_laws.specs.Steps.{Event, Waits, MayPush, MayGoOn, after}
 use Rattle.mark_laws.specs.Steps.Event.{Push, Take, GoOn}
 
--- the number of each worker's sender on the inbox of each other; no two on one inbox have the same number
+-- the number of each worker's sender on the inbox of each other worker; no two senders on an inbox have the same
+-- number
 pub record Senders (p : Plan) : Type 0 where
   pub number : (from to : ℕ) → ℕ
   pub apart : (v w u : ℕ) → IsPair p v u → IsPair p w u → number v u ≡ number w u → v ≡ w

@@ -1,4 +1,4 @@
--- The laws that bind the threads of a run with marks to the protocol.
+-- The laws that relate the threads of a run with marks to the protocol.
 use Rattle.std.specs.Prelude.{◌≡◌, ℕ, suc, ◌<◌, ◌≤◌, List, length}
 use Rattle.radio_packet.specs.declared.copy.RadioCopy.{RadioCopy}
 use Rattle.mote_net.specs.Net.{NetModel}
@@ -17,19 +17,19 @@ use Rattle.marked_workers.specs.Run.{GroupRunsMarked}
 use Rattle.marked_workers.specs.WorkerHistory.{WorkerHistory}
 use Rattle.mark_laws.specs.Plan.{plan_of, number_of, state_of, RanWindow}
 
--- by the contract of `run_by_marks`, the takers of a run are those of all threads' actions
+-- by the contract of `run_by_marks`, the takers of a run are the takers of all threads' actions
 abbrev pub EachRunHasAll : Type 0
 EachRunHasAll = (n : NetModel) (of : List ℕ) (width : ℕ) (old new : WorkerGroup)
     → IsCut (length n.motes) (length old.inboxes.items) of → GroupRunsMarked n of width old new
     → (all : AllRan n of width (windows_of width n.end) (length new.inboxes.items))
     × IsOfTakers all new.takers.items
 
--- the threads end at the end of the protocol
+-- when the threads end, the protocol is at its end
 abbrev pub RunsEndAtEnd : Type 0
 RunsEndAtEnd = (n : NetModel) (of : List ℕ) (width windows workers : ℕ) (all : AllRan n of width windows workers)
     → IsAtEnd (plan_of of windows workers all.histories) (state_of n of width windows workers all)
 
--- when a worker began the window after this one, it had taken the marks of this one from each other
+-- when a worker began the window after this one, it had taken the mark of this window from each other worker
 abbrev pub MarksLeadOn : Type 0
 MarksLeadOn = (n : NetModel) (of : List ℕ) (width windows workers : ℕ) (all : AllRan n of width windows workers)
     → (window other worker : ℕ) → window < windows → IsPair (plan_of of windows workers all.histories) other worker
@@ -42,8 +42,8 @@ SendersAreApart = (n : NetModel) (of : List ℕ) (width windows workers : ℕ) (
     → IsPair (plan_of of windows workers all.histories) v u → IsPair (plan_of of windows workers all.histories) w u
     → number_of (all.sender u v) ≡ number_of (all.sender u w) → v ≡ w
 
--- each copy that a worker may take from another is expected, if the other ran its motes in each window that it has
--- begun
+-- each copy that a worker may take from another worker is expected, if the other ran its motes in each window that it
+-- has begun
 abbrev pub NoCopyIsUnexpected : Type 0
 NoCopyIsUnexpected = (n : NetModel) (of : List ℕ) (width windows workers : ℕ) (histories : ℕ → WorkerHistory)
     → (w : State) → IsReached (plan_of of windows workers histories) w → (worker other : ℕ)

@@ -3,21 +3,21 @@ use Rattle.std.specs.Prelude.{ℕ, ◌≢◌, zero, suc, ◌+◌, ◌<◌, ◌==
 use Rattle.radio_packet.specs.declared.copy.RadioCopy.{RadioCopy}
 use Rattle.copy_inbox.specs.declared.items.Carried.{Carried}
 
--- the number of workers and of windows, and the copies that the motes of one worker send to those of another in a
--- window
+-- the number of workers, the number of windows, and the copies that the motes of one worker send to the motes of
+-- another in a window
 pub record Plan : Type 0 where
   pub workers : ℕ
   pub windows : ℕ
   pub sent : (from to window : ℕ) → List RadioCopy
 
--- the number of windows that each worker has finished, the items that one has pushed to another so far, and those that
--- the other has taken
+-- the number of windows that each worker has finished, the items that one worker has pushed to another so far, and the
+-- items that the other has taken
 pub record State : Type 0 where
   pub finished : ℕ → ℕ
   pub pushed : (from to : ℕ) → List Carried
   pub taken : (from to : ℕ) → List Carried
 
--- before the first step
+-- the state before the first step
 abbrev pub start : State
 start = record { finished = λ v. 0; pushed = λ v u. []; taken = λ v u. [] }
 
@@ -27,7 +27,7 @@ pub record IsPair (p : Plan) (from to : ℕ) : Type 0 where
   pub to_there : to < p.workers
   pub apart : from ≢ to
 
--- a family with one member replaced, and a family of families likewise
+-- a family with one member replaced, and the same for a family of families
 abbrev pub set_at : {X : Type 0} → (ℕ → X) → ℕ → X → ℕ → X
 set_at f k x j = if j == k then x else f j
 

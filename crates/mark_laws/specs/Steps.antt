@@ -1,12 +1,12 @@
--- The next possible steps, and whole runs.
+-- The possible next steps, and whole runs.
 use Rattle.std.specs.Prelude.{◌≡◌, ℕ, suc, ◌+◌, ◌==◌, ◌<◌, ◌≤◌, List, [], ◌∷◌, ◌++◌, length, if◌then◌else◌}
 use Rattle.copy_inbox.specs.declared.items.Carried.{Carried}
 use Rattle.copy_inbox.specs.Items.{BeginsWith}
 use Rattle.copy_exchange.specs.Pushes.{marks_in, pushes}
 use Rattle.mark_laws.specs.State.{Plan, State, IsPair, set_at, set_pair, sum_below}
 
--- one step of one worker, which is named first: it pushes an item to another, it takes an item of another, or it is
--- done with its window and continues with the next, or ends after the last
+-- one step of one worker, which is the first argument: it pushes an item to another worker, takes an item from another
+-- worker, or has finished its window and continues with the next one, or ends after the last
 pub data Event : Type 0 where
   Push : (worker to : ℕ) → Carried → Event
   Take : (worker of : ℕ) → Carried → Event
@@ -17,29 +17,30 @@ worker_of (Push v u x) = v
 worker_of (Take v u x) = v
 worker_of (GoOn v) = v
 
--- the worker has pushed all items of the windows that it has finished and of the one that it is in
+-- the worker has pushed all items of the windows that it has finished and of its current window
 abbrev pub HasPushed : Plan → State → ℕ → Type 0
 HasPushed p w v = (u : ℕ) → IsPair p v u → w.pushed v u ≡ pushes (suc (w.finished v)) (p.sent v u)
 
--- a worker that is in a window pushes the next of its items for the other from the windows up to this one
+-- a worker that is in a window pushes the next of the items that it has for the other worker in the windows up to this
+-- one
 pub record MayPush (p : Plan) (w : State) (worker to : ℕ) (x : Carried) : Type 0 where
   pub pair : IsPair p worker to
   pub runs : w.finished worker < p.windows
   pub next : BeginsWith (pushes (suc (w.finished worker)) (p.sent worker to)) (w.pushed worker to ++ x ∷ [])
 
--- a worker has pushed all its items, and lacks the mark of its window from another worker
+-- the worker has pushed all its items, and lacks the mark of its window from another worker
 pub record Waits (p : Plan) (w : State) (worker : ℕ) : Type 0 where
   pub runs : w.finished worker < p.windows
   pub has_pushed : HasPushed p w worker
   pub missing : (other : ℕ) × IsPair p other worker × (marks_in (w.taken other worker) ≤ w.finished worker)
 
--- a worker that waits takes the next item that one of the others has pushed to it
+-- a worker that waits takes the next item that one of the other workers has pushed to it
 pub record MayTake (p : Plan) (w : State) (worker of : ℕ) (x : Carried) : Type 0 where
   pub pair : IsPair p of worker
   pub waits : Waits p w worker
   pub next : BeginsWith (w.pushed of worker) (w.taken of worker ++ x ∷ [])
 
--- a worker that has pushed all, and has the marks of its window from all others, continues
+-- a worker continues if it has pushed all items and has the marks of its window from all other workers
 pub record MayGoOn (p : Plan) (w : State) (worker : ℕ) : Type 0 where
   pub there : worker < p.workers
   pub runs : w.finished worker < p.windows
@@ -51,13 +52,13 @@ MayHappen p w (Push v u x) = MayPush p w v u x
 MayHappen p w (Take v u x) = MayTake p w v u x
 MayHappen p w (GoOn v) = MayGoOn p w v
 
--- the state once it has happened
+-- the state after the step
 abbrev pub after : State → Event → State
 after w (Push v u x) = record w { pushed = set_pair w.pushed v u (w.pushed v u ++ x ∷ []) }
 after w (Take v u x) = record w { taken = set_pair w.taken u v (w.taken u v ++ x ∷ []) }
 after w (GoOn v) = record w { finished = set_at w.finished v (suc (w.finished v)) }
 
--- a run: each of these steps could happen when it did
+-- a run: each of these steps was possible when it happened
 abbrev pub Run : Plan → State → List Event → State → Type 0
 Run p old [] new = new ≡ old
 Run p old (e ∷ events) new = MayHappen p old e × Run p (after old e) events new
@@ -72,14 +73,14 @@ pub record IsAtEnd (p : Plan) (w : State) : Type 0 where
   pub pushed : (v u : ℕ) → IsPair p v u → w.pushed v u ≡ pushes p.windows (p.sent v u)
   pub taken : (v u : ℕ) → IsPair p v u → w.taken v u ≡ pushes p.windows (p.sent v u)
 
--- how many items one has for another in all windows
+-- the number of items that one worker has for another in all windows
 abbrev pub items_for : Plan → (from to : ℕ) → ℕ
 items_for p v u = if v == u then 0 else length (pushes p.windows (p.sent v u))
 
--- how many items all have for all others in all windows
+-- the number of items that all workers have for all others in all windows
 abbrev pub items_of : Plan → ℕ
 items_of p = sum_below p.workers (λ v. sum_below p.workers (items_for p v))
 
--- a step for each window of each worker, and two for each item: it is pushed and it is taken
+-- the number of steps: one for each window of each worker, and two for each item, which is pushed and taken
 abbrev pub steps_of : Plan → ℕ
 steps_of p = sum_below p.workers (λ v. p.windows) + (items_of p + items_of p)

@@ -1,4 +1,4 @@
-//! Laws of the protocol: of all workers of a run, in any order of their steps. Each is a theorem, stated as the
+//! Laws of the protocol, about all workers of a run, in any order of their steps. Each is a theorem, stated as the
 //! contract of an empty function.
 
 ghost use Rattle.mark_laws.specs.Laws.{AllInPosition, OneWindowAhead, SomeoneGoesOn, StuckIsAtEnd, EndIsStuck};
@@ -8,8 +8,8 @@ ghost use Rattle.mark_laws.specs.Laws.{EachTakenPasses, TwoWindowsLieThere, Queu
 ghost use Rattle.mark_laws.specs.Laws.{QueuedStuckIsAtEnd, EveryQueuedRunCanEnd, OwnOrderDoesNotStick};
 ghost use Rattle.mark_laws.specs.Laws.{TurnsAreRuns, FlaggedStuckIsOver, UnlessOneFails, TurnsAreBounded};
 
-/// In whatever order the workers take their steps, each has pushed all items of the windows that it has finished, and
-/// none of a window that it hasn't begun. Each other worker has taken a prefix of these items; the prefix contains the
+/// For any order of the workers' steps, each worker has pushed all items of the windows that it has finished, and no
+/// item of a window that it hasn't begun. Each other worker has taken a prefix of these items. The prefix contains the
 /// mark of each window that the taker has finished.
 pub fn all_in_position()
     ensures all_in_position { AllInPosition }
@@ -20,19 +20,19 @@ pub fn one_window_ahead()
     ensures one_window_ahead { OneWindowAhead }
 {}
 
-/// While any worker has a window left, some worker can push, take or continue.
+/// If a worker has a window left, some worker can push, take or continue.
 pub fn someone_goes_on()
     ensures someone_goes_on { SomeoneGoesOn }
 {}
 
-/// A run that can't continue is at the end, with all items pushed and taken; and at the end no step is left.
+/// A run that can't continue is at the end: all items are pushed and taken. At the end, no step is left.
 pub fn stuck_is_at_end()
     ensures stuck { StuckIsAtEnd }
     ensures end { EndIsStuck }
 {}
 
-/// A run has at most one step for each window of each worker and two for each item. A run that can't continue has
-/// exactly this many.
+/// A run has at most one step for each window of each worker and two steps for each item. A run that can't continue
+/// has exactly this many steps.
 pub fn runs_are_bounded()
     ensures bounded { RunsAreBounded }
     ensures full { FullRunsAreOfOneLength }
@@ -49,33 +49,34 @@ pub fn nobody_is_held_up()
     ensures queued { NobodyQueuedIsHeldUp }
 {}
 
-/// A copy that a worker takes was sent in the window that the worker is in, or in the next one; and a mark has the
-/// number of its window.
+/// A copy that a worker takes was sent in the worker's current window or in the next one. A mark has the number of its
+/// window.
 pub fn taken_is_of_window()
     ensures taken_is_of_window { TakenIsOfWindow }
 {}
 
-/// If each copy arrives no sooner than the end of the window in which it was sent, a worker takes none that arrives
-/// before the end of the window that the worker is in.
+/// If no copy arrives before the end of the window in which it was sent, a worker takes no copy that arrives before
+/// the end of the worker's current window.
 pub fn no_copy_is_too_soon()
     ensures no_copy_is_too_soon { NoCopyIsTooSoon }
 {}
 
-/// The same for any test, if each copy that passes it for a window also passes it for the window before that one.
+/// The same law for any test of copies: if each copy that passes the test for a window also passes it for the previous
+/// window, then each copy that a worker takes passes the test for the worker's current window.
 pub fn each_taken_passes()
     ensures each_taken_passes { EachTakenPasses }
 {}
 
-/// The items that one worker has pushed to another and the other hasn't taken are no more than those of two windows.
+/// The items that one worker has pushed to another, and that the other hasn't taken, are at most those of two windows.
 pub fn two_windows_lie_there()
     ensures two_windows_lie_there { TwoWindowsLieThere }
 {}
 
 /// The laws if each worker has one queue for the items of all others, and takes the oldest item. The senders on each
-/// queue can have different numbers. Each such run is one of the runs of the laws above. While a window is left, some
+/// queue can have different numbers. Each such run is one of the runs of the laws above. If a window is left, some
 /// worker can continue. A run that can't continue has made all its steps, and every queue is empty. Every run can
-/// continue to the end. And workers may keep to an order of their own among the steps that they may take, such as all
-/// copies of a window before its marks: a run that can't continue is at the end then too.
+/// continue to the end. Workers may also keep an order of their own among the steps that they may take, such as all
+/// copies of a window before its marks: then, too, a run that can't continue is at the end.
 pub fn queues_do_not_stick()
     ensures senders { SendersAreThere }
     ensures runs { QueuedRunsAreRuns }
@@ -85,9 +86,9 @@ pub fn queues_do_not_stick()
     ensures own_order { OwnOrderDoesNotStick }
 {}
 
-/// The laws if a worker may fail or never start: a flag shows this to the others when they wait in vain. If only
-/// failures are possible as next turns, each worker has failed, has left, or has finished all its windows. No worker
-/// leaves unless one has failed. The number of turns is bounded.
+/// The laws if a worker may fail or never start. A flag shows the failure to the other workers when they wait without
+/// success. If the only possible next turns are failures, each worker has failed, has left, or has finished all its
+/// windows. No worker leaves unless a worker has failed. The number of turns is bounded.
 pub fn failures_do_not_stick()
     ensures runs { TurnsAreRuns }
     ensures over { FlaggedStuckIsOver }

@@ -25,7 +25,7 @@ module _ (width end windows : ℕ) (are : AreWindows width end windows) where
   pub at_the_end : bound width end windows ≡ suc end
   at_the_end = let r = are.reach in omega arith
 
-  -- a window that begins at or before the end is one of the windows
+  -- a window that begins no later than the end is one of the windows
   pub goes_on : (k : ℕ) → k ≤ windows → bound width end k ≤ end → k < windows
   goes_on k le early = of_case (cases_lt k windows)
     where
@@ -36,7 +36,7 @@ module _ (width end windows : ℕ) (are : AreWindows width end windows) where
           let last = at_the_end in
           absurd (let e = rw same at early in omega arith)
 
-  -- and after the end no window is left
+  -- after the end, no window is left
   pub over : (k : ℕ) → k ≤ windows → end < bound width end k → k ≡ windows
   over k le late = of_case (cases_lt k windows)
     where

@@ -1,4 +1,4 @@
--- A run, and the rest of the data of each worker's thread, may be shared by threads.
+-- Threads may share a run and the rest of the data of each worker's thread.
 use denote.Param.Send.{IsSync, sendable}
 use denote.Param.SendFields.{declared_sync}
 use denote.Ref.{NamedLft}

@@ -1,4 +1,4 @@
--- The promises of all threads, put together: all workers are at the end.
+-- The promises of all threads together show that all workers are at the end.
 use Rattle.std.proofs.Common.{◌≡◌, ◌≢◌, ℕ, suc, ◌<◌, ◌≤◌, false, List, [], length, get_or, refl, sym, ap, ◌∙◌, subst}
 use Rattle.std.proofs.Common.{inl, inr, arith, append-nil, Option, Some, None}
 use Rattle.std.specs.List.{slice_get, AllByRecursion as Each}
@@ -44,7 +44,7 @@ module _ (n : NetModel) (of : List ℕ) (width windows : ℕ) (group : WorkerGro
   abbrev workers : ℕ
   workers = length group.inboxes.items
 
-  -- of one worker: its taker's state before it gathered, the senders that it gathered, and the copies that it saw
+  -- one worker: its taker's state before it gathered, the senders that it gathered, and the copies that it saw
   record Part : Type 0 where
     state : TakerState
     senders : List SenderView
@@ -145,7 +145,7 @@ module _ (n : NetModel) (of : List ℕ) (width windows : ℕ) (group : WorkerGro
       all_had : (s : ℕ) → from s (copies_of (z.history.taken windows)) ≡ from s (copies_of z.state.taken)
       all_had s = ap (λ l. from s (copies_of l)) p.ran.all
 
-      -- the copies taken of the motes of others are all that were sent to this worker
+      -- the copies taken from motes of other workers are all copies that were sent to this worker
       had_all : (s : ℕ) → is_own of v s ≡ false → (o : Option ℕ) → slice_get of s ≡ o → from s (copies_of z.state.taken) ≡ from s (sent_so_far n of width windows workers all h.cut are v windows)
       had_all s other None e =
           sym (all_had s)

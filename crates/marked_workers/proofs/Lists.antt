@@ -1,4 +1,4 @@
--- The copies of one mote in lists that follow one another.
+-- The copies of one mote in consecutive lists.
 use Rattle.std.proofs.Common.{◌≡◌, ℕ, zero, suc, ◌<◌, List, [], ◌∷◌, ◌++◌, refl, sym, ap, ◌∙◌, inl, inr, arith, append-nil}
 use Rattle.std.proofs.lemmas.Bool.{cases_eq}
 use Rattle.radio_packet.specs.declared.copy.RadioCopy.{RadioCopy}

@@ -50,8 +50,8 @@ module _ (n : NetModel) (of : List ℕ) (width workers worker made k : ℕ) (tak
   abbrev pub longer : WorkerHistory
   longer = record { motes = edit history.motes (suc k) next; taken = edit history.taken (suc k) (taken ++ more); outgoing = edit history.outgoing k outgoing }
 
-  -- the worker ran window k, pushed the copies that it sent in it and the mark, and then took more, until it had the
-  -- marks of window k too
+  -- the worker ran window k, pushed the copies that it sent in the window and the mark, and then took more items,
+  -- until it had the marks of window k too
   module _ (ran : WorkerRunsWindows n of width k workers worker made taken pushed history)
       (window : RunsMotes n of worker (bound width n.end k) (bound width n.end (suc k)) (history.motes k) next (copies_of taken) outgoing)
       (lead : (s : ℕ) → s < made → suc k ≤ marks_in (part s (taken ++ more)))

@@ -1,5 +1,5 @@
--- Who pushed which items into whose inbox, and the copies of a mote among those that a worker had taken before a
--- window.
+-- The items that each worker pushed into the inbox of another, and the copies of a mote among the items that a worker
+-- had taken before a window.
 use Rattle.std.proofs.Common.{◌≡◌, ◌≢◌, ◌⊎◌, ℕ, ◌<◌, ◌≤◌, false, eqb, List, [], ◌++◌, length, map, get_or, sym, ap}
 use Rattle.std.proofs.Common.{◌∙◌, subst, inl, inr, arith, append_assoc, Some}
 use Rattle.std.specs.List.{filter, slice_get, range_with_len, AllByRecursion as Each}
@@ -73,7 +73,7 @@ module _ (n : NetModel) (of : List ℕ) (width windows workers : ℕ) (all : All
       }
 
   module _ (u : ℕ) (lu : u < workers) (k : ℕ) (le : k ≤ windows) where
-    -- the items taken of it before the window are a prefix of those pushed
+    -- the items taken from this sender before the window are a prefix of those that it pushed
     pub front : (v : ℕ) (lv : v < workers) (ne : v ≢ u) → BeginsWith (pushes windows (sent_to v u)) (part (pair u v lu lv ne).number ((all.histories u).taken k))
     front v lv ne =
         let p = pair u v lu lv ne in
@@ -91,7 +91,7 @@ module _ (n : NetModel) (of : List ℕ) (width windows workers : ℕ) (all : All
           ∙ (ap (λ l. from s (copies_in l)) (sym f.1)
           ∙ (ap (from s) (copies_pushes windows (sent_to v u)) ∙ none_before s (sent_to v u) windows (λ j low. none_sent v u s j lv low other)))))
 
-      -- a sender has no copies of motes of other workers
+      -- a sender pushes no copies from motes of other workers
       part_none : (j : ℕ) → ((v : ℕ) → v < workers → v ≢ u → (a : SenderView) → all.sender u v ≡ Some a → a.state.number ≡ j → is_own of v s ≡ false) → from s (copies_in (part j ((all.histories u).taken k))) ≡ []
       part_none j other = of_case (cases_lt j (all.made u))
         where

@@ -1,4 +1,4 @@
--- A thread's promise: before its first window, and after one more window.
+-- The promise of a thread before its first window, and after one more window.
 use Rattle.std.proofs.Common.{◌≡◌, ◌≢◌, ℕ, suc, ◌<◌, ◌≤◌, List, [], ◌∷◌, ◌++◌, map, sym, subst}
 use Rattle.std.specs.List.{filter, AllByRecursion as Each}
 use Rattle.radio_packet.specs.declared.copy.RadioCopy.{RadioCopy}
@@ -22,7 +22,7 @@ use Rattle.marked_workers.specs.WorkerHistory.{RunsMotes, WorkerRunsWindows, Wor
 use Rattle.marked_workers.proofs.Bounds.{at_first}
 use Rattle.marked_workers.proofs.Longer.{edit_same, runs_none, longer, runs_longer}
 
--- with a new share, and a taker that has taken nothing
+-- a worker with a new share, and with a taker that has taken nothing
 pub promise_first : (n : NetModel) (of : List ℕ) (width workers worker : ℕ) (share : Share) (state : TakerState) → state.taken ≡ [] → state.gathered ≡ []
     → IsWholeShare n of worker 0 (first_mote (system_of n)) [] share → WorkerRunsMarked n of width 0 workers worker share state (λ v. [])
 promise_first n of width workers worker share state taken nobody keeps = record {
@@ -45,7 +45,8 @@ module _ (n : NetModel) (of : List ℕ) (width workers worker k : ℕ) (share ra
   motes_ran : RunsMotes n of worker (bound width n.end k) (bound width n.end (suc k)) (promise.history.motes k) window.next (copies_of state.taken) outgoing
   motes_ran = record { runs = window.runs; out = window.out; goes = goes; late = window.late }
 
-  -- the window was run, its copies and the mark were pushed, and more was taken until all marks of the window had come
+  -- the window was run, its copies and its mark were pushed, and more items were taken until all marks of the window
+  -- had arrived
   pub promise_next : WorkerRunsMarked n of width (suc k) workers worker last_share (make_taker_state state.marked state.made (state.taken ++ more) state.gathered) pushes_now
   promise_next = record {
     history = longer n of width workers worker state.made k state.taken more pushed pushes_now promise.history window.next outgoing;

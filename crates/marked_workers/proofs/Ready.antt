@@ -33,12 +33,12 @@ same_endpoints [] (c ∷ cs) long = absurd (omega arith)
 same_endpoints (s ∷ ss) [] long = absurd (omega arith)
 same_endpoints (s ∷ ss) (c ∷ cs) long = ap (λ l. c ∷ l) (same_endpoints ss cs (omega arith))
 
--- workers that were made of takers that have neither taken nor gathered anything
+-- workers that were made from takers that have taken and gathered nothing
 module _ (inboxes : List InboxId) (takers : List TakerView) (shares : List Share) (workers : List Worker) (made : AreMade inboxes takers shares workers) (fresh : AllZip IsFresh inboxes takers) where
   endpoints_long : length made.endpoints ≡ length inboxes
   endpoints_long = as_long StartsAs takers made.endpoints made.starts ∙ as_long IsFresh inboxes takers fresh
 
-  -- the taker that an endpoint was made of
+  -- the taker from which an endpoint was made
   record Taker (v : ℕ) (c : Endpoint) : Type 0 where
     taker : TakerView
     is_fresh : taker.state ≡ make_taker_state taker.state.marked 0 [] []
@@ -84,7 +84,7 @@ module _ (inboxes : List InboxId) (takers : List TakerView) (shares : List Share
     pub ready : Each (IsFirst n of inboxes) workers
     ready = subst (Each (IsFirst n of inboxes)) (sym made.are) (each_zipped (IsFirst n of inboxes) make_worker shares made.endpoints one_ready)
 
-  -- their endpoints are those that were made
+  -- the endpoints of the workers are those that were made
   module _ (count : length shares ≡ length inboxes) where
     start_with : endpoints_of workers ≡ made.endpoints
     start_with = ap endpoints_of made.are ∙ same_endpoints shares made.endpoints (endpoints_long ∙ sym count)

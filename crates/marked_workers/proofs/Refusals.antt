@@ -1,4 +1,4 @@
--- Why a worker gave up, read backwards.
+-- The reason why a worker gave up determines the error with which it stopped taking items.
 use Rattle.std.proofs.Common.{◌≡◌, refl}
 use Rattle.fork_join.specs.declared.work.WorkerError.TheVariants as why
 use Rattle.copy_exchange.specs.declared.take.MarkError.{MarkError}

@@ -50,7 +50,7 @@ module _ (n : NetModel) (of : List ℕ) (width windows : ℕ) (inboxes : List In
   all_on_inboxes (x ∷ xs) [] h = tt
   all_on_inboxes (x ∷ xs) (y ∷ ys) h = (h.0.on_inboxes, all_on_inboxes xs ys h.1)
 
-  -- the endpoints at the end, each that of its worker
+  -- the endpoints at the end; each is the endpoint of its worker
   pub all_back : (xs ys : List Worker) → Together inboxes (endpoints_of xs) → AllZip (WorkerRunsAllWindows n of width windows inboxes) xs ys
       → map (λ (c : Endpoint). c.worker) (endpoints_of ys) ≡ range_with_len 0 (length inboxes)
   all_back xs ys together ran = same_workers (endpoints_of xs) (endpoints_of ys) (all_stay xs ys ran) ∙ together.workers

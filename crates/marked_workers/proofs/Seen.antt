@@ -1,5 +1,5 @@
--- The copies that a window sees of those that had been taken: the ones that were sent before it, and none that came
--- early.
+-- The copies that a window sees among those that had been taken: the copies that were sent before it, and none that
+-- arrived early.
 use Rattle.std.proofs.Common.{◌≡◌, ◌≢◌, ℕ, suc, ◌+◌, ◌-◌, ◌<◌, ◌≤◌, Bool, true, false, ◌&&◌, ltb, eqb, List, []}
 use Rattle.std.proofs.Common.{length, refl, sym, ap, ◌∙◌, subst, arith, Option, Some, None}
 use Rattle.std.specs.List.{filter, slice_get, AllByRecursion as Each}
@@ -37,7 +37,7 @@ too_late a b at until h = let e = le-ltb at until h in rw e (never a b)
     never false b = refl
 
 module _ (n : NetModel) (of : List ℕ) (width windows workers : ℕ) (all : AllRan n of width windows workers) (cut : IsCut (length n.motes) workers of) (are : AreWindows width n.end windows) where
-  -- all that was sent to a worker before a window
+  -- all copies that were sent to a worker before a window
   abbrev pub sent_so_far : (u k : ℕ) → List RadioCopy
   sent_so_far u k = sent_before workers (λ v. sent_before k (sent_to n of width windows workers all v u))
 

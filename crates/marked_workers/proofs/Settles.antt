@@ -1,4 +1,4 @@
--- At the end all that was pushed is taken, and the inboxes are settled.
+-- At the end, all items that were pushed are taken, and the inboxes are settled.
 use Rattle.std.proofs.Common.{◌≡◌, ◌≢◌, ◌⊎◌, ℕ, ◌<◌, ◌≤◌, false, List, [], ◌∷◌, ◌++◌, length, drop, refl, sym, ap, ◌∙◌}
 use Rattle.std.proofs.Common.{subst, inl, inr, arith, append-nil, Option, Some, None}
 use Rattle.std.specs.List.{slice_get, AllByRecursion as Each}
@@ -32,7 +32,7 @@ use Rattle.marked_workers.proofs.Seen.{nobodys}
 
 -- ---- the senders on one inbox
 module _ (n : NetModel) (of : List ℕ) (width windows workers : ℕ) (all : AllRan n of width windows workers) (u : ℕ) (lu : u < workers) where
-  -- the worker whose sender it is
+  -- the worker that owns the sender
   record Owner (a : SenderView) : Type 0 where
     worker : ℕ
     there : worker < workers
@@ -51,7 +51,7 @@ module _ (n : NetModel) (of : List ℕ) (width windows workers : ℕ) (all : All
         pushed = sym (ap pushed_list w.3) ∙ (all.ran w.0 w.1).pushes_then u lu (λ same. w.2 (sym same));
       }
 
-  -- all that the worker of a pair pushed was taken
+  -- all items that one worker of a pair pushed to the other were taken
   pub pair_taken : (v : ℕ) (lv : v < workers) (ne : v ≢ u) → part (pair n of width windows workers all u v lu lv ne).number (all.taken u) ≡ pushes windows (sent_to n of width windows workers all v u)
   pair_taken v lv ne =
       let p = pair n of width windows workers all u v lu lv ne in
@@ -108,7 +108,7 @@ none_left : (rest : List Item) → ((s : ℕ) → part s rest ≡ []) → rest �
 none_left [] h = refl
 none_left (x ∷ xs) h = absurd (part-not_nil x xs (h x.sender))
 
--- a taker that has taken and gathered nothing, however many senders it made
+-- a taker that has taken and gathered nothing, with any number of senders
 abbrev before_all : TakerState → TakerState
 before_all d = record d { taken = []; gathered = [] }
 
@@ -146,7 +146,7 @@ module _ (workers worker : ℕ) (sender : ℕ → Option SenderView) (d : TakerS
   pub whole_then : Whole then.gathered then.taken
   whole_then = joined_each (λ g. part g.number d.taken ≡ g.pushed) d.made ss [] whole tt
 
-  -- nothing is left, so no mark
+  -- nothing is left, so no mark is left
   pub no_mark : PacketsLeft then
   no_mark = joined_each (λ g. Packets (untaken_of d.taken g)) d.made ss [] (every_weaker (λ (a : SenderView). part a.state.number d.taken ≡ a.state.pushed) (λ a. Packets (untaken_of d.taken (as_gathered d.made a))) nothing_left ss whole) tt
     where
@@ -160,7 +160,7 @@ module _ (workers worker : ℕ) (sender : ℕ → Option SenderView) (d : TakerS
       of_case (inl low) = absurd (false≢true (sym e ∙ gathered_all s low))
       of_case (inr high) = of_made s high
 
-  -- a taker that gathered them all without taking anything
+  -- a taker that gathered all senders without taking anything
   gathered_first : IsOrderly (with_joined ss (before_all d))
   gathered_first = orderly_then ss (before_all d) (orderly_before d) tt are_open one
 
@@ -174,7 +174,7 @@ module _ (workers worker : ℕ) (sender : ℕ → Option SenderView) (d : TakerS
     numbers = gathered_first.numbers;
   }
 
-  -- of each mote, the copies gathered are those taken
+  -- for each mote, the copies gathered are those taken
   pub same_of_each : (s : ℕ) → from s (copies_of d.taken) ≡ from s (copies_gathered then.gathered)
   same_of_each s =
       ap (λ l. from s (copies_of l)) (sym (append-nil d.taken))

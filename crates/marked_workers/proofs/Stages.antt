@@ -1,4 +1,4 @@
--- All motes before each window: the windows of all workers are those of the law of windows.
+-- All motes before each window: the windows of all workers are windows as in the law of windows.
 use Rattle.std.proofs.Common.{◌≡◌, ℕ, zero, suc, ◌+◌, ◌<◌, ◌≤◌, true, List, [], ◌++◌, length, refl, sym, ap, ◌∙◌}
 use Rattle.std.proofs.Common.{subst, inl, inr, arith, append-nil, Option, Some, None}
 use Rattle.std.specs.List.{filter, slice_get}
@@ -30,7 +30,7 @@ use Rattle.marked_workers.proofs.Seen.{sent_so_far, of_worker, of_nobody, sees, 
 
 module _ (n : NetModel) (fine : RunsForward (system_of n)) (of : List ℕ) (width windows workers : ℕ) (all : AllRan n of width windows workers) (cut : IsCut (length n.motes) workers of) (are : AreWindows width n.end windows)
     (short : width ≤ (system_of n).lookahead) where
-  -- all motes before a window, each as its worker had it
+  -- the state of all motes before a window, each mote with the state that its worker had
   abbrev pub stage : ℕ → Motes
   stage zero = first_mote (system_of n)
   stage (suc k) = λ m. option_map_or (λ w. (all.histories w).motes (suc k) m) (slice_get of m) (stage k m)
@@ -60,7 +60,8 @@ module _ (n : NetModel) (fine : RunsForward (system_of n)) (of : List ℕ) (widt
     abbrev until : ℕ
     until = bound width n.end (suc k)
 
-    -- of the copies that the window can see for a mote, the worker had just those that were sent before the window
+    -- the copies that the worker had and that the window can see for a mote are exactly those that were sent before
+    -- the window
     same_known : (v : ℕ) → v < workers → (m s : ℕ)
         → filter (sees n of width windows workers all cut are k m) (copies_seen (system_of n) (is_own of v) ((all.histories v).motes k) (copies_of ((all.histories v).taken k)) s)
         ≡ filter (sees n of width windows workers all cut are k m) (copies_seen (system_of n) (is_own of v) (stage k) (so_far v k) s)

@@ -1,4 +1,4 @@
--- A worker's windows, one after another: the effect of each, by the promise of its thread.
+-- The windows of a worker, one after another, and the effect of each by the promise of its thread.
 use Rattle.std.proofs.Common.{◌≡◌, ◌≢◌, ◌==◌, ℕ, suc, ◌<◌, ◌≤◌, List, [], ◌∷◌, ◌++◌, length, get_or, map, refl, sym}
 use Rattle.std.proofs.Common.{ap, ◌∙◌, subst, arith, None}
 use Rattle.std.specs.List.{filter, AllByRecursion as Each}
@@ -35,7 +35,7 @@ use Rattle.marked_workers.specs.Thread.{WorkerRunsAllWindows}
 use Rattle.marked_workers.proofs.Bounds.{are_windows, begins_before, no_wider}
 use Rattle.marked_workers.proofs.Promise.{promise_first, promise_next}
 
--- items of senders that were made have no part of another
+-- items from senders that were made contain no items from another sender
 none_of_others : (made : ℕ) (xs : List Item) → Each (λ (x : Item). x.sender < made) xs → OfMade made xs
 none_of_others made [] h s le = refl
 none_of_others made (x ∷ xs) h s le =
@@ -60,7 +60,7 @@ started n of inboxes w m first same counts =
       none_pushed = first.none_pushed;
     })
 
--- and after all its windows, without the counts
+-- a worker after all its windows, without the counts
 pub reported_of : (n : NetModel) (of : List ℕ) (width windows : ℕ) (inboxes : List InboxId) (w d : Worker) (m e : MarkWorker) → IsSame w m → IsSame d e
     → HasRun n of width windows inboxes m e → WorkerRunsAllWindows n of width windows inboxes w d
 reported_of n of width windows inboxes w d m e before after ran = record {
@@ -71,7 +71,7 @@ reported_of n of width windows inboxes w d m e before after ran = record {
   on_inboxes = subst (IsOnInboxes inboxes) after.endpoint ran.on_inboxes;
 }
 
--- before its first window
+-- the promise before the first window
 pub no_window : (n : NetModel) (of : List ℕ) (width : ℕ) (inboxes : List InboxId) (w : MarkWorker) → IsStarted n of inboxes w → HasRun n of width 0 inboxes w w
 no_window n of width inboxes w m = record {
   stays = stays_same w.endpoint.base;
@@ -92,7 +92,7 @@ module _ (n : NetModel) (of : List ℕ) (width k until : ℕ) (inboxes : List In
   up : bound width n.end k ≤ until
   up = let b = begins_before width n.end (windows_of width n.end) are k low in let e = at in omega arith
 
-  -- it can run through the next
+  -- the worker can run through the next window
   pub can_run : CanRun n of until old.share []
   can_run = record {
     worker = first.endpoint.base.worker;
@@ -107,7 +107,7 @@ module _ (n : NetModel) (of : List ℕ) (width k until : ℕ) (inboxes : List In
   pub same : old.share.worker ≡ old.endpoint.base.worker
   same = in_state.promise.keeps.is_worker ∙ sym in_state.stays.worker
 
-  -- and then it has run one more
+  -- after that, the worker has run one more window
   module _ (short : width ≤ (system_of n).lookahead) (between new : MarkWorker) (sends : SendsWindow n of (length inboxes) k until old between) (on_inboxes : IsOnInboxes inboxes between.endpoint.base) (takes : TakesWindow of k until between new) where
     abbrev worker : ℕ
     worker = first.endpoint.base.worker

@@ -11,7 +11,7 @@ use Rattle.marked_workers.specs.Senders.{AreSenders}
 use Rattle.marked_workers.specs.WorkerHistory.{WorkerHistory, WorkerRunsWindows}
 
 -- Each worker ran its windows as its history says, and has taken a prefix of the items that each sender on its inbox
--- pushed. `sender inbox worker` is the sender of a worker on an inbox.
+-- pushed. `sender inbox worker` is the sender of the worker on the inbox.
 pub record AllRan (n : NetModel) (of : List ℕ) (width windows workers : ℕ) : Type 0 where
   pub made : ℕ → ℕ
   pub taken : ℕ → List Item
@@ -24,7 +24,7 @@ pub record AllRan (n : NetModel) (of : List ℕ) (width windows workers : ℕ) :
   pub begun : (u : ℕ) → u < workers
       → Each (λ (s : SenderView). BeginsWith s.state.pushed (part s.state.number (taken u))) (senders u)
 
--- a taker that had made this many senders and taken these items, and then gathered these senders
+-- a taker that had made this many senders and taken these items, and that then gathered these senders
 pub record GatheredSenders (made : ℕ) (taken : List Item) (senders : List SenderView) (taker : TakerView) : Type 0 where
   pub before : TakerView
   pub is_made : before.state.made ≡ made
@@ -32,7 +32,7 @@ pub record GatheredSenders (made : ℕ) (taken : List Item) (senders : List Send
   pub nobody : before.state.gathered ≡ []
   pub gathered : taker ≡ gather_senders before senders
 
--- These takers took and gathered the items of `all`, and no more.
+-- The takers took and gathered exactly the items of `all`.
 abbrev pub IsOfTakers : {n : NetModel} {of : List ℕ} {width windows workers : ℕ}
     → AllRan n of width windows workers → List TakerView → Type 0
 IsOfTakers {n} {of} {width} {windows} {workers} all takers = (v : ℕ) → v < workers → (taker : TakerView)

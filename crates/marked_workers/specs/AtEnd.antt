@@ -17,9 +17,9 @@ use Rattle.copy_exchange.specs.Steps.{gather_senders}
 use Rattle.marked_workers.specs.Senders.{AreSenders}
 use Rattle.marked_workers.specs.WorkerHistory.{WorkerRunsMarked}
 
--- One worker when all threads are joined: it ran all windows as it promised, had taken a prefix of the items that each
--- sender on its inbox pushed, and then gathered these senders. `sender inbox worker` is the sender of a worker on an
--- inbox.
+-- One worker when all threads are joined: it ran all windows as it promised, it had taken a prefix of the items that
+-- each sender on its inbox pushed, and it then gathered these senders. `sender inbox worker` is the sender of the
+-- worker on the inbox.
 pub record EndsMarked (n : NetModel) (of : List ℕ) (width windows workers : ℕ)
     (sender : (inbox worker : ℕ) → Option SenderView) (worker : ℕ) (share : Share) (taker : TakerView) : Type 0 where
   pub before : TakerView
@@ -43,8 +43,8 @@ pub record EndAllMarked (n : NetModel) (of : List ℕ) (width windows : ℕ) (gr
       → EndsMarked n of width windows (length group.inboxes.items) sender worker
       (slice_index_or group.shares.items worker share) (slice_index_or group.takers.items worker taker)
 
--- However the threads were scheduled, all workers are at the end, as if all copies had been exchanged between the
--- windows, and each has taken all items that were pushed to it, with every mark.
+-- For every schedule of the threads, all workers are at the end, in the same state as if all copies had been exchanged
+-- between the windows; and each worker has taken all items that were pushed to it, with every mark.
 abbrev pub MarkedWindowsLeadToTheEnd : Type 0
 MarkedWindowsLeadToTheEnd = (n : NetModel) → RunsForward (system_of n) → (of : List ℕ) (width windows : ℕ)
     → width ≤ (system_of n).lookahead → AreWindows width n.end windows

@@ -1,11 +1,11 @@
--- The windows of a run with marks: all of one width, one after another from 0 up to the end.
+-- The windows of a run with marks: they have one width, and follow one another from 0 to the end.
 use Rattle.std.specs.Prelude.{ℕ, ◌+◌, ◌*◌, ◌/◌, ◌<◌, ◌≤◌, min}
 
--- the moment at which a window begins, and before which the one before it ends
+-- the moment at which a window begins, and before which the previous window ends
 abbrev pub bound : (width end window : ℕ) → ℕ
 bound width end window = min (window * width) (end + 1)
 
--- how many windows there are
+-- the number of windows
 abbrev pub windows_of : (width end : ℕ) → ℕ
 windows_of width end = (end + width) / width
 

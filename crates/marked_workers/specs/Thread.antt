@@ -17,8 +17,8 @@ use Rattle.all_workers.specs.declared.worker.Worker.{Worker}
 use Rattle.marked_workers.specs.declared.worker.MarkWorker.{MarkWorker}
 use Rattle.marked_workers.specs.WorkerHistory.{WorkerRunsMarked}
 
--- A worker before its first window: its share is as it began, on its inbox a sender of each other worker was made, and
--- nothing was pushed or taken.
+-- A worker before its first window: its share is unchanged since it was made, its inbox has a sender of each other
+-- worker, and nothing was pushed or taken.
 pub record IsFirst (n : NetModel) (of : List ℕ) (inboxes : List InboxId) (w : Worker) : Type 0 where
   pub cut : IsCut (length n.motes) (length inboxes) of
   pub keeps : IsWholeShare n of w.endpoint.worker 0 (first_mote (system_of n)) [] w.share
@@ -45,7 +45,7 @@ pub record IsStarted (n : NetModel) (of : List ℕ) (inboxes : List InboxId) (w 
   pub none_gathered : w.endpoint.base.taker.state.gathered ≡ []
   pub none_pushed : HasPushedNothing w.endpoint.base
 
--- its motes ran through a window, and the outgoing copies were pushed, with the window's mark after them
+-- the worker's motes ran through a window, and it pushed the outgoing copies, and the window's mark after them
 pub record SendsWindow (n : NetModel) (of : List ℕ) (workers window until : ℕ) (old new : MarkWorker) : Type 0 where
   pub outgoing : List RadioCopy
   pub runs : (worker from : ℕ) (motes : Motes) (taken : List RadioCopy)
@@ -56,7 +56,8 @@ pub record SendsWindow (n : NetModel) (of : List ℕ) (workers window until : �
   pub pushes : PushesWindow of workers window old.endpoint.base new.endpoint.base outgoing
   pub marks : new.endpoint.marks ≡ old.endpoint.marks
 
--- it took items until the window's mark of each other worker had arrived, and the copies among them are in its share
+-- the worker took items until the window's mark had arrived from each other worker, and the copies among the items are
+-- in its share
 pub record TakesWindow (of : List ℕ) (window until : ℕ) (old new : MarkWorker) : Type 0 where
   pub arrived : List RadioCopy
   pub took : TakesExpected (position of old.endpoint.base.worker until) old.endpoint.base.taker new.endpoint.base.taker
@@ -67,7 +68,7 @@ pub record TakesWindow (of : List ℕ) (window until : ℕ) (old new : MarkWorke
   pub senders : new.endpoint.base.senders ≡ old.endpoint.base.senders
   pub keeps : TakesIn arrived old.share new.share
 
--- a worker that has run this many windows, from the state `first` on
+-- a worker that has run this many windows, beginning with the state `first`
 pub record HasRun (n : NetModel) (of : List ℕ) (width windows : ℕ) (inboxes : List InboxId)
     (first now : MarkWorker) : Type 0 where
   pub stays : Stays first.endpoint.base now.endpoint.base
@@ -77,14 +78,14 @@ pub record HasRun (n : NetModel) (of : List ℕ) (width windows : ℕ) (inboxes 
   pub marked : HasMarks now.endpoint.base
   pub counts : Counts now.endpoint.marks.items now.endpoint.base.taker.state
 
--- If windows are no longer than the lookahead: from whichever first state this many windows have led to the old one,
--- one more window has led from it to the new one.
+-- If windows aren't longer than the lookahead: if this many windows led from any first state to the old state, then
+-- one more window leads on to the new state.
 abbrev pub LeadsOn : NetModel → (of : List ℕ) → (width window : ℕ) → (inboxes : List InboxId)
     → (old new : MarkWorker) → Type 0
 LeadsOn n of width window inboxes old new = width ≤ (system_of n).lookahead → (first : MarkWorker)
     → HasRun n of width window inboxes first old → HasRun n of width (suc window) inboxes first new
 
--- all that a worker's thread does: it ran this many windows
+-- the whole work of a worker's thread: it ran this many windows
 pub record WorkerRunsAllWindows (n : NetModel) (of : List ℕ) (width windows : ℕ) (inboxes : List InboxId)
     (first now : Worker) : Type 0 where
   pub stays : Stays first.endpoint now.endpoint

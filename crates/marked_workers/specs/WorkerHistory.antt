@@ -16,8 +16,8 @@ use Rattle.worker_window.specs.Share.{Motes, IsWholeShare}
 use Rattle.worker_window.specs.Window.{RunsOwnMote, IsOutgoing, outgoing_by}
 use Rattle.marked_workers.specs.Bounds.{bound}
 
--- A worker before each window, that is, its motes and all items that it had taken by then; and the outgoing copies of
--- the window.
+-- The state of a worker before each window, that is, its motes and all items that it had taken by then; and the
+-- outgoing copies of the window.
 pub record WorkerHistory : Type 0 where
   pub motes : ℕ → Motes
   pub taken : ℕ → List Item
@@ -32,9 +32,9 @@ pub record RunsMotes (n : NetModel) (of : List ℕ) (worker from until : ℕ) (m
   pub goes : Each (IsOutgoing n of worker) outgoing
   pub late : Each (λ (copy : RadioCopy). until ≤ copy.at) outgoing
 
--- The first windows of one worker, this many. Before each window it had taken, of each sender that was made on its
--- inbox, the marks of all earlier windows. The items that it pushed to another worker are, window by window, the
--- copies for that worker's motes and then the mark.
+-- The first windows of one worker; `windows` is their number. Before each window it had taken, from each sender that
+-- was made on its inbox, the marks of all earlier windows. The items that it pushed to another worker are, for each
+-- window, the copies for that worker's motes and then the mark.
 pub record WorkerRunsWindows (n : NetModel) (of : List ℕ) (width windows workers worker made : ℕ) (taken : List Item)
     (pushed : ℕ → List Carried) (history : WorkerHistory) : Type 0 where
   pub first : history.motes 0 ≡ first_mote (system_of n)
@@ -48,8 +48,8 @@ pub record WorkerRunsWindows (n : NetModel) (of : List ℕ) (width windows worke
   pub pushes_then : (v : ℕ) → v < workers → v ≢ worker
       → pushed v ≡ pushes windows (λ k. filter (is_to of v) (history.outgoing k))
 
--- The promise: the worker ran this many windows, with some history, and the share keeps the motes at their end. The
--- taker has taken the items of the history, and has gathered nobody.
+-- The promise: the worker ran this many windows, with some history, and its share keeps the motes at the end of the
+-- windows. Its taker has taken the items of the history, and has gathered no sender.
 pub record WorkerRunsMarked (n : NetModel) (of : List ℕ) (width windows workers worker : ℕ) (share : Share)
     (state : TakerState) (pushed : ℕ → List Carried) : Type 0 where
   pub history : WorkerHistory

@@ -25,11 +25,12 @@ use worker_window::Gate;
 
 /// Runs all workers to the end of the net, each in one thread for the whole run. All windows except the last have the
 /// same length: the lookahead, or `longest` if that is above 0 and below the lookahead. `of` is the worker of each
-/// mote. The inboxes have marks, and nothing is left in them at the end.
+/// mote. The inboxes have marks, and are empty at the end.
 ///
 /// # Errors
-/// `Memory`, or `Thread` if a thread couldn't be started, the gate refused a start, or the executor returned an error:
-/// that of the first worker, by number, that has one. It is never `Stopped`, which only follows another failure.
+/// `Memory` if an allocation fails; `Thread` if a thread couldn't be started, the gate refused a start, or the
+/// executor returned an error. It is the error of the failed worker with the lowest number. It is never `Stopped`,
+/// because a worker stops only after another failure.
 pub fn run_by_marks<'a, R, G>(
     rt: &'a R,
     alloc: Global,
@@ -46,7 +47,7 @@ where
     requires marked { Each (λ taker. taker.state.marked ≡ true) group.takers.items }
     ensures at { let n = net_of net.now in IfOk result (λ done. IsAt n of.now (suc n.end) done) }
     ensures inboxes { IfOk result (λ done. done.inboxes.items ≡ group.inboxes.items) }
-    // Each worker ran all windows of this length.
+    // Each worker ran all windows, which have this length.
     ensures windows { let n = net_of net.now in
         IfOk result (GroupRunsMarked n of.now (length_of_window (system_of n).lookahead longest) group) }
     ensures all_taken { IfOk result

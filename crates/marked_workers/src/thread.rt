@@ -25,7 +25,7 @@ use std::sync::Wait;
 use std::sync::ledger::Ledger;
 use worker_window::Gate;
 
-/// The data of each thread besides its worker: the runtime, the gate into its turns, and the run.
+/// The data of each thread besides its worker: the runtime, the gate that its turns call, and the run.
 pub struct MarkRunner<'a, R, G> {
     pub rt: &'a R,
     pub gate: &'a G,
@@ -42,7 +42,7 @@ impl<R, G> Drop for MarkRunner<'_, R, G> {
     }
 }
 
-/// Runs the worker's motes through a window, and pushes the outgoing copies, with the window's mark after them.
+/// Runs the worker's motes through a window. Then it pushes the outgoing copies, and the window's mark after them.
 fn send_window<R: Wait + RandomSource + AllocGlobal, G: Gate>(
     rt: &R,
     gate: &G,
@@ -75,8 +75,8 @@ fn send_window<R: Wait + RandomSource + AllocGlobal, G: Gate>(
     Ok(())
 }
 
-/// The reason why a worker gave up, if it stopped taking items. A copy that isn't expected arrives only if another
-/// worker has broken the protocol, which none does; it counts as an error of the thread's work.
+/// Returns the reason why a worker gave up, if it stopped taking items. A copy that isn't expected arrives only if
+/// another worker has broken the protocol, which no worker does; it counts as an error of the thread's work.
 fn gave_up(error: MarkError) -> WorkerError
     ensures value { result ≡ refused_of_marks error }
 {
@@ -87,7 +87,8 @@ fn gave_up(error: MarkError) -> WorkerError
     }
 }
 
-/// Takes items until each other worker's mark of the window has arrived, and puts the copies among them into the share.
+/// Takes items until the window's mark has arrived from each other worker, and adds the copies among the items to the
+/// share.
 fn take_window<R: Wait + AllocGlobal, L: Ledger>(
     rt: &R,
     run: &WorkersRun<'_>,
@@ -122,7 +123,8 @@ fn take_window<R: Wait + AllocGlobal, L: Ledger>(
     Ok(())
 }
 
-/// Runs one window, after all earlier ones: the worker's motes run and send, then the worker takes copies and marks.
+/// Runs one window, after all earlier ones. First the worker's motes run and send; then the worker takes copies and
+/// marks.
 fn run_one<R: Wait + RandomSource + AllocGlobal, G: Gate, L: Ledger>(
     rt: &R,
     gate: &G,
@@ -150,7 +152,8 @@ fn run_one<R: Wait + RandomSource + AllocGlobal, G: Gate, L: Ledger>(
 /// Runs a worker through all windows, to the end of the net.
 ///
 /// # Errors
-/// `Memory`; `Thread` if the executor returned an error; `Stopped` if it stopped because another worker failed.
+/// `Memory` if an allocation fails; `Thread` if the executor returned an error; `Stopped` if the worker stopped
+/// because another worker failed.
 fn run_worker<R: Wait + RandomSource + AllocGlobal, G: Gate, L: Ledger>(
     rt: &R,
     gate: &G,
@@ -178,7 +181,7 @@ fn run_worker<R: Wait + RandomSource + AllocGlobal, G: Gate, L: Ledger>(
     Ok(worker)
 }
 
-/// Gives the worker a count of marks for each sender on its inbox.
+/// Adds to a worker a count of marks for each sender on its inbox.
 fn with_marks(
     alloc: Global,
     run: &WorkersRun<'_>,
@@ -204,7 +207,7 @@ fn with_marks(
     }
 }
 
-/// The worker without its counts of marks. Each worker takes all copies that are delivered to it.
+/// Removes the counts of marks from a worker. The worker has taken all copies that were delivered to it.
 fn without_marks(worker: MarkWorker) -> Worker
     ensures is_same { IsSame result worker }
 {
@@ -221,10 +224,10 @@ fn without_marks(worker: MarkWorker) -> Worker
     }
 }
 
-/// All that a worker does in its thread.
+/// Does the whole work of a worker in its thread.
 ///
 /// # Errors
-/// As [`run_worker`].
+/// The errors of [`run_worker`].
 fn run_through<R: Wait + RandomSource + AllocGlobal, G: Gate, L: Ledger>(
     rt: &R,
     gate: &G,

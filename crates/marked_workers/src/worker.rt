@@ -5,14 +5,15 @@ use copy_inbox::Inbox;
 use mote_net::Net;
 use worker_window::Share;
 
-/// A worker in its thread: its share of the net, and its endpoint, which counts the marks that it took of each worker.
+/// A worker in its thread: its share of the net, and its endpoint, which counts the marks taken from each other
+/// worker.
 #[derive(Drop)]
 pub struct MarkWorker {
     pub share: Share,
     pub endpoint: MarkEndpoint,
 }
 
-/// The common data of all workers of a run.
+/// The data that all workers of a run share.
 #[derive(Clone, Copy)]
 pub struct WorkersRun<'a> {
     pub net: &'a Net,

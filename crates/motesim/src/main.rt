@@ -1,4 +1,4 @@
-//! The program: it passes the streams of its process to the command.
+//! The program. It passes the streams of its process to the command.
 #![tactic(auto)]
 
 use simulation::run_process;

@@ -41,7 +41,7 @@ abbrev pub AllFit : Tree → List (Statement ℕ) → Type 0
 AllFit t [] = Unit {0}
 AllFit t (s ∷ ss) = FitsStatement t s × AllFit t ss
 
--- a code of the program: each block that it may run, and its number
+-- a code of the program, with each block that it may run and its number
 pub record FitsCode (t : Tree) (code : Code) : Type 0 where
   pub threads : (k : ℕ) → AllFit t (thread_block code k)
   pub parts : (part : Part) → AllFit t (whole_of code part)

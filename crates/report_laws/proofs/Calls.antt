@@ -1,5 +1,5 @@
--- Each call of the kernel keeps that its state names only processes and events of the program, however deep calls
--- nest; so does each boot and each kernel run.
+-- Each call of the kernel preserves a property: its state names only processes and events of the program. This holds
+-- for calls nested to any depth, for each boot and for each kernel run.
 use Rattle.std.proofs.Common.{ℕ, zero, suc, ◌≡◌, ◌<◌, not, ◌&&◌, Bool, true, false, if◌then◌else◌, List, [], ◌∷◌, length, map, Option, None, Some, slice_get, unwrap_or, inl, refl, sym, subst, arith}
 use Rattle.std.specs.List.{AllByRecursion as Each}
 use Rattle.std.specs.Prelude.{drop}
@@ -73,7 +73,7 @@ module _ (t : Tree) (whole : IsWhole t) where
   abbrev Leads : (A : Type 0) → (A → Type 0) → Outcome A → Type 0
   Leads A P o = Lead t whole A P o
 
-  -- a step whose answer is of no matter
+  -- a step with any result
   abbrev pub Ok : {A : Type 0} → Outcome A → Type 0
   Ok {A} o = Lead t whole A (Nothing t whole) o
 
@@ -89,7 +89,7 @@ module _ (t : Tree) (whole : IsWhole t) where
   ok_if : {A : Type 0} (b : Bool) (o q : Outcome A) → Ok o → Ok q → Ok (if b then o else q)
   ok_if b o q h i = either t whole (Nothing t whole) b o q h i
 
-  -- the answer of a thread, with its remainder
+  -- the result of a thread, with its remainder
   abbrev FitsAnswer : Answer → Type 0
   FitsAnswer a = FitsRest t a.1
 

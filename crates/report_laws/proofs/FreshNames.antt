@@ -18,7 +18,7 @@ use Rattle.program_tree.proofs.NameLaws.{bytes_same}
 use Rattle.mote_program.proofs.OwnTokens.{AreLexedNames, names_lexed}
 use Rattle.trace_printer.proofs.ProgramNames.{AreApart, HasDistinctNames, IsName}
 
--- ---- a name that isn't among some
+-- ---- a name that isn't in a list of names
 
 abbrev IsNew : List Name → Name → Type 0
 IsNew names x = Each (λ (y : Name). x ≡ y → ⊥) names
@@ -53,7 +53,7 @@ new_in_last : (xs ys : List Name) (x : Name) → IsNew (xs ++ ys) x → IsNew ys
 new_in_last [] ys x h = h
 new_in_last (y ∷ xs) ys x h = new_in_last xs ys x h.1
 
--- ---- names that are each new
+-- ---- names that are all new
 
 abbrev AreFresh : List Name → List Name → Type 0
 AreFresh old [] = Unit {0}
@@ -109,7 +109,7 @@ new_from p before (m ∷ ms) program e =
           (new_from p (before ++ m ∷ []) ms program (e ∙ sym (append_assoc before (m ∷ []) ms))),
     )
 
--- a name in no class is in neither of these
+-- a name that is in none of the classes is in neither of these two
 no_event : (a b c d e f : Bool) → ((a || b || c || d || e || f) ≡ true → ⊥) → a ≡ true → ⊥
 no_event true b c d e f h is = h refl
 no_event false b c d e f h is = absurd cc

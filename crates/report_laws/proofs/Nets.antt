@@ -22,7 +22,7 @@ use Rattle.report_laws.proofs.Declared.{is_whole}
 use Rattle.report_laws.proofs.States.{IsWhole, FitsLine}
 use Rattle.report_laws.proofs.Turns.{IsSound, turn_sound, new_sound}
 
--- the program of each mote is whole, also of one past the last
+-- the program of each mote is complete, and so is the default for a mote past the last
 
 no_mote_whole : IsWhole no_mote.tree
 no_mote_whole = record { codes = tt; count = refl; autostart = tt; receiver = tt }
@@ -83,7 +83,7 @@ pub runs_name_only : RunsNameOnly
 runs_name_only n declare r report =
     subst (λ (x : ReportModel). AreNamed n.motes x.traces) (sym report.matches) (traces_name n.motes report.last.traces (run_sound n declare report.run (boot_sound n declare)).traces)
 
--- with numbers of 64 bits, a run's report has names in each net of the same motes
+-- with numbers of 64 bits, the report of a run has names in each net with the same motes
 named_there : (m n : NetModel) (r : ReportModel) → n.motes ≡ m.motes → ProgramsDeclare m → IsRunOf n r → IsNamed m r
 named_there m n r same declare run =
     let declares : ProgramsDeclare n = subst (Each (λ (x : MoteSetup). IsDeclared x.tree × IsComplete x.tree)) (sym same) declare in

@@ -1,4 +1,5 @@
--- States of a kernel that name only processes and events of the program, and its small steps, which keep this.
+-- States of a kernel that name only processes and events of the program, and its small steps, which preserve this
+-- property.
 use Rattle.std.proofs.Common.{ℕ, zero, suc, ◌≡◌, ◌+◌, ◌<◌, ◌^◌, ◌==◌, nat_le, nat_lt, not, Bool, true, false, if◌then◌else◌, List, [], ◌∷◌, ◌++◌, length, Option, None, Some, slice_get, slice_set, sym, subst}
 use Rattle.std.specs.List.{filter, AllByRecursion as Each}
 use Rattle.std.specs.Prelude.{slice_index_or, replicate}
@@ -66,7 +67,7 @@ each_replicate P (suc n) x h = (h, each_replicate P n x h)
 
 -- ---- states
 
--- the part of a state that may come into lines
+-- the part of a state that lines can show
 pub record Seen : Type 0 where
   pub program : Tree
   pub events : List Posted
@@ -117,7 +118,7 @@ abbrev pub HasReceiver : Tree → Option ℕ → Type 0
 HasReceiver t None = Unit {0}
 HasReceiver t (Some p) = p < length t.processes
 
--- a program each of whose codes is that of one of its processes, and names only its own
+-- a program in which each code belongs to one of its processes and names only its own processes and events
 pub record IsWhole (t : Tree) : Type 0 where
   pub codes : Each (FitsCode t) t.codes
   pub count : length t.codes ≡ length t.processes
@@ -128,7 +129,7 @@ module _ (t : Tree) (whole : IsWhole t) where
   abbrev pub Is : State → Type 0
   Is s = Sound t (seen s)
 
-  -- how a step ends: in such a state, and if it continues, with an answer of this kind
+  -- the end of a step: such a state and, if the step continues, a result of this kind
   abbrev pub After : {A : Type 0} → (A → Type 0) → Outcome A → Type 0
   After P (Ends s) = Is s
   After P (Goes a s) = Is s × P a

@@ -1,4 +1,5 @@
--- The programs of a scenario's net declare what they name, and their names differ, since each is the tree of a text.
+-- The programs of a scenario's net declare all names that they use, and their names differ, because each program is
+-- the tree of a text.
 use Rattle.std.proofs.Common.{ℕ, Bool, true, false, cond, List, [], ◌∷◌, map, Some, unwrap_or, refl}
 use Rattle.std.proofs.Common.{sym, subst}
 use Rattle.std.specs.Prelude.{find, codes}
@@ -22,7 +23,7 @@ use Rattle.report_laws.specs.Laws.{TextsDeclare, NamesOfTextsDiffer, ComparingBy
 use Rattle.report_laws.specs.Laws.{ScenariosAreComparable, SameBytesOfScenarios}
 use Rattle.report_laws.proofs.FreshNames.{text_names}
 
--- a property of the tree of each text, and of the default for a program that isn't there
+-- a property that holds for the tree of each text, and for the default for a program that doesn't exist
 module _ (P : Tree → Type 0) (none : P no_program.tree) (each : (text : List ℕ) (tree : Tree) → IsTreeOf text tree → P tree) where
   read_trees : (ps : List ProgramText) (ts : List NamedTree) → AllRead ps ts → Each (λ (x : NamedTree). P x.tree) ts
   read_trees [] [] h = tt
@@ -43,7 +44,7 @@ module _ (P : Tree → Type 0) (none : P no_program.tree) (each : (text : List �
   mote_trees queue ts [] h = tt
   mote_trees queue ts (m ∷ ms) h = (found_tree _ ts h, mote_trees queue ts ms h)
 
-  -- holds of each program of a scenario's net
+  -- the property holds for each program of a scenario's net
   net_trees : (text : List ℕ) (net : NetModel) → TellsNet text net → Each (λ (m : MoteSetup). P m.tree) net.motes
   net_trees text net tells =
       let trees = tells.1.programs.trees in
@@ -64,7 +65,7 @@ none_declares = (
 pub texts_declare : NamesAreDeclared → DeclarationsAreComplete → TextsDeclare
 texts_declare declared complete = net_trees Declares none_declares (λ text tree h. (declared text tree h, complete text tree h))
 
--- and declares nothing
+-- the default declares nothing
 none_differ : NamesDiffer no_program.tree
 none_differ = names_differ no_program.tree (record {
   events = tt;

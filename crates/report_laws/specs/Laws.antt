@@ -1,4 +1,5 @@
--- Laws of the reports of runs: they name only what the programs declare, so equal bytes mean equal runs.
+-- Laws of the reports of runs: reports name only processes and events that the programs declare, so equal bytes mean
+-- equal runs.
 use Rattle.std.specs.Prelude.{◌≡◌, ℕ, List, [], ◌++◌}
 use Rattle.std.specs.List.{AllByRecursion as Each}
 use Rattle.mote_program.specs.Complete.{IsComplete}
@@ -10,7 +11,8 @@ use Rattle.serial_run.specs.NetRun.{IsReportOf}
 use Rattle.trace_printer.specs.Named.{AreNamed, Is64Report, NetNamesDiffer}
 use Rattle.trace_printer.specs.ReportText.{report_text}
 
--- each program of the net declares what it names, and each declaration has its parts, as in the tree of any text
+-- each program of the net declares all names that it uses, and each declaration is complete, as in the tree of any
+-- text
 abbrev pub ProgramsDeclare : NetModel → Type 0
 ProgramsDeclare net = Each (λ (m : MoteSetup). IsDeclared m.tree × IsComplete m.tree) net.motes
 
@@ -18,38 +20,39 @@ ProgramsDeclare net = Each (λ (m : MoteSetup). IsDeclared m.tree × IsComplete 
 abbrev pub TextsDeclare : Type 0
 TextsDeclare = (text : List ℕ) (net : NetModel) → TellsNet text net → ProgramsDeclare net
 
--- and the names in each program of it differ
+-- the names in each program of the net of each scenario's text differ
 abbrev pub NamesOfTextsDiffer : Type 0
 NamesOfTextsDiffer = (text : List ℕ) (net : NetModel) → TellsNet text net → NetNamesDiffer net
 
--- each process and event in each line of a run has its name
+-- each process and each event in each line of a run has its name
 abbrev pub RunsNameOnly : Type 0
 RunsNameOnly = (net : NetModel) → ProgramsDeclare net → (r : ReportModel) → IsReportOf net r
     → AreNamed net.motes r.traces
 
--- a report of a run of this net, in numbers of 64 bits
+-- a report of a run of this net, with numbers of 64 bits
 pub record IsRunOf (net : NetModel) (r : ReportModel) : Type 0 where
   pub report : IsReportOf net r
   pub numbers : Is64Report r
 
--- two nets of the same motes, whose ends, media and collisions may differ
+-- two nets with the same motes, whose ends, media and collisions may differ
 pub record AreComparable (m n : NetModel) : Type 0 where
   pub motes : n.motes ≡ m.motes
   pub declare : ProgramsDeclare m
   pub differ : NetNamesDiffer m
 
--- Comparing bytes is comparing runs: two runs of the same motes that write the same text have the same traces, the
--- same log, and the same number of copies left.
+-- To compare the bytes of reports is to compare the runs: two runs of the same motes that write the same text have the
+-- same traces, the same log, and the same number of copies left.
 abbrev pub ComparingBytesIsComparingRuns : Type 0
 ComparingBytesIsComparingRuns = (m n : NetModel) → AreComparable m n → (a b : ReportModel) → IsRunOf m a → IsRunOf n b
     → report_text m a ≡ report_text n b → a ≡ b
 
--- and the text of neither is a proper prefix of the other's
+-- the text of neither run is a proper prefix of the other's text
 abbrev pub NoRunBeginsAnother : Type 0
 NoRunBeginsAnother = (m n : NetModel) → AreComparable m n → (a b : ReportModel) → IsRunOf m a → IsRunOf n b
     → (more : List ℕ) → report_text n b ≡ report_text m a ++ more → more ≡ []
 
--- The same of the nets of two scenarios' texts, if they have the same motes: only the numbers are left as a premise.
+-- The same for the nets of two scenarios' texts, if the nets have the same motes: the only other premise is about the
+-- numbers.
 pub record AreScenarios (x y : List ℕ) (m n : NetModel) : Type 0 where
   pub first : TellsNet x m
   pub second : TellsNet y n

@@ -1,5 +1,5 @@
-//! Laws of the reports of runs, about definitions only: what the lines of a run name, and that reports with the same
-//! bytes are of the same run.
+//! Laws of the reports of runs, about definitions only: the names in the lines of a run, and the equality of runs
+//! whose reports have the same bytes.
 #![tactic(auto)]
 
 pub mod laws;

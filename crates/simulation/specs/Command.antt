@@ -44,8 +44,8 @@ status_of_words kind.DisplayHelp = 0
 status_of_words kind.DisplayVersion = 0
 status_of_words k = 2
 
--- the arguments are refused, or ask for help: nothing is read; an error isn't written to the output, nor help to
--- `errors`
+-- the arguments are refused, or ask for help: nothing is read, no error is written to the output, and no help is
+-- written to `errors`
 pub record RefusesWords (k : ErrorKind) (old new : Streams) (status : ℕ) : Type 0 where
   pub status_is : status ≡ status_of_words k
   pub unread : new.input ≡ old.input

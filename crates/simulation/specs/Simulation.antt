@@ -52,7 +52,7 @@ abbrev pub way_by : (workers : Option ℕ) → SyncKind → Way
 way_by None sync = None
 way_by (Some n) sync = Some (n, sync)
 
--- the way that the options name
+-- the way to run a net with these options
 abbrev pub way_of : Options → Way
 way_of options = way_by options.workers options.sync
 

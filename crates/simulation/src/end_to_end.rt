@@ -56,18 +56,19 @@ where
 ///
 /// # Errors
 /// In this order: `Read` if a call of the reader failed, or was interrupted, before the limit was passed; `TooLong` if
-/// the reader returned more than 1,048,576 bytes, even if it never ends; `NotText` if they aren't UTF-8; `Scenario`
-/// with the scenario's first fault; `Run` if an allocation of the run failed; `Print` if the writer failed or took no
-/// byte. With `Print`, a prefix of the report has been written; with any other error, nothing has. If an allocation
-/// failed, the error can also be `Memory`, or the `Memory` of a part; these errors have no other cause.
+/// the reader returned more than 1,048,576 bytes, even if it never ends; `NotText` if the bytes aren't UTF-8;
+/// `Scenario` with the first error in the scenario; `Run` if an allocation of the run failed; `Print` if the writer
+/// failed or took no byte. With `Print`, a prefix of the report has been written; with any other error, nothing has.
+/// If an allocation failed, the error can also be `Memory`, or the `Memory` of a part; these errors have no other
+/// cause.
 #[tactic(auto, using(crate::proofs::Printed::some_bytes))]
 pub fn simulate_serial<R: Read, W: Write>(
     alloc: Global,
     reader: &mut R,
     writer: &mut W,
 ) -> Result<(), SimError>
-    // If the reader's contents are known, the result is that of simulating these bytes; if the writer's contents are
-    // known, the report's text is written.
+    // If the reader's contents are known, the result is that of simulating these bytes. If the writer's contents are
+    // known, they grow by the text that is written.
     ensures answer { IfSome (R.remaining reader.old)
         (λ input. SimulatedWith None input (W.contents writer.old) (W.contents writer.new) result) }
     // A report or an error of the scenario is that of some bytes, for any reader.

@@ -1,4 +1,5 @@
--- The report of the workers is that of the net, and the copies that went through their inboxes are those of its log.
+-- The report of the workers is the report of the net, and the copies that went through their inboxes are those in its
+-- log.
 use Rattle.std.proofs.Common.{◌≡◌, ℕ, zero, suc, ◌+◌, ◌<◌, List, [], ◌∷◌, length, map, get_or, refl, sym, ap, ◌∙◌}
 use Rattle.std.proofs.Common.{subst, arith, Some, None, Vec, length-append}
 use Rattle.std.specs.Prelude.{All}
@@ -46,7 +47,7 @@ module _ (n : NetModel) (fault : medium_fault n.radio ≡ None) (placed : length
   fine : RunsForward (system_of n)
   fine = system_is n fault placed
 
-  -- the report that the windows leave
+  -- the number of copies that the windows leave
   abbrev all_left : ℕ
   all_left = length (coming (system_of n) fine (suc n.end) at.motes)
 
@@ -70,7 +71,7 @@ module _ (n : NetModel) (fault : medium_fault n.radio ≡ None) (placed : length
             ∙ w.matches));
       }
 
-  -- the results of the workers, joined, are the report of the net
+  -- the joined results of the workers are the report of the net
   pub reported_equals : (r : Report) → AreTracesOf of ended r.traces.items → IsLogOf n (logs_of ended) (map line_model r.medium.items)
       → sum_by (λ (one : Ended). one.left) ended + sum_by (λ (pair : Pair). length (gathered_by pair.1)) (zip group.inboxes.items group.takers.items)
       ≡ r.left + sum_by (λ (pair : Pair). length (taken_by pair.1)) (zip group.inboxes.items group.takers.items)

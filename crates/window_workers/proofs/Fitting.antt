@@ -1,4 +1,4 @@
--- The meaning of a partition without an error.
+-- The properties of a partition without an error.
 use Rattle.std.proofs.Common.{◌≡◌, ◌⊎◌, ℕ, ◌<◌, ◌≤◌, true, false, not, ◌||◌, ltb, eqb, List, [], ◌∷◌, length, inl, inr, arith, None}
 use Rattle.std.specs.List.{list_all, AllByRecursion as Each}
 use Rattle.std.proofs.lemmas.Bool.{cases_Bool, and_parts, ltb-true}

@@ -45,7 +45,7 @@ use Rattle.window_workers.proofs.Waiting.{left_here}
 nobody : (of : List ℕ) (s i : ℕ) → length of ≤ s → is_own of i s ≡ false
 nobody of s i h = ap (λ o. option_map_or (λ w. eqb w i) o false) (beyond of s h)
 
--- and a mote of one worker isn't another's
+-- a mote of one worker doesn't belong to another
 not_mine : (of : List ℕ) (s w i : ℕ) → slice_get of s ≡ Some w → (i ≡ w → ⊥) → is_own of i s ≡ false
 not_mine of s w i e ne = ap (λ o. option_map_or (λ w. eqb w i) o false) e ∙ ne_eqb w i (λ q. ne (sym q))
 

@@ -1,4 +1,4 @@
--- With marks nothing is left in the inboxes.
+-- With marks, nothing is left in the inboxes.
 use Rattle.std.proofs.Common.{◌≡◌, List, [], ◌∷◌, length, drop, refl, ap, ◌∙◌, arith}
 use Rattle.std.specs.List.{zip, AllByRecursion as Each}
 use Rattle.std.proofs.lemmas.List.Sums.{sum_by-cons}
@@ -9,7 +9,7 @@ use Rattle.copy_inbox.specs.Gathered.{known_of, untaken_of, Whole}
 use Rattle.copy_inbox.specs.Handles.{InboxId, TakerView}
 use Rattle.window_workers.specs.Crossed.{Pair}
 
--- if all that was pushed is taken, nothing is known
+-- if all items that were pushed are taken, no item is known
 whole_known : (gs : List Gathered) (taken : List Item) → Whole gs taken → known_of gs taken ≡ 0
 whole_known [] taken h = refl
 whole_known (g ∷ gs) taken h =

@@ -43,17 +43,17 @@ module _ {X Y : Type 0} where
   each_mapped P f [] h = tt
   each_mapped P f (x ∷ xs) h = (h.0, each_mapped P f xs h.1)
 
--- a property of the second of each pair is one of all seconds
+-- a property of the second element of each pair is a property of all second elements
 pub seconds_have : {A B : Type 0} (P : B → Type 0) (ps : List (A × B)) → Each (λ (p : A × B). P p.1) ps → Each P (map (λ (p : A × B). p.1) ps)
 seconds_have P [] h = tt
 seconds_have P (p ∷ ps) h = (h.0, seconds_have P ps h.1)
 
--- a property of a result, weakened
+-- a weaker property of a result
 pub if_ok : {X E : Type 0} (P Q : X → Type 0) (r : Result X E) → ((x : X) → P x → Q x) → IfOk r P → IfOk r Q
 if_ok P Q (Ok x) f h = f x h
 if_ok P Q (Err e) f h = tt
 
--- three properties of the result are one
+-- three properties of the result are one property
 pub all_ok : {T E : Type 0} (P Q R : T → Type 0) (r : Result T E) → IfOk r P → IfOk r Q → IfOk r R → IfOk r (λ x. P x × Q x × R x)
 all_ok P Q R (Ok x) p q r = (p, q, r)
 all_ok P Q R (Err e) p q r = tt

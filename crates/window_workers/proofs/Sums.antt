@@ -8,7 +8,7 @@ total_first : (h : ℕ → ℕ) (n : ℕ) → total h (suc n) ≡ h 0 + total (�
 total_first h zero = omega arith
 total_first h (suc n) = let e = total_first h n in omega arith
 
--- a property of each worker's numbers is one of the sums
+-- a property of each worker's numbers is a property of the sums
 pub two_sums : {A B : Type 0} (f : A → ℕ) (a b : B → ℕ) (h : ℕ → ℕ) (xs : List A) (ys : List B) → length ys ≡ length xs
     → ((v : ℕ) (x : A) (y : B) → slice_get xs v ≡ Some x → slice_get ys v ≡ Some y → f x + a y ≡ h v + b y)
     → sum_by f xs + sum_by a ys ≡ total h (length xs) + sum_by b ys

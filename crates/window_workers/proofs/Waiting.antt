@@ -1,4 +1,4 @@
--- The copies left at the end for one worker: those pending for its motes, and those in its inbox.
+-- The copies that are left for one worker at the end: those pending for its motes and those in its inbox.
 use Rattle.std.proofs.Common.{◌≡◌, ℕ, suc, ◌+◌, ◌≤◌, false, not, ltb, List, [], ◌++◌, length, sym, ap, ◌∙◌, arith}
 use Rattle.std.proofs.Common.{append-nil, length-append, Option}
 use Rattle.std.specs.Prelude.{IsPermutation}
@@ -27,7 +27,7 @@ is_late end at h = grind (arith, nat_tests)
 
 module _ (n : NetModel) (fine : RunsForward (system_of n)) (of : List ℕ) (from : ℕ) (motes : Motes) (led : Windows (system_of n) 0 from (first_mote (system_of n)) motes) (first : Option ℕ) (starts : NoneBefore from first)
     (v : ℕ) (share : Share) (taker : TakerView) (here : IsWorkerAt n of from motes first v share taker) where
-  -- all that is in the inbox
+  -- all copies in the inbox
   abbrev lying : List RadioCopy
   lying = waiting n fine of from motes led first starts v share taker here
 
@@ -44,7 +44,7 @@ module _ (n : NetModel) (fine : RunsForward (system_of n)) (of : List ℕ) (from
       let rest_and = length-append rest lying in
       omega arith
 
-  -- the copies gathered that arrive by the end were taken
+  -- the gathered copies that arrive no later than the end were taken
   pub taken_by_end : (end : ℕ) → from ≡ suc end → IsPermutation (filter (is_by end) (gathered_by taker)) (filter (is_by end) (taken_by taker))
   taken_by_end end is = same_copies (filter (is_by end) (gathered_by taker)) (filter (is_by end) (taken_by taker)) each
     where

@@ -1,4 +1,4 @@
--- The copies that came to the workers through their inboxes.
+-- The copies that reached the workers through their inboxes.
 use Rattle.std.specs.Prelude.{ℕ, ◌≡◌, List, map, IsPermutation, Some, slice_get}
 use Rattle.std.specs.List.{filter}
 use Rattle.radio_packet.specs.declared.sent.Sent.{Sent}
@@ -18,13 +18,13 @@ Pair = InboxId × TakerView
 abbrev pub logged_packets : ReportModel → List Sent
 logged_packets r = map (λ packet. packet.sent) r.log
 
--- The senders of this worker's inbox were given the copies of these packets that go from a mote of another worker to
--- one of this worker, each once and no others; and those that arrive at or before the end were taken.
+-- The senders on this worker's inbox pushed exactly those copies of these packets that go from a mote of another
+-- worker to a mote of this worker, each once; and the copies that arrive no later than the end were taken.
 pub record CrossedTo (n : NetModel) (of : List ℕ) (log : List Sent) (worker : ℕ) (taker : TakerView) : Type 0 where
   pub gathered : AreThoseTo (copies n.radio) of worker log (gathered_by taker)
   pub taken : IsPermutation (filter (is_by n.end) (gathered_by taker)) (filter (is_by n.end) (taken_by taker))
 
--- of the report's log, the copies for each worker crossed to it; the inboxes are in the order of the workers
+-- the copies for each worker in the report's log crossed to this worker; the inboxes are in the order of the workers
 abbrev pub AllCrossed : NetModel → (of : List ℕ) → ReportModel → List Pair → Type 0
 AllCrossed n of r pairs = (worker : ℕ) (pair : Pair) → slice_get pairs worker ≡ Some pair
     → CrossedTo n of (logged_packets r) worker pair.1

@@ -9,16 +9,16 @@ use Rattle.fork_join.specs.declared.work.WorkerError.TheVariants as worker_error
 abbrev pub most_workers : ℕ
 most_workers = 16
 
--- the first fault of a cut: there are no workers or too many, or not a worker for each mote, or a worker that doesn't
--- exist
+-- the first error of a partition: there are no workers, or too many; the partition has too few or too many motes; or
+-- it names a worker that doesn't exist
 abbrev pub cut_fault : (motes workers : ℕ) → (of : List ℕ) → Option RunError
 cut_fault motes workers of =
     if (workers == 0) || nat_lt most_workers workers then Some Workers
     else (if not (length of == motes) then Some CutLength
     else (if list_all (λ worker. nat_lt worker workers) of then None else Some CutWorker))
 
--- The errors that a call may return, if the cut has this fault or none: the fault; otherwise out of memory, or an
--- error of a thread. It is never `Stopped`.
+-- The errors that a call may return: the error of the partition, if it has one; otherwise, out of memory, or an error
+-- of a thread. It is never `Stopped`.
 abbrev pub IsAnswerTo : Option RunError → RunError → Type 0
 IsAnswerTo (Some fault) error = error ≡ fault
 IsAnswerTo None Workers = ⊥
@@ -28,7 +28,7 @@ IsAnswerTo None Memory = Unit {0}
 IsAnswerTo None Thread = Unit {0}
 IsAnswerTo None Stopped = ⊥
 
--- the reason why a worker failed, as an error of the run
+-- the error of the run for the reason why a worker failed
 abbrev pub of_refused : WorkerError → RunError
 of_refused worker_error.Memory = Memory
 of_refused worker_error.Thread = Thread

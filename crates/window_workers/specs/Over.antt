@@ -26,46 +26,46 @@ pub record AreAtEnd (n : NetModel) (of : List ℕ) (group : WorkerGroup) : Type 
   pub sound : IsSound n
   pub at : IsAt n of (suc n.end) group
 
--- a share that is taken apart yields its contents
+-- a share that is taken apart returns its contents
 abbrev pub TellsWhatItKept : Share → Ended → Type 0
 TellsWhatItKept share ended = (n : NetModel) (of : List ℕ) (worker from : ℕ) (motes : Motes) (taken : List RadioCopy)
     → IsWholeShare n of worker from motes taken share → TellsAtEnd n of worker from motes taken ended
 
--- the packets of all workers with their fates, one worker's after another's
+-- the packets of all workers with their fates, one worker after another
 abbrev pub lines_of : List Ended → List LogLine
 lines_of ended = flat_map (λ one. one.log.items) ended
 
 abbrev pub logs_of : List Ended → List Sent
 logs_of ended = flat_map (λ one. packets_in one.log.items) ended
 
--- the lines of several logs, one log's after another's
+-- the lines of several logs, one log after another
 abbrev pub lines_in : List (Vec LogLine Global) → List LogLine
 lines_in logs = flat_map (λ log. log.items) logs
 
--- by moment, then sender, then number of their packets
+-- one line is before another: by moment, then sender, then number of their packets
 abbrev pub is_sooner_line : LogLine → LogLine → Bool
 is_sooner_line a b = is_sooner a.sent b.sent
 
--- the worker has a trace of this number
+-- the worker has a trace for the mote with this number
 abbrev pub HasTrace : (worker mote : ℕ) → List Ended → Type 0
 HasTrace worker mote ended = (d : Ended) → mote < length (slice_index_or ended worker d).traces.items
 
--- its traces are the other's
+-- the traces are the same in both
 abbrev pub KeepsTraces : Ended → Ended → Type 0
 KeepsTraces old new = new.traces ≡ old.traces
 
--- these packets in the order of moment, sender and number, each with the fates of its copies
+-- the log has these packets by moment, then sender, then number, each with the fates of its copies
 pub record IsLogOf (n : NetModel) (sends : List Sent) (log : List Packet) : Type 0 where
   pub sorted : List Sent
   pub same : IsPermutation sends sorted
   pub in_order : IsSortedBy is_sooner sorted
   pub matches : log ≡ map (packet_with_fates n.radio) sorted
 
--- one mote's trace, as one worker reports it
+-- the trace of one mote that one worker reports
 abbrev pub trace_at : List Ended → (worker mote : ℕ) → Ended → Vec Line Global → Vec Line Global
 trace_at ended worker mote d e = slice_index_or (slice_index_or ended worker d).traces.items mote e
 
--- one mote's trace was taken from one worker, and no other mote's
+-- one mote's trace was taken from one worker, and no other trace was taken
 pub record TakesTrace (worker mote : ℕ) (old new : List Ended) (trace : Vec Line Global) : Type 0 where
   pub taken : (d : Ended) (e : Vec Line Global) → trace ≡ trace_at old worker mote d e
   pub count : length new ≡ length old
@@ -74,7 +74,7 @@ pub record TakesTrace (worker mote : ℕ) (old new : List Ended) (trace : Vec Li
   pub others : (w k : ℕ) (d : Ended) (e : Vec Line Global) → (k ≡ mote → ⊥) → trace_at new w k d e
       ≡ trace_at old w k d e
 
--- the trace of each mote, as its worker reports it
+-- each mote's trace is the one that its worker reports
 pub record AreTracesOf (of : List ℕ) (ended : List Ended) (traces : List (Vec Line Global)) : Type 0 where
   pub count : length traces ≡ length of
   pub each : (k : ℕ) (d : Ended) (e : Vec Line Global) → k < length of → slice_index_or traces k e

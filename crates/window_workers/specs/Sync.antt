@@ -1,4 +1,4 @@
--- The kinds of synchronisation between workers, and the inboxes for each.
+-- The kinds of synchronisation between workers, and the inboxes that each needs.
 use Rattle.std.specs.Prelude.{◌≡◌, Bool, true, false}
 use Rattle.copy_inbox.specs.Handles.{TakerView}
 use Rattle.window_workers.specs.declared.sync.SyncKind.{SyncKind}
@@ -8,6 +8,6 @@ abbrev pub has_marks : SyncKind → Bool
 has_marks Joins = false
 has_marks Marks = true
 
--- the inbox is one for this kind
+-- the inbox fits this kind
 abbrev pub IsFor : SyncKind → TakerView → Type 0
 IsFor sync t = t.state.marked ≡ has_marks sync

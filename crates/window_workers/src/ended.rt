@@ -1,4 +1,4 @@
-//! The parts of the workers at the end, and the number of copies left.
+//! The results of the workers at the end, and the number of copies left.
 
 ghost use Rattle.std.specs.Prelude.{◌≡◌, ◌+◌, length, IfOk};
 ghost use Rattle.std.specs.List.{AllByRecursion as Each, AllZip, sum_by};
@@ -11,11 +11,11 @@ use copy_inbox::{Inbox, Taker};
 use std::alloc::{AllocError, Global};
 use worker_window::{Ended, Share};
 
-/// Takes the shares of all workers apart.
+/// Takes the shares of all workers apart, and returns their results.
 ///
 /// # Errors
-/// `AllocError` if an allocation fails. It is also the error if a share's number of copies is above `u64::MAX`, for
-/// which no memory has room.
+/// `AllocError` if an allocation fails, or if a share's number of copies is above `u64::MAX`. No memory has room for
+/// so many copies.
 pub fn end_all(alloc: Global, shares: Vec<Share>) -> Result<Vec<Ended>, AllocError>
     ensures tells_what_it_kept { IfOk result (λ all. AllZip TellsWhatItKept shares.items all.items) }
 {
@@ -27,14 +27,14 @@ pub fn end_all(alloc: Global, shares: Vec<Share>) -> Result<Vec<Ended>, AllocErr
     Ok(all)
 }
 
-/// The sum of two counts of copies. If it overflows, there are more copies than any memory holds.
+/// Returns the sum of two counts of copies. If it overflows, there are more copies than any memory holds.
 fn plus(one: u64, other: u64) -> Result<u64, AllocError>
     ensures sum { IfOk result (λ sum. sum ≡ one + other) }
 {
     one.checked_add(other).ok_or(AllocError)
 }
 
-/// The number of copies that were still on their way to the workers' motes.
+/// Returns the number of copies that were still on their way to the workers' motes.
 fn left_to_come(ended: &[Ended]) -> Result<u64, AllocError>
     ensures sum { IfOk result (λ left. left ≡ sum_by (λ one. one.left) ended.now) }
 {
@@ -45,7 +45,7 @@ fn left_to_come(ended: &[Ended]) -> Result<u64, AllocError>
     Ok(left)
 }
 
-/// The number of copies in the inboxes.
+/// Returns the number of copies in the inboxes.
 fn left_in_inboxes(pairs: &[(Inbox, Taker)]) -> Result<u64, AllocError>
     requires settled { Each (λ pair. IsSettled pair.0 pair.1) pairs.now }
     ensures balanced { IfOk result (λ left. sum_by (λ pair. length (gathered_by pair.1)) pairs.now
@@ -58,10 +58,10 @@ fn left_in_inboxes(pairs: &[(Inbox, Taker)]) -> Result<u64, AllocError>
     Ok(left)
 }
 
-/// The number of copies left, with the workers and in the inboxes.
+/// Returns the number of copies left, with the workers and in the inboxes.
 ///
 /// # Errors
-/// `AllocError` only for a number above `u64::MAX`, for which no memory has room. Nothing is allocated.
+/// `AllocError` only for a number above `u64::MAX`. No memory has room for so many copies. Nothing is allocated.
 pub fn left_of_all(ended: &[Ended], pairs: &[(Inbox, Taker)]) -> Result<u64, AllocError>
     requires settled { Each (λ pair. IsSettled pair.0 pair.1) pairs.now }
     ensures balanced { IfOk result (λ left. sum_by (λ one. one.left) ended.now

@@ -6,17 +6,18 @@ ghost use Rattle.window_workers.specs.Fits.{cut_fault};
 
 use serial_run::RunError;
 
-/// The most workers that a run may have.
+/// The largest number of workers in a run.
 pub const MOST_WORKERS: u16 = 16;
 
-/// Returns whether each mote's worker is one of this many workers.
+/// Returns whether the worker of each mote is one of this many workers.
 fn are_there(workers: usize, of: &[u16]) -> bool
     ensures value { result ≡ list_all (λ worker. nat_lt worker workers) of.now }
 {
     of.iter().all(|worker| usize::from(*worker) < workers)
 }
 
-/// The first fault of a cut of this many motes among this many workers, if any. `of` is the worker of each mote.
+/// Returns the first error in a partition of this many motes among this many workers, if there is one. `of` is the
+/// worker of each mote.
 pub fn fault_of(motes: u16, workers: usize, of: &[u16]) -> Option<RunError>
     ensures value { result ≡ cut_fault motes workers of.now }
 {

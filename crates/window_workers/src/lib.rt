@@ -1,4 +1,4 @@
-//! Runs of a net by workers; the run on one thread and its laws are re-exported from `serial_run`.
+//! Runs of a net with workers. The run on one thread and its laws are re-exported from `serial_run`.
 #![tactic(auto)]
 
 mod ended;

@@ -7,7 +7,8 @@ ghost use Rattle.window_workers.specs.Fits.{of_refused};
 use fork_join::WorkerError;
 use serial_run::RunError;
 
-/// A worker's error as an error of the run. The worker failed itself: it didn't stop because another one failed.
+/// Returns the error of the run for a worker's error. The worker itself failed: it didn't stop because another one
+/// failed.
 pub fn of_refused(refused: WorkerError) -> RunError
     requires is_own { is_own refused ≡ true }
     ensures value { result ≡ of_refused refused }

@@ -1,4 +1,4 @@
-//! The traces of all motes, each from its worker.
+//! The traces of all motes, each taken from the mote's worker.
 
 ghost use Rattle.std.specs.Prelude.{◌≡◌, ◌<◌, length, IfOk};
 ghost use Rattle.std.specs.List.{AllByRecursion as Each};
@@ -19,7 +19,8 @@ fn take_trace(alloc: Global, ended: &mut Vec<Ended>, worker: usize, mote: usize)
     mem::replace(&mut one.traces[mote], Vec::new(alloc))
 }
 
-/// The trace of each mote, by its number, from its worker. `of` is the worker of each mote.
+/// Takes the trace of each mote from its worker, and returns the traces by the motes' numbers. `of` is the worker of
+/// each mote.
 ///
 /// # Errors
 /// `AllocError` if an allocation fails.

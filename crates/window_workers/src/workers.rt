@@ -1,4 +1,4 @@
-//! The run of a net by workers: each has a new thread for each window, or one thread for the whole run.
+//! The run of a net with workers: each worker has a new thread for each window, or one thread for the whole run.
 
 ghost use Rattle.std.specs.Prelude.{◌≡◌, length, map, vec_len, All, None, IfOk, IfErr};
 ghost use Rattle.std.specs.List.{AllByRecursion as Each, zip};
@@ -37,7 +37,7 @@ use std::thread::Threads;
 use worker_cut::Cut;
 use worker_window::Gate;
 
-/// The workers' report at the end, and their inboxes. `of` is the worker of each mote.
+/// Makes the workers' report at the end, and returns it with their inboxes. `of` is the worker of each mote.
 fn make_report<R: Threads + Wait + Sync>(
     rt: &R,
     alloc: Global,
@@ -74,7 +74,7 @@ fn make_report<R: Threads + Wait + Sync>(
     Ok((report, pairs))
 }
 
-/// Runs all windows, by workers with this kind of synchronisation.
+/// Runs all windows with this kind of synchronisation between the workers.
 fn run_by_kind<R, G>(
     rt: &R,
     alloc: Global,
@@ -107,7 +107,7 @@ where
     }
 }
 
-/// As [`run_inboxes`], if the cut fits.
+/// Does the work of [`run_inboxes`] for a partition that fits.
 fn run_fitting<R, G>(
     rt: &R,
     alloc: Global,
@@ -143,15 +143,16 @@ where
     make_report(rt, alloc, of, group)
 }
 
-/// The report of a net, by one worker for each inbox: copies from a mote of one worker to a mote of another go through
-/// the inbox of the receiver's worker. It is the report of the run on one thread, whatever the cut and the kind of
-/// synchronisation. The inboxes have marks if the workers are synchronised with marks, and none with joins. At the end
-/// every sender is gathered.
+/// Runs a net with one worker for each inbox, and returns its report. Copies from a mote of one worker to a mote of
+/// another go through the inbox of the receiver's worker. The report is that of the run on one thread, for any
+/// partition and both kinds of synchronisation. The inboxes have marks if the workers are synchronised with marks, and
+/// none with joins. At the end, every sender is gathered.
 ///
 /// # Errors
-/// `Workers`, `CutLength` or `CutWorker` exactly when the cut doesn't fit, the first of them that applies; otherwise
-/// `Memory`, or `Thread` if a thread couldn't be started, the gate refused a start, or an executor returned an error:
-/// that of the first worker, by number, that has one. The inboxes are then dropped.
+/// `Workers`, `CutLength` or `CutWorker`, the first that applies, exactly if the partition doesn't fit. Otherwise,
+/// `Memory` if an allocation fails, or `Thread` if a thread couldn't be started, the gate refused a start, or an
+/// executor returned an error; it is the error of the failed worker with the lowest number. After an error, the
+/// inboxes are dropped.
 pub fn run_inboxes<R, G>(
     rt: &R,
     alloc: Global,
@@ -167,18 +168,18 @@ where
     requires fresh { Each (λ pair. IsFresh pair.0 pair.1) pairs.items }
     requires kind { Each (λ pair. IsFor sync pair.1) pairs.items }
     ensures report { IfOk result (λ r. IsReportOf (net_of net.now) (report_of r.0)) }
-    // There is a trace for each mote. Each delivers events in the order in which they were accepted, nothing follows a
-    // halt in it, and a process starts only if it isn't listed.
+    // There is a trace for each mote. Each trace delivers events in the order in which they were accepted, has nothing
+    // after a halt, and starts a process only if the process isn't in the process list.
     ensures traces { IfOk result (λ r. (vec_len r.0.traces ≡ length (net_of net.now).motes)
         × All (λ trace. IsInOrder trace.items) r.0.traces.items) }
-    // The inboxes come back, in order, each with its taker, which has gathered all senders. With marks nothing is left
-    // in them.
+    // The inboxes are returned in order, each with its taker, which has gathered all senders. With marks, the inboxes
+    // are empty.
     ensures inboxes { IfOk result (λ r. (map (λ pair. pair.0) r.1.items ≡ map (λ pair. pair.0) pairs.items)
         × Each (λ pair. IsSettled pair.0 pair.1) r.1.items
         × (sync ≡ Marks → Each (λ pair. known_of pair.1.state.gathered pair.1.state.taken ≡ 0) r.1.items)) }
-    // The copies from worker to worker went through them, each exactly once, and nothing else did.
+    // The copies from one worker to another went through the inboxes, each exactly once, and no other items did.
     ensures crossed { IfOk result (λ r. AllCrossed (net_of net.now) cut.now.of.items (report_of r.0) r.1.items) }
-    // A fault of the cut is returned exactly when there is one.
+    // An error of the partition is returned exactly if it has one.
     ensures fault { let fault = cut_fault (length (net_of net.now).motes) (length pairs.items) cut.now.of.items in
         IfOk result (λ r. fault ≡ None) × IfErr result (IsAnswerTo fault) }
 {
@@ -188,14 +189,14 @@ where
     run_fitting(rt, alloc, net, cut, sync, gate, pairs)
 }
 
-/// The report of a net, by this many workers, each in threads of its own: that of the run on one thread, whatever the
-/// cut, and whatever the kind of synchronisation. The inboxes are made for the run, and dropped at its end with the
-/// copies that are left in them.
+/// Runs a net with this many workers, each in threads of its own, and returns its report. The report is that of the
+/// run on one thread, for any partition and both kinds of synchronisation. The inboxes are made for the run. They are
+/// dropped at its end with the copies that are left in them.
 ///
 /// # Errors
-/// `Workers`, `CutLength` or `CutWorker` exactly when the cut doesn't fit, the first of them that applies; otherwise
-/// `Memory`, or `Thread` if a thread couldn't be started, the gate refused a start, or an executor returned an error:
-/// that of the first worker, by number, that has one.
+/// `Workers`, `CutLength` or `CutWorker`, the first that applies, exactly if the partition doesn't fit. Otherwise,
+/// `Memory` if an allocation fails, or `Thread` if a thread couldn't be started, the gate refused a start, or an
+/// executor returned an error; it is the error of the failed worker with the lowest number.
 pub fn run_workers<R, G>(
     rt: &R,
     alloc: Global,
@@ -211,10 +212,10 @@ where
     ensures report { IfOk result (λ r. IsReportOf (net_of net.now) (report_of r)) }
     // There is a trace for each mote.
     ensures traces { IfOk result (λ r. vec_len r.traces ≡ length (net_of net.now).motes) }
-    // Each trace delivers events in the order in which they were accepted, nothing follows a halt in it, and a process
-    // starts only if it isn't listed.
+    // Each trace delivers events in the order in which they were accepted, has nothing after a halt, and starts a
+    // process only if the process isn't in the process list.
     ensures handed_on { IfOk result (λ r. All (λ trace. IsInOrder trace.items) r.traces.items) }
-    // A fault of the cut is returned exactly when there is one.
+    // An error of the partition is returned exactly if it has one.
     ensures fits { IfOk result (λ r. cut_fault (length (net_of net.now).motes) workers cut.now.of.items ≡ None) }
     ensures err { IfErr result (IsAnswerTo (cut_fault (length (net_of net.now).motes) workers cut.now.of.items)) }
 {

@@ -1,4 +1,4 @@
--- Counting and ordering copies by the worker of their receiver, and by their sender.
+-- The counts and orders of copies, by the worker of their receiver and by their sender.
 use Rattle.std.proofs.Common.{◌≡◌, ◌⊎◌, ℕ, zero, suc, ◌+◌, ◌<◌, ◌≤◌, true, false, cond, eqb, List, [], ◌∷◌, length, refl, ap, ap₂, ◌∙◌, arith, inl, inr, Some}
 use Rattle.std.specs.List.{filter, slice_get, AllByRecursion}
 use Rattle.std.specs.Option.{option_map_or}
@@ -23,7 +23,7 @@ total_plus : (f g : ℕ → ℕ) (n : ℕ) → total (λ k. f k + g k) n ≡ tot
 total_plus f g zero = refl
 total_plus f g (suc n) = let e = total_plus f g n in omega arith
 
--- 1 for one of these workers and 0 for each other make 1
+-- 1 for one of these workers and 0 for each other worker have the sum 1
 total_one : (w n : ℕ) → w < n → total (λ k. cond (eqb w k) 1 0) n ≡ 1
 total_one w zero h = absurd (omega arith)
 total_one w (suc n) h = of (total_one w n) (cases_order w n)
@@ -38,7 +38,7 @@ total_one w (suc n) h = of (total_one w n) (cases_order w n)
     of ih (inr (inr l)) = absurd (omega arith)
 
 module _ (of : List ℕ) (workers : ℕ) where
-  -- a mote is some worker's
+  -- a mote belongs to some worker
   abbrev pub IsHad : (mote : ℕ) → Type 0
   IsHad mote = (w : ℕ) × (slice_get of mote ≡ Some w) × (w < workers)
 

@@ -44,7 +44,7 @@ module _ {S L : Type 0} (system : System S L) (of : List ℕ) where
           let f : w ≡ v = eqb-true w v e in
           grind (arith, nat_tests)
 
-  -- the copies that a window pushes follow those that crossed before it
+  -- the copies that are sent in a window follow those that crossed before it
   pub crossed_next : (u v s : ℕ) → is_own of u s ≡ true → is_own of v s ≡ false → (u ≡ v → ⊥) → (motes next : ℕ → LoneMote S L) (out : List RadioCopy)
       → filter (is_for_others (is_own of u)) (copies_by system next s) ≡ filter (is_for_others (is_own of u)) (copies_by system motes s) ++ filter (is_from_sender s) out
       → crossed system of motes v s ++ filter (is_to of v) (filter (is_from_sender s) out) ≡ crossed system of next v s

@@ -46,7 +46,7 @@ module _ (copies : Sent → List RadioCopy) (p : RadioCopy → Bool) where
   passing-cons : (x : Sent) (xs : List Sent) → passing (x ∷ xs) ≡ filter p (copies x) ++ passing xs
   passing-cons x xs = filter-append p (copies x) (flat_map copies xs)
 
-  -- inserting a packet in order permutes the copies that pass
+  -- if a packet is inserted in order, the copies that pass are permuted
   inserted_passing : (first second : Sent → ℕ) (x : Sent) (ys : List Sent) → IsPermutation (passing (x ∷ ys)) (passing (insert_by first second x ys))
   inserted_passing first second x [] = IsPermutation-refl (passing (x ∷ []))
   inserted_passing first second x (y ∷ ys) =
@@ -83,7 +83,7 @@ same_tests p q [] h = refl
 same_tests p q (x ∷ xs) h = let ih = same_tests p q xs h.1 in rw h.0 (ap (λ l. cond (q x) (x ∷ l) l) ih)
 
 module _ {S L : Type 0} (system : System S L) (fine : RunsForward system) where
-  -- the copies of one sender, from those of all packets
+  -- the copies of one sender are those among the copies of all packets
   from_sender : (s : ℕ) (sends : List Sent) → filter (is_from_sender s) (flat_map system.copies sends) ≡ flat_map system.copies (filter (is_sent_by s) sends)
   from_sender s [] = refl
   from_sender s (x ∷ xs) =
@@ -94,7 +94,7 @@ module _ {S L : Type 0} (system : System S L) (fine : RunsForward system) where
       of_one (inl e) = rw e (ap (λ l. l ++ flat_map system.copies (filter (is_sent_by s) xs)) (filter_every (is_from_sender s) (system.copies x) (every_weaker _ _ (λ c h. ap (λ k. eqb k s) h.sender ∙ e) (system.copies x) (fine.copies_later x))))
       of_one (inr e) = rw e (ap (λ l. l ++ flat_map system.copies (filter (is_sent_by s) xs)) (filter_none (is_from_sender s) (system.copies x) (every_weaker _ _ (λ c h. ap (λ k. eqb k s) h.sender ∙ e) (system.copies x) (fine.copies_later x))))
 
-  -- the copies gathered, sender by sender, are those that crossed
+  -- the copies gathered from each sender are those that crossed
   pub crossed_once : (of : List ℕ) (motes : ℕ → LoneMote S L) (v : ℕ) (gathered : List RadioCopy) (joined : List Sent)
       → ((s : ℕ) → AllByRecursion (λ copy. copy.sender ≡ s) (copies_by system motes s)) → IsJoined system motes joined
       → ((s : ℕ) → filter (is_from_sender s) gathered ≡ crossed system of motes v s)

@@ -1,4 +1,4 @@
--- A worker has just the motes that the cut gives it.
+-- A worker has exactly the motes that the partition assigns to it.
 use Rattle.std.proofs.Common.{◌≡◌, ℕ, zero, suc, ◌<◌, eqb, List, [], ◌∷◌, length, refl, arith}
 use Rattle.std.specs.Prelude.{slice_index}
 use Rattle.worker_cut.specs.Crossed.{is_own}

@@ -1,4 +1,4 @@
--- The windows so far, and the copies on their way after them.
+-- The windows so far, and the copies that are on their way after them.
 use Rattle.std.proofs.Common.{◌≡◌, ℕ, suc, ◌+◌, ◌-◌, ◌<◌, ◌≤◌, true, cond, ltb, List, [], ◌∷◌, map, length, refl, sym, ap, ◌∙◌, subst, arith, inl, inr}
 use Rattle.std.specs.List.{filter, flat_map, AllByRecursion}
 use Rattle.std.proofs.lemmas.Bool.{cases_Bool, ltb-true, ltb-false, not-true}
@@ -22,7 +22,7 @@ windows_then from bound end motes next last Last after = after
 windows_then from bound end motes next last (Window b n before short each rest) after = Window b n before short each (windows_then b bound end n next last rest after)
 
 module _ {S L : Type 0} (system : System S L) (fine : RunsForward system) where
-  -- the windows up to a moment led here
+  -- the windows up to a moment led to this state
   abbrev pub LedTo : (from : ℕ) → (motes : ℕ → LoneMote S L) → Type 0
   LedTo from motes = Windows system 0 from (first_mote system) motes
 
@@ -60,7 +60,7 @@ module _ {S L : Type 0} (system : System S L) (fine : RunsForward system) where
       again : cond (ltb s system.motes) (copies_by system motes s) [] ≡ copies_by system motes s
       again = elim (cases_Bool (ltb s system.motes)) [ inl e ↦ rw e refl | inr e ↦ rw e refl ]
 
-  -- if no event is pending before a moment, the windows lead there
+  -- if no event is pending before a moment, the windows lead to this moment
   pub idle : (from next : ℕ) (motes : ℕ → LoneMote S L) → from ≤ next → LedTo from motes
       → ((k : ℕ) → k < system.motes → NoneBefore next (motes k).wake)
       → ((s : ℕ) → AllByRecursion (λ copy. from ≤ copy.at → next ≤ copy.at) (copies_by system motes s))
@@ -86,7 +86,7 @@ module _ {S L : Type 0} (system : System S L) (fine : RunsForward system) where
       → ((k : ℕ) → k < system.motes → RunsAlone system from bound motes next k) → LedTo bound next
   one_more from bound motes next led before short each = windows_then 0 from bound (first_mote system) motes next led (Window bound next before short each Last)
 
-  -- at the end the motes' traces and packets are the report
+  -- at the end, the motes' traces and packets are those of the report
   pub at_the_end : (end : ℕ) (motes : ℕ → LoneMote S L) → LedTo (suc end) motes → (joined : List Sent) → IsJoined system motes joined
       → IsReport system end (map (λ number. (motes number).lines) (up_to system.motes)) (as_log joined) (length (coming (suc end) motes))
   at_the_end end motes led joined is =

@@ -18,19 +18,19 @@ is_to of worker copy = is_own of worker copy.to
 abbrev pub is_for_others : (own : ℕ → Bool) → RadioCopy → Bool
 is_for_others own copy = not (own copy.to)
 
--- the copy is for a mote of this worker, isn't from one of them, and arrives at this moment or later
+-- the copy is for a mote of this worker, isn't from a mote of this worker, and arrives at this moment or later
 pub record IsExpected (of : List ℕ) (worker from : ℕ) (copy : RadioCopy) : Type 0 where
   pub to : is_own of worker copy.to ≡ true
   pub sender : is_own of worker copy.sender ≡ false
   pub later : from ≤ copy.at
 
--- the copies that this mote has sent for motes of this worker; none if it is one of them
+-- the copies that this mote has sent to motes of this worker; none if it is a mote of this worker itself
 abbrev pub crossed : {S L : Type 0} → System S L → (of : List ℕ) → (motes : (number : ℕ) → LoneMote S L)
     → (worker sender : ℕ) → List RadioCopy
 crossed system of motes worker sender =
     if is_own of worker sender then [] else filter (is_to of worker) (copies_by system motes sender)
 
--- the copies of this mote that a worker has seen: all of them if the mote is its own, otherwise those that it took
+-- the copies from this mote that a worker has seen: all of them if the mote is its own, otherwise those that it took
 abbrev pub copies_seen : {S L : Type 0} → System S L → (own : ℕ → Bool) → (motes : (number : ℕ) → LoneMote S L)
     → (taken : List RadioCopy) → (sender : ℕ) → List RadioCopy
 copies_seen system own motes taken sender =

@@ -1,15 +1,15 @@
--- The copies that cross to one worker: each copy from a mote of another worker to a mote of its own, once.
+-- The copies that cross to one worker: each copy from a mote of another worker to a mote of this worker, once.
 use Rattle.std.specs.Prelude.{ℕ, Bool, not, ◌&&◌, List, IsPermutation}
 use Rattle.std.specs.List.{filter, flat_map}
 use Rattle.radio_packet.specs.declared.sent.Sent.{Sent}
 use Rattle.radio_packet.specs.declared.copy.RadioCopy.{RadioCopy}
 use Rattle.worker_cut.specs.Crossed.{is_own}
 
--- from a mote of another worker, for a mote of this one
+-- the copy is from a mote of another worker, for a mote of this one
 abbrev pub crosses_to : (of : List ℕ) → (worker : ℕ) → RadioCopy → Bool
 crosses_to of worker copy = not (is_own of worker copy.sender) && is_own of worker copy.to
 
--- of the copies of these packets, exactly those that cross to this worker, each once
+-- exactly those copies of these packets that cross to this worker, each once
 abbrev pub AreThoseTo : (copies : Sent → List RadioCopy) → (of : List ℕ) → (worker : ℕ) → (log : List Sent)
     → List RadioCopy → Type 0
 AreThoseTo copies of worker log got = IsPermutation (filter (crosses_to of worker) (flat_map copies log)) got

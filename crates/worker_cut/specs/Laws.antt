@@ -10,7 +10,7 @@ use Rattle.window_laws.specs.Windows.{IsJoined, as_log}
 use Rattle.worker_cut.specs.Crossed.{is_own, crossed, copies_seen}
 use Rattle.worker_cut.specs.CrossesTo.{AreThoseTo}
 
--- this worker gathered, for each mote, the copies that the mote has sent across to it
+-- this worker gathered, for each mote, the copies that the mote has sent to it across the partition
 abbrev pub GatheredCopies : {S L : Type 0} → System S L → (of : List ℕ) → (motes : (number : ℕ) → LoneMote S L)
     → (worker : ℕ) → List RadioCopy → Type 0
 GatheredCopies system of motes worker gathered =
@@ -20,7 +20,7 @@ GatheredCopies system of motes worker gathered =
 abbrev pub HasTaken : (gathered taken : List RadioCopy) → Type 0
 HasTaken gathered taken = (sender : ℕ) → filter (is_from_sender sender) taken ≡ filter (is_from_sender sender) gathered
 
--- at each moment of the window, from each sender, the copies for this mote that its worker has seen
+-- at each moment of the window, the mote gets, from each sender, the copies that its worker has seen
 abbrev pub IsFromSources : {S L : Type 0} → System S L → (own : ℕ → Bool) → (from bound : ℕ)
     → (motes : (number : ℕ) → LoneMote S L) → (taken : List RadioCopy) → (number : ℕ)
     → (given : List RadioCopy) → Type 0

@@ -1,20 +1,20 @@
-//! Which worker has which mote, and how long a window may be.
+//! The worker of each mote, and the longest window.
 
 ghost use Rattle.std.specs.Prelude.{◌≡◌, ◌<◌, ◌*◌, ◌/◌, IfOk};
 ghost use Rattle.worker_cut.specs.Cut.{block_cut, stripe_cut};
 
 use std::alloc::{AllocError, Global};
 
-/// A cut of the motes of a net among workers, with a cap on a window's length.
+/// A partition of the motes of a net among workers, with a limit on a window's length.
 #[derive(Debug, Drop)]
 pub struct Cut {
     /// The worker of each mote, by the mote's number.
     pub of: Vec<u16>,
-    /// The longest window that is asked for, in moments; 0 for none.
+    /// The length of the longest window that is allowed, in moments; 0 means no limit.
     pub longest: u32,
 }
 
-/// Mote i goes to the worker `i * workers / motes`.
+/// Returns the worker of mote i, `i * workers / motes`.
 fn in_blocks(mote: u16, motes: u16, workers: u16) -> u16
     requires mote_exists { mote < motes }
     ensures value { result ≡ (mote * workers) / motes }
@@ -24,8 +24,8 @@ fn in_blocks(mote: u16, motes: u16, workers: u16) -> u16
 }
 
 impl Cut {
-    /// Gives each worker a block of consecutive motes, the blocks differing in size by at most one: mote i goes to the
-    /// worker `i * workers / motes`.
+    /// Makes a partition in which each worker has a block of consecutive motes. The sizes of the blocks differ by at
+    /// most one: the worker of mote i is `i * workers / motes`.
     ///
     /// # Errors
     /// `AllocError` if an allocation fails.
@@ -42,7 +42,7 @@ impl Cut {
         Ok(Cut { of, longest: 0 })
     }
 
-    /// Deals the motes out one by one: mote i goes to the worker `i` mod `workers`.
+    /// Makes a partition that deals the motes out one by one: the worker of mote i is `i` mod `workers`.
     ///
     /// # Errors
     /// `AllocError` if an allocation fails.

@@ -3,14 +3,14 @@
 ghost use Rattle.window_laws.specs.System.{System};
 ghost use Rattle.worker_cut.specs.Laws.{WindowCopiesAreWhole, CrossedOnce};
 
-/// Take the copies that a worker's own motes sent, and all copies that crossed to the worker and that it took. Those
-/// of them that are for a mote in a window are the copies that the law of windows requires.
+/// Consider the copies that a worker's own motes sent, and all copies that crossed to the worker and that it took.
+/// Those among them that are for a mote in a window are the copies that the law of windows requires.
 pub fn window_copies_are_whole<S, L>()
     ensures window_copies_are_whole { (system : System S L) → WindowCopiesAreWhole system }
 {}
 
-/// If a worker gathered, for each mote, the copies that the mote sent across to it, then it has gathered exactly the
-/// copies of the medium's log that cross to it, each once.
+/// If a worker gathered, for each mote, the copies that the mote sent to it across the partition, then it has gathered
+/// exactly those copies in the medium's log that cross to it, each once.
 pub fn crossed_once<S, L>()
     ensures crossed_once { (system : System S L) → CrossedOnce system }
 {}

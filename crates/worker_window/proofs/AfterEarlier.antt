@@ -1,4 +1,4 @@
--- A window's run after earlier lines and packets, and its last wake.
+-- The run of a window after earlier lines and packets, and its last wake.
 use Rattle.std.proofs.Common.{◌≡◌, ℕ, List, map, refl, sym, subst, append_assoc}
 use Rattle.std.specs.List.{filter}
 use Rattle.radio_packet.specs.declared.arrival.Arrival.{Arrival}

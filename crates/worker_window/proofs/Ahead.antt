@@ -1,4 +1,4 @@
--- After a turn, all that comes next comes later.
+-- After a turn, all events of the mote are later.
 use Rattle.std.proofs.Common.{◌≡◌, ℕ, suc, ◌≤◌, false, not, nat_le, List, [], ◌∷◌, map, Option, Some, None, inl, inr, arith}
 use Rattle.std.specs.List.{filter, AllByRecursion}
 use Rattle.std.proofs.lemmas.Bool.{cases_Bool, eqb-false}

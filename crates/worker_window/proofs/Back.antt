@@ -1,4 +1,4 @@
--- A mote comes back to its share.
+-- A mote returns to its share.
 use Rattle.std.proofs.Common.{◌≡◌, ℕ, ◌+◌, ◌<◌, ◌≤◌, Bool, true, false, cond, not, ◌&&◌, ◌||◌, ltb, eqb, List, [], ◌∷◌}
 use Rattle.std.proofs.Common.{◌++◌, length, map, get_or, refl, sym, ap, ◌∙◌, subst, inl, inr, arith, append-nil}
 use Rattle.std.proofs.Common.{Option, Some, None, get_or-set_same, get_or-set_other}
@@ -46,7 +46,7 @@ and_true true true e = refl
 and_true true false e = absurd (false≢true e)
 and_true false b e = refl
 
--- tests that agree on the elements
+-- two tests that agree on the elements select the same elements
 filter_same : {X : Type 0} (p q : X → Bool) (xs : List X) → AllByRecursion (λ x. p x ≡ q x) xs → filter p xs ≡ filter q xs
 filter_same p q [] h = refl
 filter_same p q (x ∷ xs) h = let e = h.0 in rw e (ap (λ l. cond (q x) (x ∷ l) l) (filter_same p q xs h.1))
@@ -109,7 +109,7 @@ module _ (n : NetModel) (of : List ℕ) (worker from until : ℕ) (before now : 
   same_here : (j : ℕ) → (j ≡ k → ⊥) → outgoing j ≡ here j
   same_here j ne = ap (λ b. own j && not b) (among_more j others k ∙ (ap (λ b. is_one_of j others || b) (ne_eqb k j (λ f. ne (sym f))) ∙ or_none (is_one_of j others)))
 
-  -- by cases: the mote that is back, or another
+  -- a proof by cases: the mote that has returned, or another
   by_mote : (P : ℕ → Type 0) → P k → ((j : ℕ) → (j ≡ k → ⊥) → P j) → (j : ℕ) → P j
   by_mote P one rest j = elim (cases_eq j k) [ inl e ↦ subst P (sym e) one | inr ne ↦ rest j ne ]
 
@@ -144,7 +144,7 @@ module _ (n : NetModel) (of : List ℕ) (worker from until : ℕ) (before now : 
   come_own : sent_own ≡ filter (is_to_come own until) sent
   come_own = filter_same (λ copy. own copy.to) (is_to_come own until) sent (every_weaker _ _ (λ c h. and_true (own c.to) (not (ltb c.at until)) (late c.at until h.late)) sent late_ones)
 
-  -- the outgoing copies
+  -- the outgoing copies, with those of this mote
   pub out_more : (s : ℕ) → outgoing_by n own next s ≡ outgoing_by n own now s ++ filter (is_from_sender s) (filter (is_for_others own) sent)
   out_more = by_mote (λ s. outgoing_by n own next s ≡ outgoing_by n own now s ++ filter (is_from_sender s) (filter (is_for_others own) sent)) one other
     where
@@ -236,7 +236,7 @@ module _ (n : NetModel) (of : List ℕ) (worker from until : ℕ) (before now : 
             ∙ (append-nil (filter (is_to_come own until) (copies_seen (system_of n) own now taken s))
             ∙ ap (λ l. filter (is_to_come own until) (cond (own s) l (filter (is_from_sender s) taken))) (sym (copies_put s ne))))
 
-    -- what holds of the mote that is back, and of each that was here
+    -- a property of the mote that has returned, and of each mote in the share, is a property of all
     all_here : (P : (j : ℕ) → LoneMote Node Line → Type 0) → P k back.last → ((j : ℕ) → outgoing j ≡ true → P j (now j)) → (j : ℕ) → here j ≡ true → P j (next j)
     all_here P one rest =
         by_mote (λ j. here j ≡ true → P j (next j)) (λ _. subst (P k) (sym at_k) one)

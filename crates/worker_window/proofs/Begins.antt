@@ -26,7 +26,7 @@ use Rattle.worker_window.specs.Share.{node_at, mote_here, IsWholeShare, is_to_co
 use Rattle.worker_window.proofs.NoTurnIsPast.{not_begun}
 use Rattle.worker_window.proofs.Items.{all_wakes}
 
--- a mote of the worker is one of the net
+-- a mote of the worker is a mote of the net
 pub own_there : (of : List ℕ) (worker k : ℕ) → is_own of worker k ≡ true → k < length of
 own_there of worker k mine = elim ((slice_get_cases of k).1) [ inl w ↦ w.1 | inr p ↦ absurd (let g = rw p.1 at mine in false≢true g) ]
 

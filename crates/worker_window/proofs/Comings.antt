@@ -1,4 +1,4 @@
--- A worker's window: the motes that are called are lent, run, and come back one after another.
+-- The window of a worker: the motes that are called are lent, run, and return one after another.
 use Rattle.std.proofs.Common.{◌≡◌, ℕ, ◌+◌, ◌<◌, ◌≤◌, ◌^◌, Bool, true, false, not, ◌&&◌, ◌||◌, eqb, List, [], ◌∷◌, ◌++◌}
 use Rattle.std.proofs.Common.{length, refl, sym, ap, ◌∙◌, subst, inl, inr, arith, append_assoc, Option}
 use Rattle.std.specs.List.{filter, flat_map, AllByRecursion, AllZip}
@@ -22,7 +22,7 @@ use Rattle.worker_window.proofs.Gives.{IsSentIn, IsBack, come_late}
 use Rattle.worker_window.proofs.Lent.{among_more, different_less}
 use Rattle.worker_window.proofs.Back.{next, at_k, elsewhere, out_more, is_back}
 
--- what a mote of this worker gave
+-- the result of a mote of this worker
 pub record IsFitOwn (n : NetModel) (of : List ℕ) (worker until : ℕ) (out : WindowOut) : Type 0 where
   pub number : ℕ
   pub mine : is_own of worker number ≡ true
@@ -52,7 +52,7 @@ go_out n of worker until out placed fit =
     not_true true e = absurd (cc)
     not_true false e = refl
 
--- what lent motes gave
+-- the results of lent motes
 pub zip_every : (P : LentMote → Type 0) (R : LentMote → WindowOut → Type 0) (Q : WindowOut → Type 0) → ((r : LentMote) (o : WindowOut) → P r → R r o → Q o)
     → (rs : List LentMote) (os : List WindowOut) → AllByRecursion P rs → AllZip R rs os → AllByRecursion Q os
 zip_every P R Q f [] [] p z = tt

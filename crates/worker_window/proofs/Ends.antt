@@ -1,4 +1,4 @@
--- A window has one end.
+-- A window has only one end.
 use Rattle.std.proofs.Common.{◌≡◌, ℕ, ◌≤◌, true, not, ◌||◌, eqb, List, [], ◌∷◌, Option, Some, None, refl, subst, inl, inr, arith}
 use Rattle.std.specs.List.{filter, list_any, AllByRecursion}
 use Rattle.std.proofs.lemmas.Bool.{cases_Bool, eqb-true, false≢true}
@@ -20,7 +20,7 @@ any_copy k m (x ∷ xs) g h =
       | inr e ↦ any_copy k m xs g.1 (rw e at h)
     ]
 
--- no turn comes before a moment up to which all is quiet
+-- no turn is before a moment up to which there is no event
 pub not_before : (k m : ℕ) (wake : Option ℕ) (xs : List RadioCopy) → IsQuiet k wake xs → (wakes_at m wake || list_any (is_at m) xs) ≡ true → k ≤ m
 not_before k m None xs quiet comes = any_copy k m xs quiet.no_copies comes
 not_before k m (Some wake) xs quiet comes =
@@ -41,7 +41,7 @@ module _ {S L : Type 0} (system : System S L) (number bound : ℕ) where
       let P : ℕ → Type 0 = λ t. Alone system number bound (filter (λ copy. not (is_at t copy)) given) (lone_turn system t number mote (in_order (filter (is_at t) given))) b in
       alone_is_one rest (subst P same rest')
 
--- some net whose motes begin as this node, with no medium
+-- a net without a medium whose motes all begin as this node
 abbrev pub some_system : Node → System Node Line
 some_system n = record { motes = 0; first = λ number. n; turn = node_turn; copies = λ sent. []; lookahead = 0 }
 

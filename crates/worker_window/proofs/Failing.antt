@@ -1,4 +1,4 @@
--- A window over a mote that had failed.
+-- The window of a mote that had failed.
 use Rattle.std.proofs.Common.{◌≡◌, ℕ, List, Option, Some, None, option_map, sym, subst}
 use Rattle.std.specs.Prelude.{MatchOption, IfSome, IsSomeAnd}
 use Rattle.program_tree.specs.Code.{Tree}
@@ -27,7 +27,7 @@ module _ (program : Tree) (until : ℕ) (copies : List RadioCopy) (lines : List 
         no_sends = g.left.sends;
       }
 
-  -- what a window may give before its first poll
+  -- the possible results of a window before its first poll
   pub opened_gives : (own : Option OwnWindow) (mote : Option Node) → IsSomeAnd own (λ o. window_in o ≡ opened program until copies lines mote) → IsSomeAnd own (λ o. course_in o ≡ course_of program until copies lines mote)
       → MayGive own out → MatchOption (opened program until copies lines mote) (GivesNothing program until copies lines out) (λ w. Gives w out)
   opened_gives None mote window course h = absurd h
@@ -37,13 +37,13 @@ module _ (program : Tree) (until : ℕ) (copies : List RadioCopy) (lines : List 
   opened_gives (Some o) (Some n) window course h =
       let P : Option Window → Type 0 = λ w. MatchOption w (GivesNoMore (course_in o) out) (λ w. Gives w out) in subst P window h
 
--- a window whose mote can go on has its turns ahead
+-- if the mote of a window can continue, the window still has its turns
 pub opened_goes_on : (program : Tree) (until : ℕ) (copies : List RadioCopy) (lines : List Line) (own : Option OwnWindow) (mote : Option Node) → IsSomeAnd own (λ o. window_in o ≡ opened program until copies lines mote)
     → CanGoOn (opened program until copies lines mote) → HasTurns own
 opened_goes_on program until copies lines None mote window on = absurd window
 opened_goes_on program until copies lines (Some o) mote window on = subst CanGoOn (sym window) on
 
--- what a window of a mote of the net gives, and that it goes on, by the mote's program
+-- the possible results of a window of a mote of the net, and that it can continue, by the mote's program
 module _ (o : Option MoteSetup) (t : Tree) (is : option_map (λ (m : MoteSetup). m.tree) o ≡ Some t) (until : ℕ) (copies : List RadioCopy) (lines : List Line) (mote : Mote) where
   pub lent_gives : (out : WindowOut) → MatchOption (opened t until copies lines (node_in t mote)) (GivesNothing t until copies lines out) (λ w. Gives w out)
       → IfSome o (λ m. MatchOption (opened m.tree until copies lines (node_in m.tree mote)) (GivesNothing m.tree until copies lines out) (λ w. Gives w out))

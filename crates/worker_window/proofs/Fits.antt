@@ -1,4 +1,4 @@
--- The motes that are called are the worker's, and give what motes of a net give.
+-- The motes that are called are motes of the worker, and have the results of motes of the net.
 use Rattle.std.proofs.Common.{◌≡◌, ℕ, ◌<◌, ◌≤◌, Bool, true, List, [], ◌∷◌, ◌++◌, length, map, refl, sym, ap, ◌∙◌}
 use Rattle.std.proofs.Common.{subst, arith, zero-le, Option, Some, None, is_some, IsSome}
 use Rattle.std.specs.List.{AllByRecursion}
@@ -74,7 +74,7 @@ module _ (n : NetModel) (of : List ℕ) (share : Share) (kept : IsKept n of shar
     pub called_here : (k : ℕ) → IsSome (copies_for calls k) → IsSome (mote_here share.motes.items k)
     called_here k h = some_mote (tree_at n k) (mote_here share.motes.items k) _ (kept.keeps.nodes k (called_mine k (is_some_of (copies_for calls k) h)))
 
-    -- a mote that is called is one of the net
+    -- a mote that is called is a mote of the net
     pub called_there : (k : ℕ) → IsSome (copies_for calls k) → k < length n.motes
     called_there k h = let a = own_there of kept.worker k (called_mine k (is_some_of (copies_for calls k) h)) in omega arith
 

@@ -1,4 +1,4 @@
--- The longest prefix of a list of which all elements pass a test.
+-- The longest prefix of a list in which all elements pass a test.
 use Rattle.std.proofs.Common.{◌≡◌, ℕ, zero, suc, ◌+◌, ◌<◌, Bool, true, false, List, [], ◌∷◌, take, length, get_or, refl, sym, ap, ◌∙◌, subst, arith}
 use Rattle.std.specs.List.{take_while, AllByRecursion}
 use Rattle.std.proofs.lemmas.List.{take_more}
@@ -12,7 +12,7 @@ module _ {X : Type 0} (p : X → Bool) where
   pub pass_more : (xs : List X) (i : ℕ) (d : X) → i < length xs → Pass (take i xs) → p (get_or xs i d) ≡ true → Pass (take (i + 1) xs)
   pass_more xs i d lt h e = subst (AllByRecursion (λ x. p x ≡ true)) (sym (take_more xs i d lt)) (every_append (λ x. p x ≡ true) (take i xs) (get_or xs i d ∷ []) h (e, tt))
 
-  -- up to one that doesn't pass
+  -- the prefix up to the first element that doesn't pass
   pub front_at : (i : ℕ) (xs : List X) (d : X) → i < length xs → Pass (take i xs) → p (get_or xs i d) ≡ false → take_while p xs ≡ take i xs
   front_at i [] d lt h e = absurd (omega arith)
   front_at zero (x ∷ xs) d lt h e = take_while-cons p x xs ∙ rw e refl

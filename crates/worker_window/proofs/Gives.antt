@@ -1,4 +1,4 @@
--- What a mote gave in its window, as the net has it.
+-- The result of a mote in its window, as part of the net.
 use Rattle.std.proofs.Common.{◌≡◌, ◌⊎◌, ℕ, ◌+◌, ◌<◌, ◌≤◌, Bool, true, false, List, [], ◌∷◌, ◌++◌, length, map, refl}
 use Rattle.std.proofs.Common.{sym, ap, ◌∙◌, subst, inl, inr, arith, append-nil, Option, Some, None, option_map}
 use Rattle.std.proofs.Common.{unwrap_or, slice_get, get_or}
@@ -33,13 +33,13 @@ use Rattle.worker_window.specs.Share.{Motes}
 use Rattle.worker_window.proofs.NoTurnIsPast.{turn_before}
 use Rattle.worker_window.proofs.Lone.{in_front, alone_in_front, alone_alike, alone_keeps, rests_quiet, IsAlike}
 
--- a packet of this mote, sent in the window
+-- a packet that this mote sent in the window
 pub record IsSentIn (k from until : ℕ) (sent : Sent) : Type 0 where
   pub sender : sent.sender ≡ k
   pub later : from ≤ sent.at
   pub soon : sent.at < until
 
--- a mote back from its window, in which it ran alone
+-- a mote that has returned from its window, in which it ran by itself
 pub record IsBack (n : NetModel) (own : ℕ → Bool) (from until : ℕ) (motes : Motes) (window_copies : ℕ → List RadioCopy) (k : ℕ) (out : WindowOut) : Type 0 where
   pub mine : own k ≡ true
   pub there : k < length n.motes
@@ -55,7 +55,7 @@ pub record IsBack (n : NetModel) (own : ℕ → Bool) (from until : ℕ) (motes 
   pub turned_before : is_past until last.state.last ≡ false
   pub sent : AllByRecursion (IsSentIn k from until) out.sends.items
 
--- the mote that a window gave
+-- the mote in the result of a window
 pub record IsFirstFault (o : Option Node) (out : WindowOut) (last : LoneMote Node Line) : Type 0 where
   pub node : o ≡ Some last.state
   pub wake : out.wake ≡ last.wake
@@ -94,7 +94,7 @@ gives_open n until r out state h f g =
     let is = rw f at matches in
     is
 
--- and what comes to it comes after its last turn
+-- the events of the mote are after its last turn
 pub goes_open : (n : NetModel) (until : ℕ) (r : LentMote) (state : Node) → r.number < length n.motes → node_in (tree_at n r.number) r.mote ≡ Some state
     → IsAhead (record { program = tree_at n r.number; until = until; copies = r.copies.items; mote = lone_node r.trace.items state }) → LentMoteGoesOn n until r
 goes_open n until r state h f ahead = let e = mote_there n r.number h in rw (e, f) ahead
@@ -120,7 +120,7 @@ module _ (n : NetModel) (from until : ℕ) where
   stamps k t h l [] = tt
   stamps k t h l (x ∷ sends) = (record { sender = refl; later = h; soon = l }, stamps k t h l sends)
 
-  -- what a lent mote's window gave is a mote back from its window
+  -- the result of a lent mote's window is a mote that has returned from its window
   module _ (own : ℕ → Bool) (motes : Motes) (window_copies : ℕ → List RadioCopy) (k : ℕ) (mine : own k ≡ true) (there : k < length n.motes) (numbered : number_of (motes k).state ≡ k)
       (wakes : (motes k).wake ≡ wake_of (motes k).state) (wakes_from : NoneBefore from (motes k).wake) (window_copies_from : AllByRecursion (λ c. from ≤ c.at) (window_copies k)) (before : is_past until (motes k).state.last ≡ false) where
     front_is : in_front [] (motes k).sends (lone_node (motes k).lines (motes k).state) ≡ motes k
@@ -157,7 +157,7 @@ module _ (n : NetModel) (from until : ℕ) where
           alone : Alone (system_of n) k until (window_copies k) (lone_node (motes k).lines (motes k).state) gives.last
           alone = alone_alike (system_of n) k until (window_copies k) alike (subst (λ j. Alone (system_of n) j until given (lone_node (motes k).lines (motes k).state) gives.last) numbered (gives.run (system_of n) turn_is))
 
-  -- the copies of what a mote sent in the window arrive after it
+  -- the copies of the packets that a mote sent in the window arrive after it
   pub record ComesLate (k : ℕ) (copy : RadioCopy) : Type 0 where
     pub sender : copy.sender ≡ k
     pub late : until ≤ copy.at

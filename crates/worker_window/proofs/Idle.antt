@@ -1,4 +1,4 @@
--- A share stays one at later moments, up to its first pending event.
+-- A share is also a share at later moments, up to its first pending event.
 use Rattle.std.proofs.Common.{◌≡◌, ℕ, ◌≤◌, Bool, true, false, not, ◌&&◌, ◌||◌, ltb, eqb, List, [], refl, sym, ap, ◌∙◌}
 use Rattle.std.proofs.Common.{subst, arith, Option, Some, None}
 use Rattle.std.specs.List.{filter, AllByRecursion}
@@ -16,7 +16,7 @@ use Rattle.worker_window.specs.Share.{Motes, IsWholeShare, is_to_come}
 use Rattle.worker_window.proofs.NoTurnIsPast.{past_later}
 use Rattle.worker_window.proofs.Items.{inside, all_wakes, wake_of_all, packets_of_all}
 
--- the tests over plain numbers
+-- the tests as statements about numbers
 still_later : (own : Bool) (at from moment : ℕ) → from ≤ moment → (own && not (ltb at moment)) ≡ ((own && not (ltb at from)) && not (ltb at moment))
 still_later true at from moment h = grind (arith, nat_tests)
 still_later false at from moment h = refl
@@ -84,7 +84,7 @@ module _ (n : NetModel) (of : List ℕ) (worker from : ℕ) (motes : Motes) (tak
   pub empty_later : (moment : ℕ) → items ≡ [] → AllByRecursion (λ item. moment ≤ moment_of item) items
   empty_later moment e = subst (AllByRecursion (λ item. moment ≤ moment_of item)) (sym e) tt
 
-  -- and no copy comes before
+  -- no copy arrives before the moment
   pub no_copies : (moment : ℕ) → AllByRecursion (λ item. moment ≤ moment_of item) items
       → (s : ℕ) → AllByRecursion (λ copy. moment ≤ copy.at) (filter (is_to_come own from) (copies_seen (system_of n) own motes taken s))
   no_copies moment later s =

@@ -1,4 +1,5 @@
--- The items of a share's agenda: wakes of the worker's motes and copies for them, none before the share's moment.
+-- The items of a share's agenda: wakes of the worker's motes and copies for these motes, none before the share's
+-- moment.
 use Rattle.std.proofs.Common.{◌≡◌, ℕ, ◌≤◌, Bool, true, false, cond, not, ◌&&◌, ltb, eqb, List, [], ◌∷◌, refl, sym, ap}
 use Rattle.std.proofs.Common.{subst, inl, inr, arith, Option, Some, None}
 use Rattle.std.specs.List.{filter, AllByRecursion}
@@ -14,7 +15,7 @@ use Rattle.net_agenda.specs.NetSystem.{system_of}
 use Rattle.worker_cut.specs.Crossed.{copies_seen}
 use Rattle.worker_window.specs.Share.{Motes, HasToCome, is_to_come, wake_from}
 
--- what holds of each mote's wakes and of each sender's copies holds of each item
+-- a property of each mote's wakes and each sender's copies is a property of each item
 module _ (P : Item → Type 0) where
   abbrev pub Wakes : List Item → Type 0
   Wakes items = (k : ℕ) → AllByRecursion P (filter (is_wake_of k) items)
@@ -39,7 +40,7 @@ module _ (P : Item → Type 0) where
       let g = rw e at (c x.sender) in
       (g.0, every_item items w (rest_copies x items c))
 
-  -- and conversely
+  -- conversely, a property of each item is a property of each mote's wakes
   pub wake_of_all : (items : List Item) (k : ℕ) → AllByRecursion P items → AllByRecursion P (filter (is_wake_of k) items)
   wake_of_all [] k h = tt
   wake_of_all (x ∷ items) k h = elim (cases_Bool (is_wake_of k x)) [ inl e ↦ rw e (h.0, wake_of_all items k h.1) | inr e ↦ rw e (wake_of_all items k h.1) ]
@@ -63,7 +64,7 @@ pub wake_still : (from : ℕ) (wake : Option ℕ) → NoneBefore from wake → w
 wake_still from None h = refl
 wake_still from (Some t) h = let e : ltb t from ≡ false = le-ltb t from h in rw e refl
 
--- if no wake is before the moment
+-- all wakes stay, if no wake is before the moment
 pub all_wakes : (own : ℕ → Bool) (from : ℕ) (motes : Motes) → ((k : ℕ) → own k ≡ true → NoneBefore from (motes k).wake) → (k : ℕ)
     → cond (own k) (wake_items k (wake_from from (motes k).wake)) [] ≡ cond (own k) (wake_items k (motes k).wake) []
 all_wakes own from motes quiet k = of (own k) refl
@@ -73,7 +74,7 @@ all_wakes own from motes quiet k = of (own k) refl
     of false e = refl
 
 module _ (n : NetModel) (own : ℕ → Bool) (from : ℕ) (motes : Motes) (taken : List RadioCopy) (buckets : Buckets) (has : HasToCome n own from motes taken buckets) where
-  -- an item is for a mote of the worker, and not before the moment
+  -- the item is for a mote of the worker, and isn't before the moment
   abbrev pub IsInside : Item → Type 0
   IsInside item = (own (mote_of item) ≡ true) × (from ≤ moment_of item)
 

@@ -21,7 +21,7 @@ use Rattle.worker_window.specs.Share.{mote_here}
 use Rattle.worker_window.specs.Lending.{is_one_of, are_different, numbers_of, IsCalled, IsWakeOf, MotesAreLent}
 use Rattle.worker_window.specs.Lending.{TakesTrace}
 
--- some of the motes that are called are lent, and the rest are still to be
+-- some of the motes that are called are lent, and the others are still to be lent
 pub record Lent (until : ℕ) (calls rest : CalledMotes) (old now : List (Option Mote)) (traces left : List (Vec Line Global)) (lent_motes : List LentMote) (wakes : List (Option ℕ)) : Type 0 where
   pub different : are_different (numbers_of lent_motes) ≡ true
   pub others : (k : ℕ) → copies_for rest k ≡ cond (is_one_of k (numbers_of lent_motes)) None (copies_for calls k)
@@ -40,7 +40,7 @@ some_within [] k x e = absurd (none_is_not x e)
 some_within (y ∷ xs) zero x e = omega arith
 some_within (y ∷ xs) (suc k) x e = let h = some_within xs k x e in omega arith
 
--- one more number
+-- a list with one more number
 pub among_more : (j : ℕ) (ks : List ℕ) (k : ℕ) → is_one_of j (ks ++ k ∷ []) ≡ (is_one_of j ks || eqb k j)
 among_more j [] k = or_false (eqb k j)
   where
@@ -69,7 +69,7 @@ different_more (i ∷ ks) k d n =
     not_true true e = absurd (cc)
     not_true false e = refl
 
--- and one less
+-- a list with one number less
 pub different_less : (ks : List ℕ) (k : ℕ) → are_different (ks ++ k ∷ []) ≡ true → (are_different ks ≡ true) × (is_one_of k ks ≡ false)
 different_less [] k d = (refl, refl)
 different_less (i ∷ ks) k d =
@@ -99,7 +99,7 @@ zip_length R [] (y ∷ ys) z = absurd z
 zip_length R (x ∷ xs) [] z = absurd z
 zip_length R (x ∷ xs) (y ∷ ys) z = ap suc (zip_length R xs ys z.1)
 
--- one more of two lists
+-- two lists with one more element each
 pub zip_more : {A B : Type 0} (R : A → B → Type 0) (xs : List A) (ys : List B) (x : A) (y : B) → AllZip R xs ys → R x y → AllZip R (xs ++ x ∷ []) (ys ++ y ∷ [])
 zip_more R [] [] x y z r = (r, tt)
 zip_more R [] (b ∷ ys) x y z r = absurd z
@@ -201,7 +201,7 @@ module _ (until : ℕ) (calls rest rest' : CalledMotes) (old now now' : List (Op
               ∙ (lent.gone j ∙ ap (λ b. cond b None (mote_here old j)) (sym (no j ne)))
         ]
 
-    -- a mote that isn't among those lent is another than this
+    -- a mote that isn't among those lent is different from this one
     other_than : (j : ℕ) → is_one_of j (numbers_of lent_motes') ≡ false → j ≡ k → ⊥
     other_than j e f = false≢true (sym e ∙ (ap (λ i. is_one_of i (numbers_of lent_motes')) f ∙ yes))
 

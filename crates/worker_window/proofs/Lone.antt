@@ -1,4 +1,5 @@
--- A mote alone: what it wrote and sent before, and the order of the copies of each moment, don't change its run.
+-- A mote by itself: its run doesn't depend on the lines and packets from before, or on the order of copies with the
+-- same moment.
 use Rattle.std.proofs.Common.{◌≡◌, ℕ, ◌<◌, ◌≤◌, ◌⊎◌, Bool, true, false, not, ◌||◌, eqb, List, [], ◌∷◌, ◌++◌, refl, sym, ap, ◌∙◌, subst, inl, inr, arith, append_assoc, Option, Some, None}
 use Rattle.std.specs.List.{filter, list_any, AllByRecursion}
 use Rattle.std.proofs.lemmas.Bool.{cases_Bool, cases_eq, cases_lt, eq-eqb, ne_eqb, eqb-true, or_parts, false≢true}
@@ -13,11 +14,11 @@ use Rattle.window_laws.specs.Windows.{LoneMote, after_lone_turn, lone_turn, is_a
 use Rattle.window_laws.proofs.Lists.{filter_stronger, every_filter, any_every, is_filled}
 use Rattle.window_laws.proofs.Alone.{filled_given}
 
--- with earlier lines and packets before its own
+-- the mote with earlier lines and packets before its own
 abbrev pub in_front : {S L : Type 0} → List L → List Sent → LoneMote S L → LoneMote S L
 in_front lines sends mote = record mote { lines = lines ++ mote.lines; sends = sends ++ mote.sends }
 
--- tests over plain numbers
+-- the tests as statements about numbers
 other_at : (t u c : ℕ) → (u ≡ t → ⊥) → eqb c u ≡ true → not (eqb c t) ≡ true
 other_at t u c ne e = grind (arith, nat_tests)
 
@@ -36,7 +37,7 @@ module _ {S L : Type 0} (system : System S L) (k bound : ℕ) where
       (sym (turn_in_front lines sends t mote (system.turn k mote.state t (in_order (filter (is_at t) window_copies)))))
       (alone_in_front lines sends rest))
 
-  -- the copies of each moment are the same, once they are in order
+  -- the two lists have the same copies at each moment, after the copies of the moment are sorted
   abbrev pub IsAlike : (a b : List RadioCopy) → Type 0
   IsAlike a b = (t : ℕ) → in_order (filter (is_at t) a) ≡ in_order (filter (is_at t) b)
 
@@ -93,7 +94,7 @@ module _ {S L : Type 0} (system : System S L) (k bound : ℕ) where
   rests_quiet (Rests quiet) = quiet.no_wake
   rests_quiet (Turns t quiet comes low rest) = rests_quiet rest
 
-  -- what each turn of the window preserves holds at its end
+  -- a property that each turn of the window preserves holds at the window's end
   module _ (wakes_later : (mote : ℕ) (state : S) (moment : ℕ) (given : List RadioCopy) → IsLater moment (system.turn mote state moment given).wake) (from : ℕ) where
     wake_at : (t : ℕ) (wake : Option ℕ) → NoneBefore from wake → wakes_at t wake ≡ true → from ≤ t
     wake_at t None h e = absurd (false≢true e)

@@ -1,4 +1,4 @@
--- Copies in order: the first ones, sorted, are all those of their moment.
+-- Copies in order: the first copies, sorted, are all copies of their moment.
 use Rattle.std.proofs.Common.{◌≡◌, ℕ, zero, suc, ◌-◌, ◌≤◌, min, Bool, true, false, not, ◌&&◌, ◌||◌, ltb, eqb, List, [], ◌∷◌, map, take, drop, length, Option, Some, None, refl, sym, ap, ◌∙◌, inl, inr, arith, length-drop}
 use Rattle.std.proofs.Math.Seq.{take-length}
 use Rattle.std.specs.List.{slice_get, filter, list_any, list_all, take_while, AllByRecursion}
@@ -55,7 +55,7 @@ goes a b s t n m e h = grind (arith, nat_tests)
 rest_from : (x : RadioCopy) (xs : List RadioCopy) → AllByRecursion (λ y. comes_before x y ≡ true) xs → AllByRecursion (λ y. x.at ≤ y.at) xs
 rest_from x xs h = every_weaker _ _ (λ y e. at_le x.at y.at x.sender y.sender x.number y.number e) xs h
 
--- no copy of a rising list arrives before its first
+-- no copy of a list in order arrives before the first one
 from_first : (x : RadioCopy) (xs : List RadioCopy) → is_rising (x ∷ xs) ≡ true → AllByRecursion (λ y. x.at ≤ y.at) (x ∷ xs)
 from_first x xs h = (omega arith, rest_from x xs (rises (x ∷ xs) h).0)
 
@@ -93,7 +93,7 @@ sorted_front m (x ∷ xs) r =
       | inr e ↦ rw e (sorted_front m xs r.1)
     ]
 
--- what the code takes from the front is what the definition picks from anywhere
+-- the copies that the code takes from the front are those that the definition selects in the whole list
 pub record IsTaken (m : ℕ) (xs : List RadioCopy) (given : List Arrival) : Type 0 where
   pub given_is : given ≡ map arrival_of (in_order (filter (is_at m) xs))
   pub rest_is : drop (length given) xs ≡ filter (λ y. not (is_at m y)) xs
@@ -110,7 +110,7 @@ taken m xs given r h e =
       rest_is = ap (λ g. drop (length g) xs) e ∙ ap (λ n. drop n xs) (length_map arrival_of (take_while (is_at m) xs)) ∙ behind m xs rising h;
     }
 
--- what `least` finds
+-- the result of `least`
 pub nothing_next : (wake : Option ℕ) (xs : List RadioCopy) (until : ℕ) → wake ≡ None → xs ≡ [] → IsQuiet until wake xs
 nothing_next wake xs until e f = rw (e, f) (record { no_wake = tt; no_copies = tt })
 
@@ -142,7 +142,7 @@ lesser w x xs r = record {
     one : (a b : ℕ) (c : Bool) → (eqb a (min a b) || (eqb b (min a b) || c)) ≡ true
     one a b c = grind (arith, nat_tests)
 
--- the rest of a slice, as code cuts it
+-- the rest of a slice, as the code computes it
 pub rest_of : {X : Type 0} (n : ℕ) (s items : List X) → s ≡ items → take (length s - n) (drop n s) ≡ drop n items
 rest_of n s items e = ap (λ k. take k (drop n s)) (sym (length-drop n s)) ∙ take-length (drop n s) ∙ ap (drop n) e
 

@@ -1,4 +1,4 @@
--- The window of a worker: what its agenda has for each mote, and what stays in the share.
+-- The window of a worker: the events that its agenda has for each mote, and the events that stay in the share.
 use Rattle.std.proofs.Common.{◌≡◌, ℕ, ◌<◌, ◌≤◌, Bool, true, false, cond, not, ◌&&◌, ltb, eqb, List, [], ◌∷◌, ◌++◌, map}
 use Rattle.std.proofs.Common.{refl, sym, ap, ◌∙◌, subst, inl, inr, arith, append-nil, Option, Some, None}
 use Rattle.std.specs.List.{filter, list_any, AllByRecursion}
@@ -23,7 +23,7 @@ use Rattle.worker_window.specs.Lending.{is_one_of}
 use Rattle.worker_window.proofs.Items.{inside, all_wakes, packets_of_all}
 use Rattle.worker_window.proofs.Rises.{sorted_is_sorted}
 
--- tests over plain numbers
+-- the tests as statements about numbers
 still_later : (own : Bool) (at from moment : ℕ) → from ≤ moment → (own && not (ltb at moment)) ≡ ((own && not (ltb at from)) && not (ltb at moment))
 still_later true at from moment h = grind (arith, nat_tests)
 still_later false at from moment h = refl
@@ -68,7 +68,7 @@ module _ (n : NetModel) (of : List ℕ) (worker from until : ℕ) (motes : Motes
   abbrev pub own : ℕ → Bool
   own = is_own of worker
 
-  -- all pending events, with what has arrived
+  -- all pending events, together with the copies that have arrived
   abbrev pub items : List Item
   items = keeps.agenda.items ++ map Packet arrived
 
@@ -102,7 +102,7 @@ module _ (n : NetModel) (of : List ℕ) (worker from until : ℕ) (motes : Motes
       filter-append (is_wake_of k) keeps.agenda.items (map Packet arrived)
       ∙ (ap (λ l. filter (is_wake_of k) keeps.agenda.items ++ l) (no_wake_in_packets k arrived) ∙ (append-nil (filter (is_wake_of k) keeps.agenda.items) ∙ (keeps.agenda.wakes k ∙ all_wakes own from motes keeps.quiet k)))
 
-  -- each item is for a mote of the worker, at the moment or later
+  -- each item is for a mote of the worker, and is at the moment or later
   abbrev pub IsIn : Item → Type 0
   IsIn item = (own (mote_of item) ≡ true) × (from ≤ moment_of item)
 
@@ -172,7 +172,7 @@ module _ (n : NetModel) (of : List ℕ) (worker from until : ℕ) (motes : Motes
       empty : window_copies k ≡ []
       empty = sym (packets_filter (calls_for until k) items) ∙ ap packets (unfilled (filter (calls_for until k) items) (filled_any (calls_for until k) items ∙ idle))
 
-  -- what isn't before the window's end
+  -- the items that aren't before the window's end
   abbrev pub later : List Item
   later = filter (is_not_before until) items
 
@@ -192,7 +192,7 @@ module _ (n : NetModel) (of : List ℕ) (worker from until : ℕ) (motes : Motes
       ∙ (ap (filter (λ c. not (ltb c.at until))) (known_now s)
       ∙ filter_both (λ c. not (ltb c.at until)) (is_to_come own from) (is_to_come own until) (λ c. still_later (own c.to) c.at from until le) (known s)))
 
-  -- once the motes that are called are lent
+  -- the state after the motes that are called are lent
   module _ (numbers : List ℕ) (all : (k : ℕ) → is_one_of k numbers ≡ called k) where
     abbrev pub here : ℕ → Bool
     here k = own k && not (is_one_of k numbers)

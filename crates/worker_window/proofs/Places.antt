@@ -1,4 +1,4 @@
--- A place for each mote, by number.
+-- An element for each mote, by number.
 use Rattle.std.proofs.Common.{◌≡◌, ℕ, zero, suc, ◌<◌, true, false, eqb, if◌then◌else◌, List, [], ◌∷◌, ◌++◌, length, get_or, slice_set, refl, sym, ap, ◌∙◌, inl, inr, arith, Option, Some, None, option_map, unwrap_or}
 use Rattle.std.specs.Prelude.{Vec}
 use Rattle.std.specs.declared.alloc.Global.{Global}
@@ -49,7 +49,7 @@ put_place (q ∷ places) (suc k) (suc m) p h =
       | inr e ↦ (let f = apart k m e in rw (e, f) refl)
     ]
 
--- the last place
+-- the last element
 last_place : (places : CalledMotes) (p : Place) → copies_for (places ++ p ∷ []) (length places) ≡ copies_of p
 last_place [] p = refl
 last_place (q ∷ places) p = last_place places p

@@ -1,4 +1,4 @@
--- What a window may give, at its end and before a turn.
+-- The possible results of a window, at its end and before a turn.
 use Rattle.std.proofs.Common.{◌≡◌, ◌∙◌, ℕ, not, List, map, Option, Some, None, Result, Ok, Err, refl, sym, subst, inl, inr}
 use Rattle.std.specs.Prelude.{IfSome, MatchOption}
 use Rattle.std.specs.List.{filter}
@@ -32,7 +32,7 @@ at_rest old own out is spent over made left = rw (← is) (given (window_in own)
     given None over made left = record { spent = spent; left = left refl }
     given (Some w) over made left = record { last = w.mote; run = λ system turns. Rests over; given = made }
 
--- a run after a turn, with that turn before it, is a run
+-- a turn, and then a run, are a run
 turn_before : (w v : Window) (moment : ℕ) (last : LoneNode) → HasTurn moment w → v ≡ window_after_turn moment w → EndsAs v last → EndsAs w last
 turn_before w v moment last left made run = λ system turns. (
     let given = in_order (filter (is_at moment) w.copies) in
@@ -60,7 +60,7 @@ given_before None new moment out P Q left turned h = absurd turned
 given_before (Some w) None moment out P Q left turned h = absurd turned
 given_before (Some w) (Some v) moment out P Q left turned h = gives_before w v moment out left turned h
 
--- a mote that can go on can do so after its turn
+-- a mote that can continue can still do so after its turn
 on_after : (window new : Option Window) (moment : ℕ) → IfSome window (HasTurn moment) → TurnsTo moment window new → CanGoOn window → CanGoOn new
 on_after None new moment left turned on = absurd on
 on_after (Some w) None moment left turned on = absurd turned
@@ -71,7 +71,7 @@ goes_on None new turned on = absurd on
 goes_on (Some own) None turned on = absurd turned
 goes_on (Some own) (Some after) turned on = on_after (window_in own) (window_in after) turned.moment turned.left turned.turned on
 
--- if a mote can go on, the only error of its turn is out of memory
+-- if a mote can continue, the only error of its turn is out of memory
 pub at_refusal : (old : Option OwnWindow) (own : OwnWindow) (moment : ℕ) (e : MoteError) → Some own ≡ old
     → IfSome (window_in own) (HasTurn moment) → IfSome (window_in own) (IsErrorAt moment e) → HasTurns old → e ≡ Memory
 at_refusal old own moment e is left error on = of_window (window_in own) left error (rw (← is) at on)

@@ -1,4 +1,4 @@
--- Copies in order rise.
+-- The order of copies.
 use Rattle.std.proofs.Common.{◌≡◌, ℕ, ◌<◌, Bool, true, false, not, ◌&&◌, ◌||◌, ltb, eqb, List, [], ◌∷◌, ◌++◌, map, refl, sym, ap, ◌∙◌, inl, inr, arith}
 use Rattle.std.specs.List.{list_all, AllByRecursion}
 use Rattle.std.proofs.lemmas.Bool.{cases_Bool}
@@ -10,7 +10,7 @@ use Rattle.net_agenda.specs.Buckets.{arrival_of}
 use Rattle.worker_window.specs.MoteWindow.{comes_before, is_rising}
 use Rattle.net_agenda.specs.Items.{copy_at}
 
--- `is_before` over plain numbers
+-- `is_before` as a statement about numbers
 chained : (s a t b u c : ℕ) → (ltb s t || (eqb s t && not (ltb b a))) ≡ true → (ltb t u || (eqb t u && not (ltb c b))) ≡ true → (ltb s u || (eqb s u && not (ltb c a))) ≡ true
 chained s a t b u c h k = grind (arith, nat_tests)
 
@@ -25,7 +25,7 @@ module _ {X : Type 0} (first second : X → ℕ) where
   IsSorted [] = Unit {0}
   IsSorted (x ∷ xs) = IsUnder x xs × IsSorted xs
 
-  -- what holds of each holds of each once they are sorted
+  -- a property of each copy is a property of each copy in the sorted list
   pub every_insert : (P : X → Type 0) (x : X) (ys : List X) → P x → AllByRecursion P ys → AllByRecursion P (insert_by first second x ys)
   every_insert P x [] h k = (h, tt)
   every_insert P x (y ∷ ys) h k = elim (cases_Bool (is_before first second x y)) [ inl e ↦ rw e (h, k) | inr e ↦ rw e (k.0, every_insert P x ys h k.1) ]
@@ -48,7 +48,7 @@ module _ {X : Type 0} (first second : X → ℕ) where
   sorted_is_sorted [] = tt
   sorted_is_sorted (x ∷ xs) = insert_sorted x (sorted_by first second xs) (sorted_is_sorted xs)
 
--- each copy may come before those after it
+-- each copy may be before those after it
 abbrev pub Rises : List RadioCopy → Type 0
 Rises [] = Unit {0}
 Rises (x ∷ xs) = AllByRecursion (λ y. comes_before x y ≡ true) xs × Rises xs
@@ -72,11 +72,11 @@ rises_at t (x ∷ xs) s h = (
   rises_at t xs s.1 h.1,
 )
 
--- the copies of one moment, in order
+-- the copies of one moment, sorted, are in order
 pub in_order_rises : (t : ℕ) (xs : List RadioCopy) → AllByRecursion (λ c. c.at ≡ t) xs → Rises (in_order xs)
 in_order_rises t xs h = rises_at t (in_order xs) (sorted_is_sorted sender_of number_of xs) (every_sorted sender_of number_of (λ c. c.at ≡ t) xs h)
 
--- after copies of earlier moments
+-- copies in order after copies of earlier moments are in order
 pub rises_on : (t : ℕ) (xs ys : List RadioCopy) → Rises xs → Rises ys → AllByRecursion (λ c. c.at < t) xs → AllByRecursion (λ c. c.at ≡ t) ys → Rises (xs ++ ys)
 rises_on t [] ys r s h k = s
 rises_on t (x ∷ xs) ys r s h k = (
@@ -92,7 +92,7 @@ pub is_rising_from : (xs : List RadioCopy) → Rises xs → is_rising xs ≡ tru
 is_rising_from [] r = refl
 is_rising_from (x ∷ xs) r = let e = all_of (comes_before x) xs r.0 in rw e (is_rising_from xs r.1)
 
--- the arrivals made of a mote's copies, with the moment and the mote, make the same copies again
+-- if arrivals are made from a mote's copies, the same copies can be made from the arrivals, the moment and the mote
 pub copies_again : (t m : ℕ) (xs : List RadioCopy) → AllByRecursion (λ c. (c.at ≡ t) × (c.to ≡ m)) xs → map (copy_at t m) (map arrival_of xs) ≡ xs
 copies_again t m [] h = refl
 copies_again t m (x ∷ xs) h =

@@ -14,7 +14,7 @@ use Rattle.radio_medium.specs.Medium.{copy_of}
 use Rattle.window_laws.specs.Agenda.{Item, Packet}
 use Rattle.worker_cut.specs.Crossed.{is_for_others}
 
--- what is made of a list piece by piece
+-- a list that is made piece by piece from another list
 module _ {A B : Type 0} (made : List A → List B) (splits : (xs ys : List A) → made (xs ++ ys) ≡ made xs ++ made ys) where
   more : (before : List B) (xs : List A) (i : ℕ) (d : A) → i < length xs → (before ++ made (take i xs)) ++ made (get_or xs i d ∷ []) ≡ before ++ made (take (i + 1) xs)
   more before xs i d lt =
@@ -62,7 +62,7 @@ module _ (p : RadioCopy → Bool) where
     pub more_sent_away : (before : List RadioCopy) (sends : List Sent) (i : ℕ) (d : Sent) → i < length sends → (before ++ all (take i sends)) ++ filter p (copies (get_or sends i d)) ≡ before ++ all (take (i + 1) sends)
     more_sent_away before sends i d lt = ap (λ l. (before ++ all (take i sends)) ++ l) (one (get_or sends i d)) ∙ more all all_splits before sends i d lt
 
--- if all fates are of copies for own motes, all copies stay with the worker
+-- if all fates are those of copies for the worker's own motes, all copies stay with the worker
 module _ (own : ℕ → Bool) (sent : Sent) where
   pub all_own : (fates : List Fate) → list_all (λ (fate : Fate). own fate.to) fates ≡ true → filter (λ (copy : RadioCopy). own copy.to) (filter_map (copy_of sent) fates) ≡ filter_map (copy_of sent) fates
   all_own [] h = refl

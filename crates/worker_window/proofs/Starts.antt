@@ -1,4 +1,4 @@
--- The motes that are called are lent, and give what their windows say.
+-- The motes that are called are lent, and have the results of their windows.
 use Rattle.std.proofs.Common.{◌≡◌, ℕ, ◌<◌, ◌≤◌, Bool, true, false, cond, not, ◌&&◌, ltb, eqb, List, [], ◌++◌, length}
 use Rattle.std.proofs.Common.{refl, sym, ap, ◌∙◌, subst, arith, append-nil, Option, None, is_some}
 use Rattle.std.specs.List.{filter, list_any, AllByRecursion}
@@ -34,7 +34,7 @@ use Rattle.worker_window.proofs.Parts.{items, window_copies, window_copies_from,
 use Rattle.worker_window.proofs.Parts.{later_wakes, later_copies, quiet_else, here_parts}
 use Rattle.worker_window.proofs.Comings.{PendingEvent, IsPending, zip_numbers}
 
--- what holds of the mote of each item holds of each mote that is called
+-- a property of the mote of each item is a property of each mote that is called
 pub called_in : (P : ℕ → Type 0) (until k : ℕ) (items : List Item) → AllByRecursion (λ item. P (mote_of item)) items → list_any (calls_for until k) items ≡ true → P k
 called_in P until k items all e =
     any_every (P k) (calls_for until k) _ (λ item f h. subst P (eqb-true (mote_of item) k (and_parts (ltb (moment_of item) until) (eqb (mote_of item) k) f).1) h) items e all
@@ -43,7 +43,7 @@ called_in P until k items all e =
 pub held_still : {a b : Agenda} {items : List Item} → a ≡ b → Holds b.buckets items → Holds a.buckets items
 held_still {a} {b} {items} e h = subst (λ (agenda : Agenda). Holds agenda.buckets items) (sym e) h
 
--- the share once its motes are lent
+-- the share after its motes are lent
 abbrev pub IsLeft : (old new : Share) → Type 0
 IsLeft old new = (new.worker ≡ old.worker) × (new.log.items ≡ old.log.items)
 
@@ -128,7 +128,7 @@ module _ (n : NetModel) (of : List ℕ) (worker from until : ℕ) (motes : Motes
       matches (tree_at n k)
       ∙ (ap (λ o. wake_from until (wake_in o)) (ap (node_at (tree_at n k)) (sym called.mote) ∙ keeps.nodes k h) ∙ ap (wake_from until) (sym (keeps.wakes k h)))
 
-  -- the motes that are called can go on
+  -- the motes that are called can continue
   pub go_on : AreGoingOn n until lent_motes
   go_on = every_weaker (IsCalled calls old.motes.items old.traces.items) (LentMoteGoesOn n until) one_goes_on lent_motes lent.called
 

@@ -1,4 +1,4 @@
--- The window after a turn, from the values that the code has.
+-- The window after a turn, computed from the values in the code.
 use Rattle.std.proofs.Common.{◌≡◌, ℕ, suc, ◌≤◌, true, List, [], ◌∷◌, ◌++◌, map, drop, length, Option, Some, None}
 use Rattle.std.proofs.Common.{option_map, refl, sym, ap, arith}
 use Rattle.std.specs.Prelude.{IfSome}
@@ -26,7 +26,7 @@ use Rattle.worker_window.specs.MoteWindow.{HasTurn, IsNextOf, IsOver, window_aft
 use Rattle.worker_window.specs.Turns.{TurnsTo}
 use Rattle.worker_window.proofs.Orders.{IsTaken, taken, quiet_before}
 
--- packets that are stamped with a turn are unchanged by its stamp
+-- packets that already have the stamp of a turn are unchanged by the stamp
 stamped_is : (moment number : ℕ) (sends : List Sent) → PacketsBear moment number sends → map (stamped moment number) sends ≡ sends
 stamped_is moment number [] h = refl
 stamped_is moment number (x ∷ xs) h =
@@ -48,7 +48,7 @@ turned p until m copies rest given wake lines sends n n' out took cut made =
     let wakes : out.wake ≡ (turn_of m given n).wake = ap (λ t. t.wake) made in
     rw (at, stamp, node, wrote, sent, wakes, cut, took.rest_is) refl
 
--- the same of a mote that may have failed; one that has failed takes no turn
+-- the same for a mote that may have failed; a mote that has failed takes no turn
 pub turns_to : (p : Tree) (until m : ℕ) (copies rest : List RadioCopy) (given : List Arrival) (wake : Option ℕ) (lines : List Line) (sends : List Sent) (old new : Option Node) (out : TurnOut)
     → (old ≡ None → ⊥) → IfSome (option_map (window_over p until copies wake lines sends) old) (HasTurn m) → is_rising copies ≡ true
     → given ≡ map arrival_of (take_while (is_at m) copies) → rest ≡ drop (length given) copies
@@ -60,7 +60,7 @@ turns_to p until m copies rest given wake lines sends (Some n) (Some n') out the
     let made' : turn_given out n' ≡ turn_of m given n = cc in
     turned p until m copies rest given wake lines sends n n' out (taken m copies given rising left.next.quiet.no_copies took) cut made'
 
--- no turn is left if the next comes at the bound or after it
+-- no turn is left if the next event is at the bound or after it
 pub over_after : (w : OwnWindow) (m : ℕ) → IsNextOf m w.wake (drop w.next w.copies.items) → w.until ≤ m → IfSome (window_in w) IsOver
 unfolding window_in
 over_after w m next late = over (node_in (tree_of w.program.now) w.mote)

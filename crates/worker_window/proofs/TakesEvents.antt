@@ -1,4 +1,4 @@
--- What is taken out of an agenda, bucket by bucket.
+-- The events that are taken out of an agenda, bucket by bucket.
 use Rattle.std.proofs.Common.{◌≡◌, ℕ, ◌<◌, ◌≤◌, Bool, true, false, cond, not, ◌&&◌, ◌||◌, ltb, eqb, if◌then◌else◌, List, [], ◌∷◌, ◌++◌, map, refl, sym, ap, ◌∙◌, subst, inl, inr, arith, append_assoc, append-nil, Some, None, unwrap_or, is_some}
 use Rattle.std.specs.List.{filter, list_any, AllByRecursion}
 use Rattle.std.proofs.lemmas.Bool.{cases_Bool, cases_eq, eq-eqb, ne_eqb, eqb-true, and_parts}
@@ -29,11 +29,11 @@ pub record Part (until : ℕ) (items : List Item) (calls : CalledMotes) (buckets
   pub called : (k : ℕ) → list_any (calls_for until k) items ≡ (is_some (copies_for calls k) || list_any (calls_for until k) rest)
   pub parts : (t k : ℕ) → in_order (packets (filter (comes_at t k) items)) ≡ filter (is_at t) (given calls k) ++ in_order (packets (filter (comes_at t k) rest))
   pub early : (k : ℕ) → AllByRecursion (λ c. c.at < until) (given calls k)
-  -- the events of a mote that are left come later than what was taken for it
+  -- the remaining events of a mote are later than those that were taken for it
   pub ahead : (k : ℕ) → AllByRecursion (λ item. mote_of item ≡ k → AllByRecursion (λ c. c.at < moment_of item) (given calls k)) rest
   pub rises : (k : ℕ) → Rises (given calls k)
 
--- tests over plain numbers
+-- the tests as statements about numbers
 late_not_due : (u k until t m : ℕ) → t < until → not (ltb u until) ≡ true → not (eqb u t && eqb k m) ≡ true
 late_not_due u k until t m h e = grind (arith, nat_tests)
 
@@ -150,7 +150,7 @@ module _ (until : ℕ) (items : List Item) (calls new : CalledMotes) (buckets af
   given_other : (k : ℕ) → (k ≡ m → ⊥) → given new k ≡ given calls k
   given_other k ne = ap (λ o. unwrap_or o []) (other k ne)
 
-  -- by cases: this mote, or another
+  -- a proof by cases: this mote, or another
   by_mote : (P : ℕ → Type 0) → P m → ((k : ℕ) → (k ≡ m → ⊥) → P k) → (k : ℕ) → P k
   by_mote P one others k = elim (cases_eq k m) [ inl e ↦ subst P (sym e) one | inr ne ↦ others k ne ]
 
@@ -288,7 +288,7 @@ least_over until t m items least h = every_weaker _ _ (λ item e. from_later unt
 pub empty_over : (until : ℕ) (items : List Item) → items ≡ [] → AllByRecursion (λ item. until ≤ moment_of item) items
 empty_over until items e = subst (AllByRecursion (λ item. until ≤ moment_of item)) (sym e) tt
 
--- the first event that is left comes later and later
+-- each bucket makes the first remaining event later
 pub bucket_later : (until : ℕ) (items : List Item) (calls : CalledMotes) (buckets after : Buckets) (part : Part until items calls buckets) (t m : ℕ) → IsLeast t m part.rest → t < until → m < 65536
     → first_key buckets ≡ Some (t, m) → Holds after (filter (λ item. not (comes_at t m item)) part.rest) → turns_left 65536 until (first_key after) < turns_left 65536 until (first_key buckets)
 bucket_later until items calls buckets after part t m least soon low first holds =

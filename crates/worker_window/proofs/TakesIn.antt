@@ -1,4 +1,4 @@
--- Between two windows a share takes in copies that arrived.
+-- Between two windows, a share takes in copies that arrived.
 use Rattle.std.proofs.Common.{◌∙◌, ℕ, ◌++◌, List, map, arith, sym}
 use Rattle.std.specs.List.{AllByRecursion}
 use Rattle.radio_packet.specs.declared.copy.RadioCopy.{RadioCopy}

@@ -1,4 +1,4 @@
--- What a worker may return, before and after a round of polls.
+-- The possible results of a worker, before and after a round of polls.
 use Rattle.std.proofs.Common.{◌≡◌, ℕ, zero, suc, ◌<◌, Bool, true, List, [], ◌∷◌, ◌++◌, Vec, Result, Ok, Err, length, get_or, refl, ap, sym, subst, inl, inr, arith}
 use Rattle.std.proofs.Math.ListN.{set}
 use Rattle.std.specs.List.{list_all, AllByRecursion}
@@ -22,11 +22,11 @@ pub answers_less : {G : Type 0} (old new : List (Slot G)) → ((outs : List Wind
 answers_less old new less on (Ok done) h = record { done = h.done; gives = λ outs g. less outs (h.gives outs g) }
 answers_less old new less on (Err e) h = λ all. h (on all)
 
--- slots that are all done are what the worker returns
+-- if all slots are done, the worker returns them
 pub answers_done : {G : Type 0} (slots : List (Slot G)) (ended : Vec (Slot G) Global) → ended.items ≡ slots → list_all is_done slots ≡ true → WorkerMayAnswer slots (Ok ended)
 answers_done slots ended e h = record { done = subst (λ l. list_all is_done l ≡ true) (sym e) h; gives = λ outs g. subst (λ l. SlotsGive l outs) e g }
 
--- slots that are done give what is in them
+-- slots that are done have the results that they contain
 pub done_give : {G : Type 0} (slots : List (Slot G)) → list_all is_done slots ≡ true → SlotsGive slots (outs_of slots)
 done_give [] h = tt
 done_give (Open window ∷ slots) h = absurd (false≢true h)
@@ -37,14 +37,14 @@ outs_more [] made = refl
 outs_more (Open window ∷ slots) made = outs_more slots made
 outs_more (Done first ∷ slots) made = ap (λ l. first ∷ l) (outs_more slots made)
 
--- of slots that are done, the last one and those before it
+-- among slots that are done, the last one and those before it
 pub last_done : {G : Type 0} (slots : List (Slot G)) (slot : Slot G) → list_all is_done (slots ++ slot ∷ []) ≡ true → (list_all is_done slots ≡ true) × (is_done slot ≡ true)
 last_done [] (Open window) h = absurd (false≢true h)
 last_done [] (Done made) h = (refl, refl)
 last_done (Open window ∷ slots) slot h = absurd (false≢true h)
 last_done (Done made ∷ slots) slot h = last_done slots slot h
 
--- if one place was changed to an element that has the property too
+-- a property of all elements is preserved if one element is replaced by another with the property
 pub set_holds : {X : Type 0} (P : X → Type 0) (xs : List X) (k : ℕ) (old new : X) → old ≡ get_or xs k old → k < length xs → (P old → P new) → AllByRecursion P xs → AllByRecursion P (set xs k new)
 set_holds P [] k old new is low step h = tt
 set_holds P (x ∷ xs) zero old new is low step h = let e : old ≡ x = is in (step (subst P (sym e) h.0), h.1)

@@ -1,4 +1,4 @@
--- Two lists place by place.
+-- Two lists, place by place.
 use Rattle.std.proofs.Common.{◌≡◌, ℕ, zero, suc, ◌<◌, List, [], ◌∷◌, ◌++◌, length, get_or, subst, arith}
 use Rattle.std.proofs.Math.ListN.{set}
 use Rattle.std.specs.List.{AllZip, AllByRecursion}
@@ -15,7 +15,7 @@ module _ {A B : Type 0} (R : A → B → Type 0) where
   push_zip [] (w ∷ ws) x y h r = absurd h
   push_zip (v ∷ vs) [] x y h r = absurd h
 
-  -- if one place was changed to something that gives no more
+  -- a relation of two lists is preserved if one element is replaced by another that allows no more results
   pub set_gives : (xs : List A) (k : ℕ) (old new : A) (ys : List B) → old ≡ get_or xs k old → k < length xs → ((y : B) → R new y → R old y) → AllZip R (set xs k new) ys → AllZip R xs ys
   set_gives [] k old new ys is low less h = absurd (omega arith)
   set_gives (x ∷ xs) zero old new [] is low less h = absurd h
@@ -32,7 +32,7 @@ module _ {A B C : Type 0} (R : A → B → Type 0) (S : B → C → Type 0) (T :
   zip_zip (x ∷ xs) [] zs h k = absurd h
   zip_zip (x ∷ xs) (y ∷ ys) [] h k = absurd k
 
--- slots of lent motes that can go on
+-- if lent motes can continue, their slots can continue
 pub slots_go_on : {G : Type 0} (n : NetModel) (until : ℕ) (rs : List LentMote) (slots : List (Slot G)) → AllZip (IsOf n until) rs slots → AreGoingOn n until rs → SlotsGoOn slots
 slots_go_on n until [] [] h all = tt
 slots_go_on n until (r ∷ rs) (s ∷ slots) h all = (h.0.goes_on all.0, slots_go_on n until rs slots h.1 all.1)

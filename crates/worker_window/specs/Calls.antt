@@ -1,4 +1,4 @@
--- The motes that a window calls, and the copies that come to each.
+-- The motes that a window calls, and the copies that arrive at each of them.
 use Rattle.std.specs.Prelude.{ℕ, ◌≡◌, Bool, true, not, ◌&&◌, ◌==◌, nat_lt, if◌then◌else◌}
 use Rattle.std.specs.Prelude.{zero, suc, ◌<◌, List, [], ◌∷◌, length, Option, Some, None, is_some, option_map, Vec}
 use Rattle.std.specs.List.{filter, list_any}
@@ -10,7 +10,7 @@ use Rattle.window_laws.specs.Windows.{is_at}
 use Rattle.worker_window.specs.MoteWindow.{is_rising}
 use Rattle.net_agenda.specs.Buckets.{Buckets, Holds}
 
--- a place for each mote, by number
+-- an element for each mote, by number
 abbrev pub CalledMotes : Type 0
 CalledMotes = List (Option (Vec RadioCopy Global))
 
@@ -26,7 +26,7 @@ pub record TakesCall (mote : ℕ) (copies : List RadioCopy) (old new : CalledMot
   pub others : (k : ℕ) → copies_for new k ≡ (if mote == k then None else copies_for old k)
   pub fewer : length new < length old
 
--- not before this moment
+-- the item isn't before this moment
 abbrev pub is_not_before : (until : ℕ) → Item → Bool
 is_not_before until item = not (nat_lt (moment_of item) until)
 
@@ -34,13 +34,13 @@ is_not_before until item = not (nat_lt (moment_of item) until)
 abbrev pub calls_for : (until mote : ℕ) → Item → Bool
 calls_for until mote item = nat_lt (moment_of item) until && (mote_of item == mote)
 
--- the copies for a mote are in rising order, and are those that the items have for it at each moment before a bound
+-- the copies for a mote are in order, and are those that the items have for the mote at each moment before a bound
 pub record TakesCopiesFor (until : ℕ) (items : List Item) (mote : ℕ) (copies : List RadioCopy) : Type 0 where
   pub rising : is_rising copies ≡ true
   pub all : (moment : ℕ) → filter (is_at moment) copies
       ≡ (if nat_lt moment until then in_order (packets (filter (comes_at moment mote) items)) else [])
 
--- the calls are those that these items make before a moment
+-- the calls are those that these items cause before a moment
 pub record TakesEventsBefore (until : ℕ) (items : List Item) (calls : CalledMotes) : Type 0 where
   pub called : (mote : ℕ) → is_some (copies_for calls mote) ≡ list_any (calls_for until mote) items
   pub copies : (mote : ℕ) (copies : List RadioCopy) → copies_for calls mote ≡ Some copies

@@ -12,7 +12,8 @@ use Rattle.worker_cut.specs.Crossed.{is_own, copies_seen}
 use Rattle.worker_window.specs.Log.{packets_in, HaveFates}
 use Rattle.worker_window.specs.Share.{Motes, is_to_come}
 
--- the traces and the packets of the worker's motes, and how many copies are still on their way to them
+-- the traces and the packets of the worker's motes, and the number of copies that are still on their way to these
+-- motes
 pub record TellsAtEnd (n : NetModel) (of : List ℕ) (worker from : ℕ) (motes : Motes) (taken : List RadioCopy)
     (ended : Ended) : Type 0 where
   pub traces_kept : length ended.traces.items ≡ length n.motes

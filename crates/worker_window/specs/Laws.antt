@@ -11,17 +11,17 @@ use Rattle.worker_window.specs.MoteWindow.{number_of, window_after_turn}
 abbrev pub EndIsOne : Type 0
 EndIsOne = (window : Window) (a b : LoneNode) → EndsAs window a → EndsAs window b → b ≡ a
 
--- the same mote, with lines and packets from before the window
+-- the mote with lines and packets from before the window
 abbrev pub with_earlier : List Line → List Sent → LoneNode → LoneNode
 with_earlier lines sends mote = record mote { lines = lines ++ mote.lines; sends = sends ++ mote.sends }
 
--- the lines and packets from before a window stay before those that its run adds
+-- the lines and packets from before a window stay before those that the window's run appends
 abbrev pub EarlierStaysInFront : Type 0
 EarlierStaysInFront = (window : Window) (last : LoneNode) → EndsAs window last → (lines : List Line) (sends : List Sent)
     → WindowRun (number_of window.mote.state) window.until window.copies (with_earlier lines sends window.mote)
     (with_earlier lines sends last)
 
--- a window that begins with the wake of its mote ends with the wake of its mote
+-- if a window begins with its mote's wake, it ends with its mote's wake
 abbrev pub EndsWithItsWake : Type 0
 EndsWithItsWake = (window : Window) (last : LoneNode) → window.mote.wake ≡ wake_of window.mote.state
     → EndsAs window last → last.wake ≡ wake_of last.state
@@ -30,6 +30,6 @@ EndsWithItsWake = (window : Window) (last : LoneNode) → window.mote.wake ≡ w
 abbrev pub IsAhead : Window → Type 0
 IsAhead window = (moment : ℕ) → IsNext moment window → is_past moment window.mote.state.last ≡ false
 
--- this is so after each turn of a window
+-- the next event is after the mote's last turn, after each turn of a window
 abbrev pub NoTurnIsPast : Type 0
 NoTurnIsPast = (window : Window) (moment : ℕ) → HasTurn moment window → IsAhead (window_after_turn moment window)

@@ -1,4 +1,4 @@
--- Motes are lent out of a share for a window, and come back.
+-- Motes that are lent out of a share for a window and return to it.
 use Rattle.std.specs.Prelude.{ℕ, ◌≡◌, ◌<◌, ◌≤◌, ◌^◌, Bool, true, false, not, ◌&&◌, ◌==◌, if◌then◌else◌, List, []}
 use Rattle.std.specs.Prelude.{◌∷◌, ◌++◌, length, map, Option, Some, None, is_some, slice_index_or, slice_set, Vec}
 use Rattle.std.specs.List.{filter, flat_map, list_any, AllByRecursion, AllZip}
@@ -32,14 +32,14 @@ are_different (k ∷ ks) = not (is_one_of k ks) && are_different ks
 abbrev pub numbers_of : List LentMote → List ℕ
 numbers_of lent_motes = map (λ lent_mote. lent_mote.number) lent_motes
 
--- a mote that was here, with its trace and the copies for it
+-- a mote of the share, with its trace and the copies for it
 pub record IsCalled (calls : CalledMotes) (motes : List (Option Mote)) (traces : List (Vec Line Global))
     (lent_mote : LentMote) : Type 0 where
   pub mote : mote_here motes lent_mote.number ≡ Some lent_mote.mote
   pub trace : (d : Vec Line Global) → slice_index_or traces lent_mote.number d ≡ lent_mote.trace
   pub copies : copies_for calls lent_mote.number ≡ Some lent_mote.copies.items
 
--- a trace was taken, and nothing is known about the value in its place
+-- a trace was taken; nothing is known about the value that is now in its place
 pub record TakesTrace (number : ℕ) (trace : Vec Line Global) (old new : List (Vec Line Global)) : Type 0 where
   pub taken : (d : Vec Line Global) → slice_index_or old number d ≡ trace
   pub left : Vec Line Global
@@ -76,7 +76,7 @@ pub record IsOutOfMote (motes : ℕ) (out : WindowOut) : Type 0 where
   pub there : number < motes
   pub sends : AllByRecursion (λ sent. (sent.sender < motes) × (sent.at ≤ 2 ^ 40)) out.sends.items
 
--- a mote is back in its share, whose agenda had this wake of it
+-- a mote has returned to its share, whose agenda had this wake of it
 pub record MoteReturns (radio : Radio) (of : List ℕ) (number : ℕ) (wake : Option ℕ) (out : WindowOut) (old new : Share)
     (before after : List RadioCopy) : Type 0 where
   pub worker : new.worker ≡ old.worker

@@ -15,16 +15,16 @@ use Rattle.net_agenda.specs.NetSystem.{node_turn}
 abbrev pub LoneNode : Type 0
 LoneNode = LoneMote Node Line
 
--- before the window's first turn, with the lines that it wrote before
+-- a mote before the window's first turn, with the lines that it wrote earlier
 abbrev pub lone_node : List Line → Node → LoneNode
 lone_node lines n = record { state = n; wake = wake_of n; lines = lines; sends = [] }
 
 abbrev pub number_of : Node → ℕ
 number_of n = n.mote.state.mote
 
--- One mote by itself with its copies, up to a bound: while the lesser of its wake and the least moment of a copy is
--- below the bound, a turn there on all copies of that moment, in order of sender and number. It is the law's `Alone`,
--- in whatever net the mote is.
+-- One mote by itself with its copies, up to a bound. While the lesser of its wake and the first copy's moment is below
+-- the bound, the mote has a turn at this moment, with all copies of the moment, in the order of sender and number. It
+-- is `Alone` of the law of windows, for a mote in any net.
 abbrev pub WindowRun : (number until : ℕ) → (copies : List RadioCopy) → (mote last : LoneNode) → Type 0
 WindowRun number until copies mote last =
     (system : System Node Line) → system.turn ≡ node_turn → Alone system number until copies mote last
@@ -69,17 +69,18 @@ window_after_turn moment window = record window {
   mote = lone_turn moment window.mote (in_order (filter (is_at moment) window.copies));
 }
 
--- by moment, then sender, then number; copies that agree in all three may be in any order
+-- copies are compared by moment, then sender, then number; copies with the same three may be in any order
 abbrev pub comes_before : RadioCopy → RadioCopy → Bool
 comes_before a b = nat_lt a.at b.at
     || ((a.at == b.at) && (nat_lt a.sender b.sender || ((a.sender == b.sender) && not (nat_lt b.number a.number))))
 
--- each copy comes before all after it
+-- each copy is before all copies after it
 abbrev pub is_rising : List RadioCopy → Bool
 is_rising [] = true
 is_rising (x ∷ xs) = list_all (comes_before x) xs && is_rising xs
 
--- a window before its first turn, of a mote that wrote these lines before; there is none for a mote that has failed
+-- a window before its first turn, with the lines that its mote wrote earlier; there is no window for a mote that has
+-- failed
 abbrev pub opened : Tree → (until : ℕ) → (copies : List RadioCopy) → (lines : List Line) → Option Node → Option Window
 opened program until copies lines mote =
     option_map (λ n. record { program = program; until = until; copies = copies; mote = lone_node lines n }) mote

@@ -15,8 +15,8 @@ abbrev pub copies_to_come : NetModel → (of : List ℕ) → (worker from : ℕ)
 copies_to_come n of worker from motes taken sender =
     let own = is_own of worker in filter (is_to_come own from) (copies_seen (system_of n) own motes taken sender)
 
--- `next` is the first pending event of a share at the moment `from`: it isn't before `from`; the share is also one at
--- each later moment up to `next`; and no copy arrives before `next`.
+-- `next` is the moment of the first pending event of a share at the moment `from`: it isn't before `from`; the share
+-- is also a share at each later moment up to `next`; and no copy arrives before `next`.
 pub record IsNextFrom (n : NetModel) (of : List ℕ) (worker from : ℕ) (motes : Motes) (taken : List RadioCopy)
     (share : Share) (next : Option ℕ) : Type 0 where
   pub wakes : NoneBefore from next
@@ -24,7 +24,7 @@ pub record IsNextFrom (n : NetModel) (of : List ℕ) (worker from : ℕ) (motes 
   pub no_copies : (moment : ℕ) → NoneBefore moment next → (sender : ℕ)
       → Each (λ copy. moment ≤ copy.at) (copies_to_come n of worker from motes taken sender)
 
--- this is the first pending event, whichever worker's share it is, and at whatever moment
+-- this is the moment of the first pending event, for any worker and any moment of the share
 abbrev pub TellsNext : Share → (next : Option ℕ) → Type 0
 TellsNext share next = (n : NetModel) (of : List ℕ) (worker from : ℕ) (motes : Motes) (taken : List RadioCopy)
     → IsWholeShare n of worker from motes taken share → IsNextFrom n of worker from motes taken share next

@@ -5,7 +5,7 @@ use Rattle.mote_node.specs.Public.{node_in}
 use Rattle.worker_window.specs.declared.out.WindowOut.{WindowOut}
 use Rattle.worker_window.specs.MoteWindow.{LoneNode, Window, EndsAs}
 
--- the mote after a window, with the lines and packets that it wrote and sent there
+-- the mote after a window, with the lines that it wrote and the packets that it sent in the window
 abbrev pub shown : Tree → WindowOut → Option LoneNode
 shown program out =
     option_map (λ n. record { state = n; wake = out.wake; lines = out.lines.items; sends = out.sends.items })

@@ -12,7 +12,7 @@ use Rattle.worker_window.specs.declared.out.WindowOut.{WindowOut}
 use Rattle.worker_window.specs.declared.own.OwnWindow.{OwnWindow}
 use Rattle.worker_window.specs.MoteWindow.{Window, IsNextOf}
 
--- the window of a mote whose node is this
+-- the window of a mote with this node
 abbrev pub window_over : Tree → (until : ℕ) → (copies : List RadioCopy) → (wake : Option ℕ) → (lines : List Line)
     → (sends : List Sent) → Node → Window
 window_over program until copies wake lines sends n = record {
@@ -22,15 +22,15 @@ window_over program until copies wake lines sends n = record {
   mote = record { state = n; wake = wake; lines = lines; sends = sends };
 }
 
--- the window that an `OwnWindow` represents; there is none if its mote has failed
+-- the window that an `OwnWindow` represents; there is no window if the mote has failed
 unfoldable pub window_in : OwnWindow → Option Window
 window_in w =
     let program = tree_of w.program.now in
     option_map (window_over program w.until (drop w.next w.copies.items) w.wake w.lines.items w.sends.items)
     (node_in program w.mote)
 
--- ---- of any mote, even one that has failed
--- the pending events of a window, and the lines and packets of the mote there so far
+-- ---- for any mote, even one that has failed
+-- the pending events of a window, and the mote's lines and packets in it so far
 pub record Course : Type 0 where
   pub program : Tree
   pub until : ℕ
@@ -49,7 +49,8 @@ course_in w = record {
   sends = w.sends.items;
 }
 
--- before the first turn, of a mote that wrote these lines before; for one that has failed there are only copies
+-- a window before its first turn, with the lines that its mote wrote earlier; for a mote that has failed, it has only
+-- copies
 abbrev pub course_of : Tree → (until : ℕ) → (copies : List RadioCopy) → (lines : List Line) → Option Node → Course
 course_of program until copies lines mote = record {
   program = program;

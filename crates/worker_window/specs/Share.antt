@@ -24,12 +24,12 @@ use Rattle.worker_window.specs.Log.{packets_in, HaveFates}
 abbrev pub Motes : Type 0
 Motes = (number : ℕ) → LoneMote Node Line
 
--- the node of a mote that is here
+-- the node of a mote that the share has
 abbrev pub node_at : Tree → Option Mote → Option Node
 node_at tree None = None
 node_at tree (Some mote) = node_in tree mote
 
--- the mote with this number, if it is here
+-- the mote with this number, if the share has it
 abbrev pub mote_here : List (Option Mote) → (number : ℕ) → Option Mote
 mote_here motes number = slice_index_or motes number None
 
@@ -42,8 +42,8 @@ abbrev pub wake_from : (from : ℕ) → Option ℕ → Option ℕ
 wake_from from None = None
 wake_from from (Some wake) = if nat_lt wake from then None else Some wake
 
--- the agenda has the next wake of each of the worker's motes, unless that is before the moment, and, for each sender,
--- all copies for them that arrive at the moment or later, in the order of sending
+-- the agenda has the next wake of each of the worker's motes, unless it is before the moment; and, for each sender,
+-- all copies for these motes that arrive at the moment or later, in the order of sending
 pub record HasToCome (n : NetModel) (own : ℕ → Bool) (from : ℕ) (motes : Motes) (taken : List RadioCopy)
     (buckets : Buckets) : Type 0 where
   pub items : List Item
@@ -53,9 +53,10 @@ pub record HasToCome (n : NetModel) (own : ℕ → Bool) (from : ℕ) (motes : M
   pub copies : (s : ℕ) → filter (is_from_sender s) (packets items)
       ≡ filter (is_to_come own from) (copies_seen (system_of n) own motes taken s)
 
--- The share of a worker at a moment, before which no event is pending, while some of its motes are in it: their nodes,
--- wakes and lines so far, the packets of all its motes so far, and the agenda. No mote in it has failed, and the last
--- turn of each was before that moment. `taken` are all copies that ever came from other workers.
+-- The share of a worker at a moment before which no event is pending, while the share has some of the worker's motes:
+-- their nodes, wakes and lines so far, the packets of all the worker's motes so far, and the agenda. No mote in the
+-- share has failed, and the last turn of each was before the moment. `taken` are all copies that ever arrived from
+-- other workers.
 pub record IsShare (n : NetModel) (of : List ℕ) (worker : ℕ) (here : ℕ → Bool) (from : ℕ) (motes : Motes)
     (taken : List RadioCopy) (share : Share) : Type 0 where
   pub is_worker : share.worker ≡ worker
@@ -73,7 +74,7 @@ pub record IsShare (n : NetModel) (of : List ℕ) (worker : ℕ) (here : ℕ →
   pub fates : HaveFates n.radio share.log.items
   pub agenda : HasToCome n (is_own of worker) from motes taken share.agenda.buckets
 
--- with all of its motes in it, as between windows
+-- a share with all motes of its worker, as between windows
 abbrev pub IsWholeShare : NetModel → (of : List ℕ) → (worker from : ℕ) → Motes → (taken : List RadioCopy) → Share
     → Type 0
 IsWholeShare n of worker from motes taken share = IsShare n of worker (is_own of worker) from motes taken share

@@ -17,7 +17,7 @@ abbrev pub window_of : (until : ℕ) → MoteSetup → LentMote → Option Windo
 window_of until m lent_mote =
     opened m.tree until lent_mote.copies.items lent_mote.trace.items (node_in m.tree lent_mote.mote)
 
--- if a mote had failed, its result has only these lines, which it wrote before, and none of these copies arrived in
+-- if a mote had failed, its result has only these lines, which it wrote earlier, and none of these copies arrived in
 -- the window
 pub record GivesNothing (program : Tree) (until : ℕ) (copies : List RadioCopy) (lines : List Line) (out : WindowOut)
     : Type 0 where
@@ -33,7 +33,7 @@ LentMoteGives n until lent_mote out = IfSome (slice_get n.motes lent_mote.number
     (λ m. MatchOption (window_of until m lent_mote)
     (GivesNothing m.tree until lent_mote.copies.items lent_mote.trace.items out) (λ w. Gives w out))
 
--- all do so, place by place
+-- all lent motes have the results of their windows' runs, place by place
 abbrev pub GivesList : NetModel → (until : ℕ) → List LentMote → List WindowOut → Type 0
 GivesList n until lent_motes outs = AllZip (LentMoteGives n until) lent_motes outs
 
@@ -42,6 +42,6 @@ abbrev pub LentMoteGoesOn : NetModel → (until : ℕ) → LentMote → Type 0
 LentMoteGoesOn n until lent_mote =
     IfSome (slice_get n.motes lent_mote.number) (λ m. CanGoOn (window_of until m lent_mote))
 
--- the same for all lent motes
+-- no lent mote has failed, and the next event of each is after its last turn
 abbrev pub AreGoingOn : NetModel → (until : ℕ) → List LentMote → Type 0
 AreGoingOn n until lent_motes = AllByRecursion (LentMoteGoesOn n until) lent_motes

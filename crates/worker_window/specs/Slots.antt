@@ -19,7 +19,7 @@ abbrev pub is_done : {G : Type 0} → Slot G → Bool
 is_done (Open window) = false
 is_done (Done made) = true
 
--- the possible results of the slot's window, or its result
+-- the possible results of the slot's window, or the slot's result if its window is done
 abbrev pub SlotGives : {G : Type 0} → Slot G → WindowOut → Type 0
 SlotGives (Open window) out = MayGive window.own out
 SlotGives (Done made) out = out ≡ made
@@ -35,13 +35,14 @@ SlotGoesOn (Done made) = Unit {0}
 abbrev pub SlotsGoOn : {G : Type 0} → List (Slot G) → Type 0
 SlotsGoOn slots = AllByRecursion SlotGoesOn slots
 
--- each possible result of the slot is one of the lent mote's window; and the slot can continue if the lent mote can
+-- each possible result of the slot is a possible result of the lent mote's window; and the slot can continue if the
+-- lent mote can
 pub record IsOf {G : Type 0} (n : NetModel) (until : ℕ) (lent_mote : LentMote) (slot : Slot G) : Type 0 where
   pub gives : (out : WindowOut) → SlotGives slot out → LentMoteGives n until lent_mote out
   pub goes_on : LentMoteGoesOn n until lent_mote → SlotGoesOn slot
 
--- the motes that are called are lent, these are the slots of their windows, and these are their wakes; the rest of the
--- share is unchanged
+-- the motes that are called are lent, these are the slots of their windows and their wakes, and the rest of the share
+-- is unchanged
 pub record AreLent {G : Type 0} (n : NetModel) (until : ℕ) (calls : CalledMotes) (old new : Share)
     (slots : List (Slot G)) (wakes : List (Option ℕ)) : Type 0 where
   pub lent_motes : List LentMote
@@ -51,13 +52,13 @@ pub record AreLent {G : Type 0} (n : NetModel) (until : ℕ) (calls : CalledMote
   pub log : new.log ≡ old.log
   pub agenda : new.agenda ≡ old.agenda
 
--- the other slots may become these: all are done, with results that are possible for the others
+-- `slots` may become `ended`: all slots are then done, with possible results of the old ones
 pub record MayEndAs {G : Type 0} (slots ended : List (Slot G)) : Type 0 where
   pub done : list_all is_done ended ≡ true
   pub gives : (outs : List WindowOut) → SlotsGive ended outs → SlotsGive slots outs
 
--- the possible results of the worker: its slots, once all are done, or an error, which is out of memory if all can
--- continue
+-- the possible results of the worker: its slots, when all are done, or an error, which is out of memory if all slots
+-- can continue
 abbrev pub WorkerMayAnswer : {G : Type 0} → List (Slot G) → Result (Vec (Slot G) Global) MoteError → Type 0
 WorkerMayAnswer slots (Ok ended) = MayEndAs slots ended.items
 WorkerMayAnswer slots (Err e) = SlotsGoOn slots → e ≡ Memory

@@ -1,4 +1,4 @@
--- The effect of a poll on a mote's window, even on that of a mote that had failed before.
+-- The effect of a poll on a mote's window, also if the mote had failed before.
 use Rattle.std.specs.Prelude.{◌≡◌, ◌⊎◌, ℕ, true, Option, Some, None, Result, Ok, Err, IfSome, IsSomeAnd, MatchOption}
 use Rattle.mote_node.specs.declared.mote.MoteError.{MoteError}
 use Rattle.mote_node.specs.declared.mote.MoteError.TheVariants.{Failed, Memory, Past}
@@ -19,17 +19,17 @@ MayGive (Some own) out = MatchOption (window_in own) (GivesNoMore (course_in own
 abbrev pub CanGoOn : Option Window → Type 0
 CanGoOn window = IsSomeAnd window IsAhead
 
--- a window of such a mote, which hasn't been dropped
+-- a window that hasn't been dropped, of a mote that can continue
 abbrev pub HasTurns : Option OwnWindow → Type 0
 HasTurns None = ⊥
 HasTurns (Some own) = CanGoOn (window_in own)
 
--- the possible results of a poll: that of the window, or an error, which is out of memory if the mote can continue
+-- the possible results of a poll: a result of the window, or an error, which is out of memory if the mote can continue
 abbrev pub MayAnswer : Option OwnWindow → Result WindowOut MoteError → Type 0
 MayAnswer own (Ok out) = MayGive own out
 MayAnswer own (Err e) = HasTurns own → e ≡ Memory
 
--- the window after the turn at this moment; a mote that had failed takes none
+-- the window after the turn at this moment; a mote that had failed takes no turn
 abbrev pub TurnsTo : (moment : ℕ) → (old new : Option Window) → Type 0
 TurnsTo moment (Some old) (Some new) = new ≡ window_after_turn moment old
 TurnsTo moment _ _ = ⊥
@@ -52,7 +52,7 @@ IsErrorAt moment e window = (e ≡ Memory) ⊎ ((e ≡ Past) × (is_past moment 
 abbrev pub IsRefusal : MoteError → Type 0
 IsRefusal e = (e ≡ Failed) ⊎ (e ≡ Memory)
 
--- the error of the window's first turn; if the mote had failed, of the first turn that it would have taken
+-- the error of the window's first turn; if the mote had failed, the error of the first turn that it would have taken
 pub record IsFirstError (course : Course) (window : Option Window) (e : MoteError) : Type 0 where
   pub moment : ℕ
   pub awaited : ComesNext moment course
@@ -60,7 +60,7 @@ pub record IsFirstError (course : Course) (window : Option Window) (e : MoteErro
   pub error : IfSome window (IsErrorAt moment e)
   pub refusal : window ≡ None → IsRefusal e
 
--- an error is that of the first turn, or says that the window was dropped before
+-- the error is that of the first turn, or says that the window was dropped before
 abbrev pub ErrsAs : Option OwnWindow → MoteError → Type 0
 ErrsAs None e = e ≡ Failed
 ErrsAs (Some own) e = IsFirstError (course_in own) (window_in own) e

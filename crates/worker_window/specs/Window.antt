@@ -1,4 +1,4 @@
--- The effect of a window on a worker's motes, and the copies that they send to others.
+-- The effect of a window on a worker's motes, and the copies that these motes send to other workers.
 use Rattle.std.specs.Prelude.{ℕ, ◌≡◌, ◌+◌, ◌<◌, ◌≤◌, Bool, true, false, if◌then◌else◌, List, [], ◌++◌, length}
 use Rattle.std.specs.List.{filter, AllByRecursion as Each}
 use Rattle.radio_packet.specs.declared.copy.RadioCopy.{RadioCopy}
@@ -10,8 +10,8 @@ use Rattle.worker_cut.specs.Laws.{IsFromSources}
 use Rattle.worker_window.specs.declared.share.Share.{Share}
 use Rattle.worker_window.specs.Share.{Motes, IsWholeShare}
 
--- A mote runs by itself on copies that the worker has seen: at each moment of the window, for each sender, the copies
--- for it, in the order of sending, and none at other moments.
+-- A mote runs by itself on copies that the worker has seen. At each moment of the window, it gets the copies for it
+-- from each sender, in the order of sending; it gets no other copies.
 pub record RunsOwnMote (n : NetModel) (own : ℕ → Bool) (from until : ℕ) (motes next : Motes) (taken : List RadioCopy)
     (number : ℕ) : Type 0 where
   pub given : List RadioCopy
@@ -19,14 +19,14 @@ pub record RunsOwnMote (n : NetModel) (own : ℕ → Bool) (from until : ℕ) (m
   pub alone : Alone (system_of n) number until given (motes number) (next number)
 
 -- the outgoing copies of the packets that a mote of this worker has sent so far, in the order of sending; none if the
--- mote is another worker's
+-- mote belongs to another worker
 abbrev pub outgoing_by : NetModel → (own : ℕ → Bool) → Motes → (sender : ℕ) → List RadioCopy
 outgoing_by n own motes sender =
     if own sender then filter (is_for_others own) (copies_by (system_of n) motes sender) else []
 
--- The worker's motes after the window: each ran by itself, and the others are unchanged. The new share keeps them at
--- the window's end; the outgoing copies are, for each sender, the copies that it sent to other workers in the window,
--- and none of them arrives before the window's end.
+-- The worker's motes after the window: each of them ran by itself, and all other motes are unchanged. The new share
+-- keeps the motes at the window's end. The outgoing copies are, for each sender, the copies that it sent to other
+-- workers in the window; none of them arrives before the window's end.
 pub record RunsWindow (n : NetModel) (of : List ℕ) (worker from until : ℕ) (motes : Motes) (taken : List RadioCopy)
     (new : Share) (outgoing : List RadioCopy) : Type 0 where
   pub next : Motes
@@ -37,8 +37,9 @@ pub record RunsWindow (n : NetModel) (of : List ℕ) (worker from until : ℕ) (
       ++ filter (is_from_sender s) outgoing
   pub late : Each (λ (copy : RadioCopy). until ≤ copy.at) outgoing
 
--- For each moment `from` <= `until` at which `old` was a whole share (`IsWholeShare`): if until - from <= lookahead and
--- each arrived copy is expected, then `new` is the share after the window, and `outgoing` are the outgoing copies.
+-- For each moment `from` <= `until` at which `old` was a whole share (`IsWholeShare`): if until - from <= lookahead
+-- and each copy that arrived is expected, then `new` is the share after the window, and `outgoing` are the outgoing
+-- copies.
 abbrev pub RunsThrough : NetModel → (of : List ℕ) → (until : ℕ) → (arrived : List RadioCopy) → (old new : Share)
     → (outgoing : List RadioCopy) → Type 0
 RunsThrough n of until arrived old new outgoing = (worker from : ℕ) (motes : Motes) (taken : List RadioCopy)
@@ -46,21 +47,21 @@ RunsThrough n of until arrived old new outgoing = (worker from : ℕ) (motes : M
     → Each (IsExpected of worker from) arrived
     → RunsWindow n of worker from until motes (taken ++ arrived) new outgoing
 
--- for each moment `from` at which `old` was a whole share: if each arrived copy is expected, then `new` keeps the same
--- as `old` at `from`, with these copies among what it has taken
+-- for each moment `from` at which `old` was a whole share: if each copy that arrived is expected, then `new` is the
+-- same as `old` at `from`, except that these copies are among those that it has taken
 abbrev pub TakesIn : (arrived : List RadioCopy) → (old new : Share) → Type 0
 TakesIn arrived old new = (n : NetModel) (of : List ℕ) (worker from : ℕ) (motes : Motes) (taken : List RadioCopy)
     → IsWholeShare n of worker from motes taken old → Each (IsExpected of worker from) arrived
     → IsWholeShare n of worker from motes (taken ++ arrived) new
 
--- the copy is from a mote of this worker, to a mote of the net that isn't this worker's
+-- the copy is from a mote of this worker to a mote of the net that belongs to another worker
 pub record IsOutgoing (n : NetModel) (of : List ℕ) (worker : ℕ) (copy : RadioCopy) : Type 0 where
   pub sender : is_own of worker copy.sender ≡ true
   pub to : is_own of worker copy.to ≡ false
   pub there : copy.to < length n.motes
 
--- The share can run through a window up to this bound: it is that of some worker at some moment, the bound or sooner,
--- and each copy that arrived is expected then.
+-- The share can run through a window up to this bound: it is the share of some worker at some moment, which isn't
+-- after the bound, and each copy that arrived is expected at that moment.
 pub record CanRun (n : NetModel) (of : List ℕ) (until : ℕ) (share : Share) (arrived : List RadioCopy) : Type 0 where
   pub worker : ℕ
   pub from : ℕ

@@ -1,4 +1,4 @@
-//! Which motes have a turn in a window, and the copies that come to each.
+//! The motes that have a turn in a window, and the copies that arrive at each of them.
 
 ghost use Rattle.std.specs.Prelude.{◌≡◌, ◌<◌, ◌≤◌, ℕ, length, vec_len, List, [], OnOk, IfOk, MatchOption};
 ghost use Rattle.std.specs.Prelude.{if◌then◌else◌, ◌==◌, ◌++◌, Some, None, map, slice_set, unwrap_or};
@@ -13,8 +13,8 @@ use net_agenda::Agenda;
 use radio_packet::{Arrival, RadioCopy};
 use std::alloc::{AllocError, Global};
 
-/// The motes that have a turn in a window (the motes that are called), each with the copies that come to it. The place
-/// at the number of a mote that isn't called is `None`.
+/// The motes that have a turn in a window (the motes that are called), each with the copies that arrive at it in the
+/// window. The element at the number of a mote that isn't called is `None`.
 #[derive(Drop)]
 pub struct CalledMotes {
     pub alloc: Global,
@@ -23,7 +23,7 @@ pub struct CalledMotes {
 }
 
 impl CalledMotes {
-    /// No mote is called.
+    /// Makes a list in which no mote is called.
     fn new(alloc: Global) -> CalledMotes
         ensures empty { (mote : ℕ) → copies_for result.copies.items mote ≡ None }
     {
@@ -33,7 +33,7 @@ impl CalledMotes {
         }
     }
 
-    /// Extends the list up to the place of a mote.
+    /// Extends the list so that it has an element for a mote.
     fn reach(&mut self, mote: u16) -> Result<(), AllocError>
         ensures same { (k : ℕ) → copies_for self.new.copies.items k ≡ copies_for self.old.copies.items k }
         ensures in_range { OnOk result (mote < length self.new.copies.items) }
@@ -44,7 +44,7 @@ impl CalledMotes {
         Ok(())
     }
 
-    /// Takes out the copies that have come to a mote so far.
+    /// Takes out the copies that have arrived at a mote so far.
     fn take(&mut self, mote: u16, rooms: &mut Rooms) -> Vec<RadioCopy>
         requires in_range { mote < length self.old.copies.items }
         ensures copies { result.items ≡ unwrap_or (copies_for self.old.copies.items mote) [] }
@@ -75,7 +75,7 @@ impl CalledMotes {
         Ok(())
     }
 
-    /// Takes out the highest mote that is called.
+    /// Takes out the called mote with the highest number.
     pub fn pop(&mut self) -> Option<(u16, Vec<RadioCopy>)>
         ensures takes_call { MatchOption result ((k : ℕ) → copies_for self.old.copies.items k ≡ None)
             (λ p. TakesCall p.0 p.1.items self.old.copies.items self.new.copies.items) }
@@ -89,7 +89,7 @@ impl CalledMotes {
     }
 }
 
-/// The copy of a packet that arrives.
+/// Returns the copy of a packet that arrives.
 fn copy_at(moment: u64, mote: u16, arrival: &Arrival) -> RadioCopy
     ensures value { result ≡ copy_at moment mote arrival.now }
 {
@@ -102,7 +102,8 @@ fn copy_at(moment: u64, mote: u16, arrival: &Arrival) -> RadioCopy
     }
 }
 
-/// Appends the copies of packets that arrive together. It reserves the memory first, so each copy is made in place.
+/// Appends the copies of packets that arrive together. It reserves the memory first, so that each copy is written in
+/// its final place.
 fn add_copies(
     copies: &mut Vec<RadioCopy>,
     moment: u64,
@@ -121,7 +122,7 @@ fn add_copies(
 /// Takes all pending events before a moment out of the agenda, mote by mote.
 ///
 /// # Errors
-/// `AllocError` if an allocation fails. Some of the events may be out of the agenda then.
+/// `AllocError` if an allocation fails. Then some of the events may already be out of the agenda.
 pub fn take_events_before(
     alloc: Global,
     agenda: &mut Agenda,

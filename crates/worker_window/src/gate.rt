@@ -2,11 +2,11 @@
 
 /// A hook that is called from inside the workers.
 pub trait Gate {
-    /// Called once inside each turn, after the copies for the turn were collected and before the mote takes them, with
-    /// the worker, the turn's moment and the mote.
+    /// Called once inside each turn: after the copies for the turn were collected, and before the mote takes them. Its
+    /// arguments are the worker, the turn's moment and the mote.
     fn inside(&self, worker: u16, moment: u64, mote: u16);
 
-    /// Returns whether a worker's thread may start. Called before each start; `false` counts as a start that failed.
+    /// Returns whether a worker's thread may start. It is called before each start; `false` counts as a failed start.
     fn start(&self, _worker: u16) -> bool {
         true
     }

@@ -2,23 +2,23 @@
 
 ghost use Rattle.worker_window.specs.Laws.{EarlierStaysInFront, EndIsOne, EndsWithItsWake, NoTurnIsPast};
 
-/// A window's run has one end, however the turns of motes alternate.
+/// The run of a window has only one end, for every order of the motes' turns.
 pub fn one_window_run()
     ensures end_is_one { EndIsOne }
 {}
 
-/// The run of a window doesn't depend on the lines and packets before it.
+/// The run of a window doesn't depend on the lines and packets from before the window.
 pub fn earlier_stays_in_front()
     ensures earlier_stays_in_front { EarlierStaysInFront }
 {}
 
-/// A window that begins with the wake of its mote ends with the wake of its mote.
+/// If a window begins with its mote's wake, it ends with its mote's wake.
 pub fn ends_with_its_wake()
     ensures ends_with_its_wake { EndsWithItsWake }
 {}
 
-/// After a turn of a window, the next event comes later. So only a window's first turn can return `Past`: if its moment
-/// isn't after that of the mote's last turn before the window.
+/// After a turn of a window, the next event is later. So only the first turn of a window can return `Past`: it does if
+/// its moment isn't after the mote's last turn before the window.
 pub fn no_turn_is_past()
     ensures no_turn_is_past { NoTurnIsPast }
 {}

@@ -1,4 +1,4 @@
-//! A mote's window as a future: each poll takes one turn.
+//! The window of a mote as a future: each poll takes one turn.
 
 ghost use Rattle.std.specs.Prelude.{◌≡◌, ◌≤◌, ◌^◌, [], true, Some, None, IsSome, IsSomeAnd, IfSome, IfOk, IfErr, ⊤};
 ghost use Rattle.futures.specs.Poll.{IfReady, OnPending};
@@ -22,8 +22,8 @@ use radio_packet::RadioCopy;
 use std::alloc::Global;
 use std::mem;
 
-/// A mote in its window, until the future is ready. If a turn is left below the bound, a poll takes exactly that turn,
-/// at the lesser of the mote's wake and the next copy's moment, and yields. Otherwise the future is ready.
+/// A mote in its window, until the future is ready. If a turn is left below the bound, a poll takes exactly one turn,
+/// at the lesser of the mote's wake and the next copy's moment, and yields. Otherwise, the future is ready.
 pub struct MoteWindow<'a, G> {
     own: Option<OwnWindow<'a>>,
     worker: u16,
@@ -43,8 +43,8 @@ impl<G> Drop for MoteWindow<'_, G> {
 }
 
 impl<'a, G: Gate> MoteWindow<'a, G> {
-    /// The window of a mote with this program, up to `until`, which is at most 2^40. The copies are the mote's, each
-    /// below `until`, in the order of moment, sender and number. This allocates nothing.
+    /// Makes the window of a mote with this program, up to `until`, which is at most 2^40. The copies are the mote's,
+    /// are below `until`, and are in the order of moment, sender and number. This allocates nothing.
     pub fn new(
         alloc: Global,
         mote: Mote,
@@ -67,7 +67,7 @@ impl<'a, G: Gate> MoteWindow<'a, G> {
         MoteWindow::over(own, worker, gate)
     }
 
-    /// A future over this window, unchanged.
+    /// Makes a future over this window, which doesn't change.
     pub(crate) fn over(own: OwnWindow<'a>, worker: u16, gate: &'a G) -> MoteWindow<'a, G>
         ensures worker { result.worker ≡ worker }
         ensures own { result.own ≡ Some own.entry }
@@ -80,7 +80,7 @@ impl<'a, G: Gate> MoteWindow<'a, G> {
         }
     }
 
-    /// Swaps the scratch buffers of the window's turns with these.
+    /// Swaps the scratch buffers of the window's turns with these buffers.
     pub(crate) fn swap_room(&mut self, room: &mut Option<Box<TurnBuffers>>)
         ensures same { self.new.own ≡ self.old.own }
     {
@@ -88,8 +88,8 @@ impl<'a, G: Gate> MoteWindow<'a, G> {
     }
 }
 
-/// Takes the window, once no turn is left, and returns its result. A separate function, so that a turn clears no stack
-/// space for it.
+/// Takes the window when no turn is left, and returns its result. It is a separate function, so that a turn clears no
+/// stack space for the result.
 #[inline(always)]
 fn finish(own: &mut Option<OwnWindow<'_>>, room: &mut Option<Box<TurnBuffers>>) -> WindowOut
     requires owned { IsSome own.old }
@@ -100,7 +100,7 @@ fn finish(own: &mut Option<OwnWindow<'_>>, room: &mut Option<Box<TurnBuffers>>) 
     own.take().unwrap().finish(room)
 }
 
-/// Drops a window, with its mote; a separate function for the same reason.
+/// Drops a window and its mote. It is a separate function for the same reason.
 #[inline(always)]
 fn give_up(own: &mut Option<OwnWindow<'_>>)
     ensures given_up { own.new ≡ None }
@@ -113,12 +113,12 @@ impl<G: Gate> Future for MoteWindow<'_, G> {
 
     ghost gives = { λ w r. MayAnswer w.own r };
 
-    /// Takes one turn and yields, or is ready. A mote that had failed before takes none: it is ready with its earlier
-    /// result, if nothing comes to it in the window.
+    /// Takes one turn and yields, or is ready. A mote that had failed before takes no turn: the future is ready with
+    /// the mote's earlier result, if no event of the mote is in the window.
     ///
     /// # Errors
-    /// The error of the turn, after which the mote is dropped; `Failed` at a later poll, and if an event comes to a
-    /// mote that had failed before.
+    /// The error of the turn; the mote is then dropped. `Failed` at a later poll, and if an event is in the window of
+    /// a mote that had failed before.
     fn poll(&mut self, cx: &mut Context<'_>) -> Poll<Self::Output>
         ensures value { IfReady result (MayAnswer self.old.own) }
         ensures again { OnPending result ⊤ }

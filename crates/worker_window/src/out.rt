@@ -4,8 +4,8 @@ use mote_node::Mote;
 use process_kernel::Line;
 use radio_packet::Sent;
 
-/// The mote after its window, the lines and packets of its turns there, and the moment at which it wakes next, if it
-/// does.
+/// The mote after its window, the lines and packets of its turns in the window, and the moment of its next wake, if it
+/// has one.
 #[derive(Drop)]
 pub struct WindowOut {
     pub mote: Mote,

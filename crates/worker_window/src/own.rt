@@ -19,7 +19,7 @@ use program_tree::Program;
 use radio_packet::{Arrival, RadioCopy, Sent};
 use std::alloc::{AllocError, Global};
 
-/// A mote in its window, with the copies that come to it there.
+/// A mote in its window, with the copies that arrive at it in the window.
 pub struct OwnWindow<'a> {
     alloc: Global,
     program: &'a Program,
@@ -56,9 +56,9 @@ impl<'a> OwnWindow<'a> {
     ghost use Rattle.worker_window.specs.Own.{window_in, course_in, course_of, IsSpent, ComesNext, StaysFailed};
     ghost use Rattle.worker_window.specs.Turns.{TurnsTo, IsErrorAt, IsRefusal};
 
-    /// The mote, with this program, before its first turn in the window. The copies are the mote's, each below
-    /// `until`, in the order of moment, sender and number. `until` is at most 2^40. The window's lines are appended to
-    /// `trace`, and its packets are written into the scratch buffer `sends`. This allocates nothing.
+    /// Makes the window of a mote with this program, before its first turn. The copies are the mote's, are below
+    /// `until`, and are in the order of moment, sender and number. `until` is at most 2^40. The window's lines are
+    /// appended to `trace`, and its packets are written into the scratch buffer `sends`. This allocates nothing.
     #[tactic(auto, unfolding(crate::specs::Own::window_in, crate::specs::Own::course_in))]
     pub fn new(
         alloc: Global,
@@ -92,7 +92,7 @@ impl<'a> OwnWindow<'a> {
         }
     }
 
-    /// The moment of the next turn, if one is left in the window.
+    /// Returns the moment of the next turn, if a turn is left in the window.
     #[tactic(auto, unfolding(crate::specs::Own::window_in, crate::specs::Own::course_in))]
     pub fn next_moment(&self) -> Option<u64>
         ensures comes { let c = course_in self.now in MatchOption result (IsSpent c) (λ moment. ComesNext moment c) }
@@ -107,11 +107,11 @@ impl<'a> OwnWindow<'a> {
         }
     }
 
-    /// Takes the turn at `moment`, which `next_moment` returned, with the scratch buffers of an earlier turn, or with
-    /// new ones. Once the copies for the turn were collected, the gate is called, and then the mote takes them.
+    /// Takes the turn at `moment`, which `next_moment` returned, with the scratch buffers of an earlier turn or with
+    /// new ones. It collects the copies for the turn, and then calls the gate; after that, the mote takes the copies.
     ///
     /// # Errors
-    /// That of `Mote::turn_into`, so `Failed` if the mote had failed; `Memory` also if an allocation for buffers,
+    /// The error of `Mote::turn_into`, so `Failed` if the mote had failed; also `Memory` if an allocation for buffers,
     /// copies, lines or packets failed.
     #[tactic(auto, unfolding(crate::specs::Own::window_in))]
     pub fn turn<G: Gate>(
@@ -139,8 +139,8 @@ impl<'a> OwnWindow<'a> {
         Ok(())
     }
 
-    /// The result of the window, once no turn is left. If there are scratch buffers, its list of copies goes to them,
-    /// for a later window.
+    /// Returns the result of the window when no turn is left. If there are scratch buffers, they keep the window's
+    /// list of copies for a later window.
     #[tactic(auto, unfolding(crate::specs::Own::window_in, crate::specs::Own::course_in))]
     pub fn finish(self, room: &mut Option<Box<TurnBuffers>>) -> WindowOut
         ensures made { IfSome (window_in self.entry) (λ w. shown w.program result ≡ Some w.mote) }
@@ -167,7 +167,7 @@ impl<'a> OwnWindow<'a> {
     }
 }
 
-/// The lesser of the wake and the first copy's moment.
+/// Returns the lesser of the wake and the first copy's moment.
 fn least(wake: Option<u64>, copies: &[RadioCopy]) -> Option<u64>
     requires rising { is_rising copies.now ≡ true }
     ensures is_next { MatchOption result ((wake ≡ None) × (copies.now ≡ []))
@@ -192,7 +192,7 @@ fn arrival(copy: &RadioCopy) -> Arrival
     }
 }
 
-/// Collects the arrivals of the first copies, those that arrive at this moment.
+/// Collects the arrivals of the first copies: those that arrive at this moment.
 fn take_arrivals(
     copies: &[RadioCopy],
     moment: u64,

@@ -6,9 +6,9 @@ use process_kernel::Out;
 use radio_packet::{Arrival, RadioCopy};
 use std::alloc::{AllocError, Global};
 
-/// Scratch buffers of a turn, for the copies that come to a mote and its lines and packets. Each turn begins by
-/// clearing both, so they are passed from turn to turn, and from mote to mote. With them are lists that held the copies
-/// of earlier windows; the contents of those lists are unspecified.
+/// Scratch buffers of a turn, for the copies that arrive at a mote and for its lines and packets. Each turn first
+/// clears these buffers, so they are passed from turn to turn and from mote to mote. They also contain lists that held
+/// the copies of earlier windows; the contents of these lists are unspecified.
 #[derive(Drop)]
 pub struct TurnBuffers {
     pub(crate) arrivals: Vec<Arrival>,
@@ -16,10 +16,11 @@ pub struct TurnBuffers {
     pub(crate) copies: Vec<Vec<RadioCopy>>,
 }
 
-/// The largest capacity of a list of copies that is kept for a later window, so that those kept take little memory.
+/// The largest capacity of a list of copies that is kept for a later window. The limit ensures that the kept lists
+/// need little memory.
 const LONGEST_KEPT: usize = 32;
 
-/// The scratch buffers, made now if there are none.
+/// Returns the scratch buffers, which are made now if there are none.
 pub(crate) fn room_in(
     alloc: Global,
     room: &mut Option<Box<TurnBuffers>>,
@@ -38,7 +39,7 @@ pub(crate) fn room_in(
     }
 }
 
-/// An empty list for the copies of a window: that of an earlier window, if any was kept.
+/// Returns an empty list for the copies of a window: the list of an earlier window, if one was kept.
 pub fn copies_in(alloc: Global, room: &mut Option<Box<TurnBuffers>>) -> Vec<RadioCopy>
     ensures empty { result.items ≡ [] }
 {
@@ -54,7 +55,7 @@ pub fn copies_in(alloc: Global, room: &mut Option<Box<TurnBuffers>>) -> Vec<Radi
     }
 }
 
-/// Keeps a list of copies for a later window. A list with a large capacity, or that can't be stored, is dropped.
+/// Keeps a list of copies for a later window. It drops a list that has a large capacity or that can't be stored.
 pub(crate) fn keep_copies(room: &mut Option<Box<TurnBuffers>>, copies: Vec<RadioCopy>) {
     let Some(room) = room else {
         return;

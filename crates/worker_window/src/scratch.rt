@@ -1,4 +1,4 @@
-//! Scratch buffers of windows, which later windows use again.
+//! Scratch buffers of windows, which are used again in later windows.
 
 ghost use Rattle.std.specs.Prelude.{◌≡◌, []};
 
@@ -6,8 +6,8 @@ use crate::room::{TurnBuffers, copies_in};
 use radio_packet::{RadioCopy, Sent};
 use std::alloc::{AllocError, Global};
 
-/// Buffers for the packets that a mote sends in a window, and those of the turns. Their contents between two windows
-/// are unspecified.
+/// Buffers for the packets that a mote sends in a window, and the buffers of the turns. Between two windows, their
+/// contents are unspecified.
 pub(crate) struct Rooms {
     alloc: Global,
     buffers: Vec<Vec<Sent>>,
@@ -25,7 +25,7 @@ impl Drop for Rooms {
 }
 
 impl Rooms {
-    /// No buffers.
+    /// Makes an empty set of buffers.
     pub(crate) fn new(alloc: Global) -> Rooms {
         Rooms {
             alloc,
@@ -34,14 +34,14 @@ impl Rooms {
         }
     }
 
-    /// An empty list for the copies of a window: that of an earlier window, if any was kept.
+    /// Returns an empty list for the copies of a window: the list of an earlier window, if one was kept.
     pub(crate) fn copies(&mut self) -> Vec<RadioCopy>
         ensures empty { result.items ≡ [] }
     {
         copies_in(self.alloc, &mut self.turns)
     }
 
-    /// A buffer for the packets of a window: that of an earlier window, if any was put back.
+    /// Returns a buffer for the packets of a window: the buffer of an earlier window, if one was put back.
     pub(crate) fn take(&mut self) -> Vec<Sent> {
         match self.buffers.pop() {
             Some(buffer) => buffer,
@@ -52,7 +52,7 @@ impl Rooms {
     /// Puts the buffer of a window back.
     ///
     /// # Errors
-    /// Out of memory only.
+    /// `AllocError` if an allocation fails.
     pub(crate) fn put_back(&mut self, buffer: Vec<Sent>) -> Result<(), AllocError> {
         self.buffers.push(buffer)?;
         Ok(())

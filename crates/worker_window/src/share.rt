@@ -21,9 +21,9 @@ use process_kernel::Line;
 use std::alloc::{AllocError, Global};
 use worker_cut::is_own;
 
-/// The data of one worker of a net: its motes and their traces, each by the number of the mote, with no mote and an
-/// empty trace for the motes of other workers; the packets of its motes, each mote's in order; the pending events of
-/// its motes; and scratch buffers of windows.
+/// The data of one worker of a net. It has the motes of the worker and their traces, both by the motes' numbers; for a
+/// mote of another worker, it has no mote and an empty trace. It also has the packets of its motes, in order for each
+/// mote; the pending events of its motes; and scratch buffers of windows.
 pub struct Share {
     pub(crate) alloc: Global,
     pub(crate) worker: u16,
@@ -34,7 +34,7 @@ pub struct Share {
     pub(crate) rooms: Rooms,
 }
 
-/// Implemented by hand: the check of a function that owns a share then sees only one call for its drop.
+/// Implemented by hand, so that the check of a function that owns a share sees only one call for the drop.
 impl Drop for Share {
     fn drop(self) {
         let Share {
@@ -49,8 +49,8 @@ impl Drop for Share {
     }
 }
 
-/// A worker's results at the end: the traces of its motes, by number, the packets that they sent, each mote's in order,
-/// and the number of copies of packets that are still on their way to them.
+/// The results of a worker at the end: the traces of its motes, by number; the packets that they sent, in order for
+/// each mote; and the number of copies that are still on their way to them.
 #[derive(Drop)]
 pub struct Ended {
     pub traces: Vec<Vec<Line>>,
@@ -58,7 +58,7 @@ pub struct Ended {
     pub left: u64,
 }
 
-/// Makes a mote of the worker, which wakes at 0; none for a mote of another worker.
+/// Makes a mote of the worker, which wakes at 0, or returns `None` for a mote of another worker.
 fn begin(
     alloc: Global,
     net: &Net,
@@ -79,7 +79,8 @@ fn begin(
 }
 
 impl Share {
-    /// The share of a worker before the motes' first turns: each mote wakes at 0. `of` is the worker of each mote.
+    /// Makes the share of a worker before the motes' first turns: each mote wakes at 0. `of` is the worker of each
+    /// mote.
     ///
     /// # Errors
     /// `AllocError` if an allocation fails.
@@ -106,7 +107,7 @@ impl Share {
         Ok(share)
     }
 
-    /// The moment of the first pending event, if there is one.
+    /// Returns the moment of the first pending event, if there is one.
     pub fn next(&self) -> Option<u64>
         ensures tells_next { TellsNext self.now result }
     {
@@ -116,10 +117,11 @@ impl Share {
         }
     }
 
-    /// Takes the share apart at the end.
+    /// Takes the share apart at the end, and returns the worker's results.
     ///
     /// # Errors
-    /// `AllocError` only for a number of copies above `u64::MAX`, for which no memory has room. Nothing is allocated.
+    /// `AllocError` only for a number of copies above `u64::MAX`. No memory has room for so many copies. Nothing is
+    /// allocated.
     pub fn end(self) -> Result<Ended, AllocError>
         ensures tells_at_end { (n : NetModel) (of : List ℕ) (worker from : ℕ) (motes : Motes) (taken : List RadioCopy)
             → IsWholeShare n of worker from motes taken self

@@ -21,7 +21,7 @@ use mote_net::Net;
 use mote_node::MoteError;
 use std::alloc::Global;
 
-/// A mote's window, until it is ready, and then its result.
+/// The window of a mote until it is ready, and then its result.
 pub enum Slot<'a, G> {
     Open(MoteWindow<'a, G>),
     Done(WindowOut),
@@ -37,7 +37,7 @@ impl<G> Drop for Slot<'_, G> {
 }
 
 impl<'a, G: Gate> Slot<'a, G> {
-    /// The window of a lent mote, which is a mote of the net, up to `until`, which is at most 2^40.
+    /// Opens the window of a lent mote, up to `until`, which is at most 2^40. The mote is one of the net.
     pub fn open(
         alloc: Global,
         net: &'a Net,
@@ -79,7 +79,7 @@ impl<'a, G: Gate> Slot<'a, G> {
         }
     }
 
-    /// The result of the window, once it was ready.
+    /// Returns the result of the window after it was ready.
     pub fn into_out(self) -> WindowOut
         requires done { is_done self ≡ true }
         ensures was_done { self.entry ≡ Done result }
@@ -90,7 +90,7 @@ impl<'a, G: Gate> Slot<'a, G> {
         }
     }
 
-    /// Polls the window once, if it was not ready before. Its turn uses these scratch buffers.
+    /// Polls the window once, if it wasn't ready before. The turn uses these scratch buffers.
     pub(crate) fn advance(
         &mut self,
         room: &mut Option<Box<TurnBuffers>>,

@@ -1,4 +1,4 @@
-//! A worker's motes in a window: those that have a turn are lent out of the share, run, and come back.
+//! The motes of a worker in a window: those that have a turn are lent out of the share, run, and return to it.
 
 ghost use Rattle.std.specs.Prelude.{◌≡◌, ◌<◌, ◌≤◌, ◌^◌, ◌++◌, ◌∷◌, ◌==◌, ℕ, true, [], length};
 ghost use Rattle.std.specs.Prelude.{◌≢◌, map, List, Some, None, IfErr, IfOk, OnOk, IsSome, slice_set};
@@ -40,7 +40,7 @@ use std::slice::from_ref;
 use std::sync::Wait;
 use worker_cut::is_own;
 
-/// The wake, unless it is before a moment.
+/// Returns the wake, unless it is before a moment.
 fn wake_from(until: u64, wake: Option<u64>) -> Option<u64>
     ensures value { result ≡ wake_from until wake }
 {
@@ -55,7 +55,7 @@ fn wake_from(until: u64, wake: Option<u64>) -> Option<u64>
     }
 }
 
-/// Takes a mote out of the share, which has it.
+/// Takes a mote out of the share, which must have it.
 fn take_mote(motes: &mut Vec<Option<Mote>>, number: u16) -> Mote
     requires mote_is_own { IsSome (mote_here motes.old.items number) }
     ensures mote { mote_here motes.old.items number ≡ Some result }
@@ -72,9 +72,9 @@ fn take_trace(alloc: Global, traces: &mut Vec<Vec<Line>>, number: u16) -> Vec<Li
     mem::replace(&mut traces[usize::from(number)], Vec::new(alloc))
 }
 
-/// Lends the motes that are called, each with its trace: takes them out of the share, until they come back
-/// (`take_back`), and opens their windows. `wakes` is overwritten: `wakes[i]` is the wake of the mote at `i` in the
-/// result, or none if that is before `until`; the others are still on the agenda.
+/// Lends the motes that are called, each with its trace: it takes them out of the share, until `take_back` returns
+/// them, and opens their windows. It overwrites `wakes`: `wakes[i]` is the wake of the mote at `i` in the result, or
+/// none if that wake is before `until`. The wakes at `until` or later are still in the agenda.
 pub(crate) fn lend<'a, G: Gate>(
     share: &mut Share,
     wakes: &mut Vec<Option<u64>>,
@@ -119,8 +119,8 @@ fn last_wake(wakes: &mut Vec<Option<u64>>) -> Option<u64>
     wakes.pop().unwrap()
 }
 
-/// Sends a copy: one for a mote of the worker becomes a pending event; one for another worker's mote is appended to
-/// `outgoing`.
+/// Sends a copy: a copy for a mote of the worker becomes a pending event; a copy for a mote of another worker is
+/// appended to `outgoing`.
 fn send_copy(
     of: &[u16],
     worker: u16,
@@ -167,7 +167,7 @@ fn send_fate(
     send_copy(of, worker, &copy, agenda, outgoing)
 }
 
-/// Returns whether all of these fates are of copies for motes of the worker.
+/// Returns whether all of these fates are those of copies for motes of the worker.
 fn are_own(of: &[u16], worker: u16, fates: &[Fate]) -> bool
     ensures value { result ≡ list_all (λ fate. is_own of.now worker fate.to) fates.now }
 {
@@ -197,8 +197,8 @@ fn send_fates(
     Ok(())
 }
 
-/// Sends the packets of a mote, and logs them with the fates of their copies: the copies for the worker's own motes
-/// become pending events, the others are appended to `outgoing`.
+/// Sends the packets of a mote, and logs them with the fates of their copies. Copies for the worker's own motes become
+/// pending events; the others are appended to `outgoing`.
 pub(crate) fn send_all(
     medium: &Medium,
     of: &[u16],
@@ -226,8 +226,8 @@ pub(crate) fn send_all(
 }
 
 impl Share {
-    /// Takes a mote back from its window: its old wake leaves the agenda, its next one enters; its packets are sent,
-    /// and its lines and packets are kept. The copies for other workers' motes are appended to `outgoing`.
+    /// Takes a mote back from its window. In the agenda, the mote's next wake replaces its old one. Its packets are
+    /// sent, and its lines and packets are kept. The copies for other workers' motes are appended to `outgoing`.
     fn take_back(
         &mut self,
         medium: &Medium,
@@ -266,10 +266,11 @@ impl Share {
         Ok(())
     }
 
-    /// Takes in copies that arrived from other workers, before the window in which the first of them can have a turn.
+    /// Takes in copies that arrived from other workers. It must be called before the window in which the first of them
+    /// can have a turn.
     ///
     /// # Errors
-    /// Out of memory only.
+    /// `AllocError` if an allocation fails.
     pub fn take_in(&mut self, arrived: &[RadioCopy]) -> Result<(), AllocError>
         ensures takes_in { OnOk result (TakesIn arrived.now self.old self.new) }
     {
@@ -277,17 +278,17 @@ impl Share {
         Ok(())
     }
 
-    /// Runs the worker's motes through the window up to `until`, which is at most 2^40: takes in the copies that
-    /// arrived from other workers, runs each mote that has something before `until` by the worker's future, and keeps
-    /// the pending events of its own motes. It returns the copies for other workers' motes, those of each mote in the
-    /// order of sending. `of` is the worker of each mote.
+    /// Runs the worker's motes through the window up to `until`, which is at most 2^40. It takes in the copies that
+    /// arrived from other workers, runs each mote that has an event before `until` by the worker's future, and keeps
+    /// the pending events of the worker's motes. It returns the copies for other workers' motes; those of each mote
+    /// are in the order of sending. `of` is the worker of each mote.
     ///
-    /// The time grows with the window's turns and the copies that it takes and makes; in addition, there is one slot
-    /// per mote number up to the highest with a turn, and each poll of the worker's future looks at all motes with a
-    /// turn.
+    /// The time grows with the window's turns and with the copies that it takes and makes. In addition, there is one
+    /// slot for each mote number up to the highest number with a turn, and each poll of the worker's future visits all
+    /// motes with a turn.
     ///
     /// # Errors
-    /// `Memory`, and `Thread` if the executor returned an error.
+    /// `Memory` if an allocation fails; `Thread` if the executor returned an error.
     pub fn run_window<R, G>(
         &mut self,
         rt: &R,

@@ -1,4 +1,4 @@
-//! A worker's own future over the windows of its motes.
+//! The future of a worker over the windows of its motes.
 
 ghost use Rattle.std.specs.Prelude.{◌≡◌, ◌≢◌, List, IfOk, IfErr, OnOk};
 ghost use Rattle.std.specs.List.{list_all};
@@ -21,8 +21,8 @@ use std::mem;
 use std::random::RandomSource;
 use std::sync::Wait;
 
-/// Polls each unfinished window once, one after another, and then yields. It is ready once all are, with the slots in
-/// their order; or once one returned an error.
+/// Polls each unfinished window once, one after another, and then yields. It is ready when all windows are ready, with
+/// the slots in their order; or when a window has returned an error.
 pub struct ShareWindow<'a, 'b, G> {
     alloc: Global,
     slots: Vec<Slot<'a, G>>,
@@ -82,11 +82,12 @@ fn all_done<G: Gate>(slots: &[Slot<'_, G>]) -> bool
     slots.iter().all(|slot| slot.is_done())
 }
 
-/// Runs the windows of a worker's motes by the worker's future, until each has a result. No mote has failed, and the
-/// next event of each comes after its last turn. The scratch buffers of the turns are passed from window to window.
+/// Runs the windows of a worker's motes by the worker's future, until each window has a result. No mote may have
+/// failed, and the next event of each mote must be after its last turn. The scratch buffers of the turns are passed
+/// from window to window.
 ///
 /// # Errors
-/// `Memory`, and `Thread` if the executor returned an error.
+/// `Memory` if an allocation fails; `Thread` if the executor returned an error.
 pub fn run_slots<'a, R, G>(
     rt: &R,
     alloc: Global,
@@ -100,7 +101,7 @@ where
     ensures ends { IfOk result (λ done. MayEndAs slots.entry.items done.items) }
     ensures refused { IfErr result (λ reason. reason ≢ Stopped) }
 {
-    // Without a mote there is nothing to poll, so no executor is made.
+    // Without a mote, there is nothing to poll, so no executor is made.
     if slots.is_empty() {
         return Ok(slots);
     }

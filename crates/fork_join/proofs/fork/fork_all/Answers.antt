@@ -67,7 +67,7 @@ returns-in-None-refused-clause-makes g c =
     (IfOk-weaker c.join_all-done.result (λ done. AllKept makes c.match-next.started.items done.items) (λ done. AllZip (makes c.args.work.now) c.args.workers.items done.items)
     (λ done kept. zip_zip _ _ _ (one_answer makes c.args.work.now) c.args.workers.items c.match-next.started.items done.items (all_started g c.before) kept) c.join_all-done.ensures.kept)
 
--- the workers whose threads were started are the first
+-- the workers whose threads were started are the first workers
 started_first : (g : given.Over) (c : After-gravest g) → c.loop-worker.yielded ≡ take (length c.loop-worker.yielded) c.args.workers.items
 started_first g c =
     let rest = c.into_iter-worker-iterator.ensures.into_iter_gives in

@@ -12,7 +12,7 @@ use Rattle.fork_join.proofs.Tokens.{one_without, one_with, tokens_of_ok, tokens_
 use Rattle.fork_join.proofs.fork.join_all.Given as given
 use Rattle.fork_join.proofs.fork.join_all.Goals as goal
 
--- how a thread may end, by its promise
+-- the possible ends of a thread, by its promise
 abbrev ends_of : {A : Type 0} (g : given.Over) → Handle A g.row.W.Denot g.row.T.Denot → Option WorkerError → Type 0
 ends_of g = λ handle end. MayEnd (g.W.Work.errs handle.promise.work.value handle.promise.worker.value) end
 

@@ -6,7 +6,8 @@ use Rattle.fork_join.specs.Reported.{MayEnd, reported}
 use Rattle.fork_join.proofs.Tokens.{HaveTokens}
 use Rattle.fork_join.proofs.fork.join_all.Given as goal
 
--- While nothing has failed, each thread has kept its promise. The error so far is that of the threads so far.
+-- If nothing has failed so far, each thread has kept its promise. The error so far is the one that is reported for the
+-- threads so far.
 abbrev pub invariant-loop-handle : goal.invariant-loop-handle
 invariant-loop-handle g l = record {
   kept : l.failed ≡ None → AllKept g.W.Work.makes l.yielded l.done.items;

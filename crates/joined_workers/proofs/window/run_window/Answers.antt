@@ -6,7 +6,7 @@ use Rattle.joined_workers.proofs.Ready.{ready}
 use Rattle.joined_workers.proofs.Returned.{ran, returned}
 use Rattle.joined_workers.proofs.window.run_window.Goals as goal
 
--- the last lifetime is that of the value to which the runner refers; its name in a type doesn't matter to sharing
+-- the last lifetime is that of the value to which the runner refers; its name in a type doesn't matter for sharing
 pub run_threads-requires-sync-W : goal.run_threads-requires-sync-W
 run_threads-requires-sync-W g c κs within =
     record { shared = λ x b o. (runner_sync (record { mir = erased; lft = κs.1.1.1.1.0 }) _ _ c.type_bounds.sync-R c.type_bounds.sync-G).shared x b o }

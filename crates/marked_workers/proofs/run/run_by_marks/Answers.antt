@@ -19,7 +19,7 @@ use Rattle.marked_workers.proofs.Ready.{ready, together_first, none_gathered_fir
 use Rattle.marked_workers.proofs.Runs.{all_back, all_on_inboxes, ended}
 use Rattle.marked_workers.proofs.run.run_by_marks.Goals as goal
 
--- the last lifetime is that of the value to which the runner refers; its name in a type doesn't matter to sharing
+-- the last lifetime is that of the value to which the runner refers; its name in a type doesn't matter for sharing
 pub run_threads-requires-sync-W : goal.run_threads-requires-sync-W
 run_threads-requires-sync-W g c κs within =
     record { shared = λ x b o. (runner_sync (record { mir = erased; lft = κs.1.1.1.1.0 }) _ _ c.type_bounds.sync-R c.type_bounds.sync-G).shared x b o }
@@ -27,7 +27,7 @@ run_threads-requires-sync-W g c κs within =
 pub run_threads-requires-clause-settled : goal.run_threads-requires-clause-settled
 run_threads-requires-clause-settled g c κs within = rw c.deref-2.ensures.value (all_settled c.args.group.inboxes.items c.args.group.takers.items c.requires.ready.fresh)
 
--- the width is the same for all, and each worker is as it began
+-- the width is the same for all workers, and each worker is in its first state
 pub run_threads-requires-clause-ready : goal.run_threads-requires-clause-ready
 run_threads-requires-clause-ready g c κs within =
     let n = net_of c.args.net.now in
@@ -62,7 +62,7 @@ gather_back-requires-clause-on_inboxes g c =
 abbrev after : (g : _) (c : goal.In-Ok g) → WorkerGroup
 after g c = record { shares = c.in_ok-shares.shares; inboxes = c.args.group.inboxes; takers = c.in-Ok.takers; first_out = None }
 
--- their run
+-- the run of the workers
 ran : (g : _) (c : goal.In-Ok g) → GroupRunsMarked (net_of c.args.net.now) c.args.of.now c.window_length-width.result c.args.group (after g c)
 ran g c =
     let ids = c.args.group.inboxes.items in
@@ -79,7 +79,7 @@ ran g c =
       first_out = refl;
     }
 
--- and so they are at the end
+-- so the workers are at the end
 at_end : (g : _) (c : goal.In-Ok g) → IsAt (net_of c.args.net.now) c.args.of.now (suc (net_of c.args.net.now).end) (after g c) × Each (λ (t : TakerView). Whole t.state.gathered t.state.taken) c.in-Ok.takers.items
 at_end g c =
     let short = subst (λ l. c.window_length-width.result ≤ l) c.lookahead_of.ensures.value c.window_length-width.ensures.within in

@@ -29,7 +29,7 @@ use Rattle.window_workers.proofs.workers.run_fitting.Goals as goal
 long_as : (v : Vec (Vec Line Global) Global) → vec_len v ≡ length v.items
 long_as v = search rules
 
--- the cut is one among the workers of these inboxes, of which there are at most 16
+-- the partition is one among the workers of these inboxes, of which there are at most 16
 is_cut : (motes : ℕ) (pairs : List Pair) (inboxes : List InboxId) (of : List ℕ) → cut_fault motes (length pairs) of ≡ None → inboxes ≡ map (λ (pair : Pair). pair.0) pairs
     → (length inboxes ≤ 16) × IsCut motes (length inboxes) of
 is_cut motes pairs inboxes of none same =
