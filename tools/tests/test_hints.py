@@ -306,7 +306,7 @@ class Warnings(unittest.TestCase):
         self.assertEqual(self.seen(program=CODE % 'set t 1; while 1 { yield_until fired(t); reset t; }'), [])
 
     def test_a_loop_that_waits_for_an_event_that_it_has_is_shown_with_its_line(self) -> None:
-        for test in 'is(packet)', 'fired(t)', 'gone(a)':
+        for test in 'is(packet)', 'fired(t)', 'gone(a)', '(is(packet) || fired(t))', '(is(packet) && (data > 3))':
             text = scenario(program=(CODE % ('set t 1; while 1 { wait_until %s; print 1; }' % test)).replace(
                 'autostart', 'receiver a; autostart'))
             found = [it for it in warnings(Scenario.parse(text)) if it.instead]
@@ -314,9 +314,13 @@ class Warnings(unittest.TestCase):
             self.assertIn('`yield_until` waits for the next call first', ' '.join(' '.join(shown).split()))
             self.assertRegex(shown[-2], 'Write, as line [0-9]+')
             self.assertIn('while 1 { yield_until %s; print 1; }' % test, shown[-1])
-        for body in 'wait_until expired(t); reset t;', 'wait_until is(packet); yield;', 'yield_until is(packet);':
+        for body in ('wait_until is(packet); wait_until is(packet);', 'wait_while !is(packet); print 1;'):
             seen = self.seen((CODE % ('set t 1; while 1 { %s }' % body)).replace('autostart', 'receiver a; autostart'))
-            self.assertEqual([it for it in seen if 'without an end' in it], [])
+            self.assertTrue(any('an endless loop in which only `wait_' in it for it in seen), body)
+        for body in ('wait_until expired(t); reset t;', 'wait_until is(packet); yield;', 'yield_until is(packet);',
+                     'wait_until (is(packet) || (seq > 3)); seq = 0;', 'wait_until is(packet); wait_until fired(t);'):
+            seen = self.seen((CODE % ('set t 1; while 1 { %s }' % body)).replace('autostart', 'receiver a; autostart'))
+            self.assertEqual([it for it in seen if 'endless loop' in it], [])
 
     def test_a_loop_that_counts_or_changes_its_test_is_in_order(self) -> None:
         for body in ('while (seq < 3) { seq = (seq + 1); }', 'set t 4; while !expired(t) { pause; }',

@@ -9,22 +9,25 @@ from collections.abc import Iterator
 from typing import NamedTuple
 
 from motesim.explain.resonance import all_at_once, resonances
-from motesim.notation.faults import WAITS, Token, tokens_of
+from motesim.notation.faults import OPERATORS, WAITS, Token, tokens_of
 from motesim.report import Report
 from motesim.scenario import Scenario
 
 ENDLESS = 'an endless loop in which nothing waits: the mote halts when its work is used up'
-# The word that passes at once if its test is already true; the tests that stay true within a call; and the word that
-# waits for another call first.
-AT_ONCE, OF_EVENT, LATER = 'wait_until', ('is', 'fired', 'gone'), 'yield_until'
-STILL_TRUE = ('an endless loop in which only `%s` waits: its test is about the event of this call, and stays '
-              'true until the next call, so the loop turns until the mote\'s work is used up, and the mote halts; `%s` '
-              'waits for the next call first' % (AT_ONCE, LATER))
+# The words that pass at once if their test is already true, or false; the tests that stay true within a call, and the
+# values that stay the same; and the word that waits for another call first.
+AT_ONCE, WHILE, OF_EVENT, LATER = 'wait_until', 'wait_while', ('is', 'fired', 'gone'), 'yield_until'
+SAME = frozenset(('(', ')', '!', 'data', 'from', 'self', *OPERATORS))
+STILL = ('an endless loop in which only `%s` waits: its test is about the event of this call, and stays %s until the '
+         'next call, so the loop turns until the mote\'s work is used up, and the mote halts; `%s`%s waits for the next '
+         'call first')
+STILL_TRUE = STILL % (AT_ONCE, 'true', LATER, '')
+STILL_FALSE = STILL % (WHILE, 'false', LATER, ' and the opposite test')
 BUSY = ('a loop that waits for nothing: its test can\'t change before the next call, so once it is true the loop '
         'turns until the mote\'s work is used up, and the mote halts; ')
 BUSY_FOR_STATE = BUSY + '`wait_while` and the same test, without a block, lets the mote wait'
 BUSY_FOR_EVENT = BUSY + '`%s` and the opposite test, without a block, waits for the next call first' % LATER
-LOOPS = ENDLESS, STILL_TRUE, BUSY_FOR_STATE, BUSY_FOR_EVENT
+LOOPS = ENDLESS, STILL_TRUE, STILL_FALSE, BUSY_FOR_STATE, BUSY_FOR_EVENT
 # Statements after which a test may have another value, though no variable in it is assigned.
 CHANGES = frozenset(('spawn', 'synch', 'set', 'reset', 'restart_timer', 'stop', 'start', 'kill', 'acquire', 'signal'))
 OF_CTIMER = ('`%s` is a `ctimer`: its event goes to the process ctimer, which runs its block, so `fired(%s)` is never '
@@ -102,15 +105,17 @@ class Program:
 
     def endless_loops(self) -> Iterator[tuple[str, Token]]:
         """Each loop that may turn without end, with the warning: no statement in it waits, exits or restarts, or only
-        a `wait_until` for an event does."""
+        a `wait_until` or `wait_while` for an event does."""
         for at, word in enumerate(self.words):
             if word == 'while' and self.tokens[at + 1].kind == 'number' and self.words[at + 1] != '0':
                 block = self.words[at + 2:self.end_of_block(at + 2)]
                 waits = [place for place, it in enumerate(block) if it in WAITS]
+                tests = {tuple(block[place:block.index(';', place)]) for place in waits}
+                wait, *test = tests.pop() if len(tests) == 1 else ('',)
                 if not waits:
                     yield ENDLESS, self.tokens[at]
-                elif len(waits) == 1 and block[waits[0]] == AT_ONCE and block[waits[0] + 1] in OF_EVENT:
-                    yield STILL_TRUE, self.tokens[at + 2 + waits[0]]
+                elif wait in (AT_ONCE, WHILE) and is_of_event(test):
+                    yield STILL_TRUE if wait == AT_ONCE else STILL_FALSE, self.tokens[at + 2 + waits[0]]
             elif word == 'while' and self.is_busy(at):
                 test = self.words[at + 1:self.words.index('{', at)]
                 yield BUSY_FOR_EVENT if set(test) & set(OF_EVENT) else BUSY_FOR_STATE, self.tokens[at]
@@ -179,6 +184,12 @@ class Program:
                 elif self.words[here:here + 2] == ['fired', '('] and self.words[here + 2] in names:
                     yield self.tokens[here + 2]
                 here += 1
+
+
+def is_of_event(test: list[str]) -> bool:
+    """Returns whether a test is only about the event of a call, so that it stays true or false within the call."""
+    its = [word for at, word in enumerate(test) if word not in OF_EVENT and (at < 2 or test[at - 2] not in OF_EVENT)]
+    return len(its) < len(test) and all(it in SAME or it.isdecimal() for it in its)
 
 
 def of_program(program: Program) -> Iterator[Warned]:
