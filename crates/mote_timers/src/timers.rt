@@ -118,7 +118,8 @@ impl Timers {
         self.timers[usize::from(id)].owner.is_none()
     }
 
-    /// The first timer on the list that is due now, with its owner. If `after` is given, only timers after that one count.
+    /// The first timer on the list that is due now, with its owner. If `after` is given, only timers after that one
+    /// are searched.
     #[tactic(auto, unfolding(crate::specs::DueTimers::first_due))]
     pub fn next_due(&self, now: u64, after: Option<u16>) -> Option<(u16, Proc)>
         requires moment { now ≤ 2 ^ 40 }

@@ -31,7 +31,7 @@ pub data Form : Type 0 where
 pub data Beginning : Type 0 where
   no_statement : Beginning
   action : Form → Beginning
-  -- `if`, `while`, and `else`, which continues with a statement
+  -- `if`, `while`, and `else`, which continues an `if`
   branches : Beginning
   loops : Beginning
   goes_on : Beginning

@@ -57,7 +57,7 @@ pub data Role : Type 0 where
   -- the last brace of a code
   leaves : Role
 
--- the part of a program that begins with a token
+-- the part of a program that begins with this token
 pub data Begun : Type 0 where
   none_begins : Begun
   statement : Begun

@@ -6,7 +6,8 @@ use crate::event::SystemEvent;
 /// The number of a program's first declared event. The others follow in the order of their declaration.
 pub const FIRST_DECLARED: u8 = 0x8b;
 
-/// An event that a program declares, numbered from 0 in the order of declaration. A program declares at most 117.
+/// An event that a program declares, numbered from 0 in the order of declaration. A program declares at most 117
+/// events.
 #[derive(Clone, Copy, Debug, PartialEq, Eq)]
 pub struct DeclaredEvent {
     pub place: u8,

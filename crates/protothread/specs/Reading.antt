@@ -79,7 +79,7 @@ pub data Awaits (yields : PtState) (c : Expression ℕ) : (now : Sight) → (lat
       → Awaits yields c now [] vars (gives_up yields ∷ []) (in_state vars)
 
 mutual
-  -- The effect of one statement. `yields` is the answer that the part's caller gets when the thread yields: YIELDED, or
+  -- The effect of one statement. If the thread yields, the caller of its part gets the answer `yields`: YIELDED, or
   -- WAITING from a spawned thread.
   pub data Reads (code : Code) : (yields : PtState) → Statement ℕ → (now : Sight) → (later : List Sight)
       → (variables : List ℕ) → List Happening → Completion → Type 0 where

@@ -209,7 +209,7 @@ abbrev pub answered_of : Remainder → (variables : List ℕ) → (answer : ℕ)
 answered_of r vars answer =
     record { remainder = record r { mark = marked_answered r.mark }; variables = variables_answered r.mark vars answer }
 
--- an operation has cost at least one unit of work, and no step adds units
+-- an operation costs at least one unit of work, and no step adds units
 abbrev pub PaysFor : Step → (before after : ℕ) → Type 0
 PaysFor (step.Op o) before after = after < before
 PaysFor (step.Done a) before after = after ≤ before

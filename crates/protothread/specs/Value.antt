@@ -41,7 +41,7 @@ applied Or a b = truth (holds a || holds b)
 abbrev pub is_event : Event → (number : ℕ) → (word : ℕ) → Bool
 is_event event n w = event.number == n && event.word == w
 
--- Each variable is one of the code, and the list has its value if the list was made from that code.
+-- Each variable is declared in the code. A list that was made from that code has a value for it.
 abbrev pub value : (variables : List ℕ) → Event → Looks → Expression ℕ → ℕ
 value variables event looks (number n) = n
 value variables event looks (variable i) = slice_index variables i
