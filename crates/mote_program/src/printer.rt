@@ -85,7 +85,7 @@ fn indent(text: &mut String, mut depth: usize) -> Result<(), AllocError>
     Ok(())
 }
 
-/// Adds the space or line feed after a token, with this many braces open.
+/// Adds the white space after a token, if this many braces are open.
 fn part(text: &mut String, braces: usize, token: &Token, rest: &[Token]) -> Result<(), AllocError>
     ensures appended { OnOk result (string_bytes text.new ≡ string_bytes text.old ++ gap braces (token_of token.now)
         (map token_of rest.now)) }

@@ -12,7 +12,7 @@ use program_tree::keyword::Keyword;
 use program_tree::token::Token;
 use std::marker::Model;
 
-/// A sign that the grammar requires at its place.
+/// A sign that the grammar requires at a certain place.
 #[derive(Clone, Copy)]
 pub(crate) enum Sign {
     Semicolon,

@@ -16,7 +16,7 @@ use program_tree::error::ReadErrorKind;
 use program_tree::token::Token;
 use std::alloc::{AllocError, Global};
 
-/// The kinds of things that a declaration can declare.
+/// The kinds of declarations.
 #[derive(Clone, Copy)]
 pub(crate) enum Kind {
     Event,
@@ -61,7 +61,7 @@ impl Scope {
         }
     }
 
-    /// Declares a name: the name is then in scope.
+    /// Declares a name, which is in scope from then on.
     #[tactic(auto, using(crate::proofs::HeadLaws::not_in_second))]
     fn declare(&mut self, alloc: Global, kind: Kind, name: &str) -> Result<(), AllocError>
         requires fresh { is_a (scope_of self.old).names (class_of_kind kind) name.now ≡ false }

@@ -1,4 +1,4 @@
-//! The reading of the parts before the codes of a program, after its events and semaphores.
+//! The reading of the parts between the semaphores and the codes of a program.
 ghost use Rattle.std.specs.Prelude.{List, ◌≡◌, ◌≤◌, Some, None, ◌∷◌, ◌++◌, [], length, IfOk, OnOk, IfErr};
 ghost use Rattle.program_tree.specs.Grammar.{named, starts};
 ghost use Rattle.program_reader.specs.Head.{FailsIn, ReadsProcesses, CanStart, IsStarting, ReadsAutostart};

@@ -1,4 +1,4 @@
-//! The statements without a block that begin with a keyword, by the operands after the keyword.
+//! The statements without a block that begin with a keyword, grouped by the operands after the keyword.
 ghost use Rattle.std.specs.Prelude.{◌≡◌, None, IfSome};
 ghost use Rattle.program_tree.specs.Forms as form;
 ghost use Rattle.program_tree.specs.Forms.{beginning, action, ends, takes, values};

@@ -1,4 +1,4 @@
-//! The names in scope, by the things to which they refer.
+//! The names in scope, grouped by class.
 ghost use Rattle.std.specs.Prelude.{◌≡◌, ◌+◌, ◌<◌, ◌≤◌, length, ℕ, IfSome};
 
 use program_tree::class::Class;
@@ -114,7 +114,7 @@ impl Scope {
             || self.threads.place_of(name).is_some()
     }
 
-    /// The place of a name among the timers of the code.
+    /// The place of a name among the timers of the code, if it is the name of one of them.
     fn timer(&self, name: &str) -> Option<usize>
         ensures place { result ≡ place_of (scope_of self.now).names.timers name.now }
         ensures within { IfSome result (λ i. i < length (scope_of self.now).names.timers) }
@@ -128,7 +128,7 @@ impl Scope {
         }
     }
 
-    /// The number of a timer of the code.
+    /// The number of a timer of the code, by the timer's name.
     fn timer_number(&self, name: &str) -> Option<usize>
         ensures bounded { IfSome result (λ i. i < 64) }
         ensures value { result ≡ look (scope_of self.now).names a_timer name.now }

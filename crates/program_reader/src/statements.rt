@@ -84,7 +84,7 @@ impl Reader<'_> {
         Ok(())
     }
 
-    /// The number of the variable with which an assignment begins.
+    /// Checks that an assignment may begin with this variable, and returns the number of the variable.
     #[tactic(auto, using(crate::proofs::StatementSteps::may_assign_steps))]
     fn may_assign(&self, place: &Context, name: &str) -> Result<u8, ReadFailure>
         requires at_name { first self.now.cursor ≡ Some (token.Name name.now) }

@@ -1,4 +1,4 @@
-//! The keywords of an expression, by the operands after them.
+//! The keywords of an expression, grouped by the operands after them.
 ghost use Rattle.std.specs.Prelude.{◌≡◌, None, IfSome};
 ghost use Rattle.program_tree.specs.Forms.{name, no_value, tells_of, word_of};
 ghost use Rattle.program_reader.specs.Steps.{class_of};

@@ -1,4 +1,4 @@
--- The canonical text of tokens: the spelling of each token, and the space between it and the next token.
+-- The canonical text of tokens: the spelling of each token, and the white space between it and the next token.
 use Rattle.std.specs.Prelude.{ℕ, zero, suc, ◌+◌, ◌-◌, Bool, true, false, List, [], ◌∷◌, ◌++◌, codes, if◌then◌else◌}
 use Rattle.std.specs.Fmt.{decimal}
 use Rattle.program_tree.specs.Tokens as token
@@ -145,14 +145,14 @@ abbrev pub indentation : ℕ → List ℕ
 indentation zero = []
 indentation (suc n) = codes "  " ++ indentation n
 
--- the space after a token, with this many braces open
+-- the white space after a token, if this many braces are open
 abbrev pub gap : (braces : ℕ) → Token → (rest : List Token) → List ℕ
 gap braces t rest =
     if ends_line t rest then 10 ∷ indentation (line_depth braces rest)
     else if is_close t rest then []
     else codes " "
 
--- the text of tokens, with this many braces open before them
+-- the text of tokens, if this many braces are open before them
 abbrev pub text_from : (braces : ℕ) → List Token → List ℕ
 text_from braces [] = []
 text_from braces (t ∷ rest) =
