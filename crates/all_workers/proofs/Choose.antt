@@ -1,4 +1,4 @@
--- If there is something with a property for each number below n, a function chooses it.
+-- If, for each number below n, something has a property, then a function returns such a thing for each number.
 use Rattle.std.proofs.Common.{◌≡◌, ◌⊎◌, ℕ, zero, suc, ◌<◌, cond, eqb, sym, subst, inl, inr, arith}
 use Rattle.std.proofs.lemmas.Bool.{cases_eq, eq-eqb, ne_eqb}
 

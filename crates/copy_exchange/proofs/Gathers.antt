@@ -43,7 +43,7 @@ joined_copies made [] gs = sym (append-nil (copies_gathered gs))
 joined_copies made (s ∷ ss) gs =
     joined_copies made ss (as_gathered made s ∷ gs) ∙ (append_assoc (copies_gathered gs) (copies_by s) (flat_map copies_by ss) ∙ ap (λ l. copies_gathered gs ++ l) (sym (flat_map-cons copies_by s ss)))
 
--- ---- the properties of each of them
+-- ---- the properties of each gathered sender
 module _ (P : Gathered → Type 0) (made : ℕ) where
   each_old : (ss : List SenderView) (gs : List Gathered) → Each P (joined made ss gs) → Each P gs
   each_old [] gs h = h
@@ -57,7 +57,7 @@ module _ (P : Gathered → Type 0) (made : ℕ) where
   each_joined [] gs old new = old
   each_joined (s ∷ ss) gs old new = each_joined ss (as_gathered made s ∷ gs) (new.0, old) new.1
 
--- ---- which senders are gathered
+-- ---- the senders that are gathered
 pub gathered_more : (g : Gathered) (gs : List Gathered) (i : ℕ) → i ≢ g.number → is_gathered (g ∷ gs) i ≡ is_gathered gs i
 gathered_more g gs i n = rw (ne_eqb g.number i (λ e. n (sym e))) refl
 

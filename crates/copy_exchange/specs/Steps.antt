@@ -43,7 +43,7 @@ abbrev pub gather_into : TakerView → Option SenderView → TakerView
 gather_into t None = t
 gather_into t (Some s) = after_gather t s.state
 
--- each sender is one of the inbox at its place
+-- each sender is on the inbox at its place
 pub record AreSendersOn (inboxes : List InboxId) (senders : List (Option SenderView)) : Type 0 where
   pub count : length senders ≡ length inboxes
   pub its : (v : ℕ) (id : InboxId) (s : SenderView) → v < length inboxes → at_place senders v ≡ Some s

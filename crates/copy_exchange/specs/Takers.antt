@@ -28,7 +28,7 @@ copies_gathered (g ∷ gs) = copies_gathered gs ++ copies_in g.pushed
 abbrev pub taken_by : TakerView → List RadioCopy
 taken_by t = copies_of t.state.taken
 
--- the copies that other workers delivered to it
+-- the copies that other workers delivered to the worker
 abbrev pub gathered_by : TakerView → List RadioCopy
 gathered_by t = copies_gathered t.state.gathered
 

@@ -111,7 +111,7 @@ whole_of (g ∷ gs) taken none b =
     let z : rest ≡ [] = nil_of_length rest (omega arith) in
     (sym (b.0.1 ∙ (ap (λ r. part g.number taken ++ r) z ∙ append-nil (part g.number taken))), whole_of gs taken (omega arith) b.1)
 
--- so there are no remaining items, and all of them are packets
+-- no items remain, so all remaining items are packets
 pub none_left : (gs : List Gathered) (taken : List Item) → known_of gs taken ≡ 0 → Each (λ (g : Gathered). Packets (untaken_of taken g)) gs
 none_left [] taken none = tt
 none_left (g ∷ gs) taken none =

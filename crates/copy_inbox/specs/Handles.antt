@@ -127,7 +127,7 @@ pub record IsNextTaken (d : TakerState) (x : Item) : Type 0 where
   -- the item is from a sender that was made, and no more items are taken from this sender than a sender may push
   pub number : x.sender < d.made
   pub few : length (part x.sender (d.taken ++ x ∷ [])) ≤ 2 ^ 62
-  -- one item less is known, if the item's sender was gathered
+  -- one fewer item is known, if the item's sender was gathered
   pub known : known_of d.gathered d.taken
       ≡ cond (is_gathered d.gathered x.sender) 1 0 + known_of d.gathered (d.taken ++ x ∷ [])
   -- the item is a packet if the taker may take only packets, and then the next items are packets too

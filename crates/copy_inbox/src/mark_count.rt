@@ -23,7 +23,7 @@ impl MarkCount {
         }
     }
 
-    /// Counts a mark that was pushed, and wakes the taker if it waits for no further mark.
+    /// Counts a mark that was pushed, and wakes the taker if this is the last mark for which it waits.
     pub fn add(&self) {
         let marks = self.marks.fetch_add(1, Ordering::SeqCst).wrapping_add(1);
         if marks == self.wanted.load(Ordering::SeqCst) {

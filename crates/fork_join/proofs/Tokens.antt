@@ -12,14 +12,14 @@ HaveTokens (Some Stopped) amount = (amount % 2 ≡ 0) × (0 < amount)
 HaveTokens (Some Memory) amount = Unit {0}
 HaveTokens (Some Thread) amount = Unit {0}
 
--- the tokens with those of one more worker, which has no error
+-- the sum with the tokens of one more worker, which has no error
 pub one_without : (failed : Option WorkerError) (a b : ℕ) → HaveTokens failed a → b % 2 ≡ 0 → HaveTokens failed (a + b)
 one_without None a b h k = grind arith
 one_without (Some Stopped) a b h k = (grind arith, omega (arith, h.1))
 one_without (Some Memory) a b h k = tt
 one_without (Some Thread) a b h k = tt
 
--- the tokens with those of one more worker, which has this error
+-- the sum with the tokens of one more worker, which has this error
 pub one_with : (failed : Option WorkerError) (r : WorkerError) (a b : ℕ) → HaveTokens failed a → HaveTokens (Some r) b → HaveTokens (Some (gravest failed r)) (a + b)
 one_with None Stopped a b h k = (grind arith, omega (arith, k.1))
 one_with None Memory a b h k = tt

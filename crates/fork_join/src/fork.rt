@@ -24,7 +24,8 @@ struct Ended<T, L: Ledger> {
     share: Share<L>,
 }
 
-/// The promise of a thread: the effect of the work on this record. It stopped only if it saw that the flag was set.
+/// The promise of a thread: the work has its effect on this record, and the thread stopped only if it saw that the
+/// flag was set.
 pub struct Promised<W, T> {
     work: Snapshot<W>,
     worker: Snapshot<T>,

@@ -42,7 +42,8 @@ fn window_start(group: &WorkerGroup, end: u64) -> u64
 ///
 /// # Errors
 /// `Memory` if an allocation fails; `Thread` if a thread couldn't be started, the gate refused a start, or the
-/// executor returned an error. It is the error of the failed worker with the lowest number. It is never `Stopped`.
+/// executor returned an error. If several workers failed, it is the error of the one with the lowest number. It is
+/// never `Stopped`.
 pub fn run_by_joins<R, G>(
     rt: &R,
     alloc: Global,

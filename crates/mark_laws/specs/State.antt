@@ -34,7 +34,7 @@ set_at f k x j = if j == k then x else f j
 abbrev pub set_pair : {X : Type 0} → (ℕ → ℕ → X) → ℕ → ℕ → X → ℕ → ℕ → X
 set_pair f v u x = set_at f v (set_at (f v) u x)
 
--- the sum of the first n
+-- the sum of the first n values
 abbrev pub sum_below : ℕ → (ℕ → ℕ) → ℕ
 sum_below zero f = 0
 sum_below (suc n) f = sum_below n f + f n

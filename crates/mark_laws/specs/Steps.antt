@@ -5,8 +5,8 @@ use Rattle.copy_inbox.specs.Items.{BeginsWith}
 use Rattle.copy_exchange.specs.Pushes.{marks_in, pushes}
 use Rattle.mark_laws.specs.State.{Plan, State, IsPair, set_at, set_pair, sum_below}
 
--- one step of one worker, which is the first argument: it pushes an item to another worker, takes an item from another
--- worker, or has finished its window and continues with the next one, or ends after the last
+-- one step of one worker (the first argument): it pushes an item to another worker, takes an item from another worker,
+-- or has finished its window and continues with the next one, or ends after the last
 pub data Event : Type 0 where
   Push : (worker to : ℕ) → Carried → Event
   Take : (worker of : ℕ) → Carried → Event

@@ -76,7 +76,7 @@ fn send_window<R: Wait + RandomSource + AllocGlobal, G: Gate>(
 }
 
 /// Returns the reason why a worker gave up, if it stopped taking items. A copy that isn't expected arrives only if
-/// another worker has broken the protocol, which no worker does; it counts as an error of the thread's work.
+/// another worker has broken the protocol, which no worker does; such a copy counts as an error of the thread's work.
 fn gave_up(error: MarkError) -> WorkerError
     ensures value { result ≡ refused_of_marks error }
 {

@@ -36,7 +36,7 @@ module _ (n : NetModel) (declare : ProgramsDeclare n) where
   whole : (k : ℕ) → IsWhole (tree_at n k)
   whole k = each_whole n.motes declare k
 
-  -- so far each mote and each trace names only what its program has
+  -- so far, each mote and each trace names only processes and events of its program
   record AllSound (net : NetState Node Line) : Type 0 where
     motes : (k : ℕ) → IsSound (tree_at n k) (net.states k).mote []
     traces : (k : ℕ) → Each (FitsLine (tree_at n k)) (net.traces k)
@@ -83,7 +83,7 @@ pub runs_name_only : RunsNameOnly
 runs_name_only n declare r report =
     subst (λ (x : ReportModel). AreNamed n.motes x.traces) (sym report.matches) (traces_name n.motes report.last.traces (run_sound n declare report.run (boot_sound n declare)).traces)
 
--- with numbers of 64 bits, the report of a run has names in each net with the same motes
+-- if the numbers fit in 64 bits, the report of a run has names in each net with the same motes
 named_there : (m n : NetModel) (r : ReportModel) → n.motes ≡ m.motes → ProgramsDeclare m → IsRunOf n r → IsNamed m r
 named_there m n r same declare run =
     let declares : ProgramsDeclare n = subst (Each (λ (x : MoteSetup). IsDeclared x.tree × IsComplete x.tree)) (sym same) declare in

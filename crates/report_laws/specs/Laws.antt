@@ -29,7 +29,7 @@ abbrev pub RunsNameOnly : Type 0
 RunsNameOnly = (net : NetModel) → ProgramsDeclare net → (r : ReportModel) → IsReportOf net r
     → AreNamed net.motes r.traces
 
--- a report of a run of this net, with numbers of 64 bits
+-- a report of a run of this net, with numbers that fit in 64 bits
 pub record IsRunOf (net : NetModel) (r : ReportModel) : Type 0 where
   pub report : IsReportOf net r
   pub numbers : Is64Report r
@@ -40,8 +40,8 @@ pub record AreComparable (m n : NetModel) : Type 0 where
   pub declare : ProgramsDeclare m
   pub differ : NetNamesDiffer m
 
--- To compare the bytes of reports is to compare the runs: two runs of the same motes that write the same text have the
--- same traces, the same log, and the same number of copies left.
+-- Equal bytes mean equal runs: two runs of the same motes that write the same text have the same traces, the same log,
+-- and the same number of copies left.
 abbrev pub ComparingBytesIsComparingRuns : Type 0
 ComparingBytesIsComparingRuns = (m n : NetModel) → AreComparable m n → (a b : ReportModel) → IsRunOf m a → IsRunOf n b
     → report_text m a ≡ report_text n b → a ≡ b
@@ -51,8 +51,8 @@ abbrev pub NoRunBeginsAnother : Type 0
 NoRunBeginsAnother = (m n : NetModel) → AreComparable m n → (a b : ReportModel) → IsRunOf m a → IsRunOf n b
     → (more : List ℕ) → report_text n b ≡ report_text m a ++ more → more ≡ []
 
--- The same for the nets of two scenarios' texts, if the nets have the same motes: the only other premise is about the
--- numbers.
+-- The same law for the nets of two scenarios' texts, if the nets have the same motes. Its only other premise is about
+-- the numbers.
 pub record AreScenarios (x y : List ℕ) (m n : NetModel) : Type 0 where
   pub first : TellsNet x m
   pub second : TellsNet y n

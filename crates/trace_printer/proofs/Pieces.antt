@@ -65,7 +65,7 @@ mote_shows n m name tree lines named grown =
     ap (λ word. line_of (codes "mote") (decimal n ∷ word ∷ []) ++ flat_map (line_text m.tree) lines) is_name
     ∙ ap (λ (t : Tree). line_of (codes "mote") (decimal n ∷ name ∷ []) ++ flat_map (line_text t) lines) is_tree
 
--- the mote at i, numbered n, comes next of the motes from i on
+-- the mote at i, which has the number n, is the next of the motes from i on
 pub mote_next : (n : ℕ) (ms : List MoteSetup) (ts : List (Vec Line Global)) (i : ℕ) (t : Vec Line Global) (name : List ℕ) (tree : Tree) (lines : List Line) → i < length ms → length ts ≡ length ms
     → option_map (λ m. m.program) (slice_get ms i) ≡ Some name → option_map (λ m. m.tree) (slice_get ms i) ≡ Some tree → lines ≡ (get_or ts i t).items
     → motes_text n (drop i ms) (map lines_in (drop i ts))

@@ -22,7 +22,7 @@ use Rattle.trace_printer.proofs.Separated.{numbers_differ, word_by_test}
 abbrev pub IsName : List ℕ → Type 0
 IsName x = (list_all is_word_byte x ≡ true) × (word_token x ≡ token.Name x)
 
--- no two elements are the same name
+-- no two names in the list are equal
 abbrev pub AreApart : List (List ℕ) → Type 0
 AreApart names = (i j : ℕ) (x : List ℕ) → slice_get names i ≡ Some x → slice_get names j ≡ Some x → i ≡ j
 

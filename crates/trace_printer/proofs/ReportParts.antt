@@ -45,7 +45,7 @@ process_is_word t names p h = names.target_is_word (One p) h
 abbrev keyword_number : List (List ℕ) → ℕ
 keyword_number words = 256 * get_or (word_at 0 words) 0 0 + get_or (word_at 0 words) 1 0
 
--- the line has names, and numbers of 64 bits
+-- the line has names, and numbers that fit in 64 bits
 abbrev IsNamedWhat : Tree → What → Type 0
 IsNamedWhat t w = HasNames t w × Is64What w
 

@@ -79,7 +79,7 @@ part_first f head trace lines (suc c) some is =
     let after : suc c - 1 ≡ c = omega arith in
     ap (λ l. head ++ l) (ap (flat_map f) (is ∙ ap (λ n. take n trace) after) ∙ mapped_part f trace 0 c)
 
--- the mote at i, numbered n, comes next of the motes from i on
+-- the mote at i, which has the number n, is the next of the motes from i on
 pub lines_next : (n : ℕ) (ms : List MoteSetup) (ts : List (Vec Line Global)) (i : ℕ) (t : Vec Line Global) (name : List ℕ) (tree : Tree) (lines : List Line) → i < length ms → length ts ≡ length ms
     → option_map (λ m. m.program) (slice_get ms i) ≡ Some name → option_map (λ m. m.tree) (slice_get ms i) ≡ Some tree → lines ≡ (get_or ts i t).items
     → lines_from n (drop i ms) (map lines_in (drop i ts))

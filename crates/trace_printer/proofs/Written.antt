@@ -35,7 +35,7 @@ pub written_stops : (a b : Option (List ℕ)) (text rest : List ℕ) → Written
 written_stops a b text [] w h = cc
 written_stops a b text (byte ∷ rest) w h = (w.done, byte, rest, w.whole, w.appended)
 
--- the rest begins with a piece, and all of the piece except a part is written
+-- the rest begins with a piece, and all of the piece except a rest is written
 pub written_next : (a b c : Option (List ℕ)) (text rest piece left part : List ℕ) → Written a b text rest → rest ≡ piece ++ left → Written b c piece part → Written a c text (part ++ left)
 written_next a b c text rest piece left part w is more =
     record {
@@ -49,13 +49,13 @@ pub written_front : (a b : Option (List ℕ)) (text rest : List ℕ) (byte : ℕ
 written_front a b text [] byte left w = (w.done, byte, left, w.whole, w.appended)
 written_front a b text (x ∷ rest) byte left w = (w.done, x, rest ++ byte ∷ left, w.whole, w.appended)
 
--- a prefix is written, and then a text to its end or to a fault
+-- a prefix is written, and then a text, to its end or to an error
 pub written_then : {E : Type 0} (a b c : Option (List ℕ)) (r : Result (Unit {0}) E) (text rest : List ℕ) → Written a b text rest → Writes b c r rest → Writes a c r text
 written_then a b c (Ok u) text rest w more = subst (Appends a c) (sym w.whole) (Appends-trans a b c w.done rest w.appended more)
 written_then a b c (Err e) text rest w (front, byte, back, split, more) =
     (w.done ++ front, byte, back, w.whole ∙ ap (λ l. w.done ++ l) split ∙ sym (append_assoc w.done front (byte ∷ back)), Appends-trans a b c w.done front w.appended more)
 
--- all of a text is written, or the prefix before a fault
+-- all of a text is written, or a prefix before an error
 pub writes_all_but : {E : Type 0} (a b : Option (List ℕ)) (r : Result (Unit {0}) E) (text : List ℕ) → Writes a b r text → (rest : List ℕ) × Written a b text rest
 writes_all_but a b (Ok u) text h = ([], record { done = text; whole = sym (append-nil text); appended = h })
 writes_all_but a b (Err e) text (front, byte, rest, split, more) = (byte ∷ rest, record { done = front; whole = split; appended = more })

@@ -17,7 +17,7 @@ use Rattle.mote_net.specs.Net.{MoteSetup, NetModel}
 use Rattle.mote_net.specs.Report.{Packet, ReportModel}
 use Rattle.trace_printer.specs.Words.{event_word, target_word}
 
--- a number of 64 bits
+-- a number that fits in 64 bits
 abbrev pub Is64 : ℕ → Type 0
 Is64 n = n < 2 ^ 64
 
@@ -63,7 +63,7 @@ HasNames t (Print p v) = HasProcess t p
 HasNames t (Busy p) = HasProcess t p
 HasNames t w = Unit {0}
 
--- the numbers in the line have 64 bits
+-- the numbers in the line fit in 64 bits
 abbrev pub Is64What : What → Type 0
 Is64What (Post serial to e w) = Is64 serial × Is64 w
 Is64What (Full to e w) = Is64 w
@@ -93,13 +93,13 @@ AreNamed [] (t ∷ ts) = ⊥
 AreNamed (m ∷ ms) [] = ⊥
 AreNamed (m ∷ ms) (t ∷ ts) = Each (λ (l : Line). HasNames m.tree l.what) t × AreNamed ms ts
 
--- a report whose numbers have 64 bits, as in each value of the type `Report`
+-- a report whose numbers fit in 64 bits, as they do in each value of the type `Report`
 pub record Is64Report (r : ReportModel) : Type 0 where
   pub traces : Each (Each Is64Line) r.traces
   pub log : Each Is64Packet r.log
   pub left : Is64 r.left
 
--- a report of a net in which each process and each event has a name, and numbers have 64 bits
+-- a report of a net: each process and each event has a name, and the numbers fit in 64 bits
 pub record IsNamed (net : NetModel) (r : ReportModel) : Type 0 where
   pub names : AreNamed net.motes r.traces
   pub numbers : Is64Report r

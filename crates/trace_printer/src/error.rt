@@ -5,7 +5,7 @@ ghost use Rattle.trace_printer.specs.declared.error.PrintError.TheVariants as fa
 use crate::output::WriteFault;
 use std::alloc::AllocError;
 
-/// The reason why a report isn't complete. Each has the number that is printed for it.
+/// The reason why a report isn't complete. Each reason has the number that is printed for it.
 #[derive(Clone, Copy, Debug, PartialEq, Eq)]
 pub enum PrintError {
     /// The writer failed or took no byte.

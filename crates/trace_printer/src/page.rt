@@ -10,8 +10,8 @@ use std::marker::Model;
 /// The number of bytes for which a page has room at first.
 const ROOM: usize = 65_536;
 
-/// The length in bytes from which a page is written. After this many bytes there is still room for a line half as long
-/// as the page, and for a few more bytes.
+/// The number of bytes at which a page is full and is written. It then still has room for a line half as long as the
+/// page, and for a few more bytes.
 const FULL: usize = 32_640;
 
 /// Lines that wait to be written, so that one call of the writer takes many of them. They are the first `len` bytes;

@@ -1,6 +1,7 @@
 //! The digits of the numbers below a thousand.
 
-/// Four bytes for each number: its digits, from the left, in the first three bytes, and their number in the fourth.
+/// Four bytes for each number: its digits, from the left, in the first three bytes, and the number of digits in the
+/// fourth.
 pub static SHORT: [u8; 4000] = *b"\
     0..11..12..13..14..15..16..17..18..19..110.211.212.213.214.215.216.217.218.219.220.221.222.223.224.2\
     25.226.227.228.229.230.231.232.233.234.235.236.237.238.239.240.241.242.243.244.245.246.247.248.249.2\

@@ -6,7 +6,7 @@ ghost use Rattle.window_workers.specs.Fits.{cut_fault};
 
 use serial_run::RunError;
 
-/// The largest number of workers in a run.
+/// The largest number of workers that a run may have.
 pub const MOST_WORKERS: u16 = 16;
 
 /// Returns whether the worker of each mote is one of this many workers.

@@ -151,8 +151,8 @@ where
 /// # Errors
 /// `Workers`, `CutLength` or `CutWorker`, the first that applies, exactly if the partition doesn't fit. Otherwise,
 /// `Memory` if an allocation fails, or `Thread` if a thread couldn't be started, the gate refused a start, or an
-/// executor returned an error; it is the error of the failed worker with the lowest number. After an error, the
-/// inboxes are dropped.
+/// executor returned an error. If several workers failed, it is the error of the one with the lowest number. After an
+/// error, the inboxes are dropped.
 pub fn run_inboxes<R, G>(
     rt: &R,
     alloc: Global,
@@ -179,7 +179,7 @@ where
         × (sync ≡ Marks → Each (λ pair. known_of pair.1.state.gathered pair.1.state.taken ≡ 0) r.1.items)) }
     // The copies from one worker to another went through the inboxes, each exactly once, and no other items did.
     ensures crossed { IfOk result (λ r. AllCrossed (net_of net.now) cut.now.of.items (report_of r.0) r.1.items) }
-    // An error of the partition is returned exactly if it has one.
+    // An error of the partition is returned exactly if the partition has one.
     ensures fault { let fault = cut_fault (length (net_of net.now).motes) (length pairs.items) cut.now.of.items in
         IfOk result (λ r. fault ≡ None) × IfErr result (IsAnswerTo fault) }
 {
@@ -196,7 +196,7 @@ where
 /// # Errors
 /// `Workers`, `CutLength` or `CutWorker`, the first that applies, exactly if the partition doesn't fit. Otherwise,
 /// `Memory` if an allocation fails, or `Thread` if a thread couldn't be started, the gate refused a start, or an
-/// executor returned an error; it is the error of the failed worker with the lowest number.
+/// executor returned an error. If several workers failed, it is the error of the one with the lowest number.
 pub fn run_workers<R, G>(
     rt: &R,
     alloc: Global,
@@ -215,7 +215,7 @@ where
     // Each trace delivers events in the order in which they were accepted, has nothing after a halt, and starts a
     // process only if the process isn't in the process list.
     ensures handed_on { IfOk result (λ r. All (λ trace. IsInOrder trace.items) r.traces.items) }
-    // An error of the partition is returned exactly if it has one.
+    // An error of the partition is returned exactly if the partition has one.
     ensures fits { IfOk result (λ r. cut_fault (length (net_of net.now).motes) workers cut.now.of.items ≡ None) }
     ensures err { IfErr result (IsAnswerTo (cut_fault (length (net_of net.now).motes) workers cut.now.of.items)) }
 {

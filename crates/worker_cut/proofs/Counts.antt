@@ -1,4 +1,4 @@
--- The counts and orders of copies, by the worker of their receiver and by their sender.
+-- The numbers of copies, and their order, by the worker of their receiver and by their sender.
 use Rattle.std.proofs.Common.{◌≡◌, ◌⊎◌, ℕ, zero, suc, ◌+◌, ◌<◌, ◌≤◌, true, false, cond, eqb, List, [], ◌∷◌, length, refl, ap, ap₂, ◌∙◌, arith, inl, inr, Some}
 use Rattle.std.specs.List.{filter, slice_get, AllByRecursion}
 use Rattle.std.specs.Option.{option_map_or}

@@ -83,7 +83,7 @@ same_tests p q [] h = refl
 same_tests p q (x ∷ xs) h = let ih = same_tests p q xs h.1 in rw h.0 (ap (λ l. cond (q x) (x ∷ l) l) ih)
 
 module _ {S L : Type 0} (system : System S L) (fine : RunsForward system) where
-  -- the copies of one sender are those among the copies of all packets
+  -- the copies of one sender among the copies of all packets
   from_sender : (s : ℕ) (sends : List Sent) → filter (is_from_sender s) (flat_map system.copies sends) ≡ flat_map system.copies (filter (is_sent_by s) sends)
   from_sender s [] = refl
   from_sender s (x ∷ xs) =

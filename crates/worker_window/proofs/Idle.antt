@@ -1,4 +1,4 @@
--- A share is also a share at later moments, up to its first pending event.
+-- A share is also valid at later moments, up to its first pending event.
 use Rattle.std.proofs.Common.{◌≡◌, ℕ, ◌≤◌, Bool, true, false, not, ◌&&◌, ◌||◌, ltb, eqb, List, [], refl, sym, ap, ◌∙◌}
 use Rattle.std.proofs.Common.{subst, arith, Option, Some, None}
 use Rattle.std.specs.List.{filter, AllByRecursion}

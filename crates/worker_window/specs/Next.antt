@@ -16,7 +16,7 @@ copies_to_come n of worker from motes taken sender =
     let own = is_own of worker in filter (is_to_come own from) (copies_seen (system_of n) own motes taken sender)
 
 -- `next` is the moment of the first pending event of a share at the moment `from`: it isn't before `from`; the share
--- is also a share at each later moment up to `next`; and no copy arrives before `next`.
+-- is also valid at each later moment up to `next`; and no copy arrives before `next`.
 pub record IsNextFrom (n : NetModel) (of : List ℕ) (worker from : ℕ) (motes : Motes) (taken : List RadioCopy)
     (share : Share) (next : Option ℕ) : Type 0 where
   pub wakes : NoneBefore from next

@@ -1,4 +1,4 @@
--- The window that an `OwnWindow`, the state of a mote's window in the code, represents.
+-- The window that an `OwnWindow` represents. An `OwnWindow` is the state of a mote's window in the code.
 use Rattle.std.specs.Prelude.{◌≡◌, ℕ, ◌<◌, List, [], drop, Option, None, option_map}
 use Rattle.program_tree.specs.Code.{Tree}
 use Rattle.program_tree.specs.Program.{tree_of}
@@ -49,8 +49,8 @@ course_in w = record {
   sends = w.sends.items;
 }
 
--- a window before its first turn, with the lines that its mote wrote earlier; for a mote that has failed, it has only
--- copies
+-- a window before its first turn, with the lines that its mote wrote earlier; if the mote has failed, the window has
+-- only copies
 abbrev pub course_of : Tree → (until : ℕ) → (copies : List RadioCopy) → (lines : List Line) → Option Node → Course
 course_of program until copies lines mote = record {
   program = program;

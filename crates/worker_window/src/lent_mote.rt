@@ -7,9 +7,8 @@ use mote_node::Mote;
 use process_kernel::Line;
 use radio_packet::{RadioCopy, Sent};
 
-/// A mote that is lent out for a window. It has its number in the net, the copies that arrive at it in the window, in
-/// the order of moment, sender and number, its trace, and a scratch buffer for the packets that it sends in the
-/// window.
+/// A mote that is lent out for a window: its number in the net; the copies that arrive at it in the window, in the
+/// order of moment, sender and number; its trace; and a scratch buffer for the packets that it sends in the window.
 #[derive(Drop)]
 pub struct LentMote {
     pub number: u16,

@@ -82,7 +82,7 @@ fn all_done<G: Gate>(slots: &[Slot<'_, G>]) -> bool
     slots.iter().all(|slot| slot.is_done())
 }
 
-/// Runs the windows of a worker's motes by the worker's future, until each window has a result. No mote may have
+/// Runs the windows of a worker's motes with the worker's future, until each window has a result. No mote may have
 /// failed, and the next event of each mote must be after its last turn. The scratch buffers of the turns are passed
 /// from window to window.
 ///
