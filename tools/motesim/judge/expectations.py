@@ -25,7 +25,7 @@ LONGEST_SHOWN = 150
 REFUSED = 'the scenario is refused'
 WHOLE = 'the report is the expected one'
 KEYS = {'expect': list, 'required': list, 'report': str, 'change': list, 'about': str, 'replace': dict}
-# The contents of each key, with their form.
+# For each key, the kind of its value, and its form.
 WRITTEN = {
     'expect': 'an array of sentences, as `expect = ["mote 0 sends twice"]`', 'report': 'a text',
     'required': 'an array of sentences, as `required = ["every mote prints"]`',
@@ -37,7 +37,7 @@ WRITTEN = {
 def beside(scenario: Path) -> Path:
     """The file of expectations next to a scenario."""
     return scenario.with_suffix('.expect.toml')
-# The remark behind a required sentence.
+# The remark after a required sentence.
 REQUIRED = ' (required)'
 
 
@@ -51,9 +51,9 @@ def text_of(path: Path) -> str:
 
 @dataclass(frozen=True)
 class Part:
-    """The expectations for the scenario, or for it with some text replaced by another.
+    """The expectations for the scenario, or for a changed scenario, in which some text is replaced.
 
-    required  how many of the first sentences a solution has to meet to earn anything
+    required  the number of the first sentences that a solution must meet to earn anything
     """
     name: str
     sentences: list[str]
@@ -63,7 +63,7 @@ class Part:
 
 
 class Verdict(NamedTuple):
-    """A sentence, whether it holds, and the lines to show if it doesn't; and whether the scenario has no report."""
+    """A sentence, whether it holds, the lines to show if it doesn't, and whether the scenario has no report."""
     sentence: str
     holds: bool
     more: list[str]
@@ -111,7 +111,7 @@ def changed(scenario: str, replace: dict[str, str]) -> str:
 
 
 class UnknownSentence(Fault):
-    """A sentence that can't be read: in one line, which one it is; the text of the error shows its place too."""
+    """A sentence that can't be read: its number, in one line; the text of the error also shows its place."""
 
     def __init__(self, number: int, explained: str):
         self.which = 'sentence %d is not known' % number
@@ -139,7 +139,7 @@ def more_of(broken: Broken, rows: Sequence[str]) -> list[str]:
 
 
 def same_report(rows: Sequence[str], wanted: str) -> Verdict:
-    """The verdict on a report that has to be the same as another one."""
+    """The verdict on a report that must be the same as another report."""
     for number, (row, line) in enumerate(itertools.zip_longest(rows, wanted.splitlines(), fillvalue='the end'), 1):
         if row != line:
             return Verdict(WHOLE, False, ['line %d: %s' % (number, row), 'expected: %s' % line])
@@ -166,7 +166,7 @@ def of_report(part: Part, sentences: list[Sentence], judge: Judge) -> list[Verdi
 
 
 def judged_by(part: Part, report: Report, scenario: Scenario) -> list[Verdict]:
-    """The verdicts on a report that is there already, of the scenario with the changes of the part."""
+    """The verdicts on an existing report of the scenario with the changes of the part."""
     return of_report(part, read_all(part.sentences, names_of(scenario)), Judge(report, scenario))
 
 
@@ -180,7 +180,8 @@ def known_of(text: str) -> tuple[Scenario | None, Names]:
 
 
 def judged_each(scenario: str, part: Part) -> tuple[list[Verdict], list[str]]:
-    """The verdicts of a part, and what each sentence names that the scenario lacks; such a sentence doesn't hold."""
+    """The verdicts of a part, and for each sentence the name that the scenario lacks; a sentence with such a name
+    doesn't hold."""
     names = known_of(scenario)[1]
     lacks = [lacking(it, names) for it in part.sentences]
     readable = [it for it, lack in zip(part.sentences, lacks) if not lack]
@@ -202,7 +203,7 @@ def judged(scenario: str, part: Part) -> list[Verdict]:
 
 
 def expect(scenario: Path, expectations: Path, is_quiet: bool = False) -> tuple[int, int]:
-    """Prints which sentences hold, or, quietly, which don't; returns how many hold and how many don't."""
+    """Prints which sentences hold, or, if `is_quiet`, those that don't; returns how many hold and how many don't."""
     text = text_of(scenario)
     refuse_others(scenario, text.encode())
     passed = failed = 0
@@ -214,7 +215,7 @@ def expect(scenario: Path, expectations: Path, is_quiet: bool = False) -> tuple[
         except LimitMet as fault:
             raise Fault('%s: the run was ended: %s' % (scenario, fault)) from None
         except ProgramFault:
-            # (the expectations aren't its reason)
+            # (the expectations aren't the reason)
             raise
         except Fault as fault:
             raise Fault('%s: %s' % (part.name, fault)) from None

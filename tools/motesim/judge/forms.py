@@ -1,4 +1,4 @@
-"""The forms of sentences, as docs/use/EXPECTATIONS.md has them in tables.
+"""The forms of sentences, for the tables of docs/use/EXPECTATIONS.md.
 
 Each form is an example that `motesim.judge.sentences` reads; the tests read them all, and check that each phrase that
 the reader knows is in one of them. `PYTHONPATH=tools python3 -m motesim.judge.forms` writes the tables into the page.
@@ -13,7 +13,8 @@ PAGE = Path(__file__).resolve().parents[3] / 'docs/use/EXPECTATIONS.md'
 
 
 class Table(NamedTuple):
-    """A table: its two headings, the sentences in which its forms are tried, and its rows of forms and meanings."""
+    """A table: its two headings, the sentences in which the tests try its forms, and its rows of forms and
+    meanings."""
     name: str
     meaning: str
     frames: tuple[str, ...]
@@ -25,7 +26,7 @@ class Table(NamedTuple):
         return ['| %s | %s |' % (self.name, self.meaning), '|---|---|', *('| %s |' % row for row in rows)]
 
     def examples(self) -> Iterator[tuple[str, list[str]]]:
-        """Each form with the sentences of which one has to be read."""
+        """Each form with sentences; the reader has to accept one of them."""
         for forms, _ in self.rows:
             for form in forms:
                 yield form, [frame % form.replace('VALUE', '7').replace(' P', ' p') for frame in self.frames]

@@ -23,7 +23,7 @@ from motesim.scenario import Scenario
 DOES = {'print': 'prints', 'send': 'sends', 'recv': 'receives'}
 BECAME = {'collided': 'collide', 'received': 'recv', 'full': 'lost'}
 
-# The first and the last moment of a time; None for no last one.
+# The first and the last moment of a period; None if it has no last one.
 Span = tuple[int, int | None]
 
 
@@ -47,7 +47,7 @@ class Row(NamedTuple):
 
 
 class _Apart(Exception):
-    """A mote isn't reached from another, so there are no hops between them."""
+    """Packets of one mote can't reach another, so there are no hops between them."""
 
 
 def _within(at: int, span: Span) -> bool:
@@ -61,12 +61,12 @@ def _shown(span: Span) -> str:
 
 
 def _first_spare(rows: list[int], count: Count) -> int | None:
-    """The first of the rows that is one too many."""
+    """The first row that exceeds the greatest allowed number."""
     return rows[max(count.most, 0)] if count.most is not None and len(rows) > max(count.most, 0) else None
 
 
 def _without_value(pattern: Pattern) -> Pattern:
-    """A pattern without the value at its end, and without the words before it that match anything."""
+    """A pattern without the value at its end, and without the words before the value that match anything."""
     words = pattern[:-1]
     while words[-1] is None:
         words = words[:-1]
@@ -129,7 +129,7 @@ class Judge:
         return {sum(1 << s for s in heard - value.but)}
 
     def fits(self, pattern: Pattern, mote: int) -> bytes:
-        """For each line of the pattern's kind that a mote has, 1 if it has the pattern, otherwise 0."""
+        """For each line of the pattern's kind in a mote's trace, 1 if it matches the pattern, otherwise 0."""
         trace, kind = self.report.trace, str(pattern[0])
         place, fields = trace.place(mote, kind), trace.of[kind]
         # (a value may be unknown for this mote, whether or not it has such lines)
@@ -148,7 +148,7 @@ class Judge:
         return compress(self.events(mote, str(pattern[0])), found) if any(found) else iter(())
 
     def done(self, deed: Deed, motes: tuple[int, ...]) -> list[Event]:
-        """The lines of these motes that show a deed."""
+        """The lines of these motes that show this action."""
         found = [event for mote in motes for pattern in deed.patterns for event in self.matches(pattern, mote)]
         if len(deed.patterns) == 1 and list(motes) == sorted(motes):
             return found
@@ -233,7 +233,7 @@ class Judge:
         return Broken('the last such line of %s; wanted: %s' % (self.name(motes), shown), events[-1].row)
 
     def than(self, it: Does, events: list[Event], motes: tuple[int, ...]) -> Broken | None:
-        """Compares the number of lines with that of the others."""
+        """Compares the number of lines with the number of the other lines."""
         assert it.than
         beside = motes if it.than.motes is None else self.chosen(it.than.motes)
         other = self.done(it.than.deed or it.deed, beside)
@@ -268,7 +268,7 @@ class Judge:
             return Broken(str(apart))
 
     def of_events(self, it: Does, events: list[Event], motes: tuple[int, ...]) -> Broken | None:
-        """Checks a sentence for the lines that show its deed."""
+        """Checks a sentence for the lines that show its action."""
         if it.than:
             return self.than(it, events, motes)
         if it.relation:
@@ -309,7 +309,7 @@ class Judge:
         return tuple(mote for mote in numbers if mote not in motes.but)
 
     def shown_by(self, it: Does, mote: int) -> int | None:
-        """The row of the line that shows that a mote does it."""
+        """The row of the line that shows that a mote does what the sentence says."""
         events = self.within(self.done(it.deed, (mote,)), it.window, (mote,))
         return events[min(max(it.count.least, 1), len(events)) - 1].row if events else None
 
@@ -336,14 +336,15 @@ class Judge:
 
     def part_of_motes(self, count: Count, doing: list[int], chosen: tuple[int, ...],
                       broken: dict[int, Broken | None]) -> Broken:
-        """The reason why the share of the motes is too small or too great, with the first mote that doesn't do it."""
+        """The reason why the share of the motes is too small or too great, with the first mote that doesn't do what
+        the sentence says."""
         why = '%d of %d motes do; wanted: %s' % (len(doing), len(chosen), count)
         first = next((mote for mote in chosen if mote not in doing), None)
         more = broken[first] if first is not None and count.least else None
         return Broken('%s; the first that doesn\'t is\n%s' % (why, more.why), more.row) if more else Broken(why)
 
     def part_of_copies(self, it: Copies) -> Broken | None:
-        """Checks which part of the copies that were due has an outcome."""
+        """Checks which share of the copies that were due has an outcome."""
         motes = set(range(len(self.report.motes)) if it.motes is None else it.motes)
         log, end = self.report.log, self.scenario.end
         due = sum(at == LOST or at <= end for to, at in zip(log.to, log.arrival) if to in motes)

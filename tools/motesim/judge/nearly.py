@@ -1,7 +1,6 @@
-"""Sentences that are nearly right: the usual wording of something for which sentences have a form of their own.
+"""Corrects sentences that are nearly right: common wordings of something that has another form in sentences.
 
-`rewritten(sentence)` yields the sentence as it may have been meant. Only reading them shows which of them are
-sentences.
+`rewritten(sentence)` yields sentences that the author may have meant; the reader decides which of them are valid.
 """
 from __future__ import annotations
 
@@ -17,7 +16,7 @@ Replaced = str | Callable[[re.Match[str]], str]
 
 
 def _times(found: re.Match[str]) -> str:
-    """The words for a number of packets: how often a mote sends or receives."""
+    """A number of packets in the words of sentences: how often a mote sends or receives."""
     verb, bound, number = found['verb'], found['bound'] or 'exactly ', found['number'].lower()
     many = number if number.isdecimal() else str(NUMBERS.index(number))
     if many == '0' and bound == 'exactly ':
@@ -67,7 +66,7 @@ FORMS: list[tuple[str, Replaced]] = [
 
 
 def rewritten(sentence: str) -> Iterator[str]:
-    """The sentence after each form that changes it."""
+    """The sentence after each replacement that changes it."""
     for pattern, replaced in FORMS:
         new = re.sub(pattern, replaced, sentence, flags=re.I)
         if new != sentence:

@@ -1,4 +1,4 @@
-"""Subjects and their verbs in messages: one mote has a line, the motes together have 2 lines."""
+"""Subjects with their verbs in messages: `mote 3 has`, `the motes together have`."""
 from __future__ import annotations
 
 TOGETHER = 'the motes together'
@@ -6,7 +6,7 @@ ONE_OF = {'such copies': 'such copy', 'packets': 'packet', 'lines': 'line'}
 
 
 def verb(name: str, many: str, before: str = '') -> str:
-    """A subject with its verb, as `mote 3 prints`; `many` is the verb of several."""
+    """A subject with its verb, such as `mote 3 prints`; `many` is the verb of several motes."""
     return '%s %s%s' % (name, before, many if name == TOGETHER else many + 's')
 
 
@@ -20,5 +20,5 @@ def has_lines(name: str, number: int) -> str:
 
 
 def there_are(number: int, what: str) -> str:
-    """A number of things, which are named in the plural."""
+    """A number of things, whose name is in the plural."""
     return 'there is 1 %s' % ONE_OF[what] if number == 1 else 'there are %d %s' % (number, what)

@@ -5,7 +5,8 @@
     mote 4 sends 1 within 10 of receiving 1        each has an event at most 10 moments before it
     mote 4 sends 1 within 10 of each time it receives 1    each event has such a line at most 10 moments after it
 
-If a sentence says how often, that many lines have to be so, and others don't matter; with `never`, none may be.
+If a sentence says how often, the relation must hold for that many lines, and other lines don't matter; with `never`,
+it must hold for none.
 """
 from __future__ import annotations
 
@@ -36,7 +37,7 @@ class Found(Protocol):
 # The reason why a sentence is broken, and the row that shows it.
 Why = tuple[str, int | None]
 By = Callable[[Found], tuple[int, int]]
-# Before and after each row.
+# Numbers below and above those of all rows.
 FIRST, LAST = -1, 1 << 62
 
 
@@ -62,15 +63,15 @@ class Order:
         return self.events[0] if self.events else None
 
     def last_before(self, line: Found) -> Found | None:
-        """The last event that is not after a line: of other motes, one of the same moment counts."""
+        """The last event that is not after a line; an event of another mote at the same moment counts."""
         place = bisect.bisect_right(self.keys, (line.line.at, LAST))
         if place and self.is_of(self.events[place - 1], line):
-            # (the rows of a mote are next to each other, so the events before these are earlier than the line)
+            # (the rows of a mote are next to each other, so the events before these rows are earlier than the line)
             place = bisect.bisect_left(self.keys, in_time(line))
         return self.events[place - 1] if place else None
 
     def first_from(self, event: Found) -> Found | None:
-        """The first of these that is not before an event."""
+        """The first of these lines that is not before an event."""
         place = bisect.bisect_left(self.keys, (event.line.at, FIRST))
         if place < len(self.events) and self.is_of(self.events[place], event):
             place = bisect.bisect_right(self.keys, in_time(event))
@@ -126,7 +127,8 @@ def _kind_in_words(relation: Relation) -> str:
 
 
 def _answered(relation: Relation, name: str, lines: Sequence[Found], order: Order, end: int) -> Why | None:
-    """Checks that each event has a line soon after it. Events so near to the end that it may be later don't count."""
+    """Checks that each event has a line soon after it. Events so near to the end that the line may be later don't
+    count."""
     answers = Order(lines)
     for event in order.events:
         found = answers.first_from(event)
@@ -139,7 +141,7 @@ def _answered(relation: Relation, name: str, lines: Sequence[Found], order: Orde
 
 
 def broken(it: Does, name: str, lines: Sequence[Found], events: Sequence[Found], end: int) -> Why | None:
-    """The reason why a sentence with a relation is broken, of a mote's lines (or several motes') and the events."""
+    """The reason why a sentence with a relation is broken, from the lines of a mote (or of several) and the events."""
     relation, order = it.relation, Order(events)
     assert relation
     if relation.kind == 'each':

@@ -1,7 +1,8 @@
-"""Sentences on what a report shows, and how they are read: docs/use/EXPECTATIONS.md has their forms.
+"""Reads sentences about a report: docs/use/EXPECTATIONS.md has their forms.
 
-`read_sentence('mote 6 prints flood 1 by 60', names)` returns the meaning of a sentence, in the classes below. One
-that can't be read is a `SentenceFault`, which has the place of the error and what is allowed there.
+`read_sentence('mote 6 prints flood 1 by 60', names)` returns the meaning of a sentence, as one of the classes below. A
+sentence that can't be read raises a `SentenceFault`, which has the place of the error and the words that are allowed
+there.
 """
 from __future__ import annotations
 
@@ -31,13 +32,13 @@ VERBS = ('print', 'send', 'receive', 'start', 'leave', 'halt', 'write')
 
 
 def meant(rest: str, wanted: list[str]) -> str | None:
-    """The word that was most likely meant by the first of these, of those that are allowed there."""
+    """The allowed word that was most likely meant by the first word of `rest`."""
     word = re.match(r'[A-Za-z_]\w{2,}', rest)
     names = [name for it in wanted for name in re.findall(r'\w+', it.partition('(')[2] or it.split()[0])]
     return nearest(word[0], names) if word else None
 
 
-# Words that sentences don't have, each with what serves in their place.
+# Words that sentences don't have, each with advice on what to write instead.
 REDIRECTS = {
     'any': 'write `every mote` or `some mote`.', 'everybody': 'write `every mote`.', 'everyone': 'write `every mote`.',
     'everything': 'write `every mote`.', 'nobody': 'write `no mote`.', 'nothing': 'write `no mote`.',
@@ -74,7 +75,8 @@ def redirected(rest: str) -> str | None:
 
 
 def other_form(sentence: str, place: int, wanted: Sequence[str]) -> str | None:
-    """The sentence that was most likely meant, if it has another form: with a process, with `just`, or on a copy."""
+    """The sentence that was most likely meant, if it has another form: with a process, with `just`, or about a
+    copy."""
     before, rest = sentence[:place], sentence[place:]
     names = next((it for it in wanted if it.startswith('a process (')), '').partition('(')[2].rstrip(')').split(', ')
     if names[-1] not in ('', '..') and re.search(r'\bprints? $', before) and re.match(r'\d+\b(?! times)', rest):
@@ -87,7 +89,7 @@ def other_form(sentence: str, place: int, wanted: Sequence[str]) -> str | None:
 
 
 def gerund(many: str) -> str:
-    """A verb as in `within 10 of receiving 1`."""
+    """A verb in the form of `within 10 of receiving 1`."""
     return many.removesuffix('e') + 'ing'
 
 
@@ -109,7 +111,7 @@ class SentenceFault(Fault):
 
 @dataclass(frozen=True)
 class Names:
-    """Names that a sentence may use: the processes of the programs and the count of motes; None if unknown."""
+    """The names that a sentence may use: the processes of the programs, and the number of motes; None if unknown."""
     processes: tuple[str, ...] | None = None
     motes: int | None = None
 
@@ -122,7 +124,7 @@ def processes_of(program: object) -> list[str]:
 
 
 def names_of(scenario: Scenario) -> Names:
-    """Returns the names that a sentence on this scenario may use."""
+    """Returns the names that a sentence about this scenario may use."""
     found: dict[str, None] = dict.fromkeys(SYSTEM)
     for text in scenario.programs.values():
         found.update(dict.fromkeys(processes_of(text)))
@@ -131,7 +133,7 @@ def names_of(scenario: Scenario) -> Names:
 
 @dataclass(frozen=True)
 class Count:
-    """A condition on a count: a comparison and a number, or a part of all in per cent."""
+    """A condition on a count: a comparison and a number, or a share in per cent."""
     compare: str
     number: int
     is_part: bool = False
@@ -146,7 +148,7 @@ class Count:
 
     @property
     def most(self) -> int | None:
-        """The greatest number that is admitted, or None if each greater one is too."""
+        """The greatest number that is allowed, or None if there is no limit."""
         return {'at most': self.number, 'exactly': self.number, 'fewer than': self.number - 1}.get(self.compare)
 
     def __str__(self) -> str:
@@ -157,7 +159,8 @@ class Count:
 class Window:
     """The moments from `begin` to `end`.
 
-    Later by `hop` for each hop from `root`; or each `every` moments of them by themselves.
+    With `hop`, both moments are later by `hop` for each hop from `root`. With `every`, each interval of so many
+    moments is judged separately.
     """
     begin: int = 0
     end: int | None = None
@@ -168,10 +171,10 @@ class Window:
 
 @dataclass(frozen=True)
 class Value:
-    """A value: a number, or one that is looked up for each mote.
+    """A value: a number, or a value that differs by mote.
 
-    kind   number, self, distance (hops from `number`), heard (the set of the motes that it hears), linked (of those
-           that hear it too), nearer (a mote that it hears, one hop nearer to `number`)
+    kind   number, self, distance (hops from `number`), heard (the set of the motes that it hears), linked (the set of
+           those that also hear it), nearer (a mote that it hears, one hop nearer to `number`)
     but    motes that aren't counted in a set
     """
     kind: str
@@ -179,7 +182,7 @@ class Value:
     but: frozenset[int] = frozenset()
 
 
-# The words of a line behind its moment, as far as they matter. None is any word.
+# The words of a line after its moment, up to the last one that matters. None means any word.
 Pattern = tuple[str | Value | None, ...]
 
 
@@ -187,7 +190,7 @@ Pattern = tuple[str | Value | None, ...]
 class Motes:
     """The motes that a sentence is about.
 
-    kind     each (of them), together, no, some, count (so many of them, `count`)
+    kind     each (of them), together, no, some, count (a number of them that `count` allows)
     numbers  None for all motes
     """
     kind: str
@@ -211,7 +214,7 @@ class Deed:
 
 @dataclass(frozen=True)
 class Than:
-    """The other count to which a sentence compares its own: of other motes, of another deed, at another time."""
+    """The other count in a comparison: that of other motes, of another action, or of another time."""
     motes: Motes | None
     deed: Deed | None
     window: Window
@@ -219,12 +222,12 @@ class Than:
 
 @dataclass(frozen=True)
 class Relation:
-    """The position of lines relative to other ones, the events.
+    """The position of lines relative to other lines, the events.
 
-    kind     after or before the first event; within so many moments of one before it; each (each event is followed by
+    kind     after or before the first event; within so many moments after an event; each (after each event there is
              a line within so many moments)
-    motes    whose events; None for the mote itself
-    words    the event, as the sentence has it
+    motes    the motes that have the events; None for the mote itself
+    words    the event in the words of the sentence
     """
     kind: str
     moments: int
@@ -235,20 +238,20 @@ class Relation:
 
 @dataclass(frozen=True)
 class Does:
-    """Motes do something, so many times, or so many times as often as others, or before or after another event."""
+    """Motes do something: a number of times, or so many times as often as others, or before or after another event."""
     motes: Motes
     deed: Deed
     count: Count
     window: Window
     than: Than | None = None
     relation: Relation | None = None
-    # Whether the sentence says how often, and whether it says never.
+    # True if the sentence says how often, or says never.
     is_counted: bool = False
 
 
 @dataclass(frozen=True)
 class Copies:
-    """So many copies of packets have this outcome, as motesim.report calls it."""
+    """A number of copies have this outcome, which is one of those in motesim.report."""
     count: Count
     outcome: str
     motes: frozenset[int] | None
@@ -257,14 +260,14 @@ class Copies:
 
 @dataclass(frozen=True)
 class Packets:
-    """So many packets are sent."""
+    """A number of packets is sent."""
     count: Count
     window: Window
 
 
 @dataclass(frozen=True)
 class Lines:
-    """The report has so many lines."""
+    """The report has a number of lines."""
     count: Count
 
 
@@ -276,7 +279,8 @@ class MediumLine:
 
 @dataclass(frozen=True)
 class Hears:
-    """Each of the motes can hear, or can't hear, another: it is in range, and the link doesn't lose all."""
+    """Each of the motes can hear, or can't hear, another mote: that is in range, and the link doesn't lose every
+    packet."""
     motes: frozenset[int]
     can: bool
     other: int
@@ -303,7 +307,7 @@ class _Reader:
         self.at, self.furthest = 0, 0
         self.wanted: list[str] = []
         self.is_one = True
-        # (in `within 10 of receiving 1` a verb may have its other form)
+        # (in `within 10 of receiving 1` the verb may also have this form)
         self.is_event = False
 
     def want(self, at: int, what: str) -> None:
@@ -317,7 +321,7 @@ class _Reader:
         return SentenceFault(self.sentence, self.places[min(self.furthest, len(self.places) - 1)], self.wanted)
 
     def word(self, ahead: int = 0) -> str:
-        """The next word; behind the last, an empty one."""
+        """The next word; after the last word, an empty one."""
         return self.words[self.at + ahead] if self.at + ahead < len(self.words) else ''
 
     def accept(self, *phrases: str) -> str:
@@ -340,7 +344,7 @@ class _Reader:
         return found
 
     def verb(self, one: str, many: str) -> bool:
-        """A verb, of one or of many."""
+        """A verb, in the form for one mote or for many."""
         if self.word().lower() in (one, many) or self.is_event and self.word().lower() == gerund(many):
             self.at += 1
             return True
@@ -369,7 +373,7 @@ class _Reader:
         return self.number('a mote', motes - 1, least)
 
     def ranges(self, one: Callable[[int], int]) -> list[int]:
-        """Numbers, and ranges of them, with commas or `and` between."""
+        """Numbers, and ranges of numbers, with commas or `and` between them."""
         found: list[int] = []
         while True:
             begin = one(0)
@@ -395,7 +399,7 @@ class _Reader:
         return tuple(word[1:-1].split())
 
     def count(self) -> Count | None:
-        """Reads how many times."""
+        """Reads the part of a sentence that says how many times."""
         compare = self.accept(*COMPARES)
         word = self.accept('once', 'twice')
         if word:
@@ -442,7 +446,7 @@ class _Reader:
         return Window(begin, self.moment(begin), every=every)
 
     def value(self) -> Value | None:
-        """A value, if one is next."""
+        """A value, if a value is next."""
         number = self.maybe_number('a value', MOST_WORD)
         if number is not None:
             return Value('number', number)
@@ -474,7 +478,7 @@ class _Reader:
         return found
 
     def pattern(self) -> Pattern:
-        """The words in quotes after `writes`: those of a line from its kind on."""
+        """The words in quotes after `writes`: the words of a line, from its kind on."""
         words = self.quoted()
         if words[0] not in FIELDS:
             wanted = 'words in quotes that begin with one of %s' % ', '.join(FIELDS)
@@ -552,7 +556,7 @@ class _Reader:
             raise self.fault()
 
     def does(self, motes: Motes) -> Sentence:
-        """A sentence on motes, from the verb on."""
+        """A sentence about motes, from the verb on."""
         if motes.kind == 'each' and motes.numbers is not None:
             can = self.accept('can hear mote', 'cannot hear mote')
             if can:
@@ -586,7 +590,8 @@ class _Reader:
         return Does(motes, deed, count, window or Window(), than, relation, is_counted)
 
     def refuse_after(self, deed: Deed) -> None:
-        """Refuses ORDER and TIMES after `finally` and `just`, which are about all lines together, in words."""
+        """Refuses ORDER and TIMES after `finally` and `just`, which are about all lines together; the error explains
+        it."""
         word = 'finally' if deed.way == 'finally' else 'just'
         if self.word() in ('after', 'before', 'within'):
             raise SentenceFault(self.sentence, self.places[self.at], ['the end'], ORDERED % (
@@ -595,7 +600,7 @@ class _Reader:
             raise SentenceFault(self.sentence, self.places[self.at], ['the end'], COUNTED % word)
 
     def relation(self, same: Deed) -> Relation | None:
-        """The position of the lines relative to others, if the sentence has one."""
+        """The position of the lines relative to other lines, if the sentence has one."""
         kind, moments = self.accept('after', 'before', 'within'), 0
         if not kind:
             return None
@@ -647,7 +652,7 @@ class _Reader:
         return other
 
     def copies(self, count: Count) -> Sentence:
-        """A sentence on copies, from the verb on."""
+        """A sentence about copies, from the verb on."""
         outcome = ''
         for name, many in ('collided', 'collide'), ('received', 'arrive'), ('full', 'overflow'):
             if not outcome and self.verb(many + 's', many):
@@ -663,7 +668,7 @@ class _Reader:
         return Copies(count, outcome, motes, (self.window() if outcome != 'left' else None) or Window())
 
     def things(self, count: Count, kinds: tuple[str, ...]) -> Sentence:
-        """A sentence on so many motes, copies or packets, from that word on."""
+        """A sentence about a number of motes, copies or packets, from this noun on."""
         if count.is_part:
             self.accept('of the', 'of all', 'of')
             kinds = ('motes', 'copies')
@@ -704,7 +709,7 @@ class _Reader:
 
 
 def read_sentence(sentence: str, names: Names = Names()) -> Sentence:
-    """Returns the meaning of a sentence. The error of one that is nearly right shows how it is written."""
+    """Returns the meaning of a sentence. If a sentence is nearly right, its error shows the correct form."""
     try:
         return _read(sentence, names)
     except SentenceFault as fault:
@@ -746,7 +751,7 @@ def _read(sentence: str, names: Names) -> Sentence:
 
 
 class _MoteReader(_Reader):
-    """Notes the places at which a sentence names motes by their numbers."""
+    """Notes the places at which a sentence has the numbers of motes."""
 
     def __init__(self, sentence: str, names: Names):
         super().__init__(sentence, names)
@@ -759,14 +764,14 @@ class _MoteReader(_Reader):
 
 
 def motes_named(sentence: str, names: Names) -> list[tuple[int, int]]:
-    """The places at which a sentence that can be read names motes by their numbers, and these numbers."""
+    """The places at which a sentence that can be read has the numbers of motes, and these numbers."""
     reader = _MoteReader(sentence, names)
     reader.sentence_here()
     return sorted(set(reader.named))
 
 
 def lacking(sentence: str, names: Names) -> str:
-    """The error of a sentence that names something that the scenario doesn't have; empty if it has all."""
+    """The error of a sentence with a name that the scenario doesn't have; empty if it has all names."""
     try:
         read_sentence(sentence, names)
         return ''

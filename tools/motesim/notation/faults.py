@@ -1,7 +1,7 @@
 """Faults of program texts: the place of the fault, the rule in plain words, and the allowed words.
 
 `find_fault(text)` reads a program text by the grammar of docs/use/NOTATION.md and returns its first `ProgramError`, or
-None; motesim tells the same kind and line.
+None; `motesim` reports the same kind and line.
 """
 from __future__ import annotations
 
@@ -14,7 +14,7 @@ from motesim.notation.grammar import RESERVED as KEYWORDS
 from motesim.notation.grammar import STATEMENTS as FORMS
 from motesim.notation.grammar import TESTS as TESTS
 
-# (if two signs are possible, the longer one is read)
+# (if two signs are possible, the longer one counts)
 _SIGN = '|'.join(map(re.escape, sorted(SIGNS, key=len, reverse=True)))
 TOKEN = re.compile('[a-z0-9_]+|%s|.' % _SIGN, re.S)
 BLANK = re.compile(r'(?:[ \t\r\n]|//[^\n]*)*')
@@ -179,7 +179,7 @@ class _Reader:
         return ['%s %s (%s)' % (ARTICLES[kind], kind, ', '.join(found) if found else 'none is declared here')]
 
     def target(self, kind: str) -> str:
-        """A known name of this kind."""
+        """Reads a known name of this kind."""
         if self.token.kind != 'name':
             self.wanted += self.known(kind)
             raise self.unexpected()
@@ -194,7 +194,7 @@ class _Reader:
         return self.step()
 
     def other_words(self) -> list[str]:
-        """The other words that are allowed here besides a name."""
+        """The words that are allowed here besides a name."""
         return list(dict.fromkeys(self.wanted))
 
     def program(self) -> None:
@@ -267,7 +267,7 @@ class _Reader:
         self.names = outer
 
     def open(self, *words: str) -> str:
-        """A token that opens a level."""
+        """Reads a token that opens a level of nesting."""
         if self.token.text in words and self.level == MOST_LEVELS:
             raise self.fault(7, ['less: compute a part before, into a variable, or move it to a thread'])
         found = self.need(*words)

@@ -1,9 +1,9 @@
 """The grammar of the notation as data: docs/use/NOTATION.md describes the language.
 
-The reader that explains errors, the colours of the studio's page, the syntax files for editors and the grammar on that
-page are all made of it. `STATEMENTS` has each statement with its form, and whether it may wait; `RULES` has the other
-rules; `COLOURS` has each word's class on the page of the studio, and `SCOPES` that in the syntax files.
-`motesim.notation.written` writes the page and the files.
+The reader that explains errors, the colours of the studio's page, the syntax files for editors and the grammar in
+NOTATION.md are all made from this data. `STATEMENTS` has each statement with its form, and whether it may wait;
+`RULES` has the other rules; `COLOURS` has each word's class on the studio's page, and `SCOPES` each word's class in
+the syntax files. `motesim.notation.written` writes the grammar into the page, and the words into the syntax files.
 """
 from __future__ import annotations
 
@@ -46,13 +46,13 @@ STATEMENTS = {
 # The tests that an expression applies to a name, with the kind of that name.
 TESTS = {'fired': 'timer', 'expired': 'timer', 'gone': 'process', 'running': 'process', 'count': 'semaphore'}
 OPERATORS = ('+', '-', '*', '/', '%', '==', '!=', '<', '<=', '>', '>=', '&&', '||')
-# Other values, and the events that may be broadcast, that may be posted, and that may be asked for.
+# Other values; and the events that may be broadcast, that may be posted, and for which a test may ask.
 VALUES = ('data', 'from', 'now', 'self')
 CAST = ('continue', 'msg', 'com', 'packet')
 SENT = (*CAST, 'exit')
 ANY = (*SENT, 'init', 'poll', 'exited', 'timer')
 SIGNS = frozenset((*OPERATORS, *'{}();,=!'))
-# The rules but those of statements, events and expressions, in the order of the page.
+# All rules except those of statements, events and expressions, in the order of the page.
 RULES = {
     'program': '{ "event" NAME ";" } { "semaphore" NAME "=" NUMBER ";" } "process" NAME { "," NAME } ";" '
                '[ "autostart" PROCESS { "," PROCESS } ";" ] [ "receiver" PROCESS ";" ] { code }',
@@ -63,7 +63,7 @@ RULES = {
 }
 SYSTEM = ('etimer', 'ctimer', 'radio')
 EVENTS = ('continue', 'msg', 'com', 'packet', 'exit', 'timer')
-# The words that declare something, and those of them that are followed by its name.
+# The words that declare something, and those that a name follows.
 DECLARING = ('event', 'semaphore', 'process', 'autostart', 'receiver', 'code', 'var', 'etimer', 'ctimer', 'thread',
              'onpoll', 'onexit', 'body')
 NAMING = ('event', 'semaphore', 'process', 'code', 'var', 'etimer', 'ctimer', 'thread')
@@ -73,7 +73,7 @@ OTHERS = ('else', 'into', 'continue', 'msg', 'com', 'packet', 'init', 'exited', 
 OF_REPORTS = ('radio', 'all')
 RESERVED = frozenset((*DECLARING, *STATEMENTS, *TESTS, *OTHERS, *OF_REPORTS))
 
-# The classes of words on the page: what a statement does has the colour that it has on the lanes.
+# The classes of words on the page: a statement has the colour that its effect has on the lanes.
 _PACKETS = ('packet', 'receiver', 'from', 'data', 'radio')
 _TIMERS = ('etimer', 'ctimer', 'set', 'reset', 'restart_timer', 'stop', 'fired', 'expired', 'timer')
 COLOURS: dict[str, tuple[str, ...]] = {

@@ -1,7 +1,8 @@
-"""An expression with all its parentheses: the notation has no order of operators, and people write as in C.
+"""Writes an expression with all its parentheses: the notation has no precedence of operators, but people write as in
+C.
 
-`written(tokens, at)` returns the expression around a token, each operator with its two values in parentheses, by the
-order that operators have in C; or None if no expression is there.
+`written(tokens, at)` returns the expression around a token, with parentheses around each operator and its two values,
+by the precedence in C; or None if there is no expression.
 """
 from __future__ import annotations
 
@@ -9,7 +10,7 @@ from collections.abc import Sequence
 
 from motesim.notation.faults import TESTS, Token
 
-# The operators, those that bind most first.
+# The operators, in the order of precedence, the highest first.
 ORDER = (('*', '/', '%'), ('+', '-'), ('<', '<=', '>', '>='), ('==', '!='), ('&&',), ('||',))
 OPERATORS = frozenset(sign for level in ORDER for sign in level)
 # Keywords of expressions.
@@ -23,7 +24,7 @@ def _is_outside(token: Token) -> bool:
 
 
 def _are_two_values(before: Token, here: Token) -> bool:
-    """Returns whether a value ends and another begins, as in `set t 10`: then the second is a value by itself."""
+    """Returns whether a value ends and another begins, as in `set t 10`: then the second value is a separate one."""
     is_end = before.kind in ('name', 'number') or before.text in (')', 'data', 'from', 'now', 'self')
     return is_end and (here.kind in ('name', 'number') or here.text == '(' or here.text in INSIDE)
 

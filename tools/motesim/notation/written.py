@@ -1,4 +1,5 @@
-"""Writes what the grammar makes: that of docs/use/NOTATION.md, and the words of the syntax files for editors.
+"""Writes the parts of files that are made from the grammar: the grammar in docs/use/NOTATION.md, and the words of the
+syntax files for editors.
 
     PYTHONPATH=tools python3 -m motesim.notation.written            writes the files
     PYTHONPATH=tools python3 -m motesim.notation.written --check    ends with status 1 if one of them isn't up to date
@@ -54,7 +55,7 @@ def alternatives() -> dict[str, list[str]]:
 
 
 def filled(name: str, parts: Iterable[str], between: str) -> list[str]:
-    """A rule on as many lines as it needs: each begins with the separator of its parts."""
+    """A rule on as many lines as it needs: each further line begins with the separator of the parts."""
     lines, line = [], '%-*s = ' % (NAME_WIDTH, name)
     begin = len(line)
     for place, part in enumerate(parts):
@@ -91,7 +92,7 @@ def page_of(page: str) -> str:
 
 
 def of_words(words: Iterable[str]) -> str:
-    """Words as a syntax file has them, the longest ones first."""
+    """Words in the form of a syntax file, the longest ones first."""
     return '(%s)' % '|'.join(sorted(words, key=lambda word: (-len(word), word)))
 
 

@@ -47,7 +47,7 @@ def difference(packet: Packet, wanted: tuple[Copy, ...]) -> str:
 
 
 def check_medium(report: Report, scenario: Scenario) -> None:
-    """Checks that each packet goes to those who hear its sender, after the right delay, or is lost on the right
+    """Checks that each packet goes to the motes that hear its sender, after the right delay, or is lost on the right
     links."""
     copies, left = copies_of(scenario), 0
     for row, packet in enumerate(report.medium, report.medium_row + 1):

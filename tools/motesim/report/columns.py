@@ -1,7 +1,7 @@
 """Reports as columns: arrays of numbers, by the kind of line.
 
 A `Trace` has the lines of all motes, one after another; a `Log` has the packets of the medium with their copies. Code
-for millions of lines works on these arrays; each `Line` and `Packet` is made of them when it is needed.
+for millions of lines works on these arrays; each `Line` and `Packet` is made from them when it is needed.
 """
 from __future__ import annotations
 
@@ -16,11 +16,11 @@ from motesim.report.lines import FIELDS, FORMS, Copy, Line, Packet
 
 KINDS = tuple(FIELDS)
 CODES = {kind: code for code, kind in enumerate(KINDS)}
-# For each kind the bytes that pick its lines out of the codes of all lines.
+# For each kind, the bytes that select its lines from the codes of all lines.
 MASKS = [bytes(int(byte == code) for byte in range(256)) for code in range(len(KINDS))]
-# How large the numbers of a field may be, as array calls it.
+# The size of a field's numbers, as a type code of `array`.
 TYPES = {'process': 'H', 'event': 'H', 'word': 'H', 'value': 'H', 'sender': 'I', 'serial': 'Q', 'number': 'Q'}
-# The process or the event of a line that has none, and the arrival of a copy that the medium lost.
+# The number for a process or an event if a line has none, and that for the arrival of a copy that the medium lost.
 NONE = 0xFFFF
 LOST = 2 ** 64 - 1
 
@@ -28,7 +28,7 @@ Fields = dict[str, 'array[int]']
 
 
 def new_fields(kind: str) -> Fields:
-    """The columns of one kind of line, with nothing in them."""
+    """Empty columns for one kind of line."""
     return {field: array(TYPES[field]) for field in FIELDS[kind].split()}
 
 
@@ -81,7 +81,7 @@ class Trace:
 
     @cached_property
     def _before(self) -> list[list[int]]:
-        """For each mote, how many lines of each kind there are before its own."""
+        """For each mote, how many lines of each kind are before the mote's own lines."""
         counts = [0] * len(KINDS)
         found = [counts]
         for begin, end in zip(self.starts, self.starts[1:]):
@@ -107,7 +107,7 @@ class Trace:
         return any(place in fields['process'] for fields in self.of.values() if 'process' in fields)
 
     def processes(self) -> set[str]:
-        """The names of all processes of which there are lines."""
+        """The names of all processes that have lines."""
         return {self.names[it] for fields in self.of.values() for it in set(fields.get('process', ()))}
 
     def all_rows(self, kind: str) -> array[int]:
@@ -115,7 +115,7 @@ class Trace:
         return array('I', compress(range(len(self)), self.kind.translate(MASKS[CODES[kind]])))
 
     def numbers_of(self, field: str, words: Iterable[str]) -> set[int]:
-        """The numbers by which the column of a field has these words; words that it can't have are left out."""
+        """The numbers of these words in the column of a field; words that the column can't have are left out."""
         if field in ('process', 'event'):
             return {self.names.index(word) for word in words if word in self.names}
         return {int(word) for word in words if len(word) < 20 and word.isdecimal() and str(int(word)) == word}
@@ -189,7 +189,7 @@ class Trace:
 
 
 class MoteLines(Sequence[Line]):
-    """The lines of one mote, which are made when they are needed."""
+    """The lines of one mote; each is made when it is needed."""
     __slots__ = ('trace', 'mote')
 
     def __init__(self, trace: Trace, mote: int):
@@ -262,7 +262,7 @@ class Log(Sequence[Packet]):
         return self.at, self.sender, self.number, self.value
 
     def of_copies(self, column: Iterable[int]) -> Iterator[int]:
-        """For each copy, what a column has of its packet."""
+        """For each copy, the value of its packet in a column."""
         counts = map(int.__sub__, self.first[1:], self.first)
         return chain.from_iterable(repeat(value, count) for value, count in zip(column, counts))
 

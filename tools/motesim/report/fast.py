@@ -1,6 +1,6 @@
-"""Reads reports in large pieces; those of a long report are read by several processes at once.
+"""Reads reports in large pieces; several processes read the pieces of a long report.
 
-`read(data)` returns None if it can't read a text in this way, because it is not a report. `motesim.report.strict` then
+`read(data)` returns None if the text isn't a report, and so can't be read in this way. `motesim.report.strict` then
 reads the text line by line, and finds its first error.
 """
 from __future__ import annotations
@@ -17,7 +17,7 @@ from motesim.report.pieces import Lines, Packets, PieceReader, Span
 from motesim.report.strict import Bad, Numbers
 from motesim.runner.batch import each_part
 
-# How many bytes a piece has, and how many bytes a report has at least that several processes read.
+# The number of bytes of a piece, and the least number of bytes of a report that several processes read.
 PIECE = 1 << 19
 MANY = 8 << 20
 
@@ -35,7 +35,7 @@ def _spans(begin: int, end: int, data: bytes) -> Iterator[Span]:
 
 
 def _cut(data: bytes, begin: int, end: int) -> int:
-    """The end of a line, about a piece behind the beginning."""
+    """The end of a line, about the length of a piece after the beginning."""
     if end - begin <= PIECE:
         return end
     cut = data.rfind(b'\n', begin, begin + PIECE) + 1
@@ -43,7 +43,7 @@ def _cut(data: bytes, begin: int, end: int) -> int:
 
 
 def _trace_pieces(spans: list[Span]) -> Iterator[list[Span]]:
-    """The spans in lists, each of about so many bytes."""
+    """The spans in lists, each with about this many bytes."""
     found: list[Span] = []
     size = 0
     for span in spans:
@@ -144,7 +144,7 @@ def _rename(lines: Lines, names: list[str]) -> None:
 
 
 class Found(NamedTuple):
-    """A report as it was read."""
+    """The contents of a report."""
     programs: list[str]
     trace: Trace
     log: Log
@@ -152,7 +152,7 @@ class Found(NamedTuple):
 
 
 def read(data: bytes) -> Found | None:
-    """Reads a report, or returns None if it is to be read line by line."""
+    """Reads a report, or returns None if it has to be read line by line."""
     end = data.find(b'\nmedium\n') + 1
     left = data.rfind(b'\nleft ') + 1
     if not end or left < end or data[-1:] != b'\n':

@@ -10,7 +10,7 @@ MOST_NUMBER = 2 ** 62 - 1
 
 
 class Line(tuple[Any, ...]):
-    """A line of a trace. What its kind doesn't have is None.
+    """A line of a trace. A field that its kind lacks is None.
 
     kind      its second word, one of `FORMS`
     mote, at  the mote that wrote it, and the moment
@@ -20,11 +20,11 @@ class Line(tuple[Any, ...]):
     word      W: its word
     sender    F: the mote that sent a packet (the line `send` is the mote's own, and has none)
     number    N: the packet's number at its sender
-    value     V: what was printed, or a packet's value
+    value     V: the printed value, or a packet's value
 
-    packet    a packet by its sender and number, of a line that has one
+    packet    the sender and the number of the packet, if the line has one
 
-    A line is a tuple, so two of them compare by what they say. `str(line)` is the line's text (not `'%s' % line`,
+    A line is a tuple, so two lines are compared by their contents. `str(line)` is the line's text (not `'%s' % line`,
     which formats the items of a tuple).
     """
     __slots__ = ()

@@ -5,7 +5,7 @@ import re
 
 from motesim.report.lines import FIELDS
 
-# (a repeated group that doesn't give back, as `(..)*+`, is matched wrongly by Python before 3.11.5)
+# (Python before 3.11.5 matches a possessive group, such as `(..)*+`, wrongly)
 _MOMENT = '(?:0|[1-9][0-9]{0,5}+|1000000)'
 _NUMBER = '(?:0|[1-9][0-9]{0,18}+)'
 _WORD = '(?:0|[1-9][0-9]{0,4}+)'

@@ -1,8 +1,8 @@
 """Reads a piece of a report into columns, by calls that work on all of its lines at once.
 
-A regular expression matches all lines of the piece, so what follows needn't look at their form. A line without its
-digits, such as ` post  blink timer `, is its shape: there are few of them, and each has one kind and its names. The
-lines of each kind, without their letters, are then a list of numbers in which each field has its places.
+A regular expression matches all lines of the piece, so later steps needn't check their form. A line without its
+digits, such as ` post  blink timer `, is its shape: there are only a few shapes, and each has one kind and its names.
+The lines of each kind, without their letters, are then a list of numbers in which each field has its places.
 """
 from __future__ import annotations
 
@@ -26,7 +26,8 @@ DIGITS = b'0123456789'
 LETTERS = bytes(byte for byte in range(128) if chr(byte).isalpha()) + b'_'
 # A text with `a` for each letter and `0` for each digit.
 CLASSES = bytes(ord('a') if byte in LETTERS else ord('0') if byte in DIGITS else byte for byte in range(256))
-# The numbers up to this have a table, which is faster than reading them; a text of fewer bytes isn't worth one.
+# Numbers up to the first limit are in a table, which is faster than reading them; for a text with fewer bytes than the
+# second limit the table isn't made.
 MOST_TABLED = 65_535
 WORTH_A_TABLE = 1 << 20
 # The fields of a packet, and those of a copy, as marks.
@@ -63,7 +64,7 @@ class Packets(NamedTuple):
 
 
 class _Numbers(dict[str, int]):
-    """Numbers by their texts; and `lost`, which is an arrival."""
+    """Numbers by their texts; and `lost`, which may be an arrival."""
 
     def __missing__(self, word: str) -> int:
         return LOST if word == 'lost' else int(word)
@@ -122,18 +123,18 @@ def _names(table: list[int], numbers: bytes | list[int]) -> array[int]:
 def _column(field: str, values: list[int]) -> array[int]:
     """An array of a field's values."""
     kind = TYPES[field]
-    # (array is much slower at reading short numbers than at copying them)
+    # (`array` needs much longer to read short numbers than to copy them)
     return array(kind, struct.pack('%dH' % len(values), *values)) if kind == 'H' else array(kind, values)
 
 
 class PieceReader:
-    """Reads pieces of a report of so many motes, and keeps what it has learned about its words."""
+    """Reads pieces of a report of this many motes, and remembers the words that have occurred."""
 
     def __init__(self, motes: int, size: int):
         self.motes = motes
         self.most = {'sender': motes - 1, 'number': MOST_NUMBER, 'serial': MOST_NUMBER}
         self.names: list[str] = []
-        # (a name with a digit gets another one of capital letters, which no line has)
+        # (a name with a digit is replaced by a name of capital letters, which no line has)
         self.aliases: dict[bytes, bytes] = {}
         real: dict[bytes, str] = {}
         self.real, self.shapes = real, _Shapes(self.names, real)
@@ -220,7 +221,7 @@ class PieceReader:
 
 
 def _check_order(spans: list[Span], counts: list[int], at: list[int], codes: bytes) -> None:
-    """Checks that moments don't fall in a trace, and that nothing follows `halt`."""
+    """Checks that moments don't decrease within a trace, and that nothing follows `halt`."""
     begin = 0
     for span, count in zip(spans, counts):
         end = begin + count
@@ -234,7 +235,7 @@ def _check_order(spans: list[Span], counts: list[int], at: list[int], codes: byt
 
 
 def _check_copies(copies: list[int], at: list[int], sender: list[int], to: list[int], arrival: list[int]) -> None:
-    """Checks that receivers rise, without the sender, and that nothing arrives before it is sent."""
+    """Checks that receivers are in rising order, without the sender, and that nothing arrives before it is sent."""
     is_first = bytearray(len(to) + 1)
     place = 0
     for count in copies:
@@ -249,5 +250,5 @@ def _check_copies(copies: list[int], at: list[int], sender: list[int], to: list[
 
 
 def _each(values: list[int], times: list[int]) -> Iterator[int]:
-    """Each value so many times."""
+    """Each value, repeated as often as its count says."""
     return chain.from_iterable(map(repeat, values, times))

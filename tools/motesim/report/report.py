@@ -1,9 +1,9 @@
 """Reads reports: docs/use/REPORT.md describes them.
 
-A report is read strictly: each line has to be one of docs/use/REPORT.md, with names and numbers that it can have.
-Moments don't fall in a trace, packets and their receivers are in order, and there is nothing after `left K`.
-It isn't checked that the traces agree with the log of the medium. `Report.text()` returns the same text, byte for
-byte. Any other text raises a `ReportFault`, which has its line.
+A report is read strictly: each line has to be one of docs/use/REPORT.md, with allowed names and numbers. Moments don't
+decrease within a trace, packets and their receivers are in order, and nothing follows `left K`. It isn't checked that
+the traces agree with the log of the medium. `Report.text()` returns the same text, byte for byte. Any other text
+raises a `ReportFault`, which has the line of the error.
 """
 from __future__ import annotations
 
@@ -21,7 +21,7 @@ from motesim.runner.batch import each_part
 
 
 class Mote:
-    """A mote with its trace. It begins on line `row` of the report, and `lines[i]` is on line `row + 1 + i`."""
+    """A mote with its trace. The trace begins on line `row` of the report, and `lines[i]` is on line `row + 1 + i`."""
     __slots__ = ('number', 'program', 'row', 'lines')
 
     def __init__(self, number: int, program: str, row: int, lines: Sequence[Line]):
@@ -52,7 +52,8 @@ class Outcome(NamedTuple):
 
 OUTCOMES = ('received', 'lost', 'full', 'collided', 'halted', 'left')
 _LOST, _HALTED, _LEFT = (OUTCOMES.index(it) for it in ('lost', 'halted', 'left'))
-# From this number of copies on, several processes look for the outcomes, each for this many motes at a time.
+# The number of copies from which several processes look for the outcomes, and the number of motes for which each looks
+# at a time.
 MANY, MOTES_AT_ONCE = 200_000, 256
 _BECAME = {'recv': 'received', 'lost': 'full', 'collide': 'collided'}
 
@@ -131,7 +132,7 @@ class Report:
         return {(packet.sender, packet.number): packet for packet in self.medium}
 
     def packet(self, sender: int, number: int) -> Packet | None:
-        """A packet by its sender and its number there: for a few of them faster than `packets`."""
+        """A packet by its sender and its number there: for a few packets this is faster than `packets`."""
         places = compress(count(), map(number.__eq__, self.log.number))
         return next((self.log[place] for place in places if self.log.sender[place] == sender), None)
 
@@ -144,8 +145,8 @@ class Report:
     def fates(self) -> bytearray:
         """The outcome of each copy in the columns of the log: its place in OUTCOMES.
 
-        A copy without a line was lost by the medium, arrived at a mote that had halted, or is one of the `left`, which
-        would arrive last of all.
+        A copy without a line was lost by the medium, arrived at a mote that had halted, or is one of the last `left`
+        copies, which would arrive after the end.
         """
         log, motes = self.log, len(self.motes)
         packets = list(log.of_copies(list(_keys(log.sender, log.number, motes))))
@@ -163,7 +164,8 @@ class Report:
         return found
 
     def _fates_at(self, packets: list[int], motes: range) -> list[bytes]:
-        """The outcomes of the copies that came to each of these motes by its lines, in the order of the log."""
+        """The outcomes of the copies that arrived at each of these motes, from the mote's lines, in the order of the
+        log."""
         coming: list[list[int]] = [[] for _ in motes]
         wanted = bytes(map(motes.__contains__, range(len(self.motes))))
         is_one = map(wanted.__getitem__, self.log.to)
@@ -172,7 +174,7 @@ class Report:
         return [bytes(map(self._became(mote).get, its, repeat(_LEFT))) for mote, its in zip(motes, coming)]
 
     def _became(self, mote: int) -> dict[int, int]:
-        """The outcomes of the packets that came to a mote by its lines, by the keys of the packets."""
+        """The outcomes of the packets that arrived at a mote, from the mote's lines, by the keys of the packets."""
         found: dict[int, int] = {}
         for kind, fate in _BECAME.items():
             place, fields = self.trace.place(mote, kind), self.trace.of[kind]

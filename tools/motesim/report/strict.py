@@ -16,7 +16,7 @@ from motesim.report.lines import FIELDS, FORMS, MOST_MOMENT, MOST_NUMBER, MOST_W
 
 
 class ReportFault(Fault):
-    """A text that is not a report: its first line with an error, and what was expected there."""
+    """A text that is not a report: its first line with an error, and the expected words."""
 
     def __init__(self, row: int, expected: str, found: str | None, is_cut: bool = False):
         self.row, self.expected, self.found = row, expected, found
@@ -29,7 +29,7 @@ class ReportFault(Fault):
 
 
 class Read(NamedTuple):
-    """A report as it was read: for each mote its program, its row and its lines; then the log."""
+    """The contents of a report: for each mote its program, its row and its lines; then the log."""
     motes: list[tuple[str, int, list[Line]]]
     medium: list[Packet]
     left: int
@@ -50,11 +50,12 @@ def text_of(text: str | bytes) -> str:
 
 
 class Bad(Exception):
-    """A word that isn't allowed: what was expected instead."""
+    """A word that isn't allowed; its text is the expected one."""
 
 
 class Words(dict[str, Any]):
-    """The words of one kind that occurred, each with its meaning. Each new word is examined only once."""
+    """The words of one kind that occurred, each with its meaning. Each word is examined only when it occurs for the
+    first time."""
     __slots__ = ('expected',)
 
     def __init__(self, expected: str):
@@ -74,7 +75,7 @@ class Words(dict[str, Any]):
 
 
 class Numbers(Words):
-    """Decimal numbers without needless zeros."""
+    """Decimal numbers without unnecessary zeros."""
     __slots__ = ('most',)
 
     def __init__(self, what: str, most: int):
@@ -105,7 +106,7 @@ class _Reader:
     def __init__(self, text: str):
         self.rows = text.split('\n')
         self.at = 0
-        # (no other line begins so: a trace's lines and the medium's begin with a moment)
+        # (no other line has this beginning: a trace's lines and the medium's begin with a moment)
         self.count = text.startswith('mote ') + text.count('\nmote ')
         self.moments = Numbers('a moment', MOST_MOMENT)
         self.numbers = Numbers('a number', MOST_NUMBER)
@@ -126,13 +127,13 @@ class _Reader:
     def fault(self, expected: str, row: int | None = None) -> NoReturn:
         row = self.at if row is None else row
         is_end = row >= len(self.rows) or (row == len(self.rows) - 1 and not self.rows[row])
-        # (a text that is cut off in a line has no line end, and one that has nothing at all is not a report)
+        # (a text that is cut off within a line has no line end, and an empty text is not a report)
         is_cut = row > 0 and row >= len(self.rows) - 1
         raise ReportFault(row + 1, expected, None if is_end else self.rows[row], is_cut)
 
     def read(self) -> Read:
         was_on = gc.isenabled()
-        # (millions of tuples, none of them in a cycle)
+        # (the garbage collector would search millions of tuples, none of which is in a cycle)
         gc.disable()
         try:
             motes = [self.mote(number) for number in range(max(1, self.count))]
@@ -171,7 +172,7 @@ class _Reader:
                     break
                 self.bad_line(at, words)
             try:
-                # (most of the time goes here, so each length has its own way)
+                # (most of the time is spent here, so each length has its own code)
                 moment = moments[words[0]]
                 if count == 4:
                     lines.append(new(form, (mote, moment, a[words[2]], b[words[3]], kind)))

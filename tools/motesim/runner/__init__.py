@@ -1,4 +1,4 @@
-"""Runs of `motesim`: which binary, within which limits, and its results.
+"""Runs of `motesim`: selects the binary, sets limits, and keeps results.
 
     from motesim.runner import FOREIGN, Runner, run_each
 

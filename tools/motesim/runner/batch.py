@@ -1,9 +1,10 @@
-"""Many short pieces of work, several at once, by worker processes that stay.
+"""Does many short pieces of work, several at once, in worker processes that are used again.
 
     for done in run_each(work, items):
         print(done.item, done.fault or done.result)
 
-An error of an item is its own fault; the others continue. Leaving the loop ends all workers with their runs.
+An error in one item is the fault of only this item; the others continue. Leaving the loop ends all workers with their
+runs.
 """
 from __future__ import annotations
 
@@ -27,21 +28,21 @@ if TYPE_CHECKING:
 
 Item = TypeVar('Item')
 Result = TypeVar('Result')
-# How many seconds of work a worker gets at a time, about, and the most items at a time.
+# The approximate seconds of work that a worker gets at a time, and the most items at a time.
 SECONDS_AHEAD = 0.02
 MOST_AHEAD = 32
-# Seconds between two looks at the clock while workers work.
+# The seconds between two checks of the clock while workers work.
 TICK = 0.2
 SECONDS_TO_END = 2.0
 # The option of prctl(2) for the signal that a process gets when its parent ends.
 PR_SET_PDEATHSIG = 1
-# How many processes share one piece of work.
+# The most processes that share one piece of work.
 MOST_SHARING = 4
 
 
 @dataclass(frozen=True)
 class Done(Generic[Item, Result]):
-    """An item with its result; or with its fault in one line, and then without a result."""
+    """An item with its result; or without a result, with its fault in one line."""
     item: Item
     result: Result | None
     fault: str = ''
@@ -72,7 +73,7 @@ def _end_with_parent(parent: int | None) -> None:
     """Has the system send SIGTERM to this process once its parent has ended, even by SIGKILL."""
     import ctypes
     ctypes.CDLL(None).prctl(PR_SET_PDEATHSIG, signal.SIGTERM)
-    # (it may have ended before)
+    # (the parent may have ended before this call)
     if parent is not None and os.getppid() != parent:
         _end_group(signal.SIGTERM, None)
 
@@ -83,7 +84,7 @@ def _serve(work: Callable[[Any], Any], channel: Connection, others: list[Connect
     Its parent is known unless a server process forks the workers.
     """
     share_group()
-    # (a channel is closed once nobody holds its other end)
+    # (a channel is closed once no process holds its other end)
     for other in others:
         other.close()
     signal.signal(signal.SIGINT, signal.SIG_IGN)
@@ -114,7 +115,7 @@ class _Worker:
     """A worker, as its parent process sees it."""
 
     def __init__(self, work: Callable[[Any], Any], others: list[Connection]):
-        # (it is imported only if it is needed, so that most commands start at once)
+        # (it is imported only if it is needed, so that most commands start quickly)
         import multiprocessing
         # (a process with threads can't be forked safely: then `work` is a function of a module)
         is_forked = threading.active_count() == 1
@@ -131,7 +132,7 @@ class _Worker:
         self.ahead = 1
 
     def give(self, numbers: list[int], items: list[Any]) -> None:
-        """Sends a list of items to a worker that has none."""
+        """Sends a list of items to this worker, which has none."""
         self.given.extend(numbers)
         self.count, self.begun = len(numbers), time.monotonic()
         self.since = self.begun
@@ -170,7 +171,7 @@ class _Batch(Generic[Item, Result]):
         self.workers: list[_Worker] = []
 
     def more(self, most: int) -> list[int]:
-        """The numbers of the next items, which are held until they are done."""
+        """The numbers of the next items; the items are kept until they are done."""
         found: list[int] = []
         while len(found) < most and self.again:
             found.append(self.again.pop())
@@ -184,7 +185,7 @@ class _Batch(Generic[Item, Result]):
         return found
 
     def feed(self) -> bool:
-        """Sends items to workers that have none. Returns whether any worker has some."""
+        """Sends items to workers that have none. Returns whether any worker has items."""
         for worker in self.workers:
             if not worker.given:
                 self.give(worker)
@@ -199,14 +200,14 @@ class _Batch(Generic[Item, Result]):
             try:
                 worker.give(numbers, [self.held[it] for it in numbers])
             except (BrokenPipeError, ConnectionResetError):
-                # (it has died, which is noticed when its answer is read)
+                # (the worker has died; this is noticed when its answer is read)
                 pass
 
     def done(self, number: int, result: Result | None, fault: str) -> tuple[int, Done[Item, Result]]:
         return number, Done(self.held.pop(number), result, fault)
 
     def drop(self, worker: _Worker, fault: str) -> tuple[int, Done[Item, Result]]:
-        """Ends a worker: the item that it worked on has the fault, and its others are given again."""
+        """Ends a worker: the item on which it worked has the fault, and its other items are sent to workers again."""
         worker.end()
         self.workers.remove(worker)
         first = worker.given.popleft()
@@ -250,14 +251,14 @@ def _in_order(found: Iterable[tuple[int, Done[Item, Result]]]) -> Iterator[Done[
 def run_each(work: Callable[[Item], Result], items: Iterable[Item], *, workers: int | None = None,
              seconds: float = 600.0, ordered: bool = False,
              stop: threading.Event | None = None) -> Generator[Done[Item, Result], None, None]:
-    """Does a piece of work on each item, in worker processes, and yields the results.
+    """Does a piece of work for each item, in worker processes, and yields the results.
 
-    workers  how many processes; None for as many as there are processors, 0 for this process
+    workers  the number of processes; None for as many as there are processors, 0 for this process
     seconds  how long an item may last; then its worker is ended, and another one replaces it
-    ordered  whether the results come in the order of the items
+    ordered  whether the results are in the order of the items
     stop     once it is set, no further item begins
 
-    Items are read as workers become free.
+    Items are read when workers become free.
     """
     if workers == 0:
         for item in items:
@@ -275,7 +276,7 @@ def run_each(work: Callable[[Item], Result], items: Iterable[Item], *, workers: 
 
 
 def each_part(work: Callable[[Item], Result], parts: Iterable[Item], is_much: bool) -> Iterator[Result]:
-    """The result of each part of a piece of work, in order; if it is much, several processes work.
+    """The result of each part of a piece of work, in order; if there is much work, several processes do it.
 
     The processes are copies of this one, so they share its memory. If this process has threads, it does all the
     work itself. Raises a `Fault` if one of the processes fails.
@@ -291,6 +292,6 @@ def each_part(work: Callable[[Item], Result], parts: Iterable[Item], is_much: bo
 
 
 def _is_worker() -> bool:
-    """Returns whether this process is itself a worker, which may not have workers."""
+    """Returns whether this process is itself a worker; workers must not have workers."""
     processes = sys.modules.get('multiprocessing')
     return processes is not None and bool(processes.current_process().daemon)

@@ -11,14 +11,15 @@ from motesim.runner.programs import ProgramFault
 
 
 class Answer(NamedTuple):
-    """The answer of the program: its status, and what it wrote to standard output and to standard error."""
+    """The answer of the binary: its status, its standard output and its standard error."""
     status: int
     report: bytes
     fault: bytes
 
 
 class RunKey(NamedTuple):
-    """Which run an answer is of: a program (its file and when that was written), its arguments, and a scenario."""
+    """The run to which an answer belongs: a binary (its file, and the time at which that was written), its arguments,
+    and a scenario."""
     program: tuple[int, int, int, int]
     arguments: tuple[str, ...]
     scenario: bytes
@@ -35,7 +36,8 @@ def key_of(program: Path, arguments: tuple[str, ...], scenario: bytes) -> RunKey
 
 
 class Cache:
-    """Keeps results up to so many bytes; then it drops those that were used longest ago."""
+    """Keeps results with at most this many bytes in all; beyond that it drops those whose last use is the longest
+    ago."""
 
     def __init__(self, most_bytes: int):
         self._most, self._bytes = most_bytes, 0
@@ -51,7 +53,7 @@ class Cache:
             return found
 
     def keep(self, key: RunKey, answer: Answer) -> None:
-        """Keeps an answer, unless it is larger than all that may be kept."""
+        """Keeps an answer, unless it is larger than the whole cache."""
         size = len(answer.report) + len(answer.fault)
         with self._lock:
             if size > self._most or key in self._answers:

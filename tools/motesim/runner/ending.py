@@ -1,7 +1,7 @@
 """Ends the runs of this process when a signal ends it.
 
-A run is the leader of a process group of its own, so that a signal that ends a tool doesn't reach it: without this it
-would continue, and nobody would watch its limits.
+A run is the leader of its own process group, so a signal that ends a tool doesn't reach it. Without this module the
+run would continue, and no process would watch its limits.
 """
 from __future__ import annotations
 
@@ -22,7 +22,7 @@ class _Runs:
 
 
 def started(start: Callable[[], subprocess.Popen[bytes]]) -> subprocess.Popen[bytes]:
-    """Starts a run that is the leader of its group, and notes it until it is `over`."""
+    """Starts a run that is the leader of its group, and keeps it in the list until `over` is called."""
     process = None
     try:
         with _deferred():
@@ -48,13 +48,14 @@ def over(leader: int) -> None:
 
 @contextlib.contextmanager
 def _deferred() -> Iterator[None]:
-    """Defers signals until a run is noted; those that would end this process at once end its runs too from then on."""
+    """Defers signals until a run is in the list. From then on, signals that would end this process at once also end
+    its runs."""
     if not _is_main():
         yield
         return
     came: list[int] = []
     before = {it: signal.getsignal(it) for it in (*ENDING, signal.SIGINT)}
-    # (a handler that the tool has set itself stays)
+    # (a handler that the tool has set stays)
     before = {it: handler for it, handler in before.items()
               if handler in (signal.SIG_DFL, signal.default_int_handler, _end)}
     for number in before:
@@ -69,7 +70,7 @@ def _deferred() -> Iterator[None]:
 
 
 def _is_main() -> bool:
-    """True in the main thread: only that one can set handlers of signals."""
+    """True in the main thread: only this thread can set handlers of signals."""
     return threading.current_thread() is threading.main_thread()
 
 

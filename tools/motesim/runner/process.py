@@ -1,8 +1,8 @@
-"""One run of the program within limits of time, memory and bytes.
+"""One run of `motesim` within limits of time, memory and bytes.
 
     got = Runner(limits=FOREIGN).answer(scenario)       # an `Answer`, or a `LimitMet`
 
-The program gets the scenario on standard input. A run that another thread may stop is a `Running`:
+`motesim` gets the scenario on standard input. A run that another thread may stop is a `Running`:
 
     running = runner.start(scenario)
     got = running.wait()                                # `Stopped` once another thread has called running.stop()
@@ -26,16 +26,16 @@ from motesim.runner.programs import ProgramFault, program_path
 
 MEGABYTE = 1 << 20
 CHUNK = MEGABYTE
-# How much of standard error is kept: a fault is one line.
+# The most bytes of standard error that are kept: a fault is one line.
 MOST_FAULT = 1 << 16
-# Seconds between two looks at the clock and at the memory that a run has.
+# The seconds between two checks of the clock and of the memory of a run.
 TICK = 0.02
 
 LimitName = Literal['seconds', 'memory', 'report', 'processor']
 
 
 def _most_memory() -> int:
-    """Half of this machine's memory, and no more than 8 gigabytes: a run is to end before the machine swaps."""
+    """Half of this machine's memory, but at most 8 gigabytes: a run should end before the machine swaps."""
     try:
         return min(8 << 30, os.sysconf('SC_PHYS_PAGES') * os.sysconf('SC_PAGE_SIZE') // 2)
     except (OSError, ValueError):
@@ -45,7 +45,7 @@ def _most_memory() -> int:
 class Limits(NamedTuple):
     """The limits of a run: seconds, bytes of memory and of its report, and seconds of processor time.
 
-    The seconds of a run depend on what else the machine does; its processor time hardly depends on that.
+    The seconds of a run depend on the machine's other work; its processor time hardly does.
     """
     seconds: float = 600.0
     memory: int = _most_memory()
@@ -78,26 +78,26 @@ class Stopped(ProgramFault):
 
 
 class NoReport(ProgramFault):
-    """The program refuses a scenario."""
+    """`motesim` refuses a scenario."""
 
 
 class _Group:
     """The process group of the runs of this process.
 
-    Each run is the leader of a group of its own, so that Ctrl-C reaches only the tool, and a run ends together with
-    what it has started. A worker of `run_each` is such a leader itself, and ends together with its runs.
+    Each run is the leader of its own group, so that Ctrl-C reaches only the tool, and a run ends together with its
+    child processes. A worker of `run_each` is also such a leader, and ends together with its runs.
     """
     is_shared = False
 
 
 def share_group() -> None:
-    """Makes this process the leader of a group to which all its later runs belong."""
+    """Makes this process the leader of a group; all its later runs belong to this group."""
     os.setpgid(0, 0)
     _Group.is_shared = True
 
 
 def memory_of(pid: int) -> int:
-    """The bytes of memory that a process has; 0 if the system doesn't say."""
+    """The bytes of memory that a process has; 0 if the system doesn't report it."""
     try:
         with open('/proc/%d/statm' % pid, encoding='ascii') as file:
             return int(file.read().split()[1]) * os.sysconf('SC_PAGE_SIZE')
@@ -106,16 +106,17 @@ def memory_of(pid: int) -> int:
 
 
 def processor_seconds_of(pid: int) -> float:
-    """The seconds of processor time that a process has used; 0 if the system doesn't say."""
+    """The seconds of processor time that a process has used; 0 if the system doesn't report it."""
     try:
-        # (the clock of a process, as clock_getcpuclockid makes its number)
+        # (the clock of a process; clock_getcpuclockid computes its number in the same way)
         return time.clock_gettime(~pid << 3 | 2)
     except OSError:
         return 0.0
 
 
 class Running:
-    """A run that has begun. `wait` returns the answer of the program, once; `stop` ends it from any thread."""
+    """A run that has begun. `wait` returns the answer of `motesim`, once; any thread may call `stop` to end the
+    run."""
 
     def __init__(self, process: subprocess.Popen[bytes], limits: Limits, is_leader: bool):
         self._process, self._limits, self._is_leader = process, limits, is_leader
@@ -129,7 +130,7 @@ class Running:
 
     @property
     def pid(self) -> int:
-        """The number of the program's process."""
+        """The number of the run's process."""
         return self._process.pid
 
     def stop(self) -> None:
@@ -137,7 +138,7 @@ class Running:
         self._end_by(Stopped())
 
     def wait(self) -> Answer:
-        """The answer of the program. Raises `LimitMet` or `Stopped` if the run was ended before its time."""
+        """The answer of `motesim`. Raises `LimitMet` or `Stopped` if the run was ended early."""
         try:
             self._read()
         finally:
@@ -153,7 +154,7 @@ class Running:
                 self._kill()
 
     def _kill(self) -> None:
-        """Ends the program and its children. Nobody has waited for it yet, so no other process has its number."""
+        """Ends the process and its children. Nothing has waited for it yet, so no other process has its number."""
         with contextlib.suppress(OSError):
             (os.killpg if self._is_leader else os.kill)(self._process.pid, signal.SIGKILL)
 
@@ -171,7 +172,7 @@ class Running:
         return self._process.stdout, self._process.stderr
 
     def _read(self) -> None:
-        """Reads until the program has ended, or has reached a limit."""
+        """Reads until the process has ended, or has reached a limit."""
         report, fault = (pipe.fileno() for pipe in self._pipes())
         left = {report, fault}
         poll = select.poll()
@@ -184,7 +185,7 @@ class Running:
                 ready = {number for number, _ in poll.poll(TICK * 1000)}
                 is_ended = ended in ready
                 if is_ended:
-                    # (what it has started ends with it, so that the pipes have an end)
+                    # (its child processes end with it, so that the pipes are closed)
                     self._kill()
                 for pipe in left & ready if not is_ended else left.copy():
                     data = self._take(pipe, pipe == report)
@@ -229,9 +230,9 @@ class Running:
 
 
 class Runner:
-    """Runs one program within limits; with a cache, a scenario that was run before isn't run again.
+    """Runs one binary within limits; with a cache, a scenario that was run before isn't run again.
 
-    program  its path; without one, the program that all tools run
+    program  the path of the binary; if None, the binary that all tools run
     """
 
     def __init__(self, program: Path | None = None, limits: Limits = Limits(), cache: Cache | None = None):
@@ -257,7 +258,7 @@ class Runner:
         return Running(process, self.limits, is_leader)
 
     def answer(self, scenario: bytes, *arguments: str) -> Answer:
-        """The answer of the program to a scenario, with these arguments on its command line."""
+        """The answer of the binary to a scenario, with these arguments on its command line."""
         if self.cache is None:
             return self.start(scenario, *arguments).wait()
         key = key_of(self.program or program_path(), arguments, scenario)
@@ -268,7 +269,7 @@ class Runner:
         return found
 
     def report(self, scenario: bytes, *arguments: str) -> bytes:
-        """The report of a scenario. Raises `NoReport` if the program refuses it."""
+        """The report of a scenario. Raises `NoReport` if the binary refuses it."""
         got = self.answer(scenario, *arguments)
         if got.status:
             why = got.fault.decode('utf-8', 'backslashreplace').strip() or 'status %d' % got.status

@@ -1,13 +1,13 @@
-"""The program that all tools run, and the place of kept programs.
+"""The binary of motesim that all tools run, and the place of kept binaries.
 
-`program_path` returns the program that MOTESIM names; otherwise the proved one of these sources, if it has been built;
-otherwise one that was compiled without a proof, and then says so. Binaries are kept in out/programs by a digest of what
-they were made of:
+`program_path` returns the binary that MOTESIM names; otherwise the proved binary of these sources, if it has been
+built; otherwise one that was compiled without a proof, and then prints a line about this. Binaries are kept in
+out/programs by a digest of what they were made from:
 
     proved-DIGEST/motesim      built by `./prove` or `./test`; the digest is of the sources, contracts and proofs
     compiled-DIGEST/motesim    compiled without a proof; the digest is of the sources
 
-A file that is there is whole, and never changes.
+A file in this folder is complete, and never changes.
 """
 from __future__ import annotations
 
@@ -24,11 +24,12 @@ from pathlib import Path
 from motesim.faults import Fault
 
 TOP = Path(__file__).resolve().parents[3]
-# The program that a proof builds, until the next one.
+# The binary that a proof builds; the next proof replaces it.
 PROVED = TOP / 'crates/motesim/out/motesim'
 DAY = 86_400
 PROGRAMS = TOP / 'out/programs'
-# The program of an archive that tools/pack made, which has no crates; and the page in it if the program was proved.
+# The binary in an archive that tools/pack made, which has no crates; and the page that the archive has if the binary
+# was proved.
 PACKED, PACKED_PROVED = TOP / 'motesim', TOP / 'PROVED.md'
 CODE, ALL_PARTS = ('src',), ('src', 'specs', 'proofs')
 # (./run has this line too, for machines without Python)
@@ -47,7 +48,8 @@ def is_program(path: Path) -> bool:
 # Sources.
 
 def crates_of_program(top: Path) -> list[str]:
-    """The crates of which the program is made, by crates.txt: lines of a name, options, and the crates that it uses."""
+    """The crates from which the binary is made, in the order of crates.txt: each line has a name, options, and the
+    crates that it uses."""
     below: dict[str, list[str]] = {}
     for row in (top / 'crates.txt').read_text('utf-8').splitlines():
         name, _, rest = row.partition('#')[0].partition(':')
@@ -57,7 +59,7 @@ def crates_of_program(top: Path) -> list[str]:
     left = ['motesim']
     while left:
         name = left.pop()
-        # (what crates.txt has no line for is a library of the kit)
+        # (a name without a line in crates.txt is a library of the kit)
         if name in below and name not in found:
             found[name] = None
             left += below[name]
@@ -65,7 +67,7 @@ def crates_of_program(top: Path) -> list[str]:
 
 
 def digest(top: Path = TOP, parts: Sequence[str] = CODE) -> str:
-    """A digest of these parts of all crates from which the program is made."""
+    """A digest of these parts of all crates from which the binary is made."""
     found = hashlib.sha256((top / 'crates.txt').read_bytes())
     for crate in crates_of_program(top):
         for part in parts:
@@ -87,10 +89,10 @@ def is_newer_than_sources(program: Path) -> bool:
     return max(os.stat(it).st_mtime_ns for it in found) <= program.stat().st_mtime_ns
 
 
-# Programs that are kept.
+# Kept binaries.
 
 def keep_whole(given: Path, kept: Path) -> None:
-    """Copies a program to its place: first under another name, so that the file is always whole."""
+    """Copies a binary to its place: first under another name, so that the file is always complete."""
     kept.parent.mkdir(parents=True, exist_ok=True)
     new = kept.with_name('%s.%d' % (kept.name, os.getpid()))
     try:
@@ -119,7 +121,7 @@ def proved_kept(top: Path = TOP) -> Path:
 
 
 def proved_program() -> Path | None:
-    """The proved program of these sources, if it has been built; it is copied to its place."""
+    """The proved binary of these sources, if it has been built; it is copied to its place."""
     if is_newer_than_sources(PROVED):
         for it in PROGRAMS.glob('proved-*/' + PROVED.name):
             if is_program(it) and _same(it, PROVED):
@@ -127,7 +129,7 @@ def proved_program() -> Path | None:
         try:
             keep_whole(PROVED, proved_kept())
         except OSError:
-            # (a tree that can't be written to)
+            # (a tree to which nothing can be written)
             return PROVED
     elif not any(PROGRAMS.glob('proved-*')):
         return None
@@ -135,12 +137,12 @@ def proved_program() -> Path | None:
 
 
 def compiled_program() -> Path | None:
-    """The program that was compiled from these sources without a proof."""
+    """The binary that was compiled from these sources without a proof."""
     return compiled_kept() if any(PROGRAMS.glob('compiled-*')) and is_program(compiled_kept()) else None
 
 
 def program_of_sources(may_be_proved: bool = True) -> Path | None:
-    """The program of these sources to run, or None if none has been built."""
+    """The binary of these sources to run, or None if none has been built."""
     if not (TOP / 'crates.txt').is_file():
         return PACKED if is_program(PACKED) else None
     return (proved_program() if may_be_proved else None) or compiled_program()
@@ -165,7 +167,7 @@ def is_compiled(program: Path) -> bool:
 
 
 def is_said_today() -> bool:
-    """True if this was reported on this machine, to this user, within a day; notes that it is reported now."""
+    """True if the line was printed for this user of this machine within the last day; notes that it is printed now."""
     cache = os.environ.get('XDG_CACHE_HOME') or os.path.expanduser('~/.cache')
     note = Path(os.environ.get('MOTESIM_SEEN') or Path(cache) / 'motesim/said')
     try:
@@ -181,7 +183,7 @@ def is_said_today() -> bool:
 
 @functools.cache
 def say_not_proved() -> None:
-    """Says, once a day, that the program that is run was not proved. (A tree's ./run says so each time.)"""
+    """Prints, once a day, that the binary was compiled, not proved. (A tree's ./run prints it each time.)"""
     if is_said_today():
         return
     print('motesim: %s' % (COMPILED if is_program(PACKED) else NOT_PROVED), file=sys.stderr, flush=True)
@@ -199,7 +201,7 @@ def program_path() -> Path:
 
 @functools.cache
 def _program_here() -> Path:
-    """The program of these sources. A process keeps using it even if they change."""
+    """The binary of these sources. A process uses the same one even if the sources change."""
     found = program_of_sources()
     if found is None:
         raise ProgramFault('motesim isn\'t compiled yet: ./run FILE.toml compiles it within a minute or so, once; '

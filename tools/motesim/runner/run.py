@@ -1,4 +1,4 @@
-"""Runs the program, and reads its answer.
+"""Runs `motesim`, and reads its answer.
 
     from motesim.runner.run import read_run
 
@@ -14,7 +14,7 @@ Errors are `motesim.faults.Fault`, whose text can be shown to users:
 
     ReportFault    a text is not a report; the message names the line
     ScenarioFault  a text is not a scenario, or not that of the report
-    ProgramFault   the program is not built, or refuses a scenario (then it is a NoReport)
+    ProgramFault   `motesim` is not built, or refuses a scenario (then it is a NoReport)
     Fault          a file can't be read
 """
 from __future__ import annotations
@@ -37,7 +37,7 @@ from motesim.report import Report, ReportFault
 from motesim.scenario import Scenario, ScenarioFault
 from motesim.scenario.kinds import begins_as_program, begins_as_results, has_plan
 
-# How a report begins, and how a scenario: by a comment, a table or a key.
+# The beginning of a report; and that of a scenario: a comment, a table or a key.
 OF_REPORT = re.compile(rb'mote 0 ')
 OF_SCENARIO = re.compile(rb'(?:\xef\xbb\xbf)?\s*(?:#|\[|[A-Za-z0-9_"\'-]+\s*=)')
 
@@ -45,7 +45,7 @@ OF_SCENARIO = re.compile(rb'(?:\xef\xbb\xbf)?\s*(?:#|\[|[A-Za-z0-9_"\'-]+\s*=)')
 class Run(NamedTuple):
     """The input of a tool: a report, the scenario if it is known, and a name to show.
 
-    file  the name, without folders, and the text of the file that has the programs, if it is known
+    file  the file that has the programs, if it is known: its name, without folders, and its text
     """
     name: str
     report: Report
@@ -54,12 +54,12 @@ class Run(NamedTuple):
 
 
 def answer(scenario: bytes, *arguments: str, limits: Limits = Limits()) -> Answer:
-    """The answer of the program to a scenario on standard input, with these arguments on its command line."""
+    """The answer of `motesim` to a scenario on standard input, with these arguments on its command line."""
     return Runner(limits=limits).answer(scenario, *arguments)
 
 
 def run_program(scenario: bytes, *arguments: str, limits: Limits = Limits()) -> bytes:
-    """The report of a scenario. Raises a `NoReport` if the program refuses the scenario."""
+    """The report of a scenario. Raises a `NoReport` if `motesim` refuses the scenario."""
     return Runner(limits=limits).report(scenario, *arguments)
 
 
@@ -79,7 +79,7 @@ def is_report(data: bytes) -> bool:
 
 
 def is_scenario(path: str | Path, data: bytes) -> bool:
-    """True if a file contains a scenario, not a report: by its first line, or by its name."""
+    """True if a file contains a scenario, not a report; its first line or its name shows this."""
     return not is_report(data) and (str(path).endswith('.toml') or OF_SCENARIO.match(data) is not None)
 
 
@@ -99,9 +99,9 @@ def refuse_others(path: str | Path, data: bytes) -> None:
 
 def read_run(path: str | Path, scenario: str | Path | None = None, limits: Limits = Limits(),
              program: Path | None = None) -> Run:
-    """A report from a file, with the scenario from another one if it is named.
+    """A report from a file, with the scenario from another file if one is named.
 
-    A scenario is run: a text that begins as one, or a file NAME.toml. The name `-` is standard input.
+    A scenario is run; this is a text that begins like a scenario, or a file NAME.toml. The name `-` is standard input.
     """
     data = read_file(path)
     refuse_others(path, data)

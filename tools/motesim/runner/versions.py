@@ -1,4 +1,4 @@
-"""The versions of the program and of the kit of a run."""
+"""The versions of the binary and of the kit of a run."""
 from __future__ import annotations
 
 import os
@@ -9,19 +9,19 @@ from motesim.version import KIT, VERSION
 
 
 def kit_version(program: Path) -> str:
-    """The Rattle kit that the program was proved with; nothing if it isn't the proved program of this tree."""
+    """The Rattle kit with which the binary was proved; empty if it isn't the proved binary of this tree."""
     return KIT if is_proved(program) else ''
 
 
 def program_version(program: Path) -> str:
-    """The version of the program, if it is this tree's; another one is only known by its digest."""
+    """The version of the binary, if it is this tree's; another binary is identified only by its digest."""
     if is_proved(program):
         return VERSION
     return '%s unproved' % VERSION if is_compiled(program) else 'another'
 
 
 def version_line(may_be_proved: bool = True) -> str:
-    """Returns the line of `--version`: the version, and whether the program that would run is proved."""
+    """Returns the line of `--version`: the version, and whether the binary that would run is proved."""
     named = os.environ.get('MOTESIM') if may_be_proved else None
     program = Path(named) if named else program_of_sources(may_be_proved)
     proofs = 'the proofs of %s are for %s' % (VERSION, KIT)

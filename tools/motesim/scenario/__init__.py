@@ -1,4 +1,4 @@
-"""Scenarios: how they are read, and what can be wrong with them."""
+"""Scenarios: reads them, and finds their faults."""
 from motesim.scenario.scenario import Scenario, ScenarioFault
 
 __all__ = ['Scenario', 'ScenarioFault']

@@ -1,4 +1,4 @@
-"""Texts that aren't UTF-8: which encoding they seem to have, and how they are saved as UTF-8."""
+"""Texts that aren't UTF-8: guesses their encoding, and explains how to save them as UTF-8."""
 from __future__ import annotations
 
 import codecs
@@ -10,7 +10,7 @@ LOOKED_AT = 4_096
 
 
 class Encoding(NamedTuple):
-    """An encoding: its name, its name for iconv, and the sign by which the text seems to have it."""
+    """An encoding: its name, its name for iconv, and the sign that the text has this encoding."""
     name: str
     of_iconv: str
     sign: str

@@ -1,7 +1,7 @@
 """Faults of scenarios: the place of the fault, the rule in plain words, and the allowed values.
 
 `find_fault(bytes)` checks a scenario by the rules of docs/use/SCENARIO.md, in their order, and returns the first
-`ScenarioError`, or None; motesim tells the same line. `place_of(text, path)` finds a table or a key in the text.
+`ScenarioError`, or None; `motesim` reports the same line. `place_of(text, path)` finds a table or a key in the text.
 """
 from __future__ import annotations
 
@@ -18,7 +18,8 @@ LONGEST_TEXT = 1_048_576
 # A table or a key: the names and the numbers that lead to it.
 Path = tuple[str | int, ...]
 
-# For each line that reports a fault, without `motesim: `, its rule. program_faults has the rules of programs' faults.
+# For each line that reports a fault, without `motesim: `, the rule. program_faults has the rules for the faults of
+# programs.
 RULES: dict[str, str] = {
     'read fault': 'The scenario could not be read: the file is not there, is a folder, or reading it failed.',
     'scenario too long': 'A scenario has at most 1,048,576 bytes.',
@@ -43,9 +44,9 @@ RULES: dict[str, str] = {
 
 @dataclass
 class ScenarioError(Exception):
-    """The first fault of a scenario: its message as motesim prints it, its place, and what is allowed there.
+    """The first fault of a scenario: the message that `motesim` prints, the place, and the allowed values.
 
-    path  the table or the key; of a missing key its table
+    path  the table or the key; for a missing key, its table
     line  instead of the path, the line and the column, if the text is not TOML, or not text
     missing  the key that the table lacks, or nothing
     """
@@ -57,7 +58,7 @@ class ScenarioError(Exception):
     missing: str = ''
 
     def is_of_value(self) -> bool:
-        """Returns whether the value after the key is not allowed, and not the key."""
+        """Returns whether the value after the key is not allowed, rather than the key."""
         if not self.path or type(self.path[-1]) is int or (
                 self.path[0] == 'queue' and self.message == 'scenario fault 6'):
             return False
@@ -261,14 +262,14 @@ OPENED = re.compile('|'.join([*LONG_QUOTES, r'"(?:[^"\\]|\\.)*"', "'[^']*'", '#'
 
 @dataclass(frozen=True)
 class Place:
-    """A place in a text: the line from 1, the column from 0, and how many signs."""
+    """A place in a text: the line from 1, the column from 0, and the number of characters."""
     line: int
     column: int
     length: int
 
 
 def _lines(text: str) -> Iterator[tuple[int, str]]:
-    """The lines that begin outside of a text of several lines, with their numbers."""
+    """The lines that begin outside any text of several lines, with their numbers."""
     quotes = ''
     for number, line in enumerate(text.split('\n'), 1):
         if not quotes:
@@ -313,7 +314,7 @@ def places(text: str) -> dict[Path, Place]:
 
 
 def last_outside(text: str) -> int:
-    """The last line that begins outside of a text of several lines; if such a text has no end, its first line."""
+    """The last line that begins outside any text of several lines; if such a text has no end, its first line."""
     return max((number for number, _ in _lines(text)), default=1)
 
 
@@ -340,7 +341,7 @@ def value_of(text: str, place: Place) -> Place:
 
 
 def _within(text: str, place: Place, name: str) -> Place:
-    """A key behind the place on its line, as in a table that is written in one line; otherwise the place."""
+    """A key after this place on the same line, as in a table that is written in one line; otherwise this place."""
     line = text.split('\n')[place.line - 1]
     found = re.compile(r'\b%s(?=["\']?\s*=)' % re.escape(name)).search(line, place.column + place.length)
     return Place(place.line, found.start(), len(name)) if found else place

@@ -3,7 +3,7 @@ from __future__ import annotations
 
 import re
 
-# A program begins by a declaration, below comments; a scenario by a comment, a table or a key.
+# A program begins with a declaration, below comments; a scenario begins with a comment, a table or a key.
 PROGRAM = re.compile(rb'(?:\xef\xbb\xbf)?(?:\s|//[^\n]*+\n)*+(?:process|event|semaphore)[ \t]++[a-z]')
 SCENARIO = re.compile(rb'(?:\xef\xbb\xbf)?(?:\s|#[^\n]*+\n)*+(?:\[|[A-Za-z0-9_"\'-]++[ \t]*+=)')
 
@@ -27,15 +27,15 @@ def has_plan(data: bytes) -> bool:
 
 
 def begins_as_results(data: bytes) -> bool:
-    """Returns whether a text begins as the results of a sweep do."""
+    """Returns whether a text begins like the results of a sweep."""
     return RESULTS.match(data) is not None
 
 
 def begins_as_program(data: bytes) -> bool:
-    """Returns whether a text begins as a program does, and not as TOML."""
+    """Returns whether a text begins like a program, and not like TOML."""
     return PROGRAM.match(data) is not None
 
 
 def begins_as_scenario(data: bytes) -> bool:
-    """Returns whether a text begins as a TOML document does, and not as a program."""
+    """Returns whether a text begins like a TOML document, and not like a program."""
     return SCENARIO.match(data) is not None

@@ -1,4 +1,4 @@
-"""Reads scenarios: docs/use/SCENARIO.md says what a scenario is. Any other text raises a `ScenarioFault`."""
+"""Reads scenarios: docs/use/SCENARIO.md describes them. Any other text raises a `ScenarioFault`."""
 from __future__ import annotations
 
 from functools import cached_property
@@ -40,7 +40,7 @@ class Scenario:
     places    a `MotePlace` for each mote, by its number
     losses    for each pair (sender, receiver) with a loss, its `every`
 
-    It is read for the tools' needs: not every text that motesim refuses is refused here.
+    This class checks only what the tools need: it accepts some texts that `motesim` refuses.
     """
 
     def __init__(self, tables: dict[str, Any]):
@@ -93,7 +93,8 @@ class Scenario:
 
     @cached_property
     def _neighbours(self) -> list[list[int]]:
-        """For each mote those that it hears. They are in the squares around it, whose sides are the range."""
+        """For each mote, the motes that it hears. They are in its square and in those around it; the range is the
+        length of a square's side."""
         side = max(1, self.range)
         squares: dict[tuple[int, int], list[int]] = {}
         for number, place in enumerate(self.places):
@@ -106,7 +107,7 @@ class Scenario:
         return found
 
     def hearers(self, s: int) -> list[int]:
-        """Who hears mote s, by rising number, whatever losses there are."""
+        """The motes that hear mote s, in rising order, whether or not links have losses."""
         return self._neighbours[s]
 
     def links(self) -> Iterator[tuple[int, int]]:
@@ -117,7 +118,7 @@ class Scenario:
                     yield s, r
 
     def delay(self, s: int, r: int) -> int:
-        """After how many moments a packet of s reaches r, which hears it."""
+        """The number of moments that a packet of s needs to reach r, which hears s."""
         return self.base + self.squared(s, r) // self.per
 
     @cached_property

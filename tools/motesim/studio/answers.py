@@ -1,4 +1,5 @@
-"""The results of a run for the page: its error, its differences from another, which sentences hold, its sums."""
+"""The results of a run for the page: its error, its differences from another run, the sentences that hold, and its
+totals."""
 from __future__ import annotations
 
 import re
@@ -42,18 +43,18 @@ def finished(number: int, text: str, data: bytes, name: str) -> Finished:
 
 
 def column16(line: str, column: int) -> int:
-    """A column in the units in which a browser counts."""
+    """A column, counted in the units of a browser."""
     return len(line[:column].encode('utf-16-le')) // 2
 
 
 def place16(text: str, offset: int) -> list[int]:
-    """The line and the column of an offset, from 0, as the page's editor counts them."""
+    """The line and the column of an offset, from 0, in the units of the page's editor."""
     begin = text.rfind('\n', 0, offset) + 1
     return [text.count('\n', 0, begin), column16(text[begin:offset], offset - begin)]
 
 
 def unwrapped(lines: list[str]) -> list[str]:
-    """An explanation with each rule on one line, however long, below the place with its mark."""
+    """An explanation with each rule on one line of any length, below the place with its mark."""
     head = 0
     if lines and lines[0].endswith(':'):
         head = next((row for row, line in enumerate(lines) if row and not line.startswith('  ')), len(lines))
@@ -75,7 +76,7 @@ def fault(text: str, line: str) -> dict[str, Any]:
 
 
 def stretch16(text: str, place: Place) -> list[int]:
-    """The line of a place and the columns at which it begins and ends, as the page's editor counts them."""
+    """The line of a place, and the columns at which it begins and ends, in the units of the page's editor."""
     row = text.split('\n')[place.line - 1]
     return [place.line - 1, column16(row, place.column), column16(row, place.column + place.length)]
 
@@ -109,7 +110,7 @@ def prints_of_programs(scenario: Scenario) -> dict[str, dict[str, list[str]]]:
 
 
 def difference(before: Finished, after: Finished, is_pinned: bool) -> dict[str, Any]:
-    """The differences between two runs: the lines of tools/compare, and as data the first difference (`first`),
+    """The differences between two runs: the lines of tools/compare; and, as data, the first difference (`first`),
     the moment of the first one in each trace (`parts`), and the motes that run another program (`motes`)."""
     one = before.named('the pinned run' if is_pinned else 'the previous run')
     lines, first, is_same = compared(one, after.named('this run'), MOST_ROWS)
@@ -127,8 +128,8 @@ def difference(before: Finished, after: Finished, is_pinned: bool) -> dict[str, 
 
 
 def side(report: Report, it: Difference) -> dict[str, Any]:
-    """The line of a report at a difference: its row, its text, and its origin. Without a text there is no such
-    mote (`has_mote`), or its trace ends before."""
+    """The line of a report at a difference: its row, its text, and its origin. If it has no text, there is no such
+    mote (`has_mote` is false), or the mote's trace ends earlier."""
     lines = lists_of(report).get(it.mote)
     if lines is None or it.place >= len(lines):
         return {'row': None, 'text': None, 'why': '', 'has_mote': lines is not None}
@@ -137,7 +138,7 @@ def side(report: Report, it: Difference) -> dict[str, Any]:
 
 
 def part_for(text: str, saved: str, parts: list[expectations.Part]) -> expectations.Part:
-    """The part of a file of expectations for this text: that of a change, if the text has that change."""
+    """The part of a file of expectations for this text: the part of a change, if the text has this change."""
     for part in parts[1:]:
         try:
             if expectations.changed(saved, part.replace) == text:

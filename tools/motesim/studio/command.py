@@ -24,13 +24,13 @@ NO_EDITOR = "The editor isn't installed (Debian's package libjs-codemirror): the
 
 
 def has_screen() -> bool:
-    """True if a browser can open a window of its own. One in the terminal would hide the terminal."""
+    """True if a browser can open its own window. A browser in the terminal would hide the terminal."""
     return sys.platform in ('darwin', 'win32') or bool(os.environ.get('DISPLAY') or os.environ.get('WAYLAND_DISPLAY'))
 
 
 def room() -> tempfile.TemporaryDirectory[str]:
-    """A folder for the file that opens the page: in the home of the user, since browsers that are installed as snaps
-    read no other."""
+    """A folder for the file that opens the page. It is in the home of the user, because browsers that are installed as
+    snaps can't read other folders."""
     try:
         return tempfile.TemporaryDirectory(prefix='motesim-studio-', dir=Path.home())
     except (OSError, RuntimeError):
@@ -39,7 +39,8 @@ def room() -> tempfile.TemporaryDirectory[str]:
 
 @contextlib.contextmanager
 def opened(address: str, wanted: bool) -> Iterator[None]:
-    """Opens the page by a file that only this user can read, since others can see the arguments of a browser."""
+    """Opens the page through a file that only this user can read, because other users can see the arguments of a
+    browser."""
     if not (wanted and has_screen()):
         yield
         return
@@ -52,8 +53,8 @@ def opened(address: str, wanted: bool) -> Iterator[None]:
 
 
 def serve(server: Server, is_open: bool) -> None:
-    """Serves until Ctrl-C, which it leaves to its caller."""
-    # (if the terminal is closed, or a signal ends the process, it ends as by Ctrl-C)
+    """Serves until Ctrl-C; the caller handles Ctrl-C."""
+    # (if the terminal is closed, or a signal ends the process, this has the same effect as Ctrl-C)
     for number in (signal.SIGTERM, signal.SIGHUP):
         signal.signal(number, signal.default_int_handler)
     print(server.address, flush=True)
@@ -65,7 +66,7 @@ def serve(server: Server, is_open: bool) -> None:
 
 def status_of(asked: argparse.Namespace) -> int:
     """Runs tools/studio with its arguments."""
-    # (the studio runs for hours, other commands for seconds)
+    # (the studio runs for hours, so it needs the garbage collector, unlike other commands)
     gc.enable()
     program_path()
     runs = Runs(Limits(asked.seconds, asked.memory, asked.report))

@@ -1,8 +1,8 @@
-"""The files of the studio: what it may read and write, and nothing else.
+"""The files of the studio: the only files that it may read and write.
 
-It reads scenarios in the folder of the file that it was started with, and the examples. It writes the file that it
-was started with, and new ones that the reader names in the page. It overwrites a file that was changed elsewhere since
-it was read only if the reader wants that.
+It reads scenarios in the folder of the file with which it was started, and the examples. It writes the file with which
+it was started, and new files that the user names in the page. If a file was changed elsewhere after it was read, the
+studio overwrites it only if the user agrees.
 """
 from __future__ import annotations
 
@@ -20,7 +20,7 @@ from motesim.scenario.kinds import is_for_teachers
 LONGEST = 1_048_576
 # Endings of TOML files that are not scenarios.
 OTHERS = ('.expect.toml', '.plan.toml')
-# The signs of a name besides letters and digits of any alphabet, and the first ones of them that may begin it.
+# The characters of a name besides letters and digits of any alphabet; only the first two of them may begin a name.
 SIGNS, FIRST_SIGNS = '_(\'’+,.- )', '_(\'’+'
 LONGEST_NAME = 200
 ALLOWED = ('NAME has letters, digits, spaces and _ ( ) \' + , . - only, at most %d bytes, and begins with none of '
@@ -70,20 +70,22 @@ program = "hello"
 
 
 def is_name(name: str) -> bool:
-    """True if a file of this name may be a scenario or its expectations: no path, and no sign that could command."""
+    """True if a file of this name may be a scenario or its expectations: the name is no path, and has no character
+    that could be a command."""
     stem = name.removesuffix('.toml')
-    # (accents may be signs of their own, of the kinds Mn and Mc)
+    # (accents may be separate characters, of the kinds Mn and Mc)
     plain = all(it.isalnum() or it in SIGNS or unicodedata.category(it) in ('Mn', 'Mc') for it in stem)
     return plain and stem != name and stem[:1] != '' and (stem[0].isalnum() or stem[0] in FIRST_SIGNS) and (
         len(stem.removesuffix('.expect').encode()) <= LONGEST_NAME)
 
 
 class Changed(Fault):
-    """A file was changed since it was read."""
+    """A file was changed after it was read."""
 
 
 class Document(NamedTuple):
-    """A text and how its file is written: a stamp of its bytes (empty without a file), line ends, byte order mark."""
+    """A text, and the form of its file: a stamp of its bytes (empty without a file), its line ends, its byte order
+    mark."""
     where: str
     name: str
     text: str
@@ -97,7 +99,7 @@ def stamp_of(data: bytes | None) -> str:
 
 
 def bytes_of(text: str, returns: bool, mark: bool) -> bytes:
-    """A text as its file has it."""
+    """A text in the form of its file."""
     written = text.replace('\n', '\r\n') if returns else text
     return ((MARK if mark else '') + written).encode('utf-8')
 
@@ -114,7 +116,7 @@ def document(where: str, name: str, data: bytes) -> Document:
 
 
 class Desk:
-    """The folder and the file that the studio was started with, and the examples."""
+    """The folder and the file with which the studio was started, and the examples."""
 
     def __init__(self, named: str | Path | None, examples: Path = TOP / 'examples'):
         self.examples = examples.resolve()
@@ -150,7 +152,7 @@ class Desk:
                       and (has_all or name in self.written or not is_for_teachers(name)))
 
     def path(self, where: str, name: str) -> Path:
-        """The path of a file that may be read: one in its folder itself, and no link to elsewhere."""
+        """The path of a file that may be read: it is in its folder itself, and isn't a link to another place."""
         folder = self.folder_of(where)
         path = folder / name
         if not is_name(name):
@@ -181,7 +183,7 @@ class Desk:
         return document(where, name, data)
 
     def first(self) -> Document:
-        """The document that the page opens with: the named file, or the first example of docs/use/EXAMPLES.md."""
+        """The document with which the page opens: the named file, or the first example of docs/use/EXAMPLES.md."""
         return self.read('folder', self.mine) if self.mine else self.read('example', 'flooding.toml')
 
     def stamp(self, where: str, name: str) -> str:
@@ -210,7 +212,7 @@ class Desk:
         return stamp_of(data)
 
     def save_new(self, document: dict[str, Any], name: str) -> str:
-        """Writes a document into a new file of the folder. From then on it may be saved there."""
+        """Writes a document into a new file of the folder. Afterwards the document may be saved there."""
         name = name if name.endswith('.toml') else name + '.toml'
         path = self.path('folder', name)
         if name.endswith(OTHERS):
@@ -226,7 +228,7 @@ class Desk:
         return stamp_of(data)
 
     def write(self, path: Path, data: bytes) -> None:
-        """Writes a file as a whole, or not at all."""
+        """Writes a file completely or not at all."""
         if len(data) > LONGEST:
             raise Fault('the text is longer than %d bytes, the limit of a scenario' % LONGEST)
         if path.exists() and not os.access(path, os.W_OK):

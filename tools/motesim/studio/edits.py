@@ -1,9 +1,9 @@
-"""Changes of a scenario's text by the map. Everything else in the text stays: comments, order and layout.
+"""Makes the changes of the map in a scenario's text. Everything else in the text stays: comments, order and layout.
 
     changes, said = edit(text, {'what': 'move', 'mote': 3, 'x': 10, 'y': 20})
     text = applied(text, changes)
 
-The text is read before and after an edit. An edit is refused if it would change anything more than it should.
+The text is read before and after an edit. An edit is refused if it would change more than it should.
 """
 from __future__ import annotations
 
@@ -18,7 +18,7 @@ MOST_PLACE, MOST_MOTES, MOST_EVERY = 30_000, 1_000, 1_000_000
 
 
 class Change(NamedTuple):
-    """A piece of the text, from offset to offset, and what replaces it."""
+    """A piece of the text, from one offset to another, and its replacement."""
     begin: int
     end: int
     text: str
@@ -56,7 +56,8 @@ class Text:
         return members if type(members) is list else []
 
     def lines(self, name: str, index: int) -> tuple[int, int]:
-        """The lines of a table `[[name]]`, from its header to its last key: the first and the one after the last."""
+        """The lines of a table `[[name]]`, from its header to its last key: the first line, and the line after the
+        last."""
         place = self.places.get((name, index))
         if place is None or not self.rows[place.line - 1].lstrip().startswith('[['):
             raise Fault('%s %d is not a table [[%s]] of its own in the text, so the map cannot change it.'
@@ -75,7 +76,7 @@ class Text:
         return Change(self.offset(value), self.offset(value) + value.length, str(number))
 
     def without(self, name: str, index: int) -> Change:
-        """The change without a table, and without the second of two blank lines."""
+        """The change that removes a table, and the second of two blank lines."""
         first, end_line = self.lines(name, index)
         if (first and end_line < len(self.rows) and not self.rows[first - 1].strip()
                 and not self.rows[end_line].strip()):
@@ -86,7 +87,7 @@ class Text:
         return Change(begin, end, '')
 
     def appended(self, name: str, table: list[str]) -> Change:
-        """The change with one more table, after the last of its name or at the end of the text."""
+        """The change that adds a table, after the last one of its name or at the end of the text."""
         members = self.members(name)
         first, end_line = self.lines(name, len(members) - 1) if members else (0, len(self.rows))
         spaced = bool(members) and first > 0 and not self.rows[first - 1].strip()
@@ -130,7 +131,7 @@ def add(text: Text, wish: dict[str, Any], wanted: dict[str, Any]) -> tuple[list[
 
 
 def remove(text: Text, wish: dict[str, Any], wanted: dict[str, Any]) -> tuple[list[Change], str]:
-    """Removes a mote with its losses. The numbers of the motes after it become one less, in the losses too."""
+    """Removes a mote with its losses. The numbers of the motes after it decrease by one, also in the losses."""
     mote = _mote(text, wish)
     if len(text.members('mote')) == 1:
         raise Fault('a scenario has at least one mote')
@@ -155,7 +156,7 @@ def remove(text: Text, wish: dict[str, Any], wanted: dict[str, Any]) -> tuple[li
 
 
 def lose(text: Text, wish: dict[str, Any], wanted: dict[str, Any]) -> tuple[list[Change], str]:
-    """Sets the losses from a mote to another one: each `every`th packet, or none for 0."""
+    """Sets the losses from one mote to another: one packet in `every` is lost, or none if it is 0."""
     sender, receiver = _mote(text, wish, 'from'), _mote(text, wish, 'to')
     every = _number(wish, 'every', 0, MOST_EVERY)
     if sender == receiver:

@@ -1,4 +1,4 @@
-"""The guide of a scenario: what to look at and what to try, from its comment and from docs/use/EXAMPLES.md."""
+"""The guide of a scenario: things to look at and things to try, from its comment and from docs/use/EXAMPLES.md."""
 from __future__ import annotations
 
 import re
@@ -30,7 +30,7 @@ def comment_of(text: str) -> list[str]:
 
 
 def sections(page: str) -> dict[str, list[str]]:
-    """The lines of each section, by each of the scenarios that its title names."""
+    """The lines of each section, by each scenario that the section's title names."""
     found: dict[str, list[str]] = {}
     names: list[str] = []
     for row in page.split('\n'):

@@ -1,4 +1,4 @@
-"""The program under limits: one run at a time, and a newer one stops the previous one.
+"""Runs of `motesim` within limits: one at a time; a newer run stops the previous one.
 
     runs = Runs(Limits())
     ticket = runs.ask()                 # stops the previous run, if it still runs
@@ -35,7 +35,7 @@ class LimitMet(Fault):
 
 
 class Runs:
-    """Runs of the program, one at a time."""
+    """Runs of `motesim`, one at a time."""
 
     def __init__(self, limits: Limits):
         self.limits = limits
@@ -58,7 +58,7 @@ class Runs:
             raise Superseded
 
     def run(self, ticket: int, scenario: bytes) -> Answer:
-        """The answer of the program."""
+        """The answer of `motesim`."""
         seconds, memory, output = self.limits
         limited = Runner(limits=runner.Limits(seconds, memory * MEGABYTE, output * MEGABYTE))
         with self.turn:

@@ -1,4 +1,4 @@
-"""Searches for faults, for the page: tools/search and tools/shrink in processes of their own, one at a time.
+"""Searches for faults, for the page: runs tools/search and tools/shrink in separate processes, one at a time.
 
     searches = Searches(limits)
     number = searches.begin(Wanted(...))     # stops the previous search
@@ -24,14 +24,14 @@ from motesim.studio.runs import MEGABYTE, Limits
 TOOLS = Path(__file__).resolve().parent.parent.parent
 SEARCH = 'from motesim.commands.search import main; main()'
 SHRINK = 'from motesim.commands.shrink import main; main()'
-# (two kinds need values, which the page doesn't ask for)
+# (two kinds need values, for which the page doesn't ask)
 OF_PAGE = [kind for kind in KINDS if kind not in ('values', 'parameters')]
 MOST_FAULTS, NAME = 3, 'scenario.toml'
 GONE = 'The studio no longer has this search. Search again.'
 
 
 class Wanted(NamedTuple):
-    """A search: a text with sentences, kinds of faults, and how many at once."""
+    """A search: a text with sentences, the kinds of faults, and the most faults at once."""
     text: str
     sentences: list[str]
     kinds: list[str]
@@ -51,7 +51,7 @@ def wanted_of(text: str, sentences: list[str], kinds: object, at_most: object) -
 
 
 class Going:
-    """A process of a search, with the folder that it works in, and its progress."""
+    """A process of a search, with the folder in which it works, and its progress."""
 
     def __init__(self, number: int, wanted: Wanted, limits: Limits):
         self.number, self.wanted, self.limits = number, wanted, limits
@@ -93,7 +93,7 @@ class Going:
             self.found = json.loads((self.folder / 'found.json').read_text('utf-8'))
 
     def stop(self, process: subprocess.Popen[bytes]) -> None:
-        """Ends a process with those that it started."""
+        """Ends a process, and the processes that it started."""
         with contextlib.suppress(ProcessLookupError):
             os.killpg(process.pid, signal.SIGKILL)
         process.wait()
@@ -138,7 +138,7 @@ class Going:
 
 
 class Searches:
-    """The search that runs, or the last one."""
+    """The search that is running, or the last one."""
 
     def __init__(self, limits: Limits):
         self.limits = limits

@@ -1,4 +1,4 @@
-"""Serves the studio's page on this machine only, to those who have its address.
+"""Serves the studio's page on this machine only, to users who have its address.
 
 The address has a random token. A request without it, with another `Host`, or from a page of another origin gets the
 status 403 and nothing else.
@@ -62,12 +62,12 @@ class Handler(BaseHTTPRequestHandler):
     server_version = 'motesim'
     sys_version = ''
     timeout = 600
-    # (the head and the body of an answer are two writes: the second must not wait for the first)
+    # (the head and the body of an answer are two writes; without this option the second one would wait for the first)
     disable_nagle_algorithm = True
     server: Server
 
     def log_message(self, *_: object) -> None:
-        """Prints nothing: the address has the token, so it is printed once only."""
+        """Prints nothing: the address has the token, so it is printed only once, at the start."""
 
     def is_allowed(self) -> bool:
         """True if the request has the token and this server's name, and comes from its own page."""
@@ -131,7 +131,7 @@ class Handler(BaseHTTPRequestHandler):
         except MemoryError:
             answered = as_json({'refused': 'the studio is out of memory'})
         except Exception as fault:
-            # (without an answer the page would report a lost connection, and ask the same again, for ever)
+            # (without an answer the page would report a lost connection, and repeat the same request for ever)
             error = '%s: %s' % (type(fault).__name__, fault)
             print('studio: an error in the studio itself: %s' % error, file=sys.stderr)
             answered = as_json({'refused': 'This is an error in the studio itself: %s' % error})
@@ -161,7 +161,7 @@ class Server(ThreadingHTTPServer):
         super().close_request(request)
 
     def server_close(self) -> None:
-        """Ends also the connections that a browser keeps open."""
+        """Also ends the connections that a browser keeps open."""
         super().server_close()
         for connection in list(self.connections):
             with contextlib.suppress(OSError):
@@ -176,7 +176,7 @@ class Server(ThreadingHTTPServer):
         return 'http://127.0.0.1:%d/%s/' % (self.port, self.token)
 
     def handle_error(self, request: object, client_address: object) -> None:
-        """Reports other errors than a browser that went away, in one line."""
+        """Reports an error in one line, unless a browser only closed its connection."""
         fault = sys.exc_info()[1]
         if not isinstance(fault, (ConnectionError, TimeoutError)):
             print('studio: a request failed: %s: %s' % (type(fault).__name__, fault), file=sys.stderr)
@@ -188,7 +188,7 @@ class Server(ThreadingHTTPServer):
         for mark, kind, form in [('@STYLES@', '.css', '<link rel="stylesheet" href="codemirror/%s">'),
                                  ('@SCRIPTS@', '.js', '<script src="codemirror/%s"></script>')]:
             text = text.replace(mark, '\n'.join(form % name for name in names if name.endswith(kind)))
-        # (a browser that knows all modules at once needn't find one after another)
+        # (a browser that knows all modules from the beginning needn't find one after another)
         loads = ['<link rel="modulepreload" href="%s">' % name for name in modules()]
         return text.replace('@MODULES@', '\n'.join(loads)).encode('utf-8')
 

@@ -30,7 +30,7 @@ JSON, BYTES, HTML = 'application/json', 'application/octet-stream', 'text/html; 
 
 
 class Answered(NamedTuple):
-    """An answer: its kind, as HTTP names it, and its bytes."""
+    """An answer: its media type for HTTP, and its bytes."""
     kind: str
     data: bytes
 
@@ -40,7 +40,7 @@ def as_json(value: object) -> Answered:
 
 
 def framed(table: dict[str, Any], columns: bytes) -> Answered:
-    """A table, and after it the columns of a run, at a multiple of 4."""
+    """A table, and after it the columns of a run, each at an offset that is a multiple of 4."""
     head = json.dumps(table).encode('utf-8')
     head += b' ' * (-len(head) % 4)
     return Answered(BYTES, struct.pack('<I', len(head)) + head + columns)
@@ -108,7 +108,7 @@ class Session:
         return self.opened(self.desk.read(_text(asked, 'where'), _text(asked, 'name')))
 
     def alive(self, asked: dict[str, Any]) -> Answered:
-        """The present stamp of the open file: a sign, too, that the studio is there."""
+        """The present stamp of the open file; it also shows the page that the studio is running."""
         try:
             stamp = self.desk.stamp(_text(asked, 'where'), _text(asked, 'name'))
         except Fault:
@@ -136,7 +136,8 @@ class Session:
     # Runs.
 
     def run(self, asked: dict[str, Any]) -> Answered:
-        """Runs a text: its columns, or its error, or that a newer text has arrived, or the limit that it reached."""
+        """Runs a text. Returns its columns, its error, the limit that it reached, or a note that a newer text has
+        arrived."""
         text, ticket = _text(asked, 'text'), self.runs.ask()
         data = text.encode('utf-8')
         try:
@@ -160,7 +161,7 @@ class Session:
                        'programs': answers.prints_of_programs(done.scenario)}, columns.joined())
 
     def keep(self, done: answers.Finished, pinned: object) -> None:
-        """Keeps the last runs, and the one that is pinned."""
+        """Keeps the last runs and the pinned run."""
         with self.lock:
             self.kept[done.number] = done
             for number in list(self.kept):
@@ -174,7 +175,7 @@ class Session:
             return self.kept.get(number) if type(number) is int else None
 
     def judge(self, asked: dict[str, Any]) -> Answered:
-        """The sums and warnings of a run, which expectations hold, and how it differs from another run."""
+        """The totals and warnings of a run, the expectations that hold, and the differences from another run."""
         done, before = self.kept_run(asked.get('number')), self.kept_run(asked.get('against'))
         if done is None:
             return as_json({'gone': True})
@@ -208,7 +209,7 @@ class Session:
             for it in sorted(changes, reverse=True)]})
 
     def export(self, asked: dict[str, Any]) -> Answered:
-        """The page of a run as one file, as tools/timeline writes it."""
+        """The page of a run in one file, the same that tools/timeline writes."""
         done = self.kept_run(asked.get('number'))
         if done is None:
             raise Fault('The studio no longer has this run. Change the text, and export again.')

@@ -21,10 +21,10 @@ from motesim.why.series import NAMES as SERIES_NAMES
 from motesim.why.series import Series
 from motesim.why.source import read_traces, traces_of
 
-# A row of a table by its columns: numbers, names, or None if there is no value.
+# A row of a table, by the names of the columns: numbers, names, or None if there is no value.
 Row = dict[str, Any]
 
-# The outcomes of copies: their names in `motesim.report`, and those of the tables.
+# The outcomes of copies: their names in `motesim.report`, and their names in the tables.
 BECAME = {'received': 'received', 'lost': 'lost', 'full': 'ring', 'collided': 'collided', 'halted': 'halted',
           'left': 'late'}
 LINK_NAMES = ['from', 'to', 'copies', *BECAME.values(), 'ratio', 'delay']
@@ -33,7 +33,7 @@ COUNTED = {'post': 'posted', 'take': 'taken', 'drop': 'dropped', 'full': 'refuse
 
 
 def ratio(row: Row) -> float | None:
-    """The received part of the copies that were due, or None if none was."""
+    """The share of the due copies that were received, or None if no copy was due."""
     due = row['copies'] - row['late']
     return round(row['received'] / due, 4) if due else None
 
@@ -143,7 +143,7 @@ def write_csv(rows: list[Row], names: list[str]) -> None:
 
 
 def show_flow(run: Run, words: argparse.Namespace) -> int:
-    """Shows the rows of a flow in the chosen form, and reports why there is nothing in them."""
+    """Shows the rows of a flow in the chosen form; if the flow has no messages or deliveries, reports the reason."""
     rows = flow_rows(run.report, run.scenario, words.flow)
     for line in silent(run.report, run.scenario, words.flow):
         print('summary: %s' % line, file=sys.stderr)

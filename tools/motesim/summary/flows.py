@@ -1,9 +1,9 @@
-"""Flows from end to end: which messages of an origin came to whom, how often, and how much later.
+"""Flows from end to end: which messages of an origin arrived at which motes, how often, and after how many moments.
 
-The user says what counts as the same message, such as `print sink`: each line `print sink V` is a delivery of the
+The user describes the lines that deliver messages, such as `print sink`: each line `print sink V` is a delivery of the
 message V at its mote. A message begins with the first packet of that value, at the mote that sends it; or, as in
-`print source -> print sink`, with the first line `print source V`. So a program that numbers its messages, as by `send
-((self * 256) + count)`, has a flow for each origin, however many motes pass its packets on.
+`print source -> print sink`, with the first line `print source V`. So a program that numbers its messages, for example
+by `send ((self * 256) + count)`, has a flow for each origin, even if many motes forward its packets.
 """
 from __future__ import annotations
 
@@ -29,11 +29,11 @@ FORM = re.compile(r'\s*(?:(send|recv)|print\s+([A-Za-z][A-Za-z0-9_]*))'
 
 
 class FlowFault(Fault):
-    """Words that don't describe a flow."""
+    """A text that doesn't describe a flow."""
 
 
 class Mark(NamedTuple):
-    """Lines that have a message: their kind, of prints the process, and the least and the greatest value."""
+    """Lines that have a message: their kind, the process of prints, and the least and the greatest value."""
     kind: str
     process: str | None = None
     least: int = 0
@@ -79,7 +79,7 @@ def read_flow(words: str) -> tuple[Mark, Mark]:
 
 
 def like(process: str, scenario: Scenario | None, known: set[str]) -> str:
-    """A hint on the name of a process that isn't there: the one that was likely meant, or all that there are."""
+    """A hint on the name of a process that doesn't exist: the most likely intended name, or all existing names."""
     own = sorted(known.difference(SYSTEM))
     programs = scenario.programs if scenario else {}
     if process in programs:
@@ -109,7 +109,7 @@ def silent(report: Report, scenario: Scenario | None, words: str) -> Iterator[st
 
 
 def messages(report: Report, begin: Mark, end: Mark) -> dict[int, Message]:
-    """The messages of a flow, by their values. A line before its message began belongs to none."""
+    """The messages of a flow, by their values. A line from before its message began belongs to none."""
     marked = (it for it in report.lines(begin.kind, end.kind) if begin.has(it) or end.has(it))
     lines = sorted(marked, key=lambda it: it.at)
     found: dict[int, Message] = {}
@@ -125,7 +125,7 @@ def messages(report: Report, begin: Mark, end: Mark) -> dict[int, Message]:
 
 
 def hops_from(scenario: Scenario, origin: int) -> dict[int, int]:
-    """The least number of hops to each mote that is reached from one."""
+    """The least number of hops from a mote to each mote that its packets can reach."""
     found, edge = {origin: 0}, [origin]
     while edge:
         reached = []
@@ -142,9 +142,9 @@ def flow_rows(report: Report, scenario: Scenario | None, words: str) -> list[Row
     """A row for each origin of a flow, and one for the net.
 
     sent        messages that began there
-    delivered   those that came to at least one other mote, and `ratio` their part of all
-    reached     to how many motes a message came, on average
-    copies      deliveries in all; `duplicates` are those of a message to a mote that had it already
+    delivered   those that reached at least one other mote, and `ratio` is their share
+    reached     the number of motes that a message reached, on average
+    copies      deliveries in all; `duplicates` are deliveries to a mote that had the message already
     hops        least hops to the motes that were reached, on average, if the scenario is known
     least..     for each message and mote, the moments from its beginning to its first delivery: least, middle, most
     """
