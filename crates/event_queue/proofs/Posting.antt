@@ -22,7 +22,7 @@ pub length_posted : (k : ℕ) (ws : List Waiting) → length (posted_from k ws) 
 length_posted k [] = refl
 length_posted k (w ∷ ws) = ap suc (length_posted (k + 1) ws)
 
--- appending to the ring buffer is posting to the queue
+-- appending an event to the ring buffer has the effect of posting it to the queue
 pub posts : (old new : Buffer Waiting) (taken : ℕ) (w : Waiting) → new ≡ buffer (old.items ++ w ∷ []) old.capacity
     → queue_of new.items taken new.capacity ≡ with_posted (queue_of old.items taken old.capacity) w.target w.event
 posts old new taken w is =

@@ -1,4 +1,4 @@
--- The laws of programs: from the shape of a program to its text, and to the program that was read.
+-- The laws of programs: for the shape of a program, then for its text, and then for the program that was read.
 use Rattle.std.proofs.Common.{◌≡◌, ℕ, List, [], ◌∷◌, sym, subst}
 use Rattle.program_tree.specs.Code.{Tree}
 use Rattle.program_tree.specs.Faults.{IsProgram}

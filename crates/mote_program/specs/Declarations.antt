@@ -1,4 +1,4 @@
--- Programs whose blocks name only things that are declared before them.
+-- Programs in which each block names only things that are declared before the block.
 use Rattle.std.specs.Prelude.{◌≡◌, ℕ, ◌+◌, ◌<◌, ◌≤◌, length, slice_get, Some}
 use Rattle.std.specs.List.{All}
 use Rattle.std.specs.Option.{ForSome}

@@ -63,7 +63,7 @@ impl NumberList {
         }
     }
 
-    /// Keeps the numbers for which the closure returns true.
+    /// Keeps only the numbers for which the closure returns true.
     pub fn retain<F: FnMut(&u16) -> bool>(&mut self, keep: F)
         requires callable { F.IsAlwaysCallable keep }
         ensures kept { IsFiltered (CalledAt F.FnMut) keep self.old.members self.new.members }

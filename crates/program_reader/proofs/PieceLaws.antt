@@ -122,7 +122,7 @@ found_sign text bytes token h =
 pub comment_split : (text : List ℕ) → begins_comment text ≡ true → text ≡ codes "//" ++ drop 2 text
 comment_split text h = (starts_is Decides-eqb text (codes "//") (begins_comment text) refl).0 h
 
--- ---- the beginning of a text, by its kind
+-- ---- the beginning of a text, for each kind of piece
 
 pub blank_front : (s : List ℕ) → 0 < length s → is_blank (get_or s 0 0) ≡ true → BeginsWith s None 1
 blank_front [] l h = absurd (omega arith)

@@ -135,7 +135,7 @@ no_comment : (s : List ℕ) (b : Bool) → begins_comment s ≡ b → sign_at s 
 no_comment s true e h = absurd (no_slashes (drop 2 s) (subst (λ t. sign_at t ≡ None) (comment_split s e) h))
 no_comment s false e h = e
 
--- the piece that begins a text, by its first byte and the rest
+-- the piece that begins a text, depending on the first byte and the rest of the text
 piece_by : Bool → Bool → Bool → Option (List ℕ × Token) → ℕ → List ℕ → Piece
 piece_by true word comment sign b bs = Blank b
 piece_by false true comment sign b bs = Word (take_while is_word_byte (b ∷ bs))

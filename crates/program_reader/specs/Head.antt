@@ -49,7 +49,7 @@ pub record IsNew (c : Class) (s s' : Scope) (x : Name) (old new : List Token) : 
   pub spelled : old ≡ token.Name x ∷ new
   pub sound : first_broken s (named x (role.new c x)) ≡ None
 
--- a new name is read, and the semicolon after it
+-- a new name and the semicolon after it are read
 pub record IsListed (c : Class) (s s' : Scope) (old new : List Token) : Type 0 where
   pub name : Name
   pub added : s' ≡ with_names s (with_new s.names c name)

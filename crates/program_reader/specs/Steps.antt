@@ -67,7 +67,7 @@ token_of_sign read_sign.OpenBrace = token.OpenBrace
 
 -- The look-up of names.
 
--- the number of a name of a class
+-- the number of a name that belongs to this class
 abbrev pub look : NamesInScope → Class → Name → Option ℕ
 look n a_timer x = option_map (λ i. n.first_timer + i) (place_of n.timers x)
 look n c x = place_of (names_of n c) x

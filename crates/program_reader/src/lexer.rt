@@ -1,4 +1,4 @@
-//! The lexer: from a text to its tokens and their lines.
+//! The lexer, which turns a text into tokens with their lines.
 ghost use Rattle.std.specs.Prelude.{◌≡◌, ◌<◌, ◌≤◌, ◌++◌, map, length, not, nat_eq, find, option_map, option_to_list};
 ghost use Rattle.std.specs.Prelude.{IfOk, OnOk};
 ghost use Rattle.std.specs.List.{prefix_len, starts_with};

@@ -1,4 +1,4 @@
--- Events by their numbers, as in `process.h`.
+-- The numbers of events, as in `process.h`.
 use Rattle.std.specs.Prelude.{ℕ, List, codes}
 use Rattle.program_tree.specs.declared.event.SystemEvent.{SystemEvent}
 use Rattle.program_tree.specs.declared.event.SystemEvent.TheVariants.{Init, Poll, Exit, Continue, Msg, Exited, Timer}

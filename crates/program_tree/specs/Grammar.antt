@@ -47,7 +47,7 @@ pub data Role : Type 0 where
   new : Class → Name → Role
   -- the name of something of this class
   uses : Class → Name → Role
-  -- the name of the thread in a `spawn`, and of the thread whose block has the `spawn`, if it is in one
+  -- the thread that a `spawn` names; `own` is the thread in whose block the `spawn` is, if there is one
   spawns : (own : Option Name) → Name → Role
   -- the name of a process in `autostart`
   starts : Name → Role

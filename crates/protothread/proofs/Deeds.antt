@@ -1,4 +1,4 @@
--- The effects of actions, by their statements.
+-- The effects of actions, for each kind of statement.
 use Rattle.std.proofs.Common.{◌≡◌, ℕ, Bool, true, false, ◌&&◌, if◌then◌else◌, List, ◌++◌, ◌∷◌, None, refl, ap, sym}
 use Rattle.std.proofs.Common.{◌∙◌, arith}
 use Rattle.std.proofs.lemmas.Grind.{common_steps}
@@ -67,7 +67,7 @@ holds_true n h = grind (arith, common_steps)
 pub holds_false : (n : ℕ) → n ≡ 0 → holds n ≡ false
 holds_false n h = ap holds h
 
--- the actions of the statements with blocks, by their conditions
+-- the effects of the statements with blocks, depending on their conditions
 module _ (code : Code) (home : List (Statement ℕ)) (y : Bool) (vars : List ℕ) (event : Event) (looks : Looks) (s : Statement ℕ) (rest : List (Statement ℕ)) where
   pub takes_then : (c : Expression ℕ) (a : Body ℕ) (o : Otherwise ℕ) → s ≡ branch c a o → holds (value vars event looks c) ≡ true
       → statement_reached code home y vars event looks s rest ≡ goes_on vars (before false (listed a ++ rest))

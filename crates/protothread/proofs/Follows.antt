@@ -176,7 +176,7 @@ module _ (code : Code) (part : Part) where
   Left None now later vars h out = (h ≡ []) × (out ≡ exits now later vars)
   Left (Some p) now later vars h out = From p now later vars h out
 
-  -- the position of a thread with this block in the whole one, by its position in its own block
+  -- the position of a thread with this block in the whole block, given its position in its own block
   record Context (home : List (Statement ℕ)) (yields : PtState) : Type 0 where
     place : Place → Place
     behind : Option Place
@@ -269,7 +269,7 @@ module _ (code : Code) (part : Part) where
       (1, 0, steps (c.place p) now vars 0 (c.live p live) ∙ ap (λ r. follows code part now.event now.looks vars 0 r) (c.operating vars now p (before false rest) o into e))
       (subst (λ (v : List ℕ). From (c.place (before false rest)) next later v h out) (heard into vars next.answer) f)
 
-  -- a statement after which the thread continues, at which it yields control, or for which no sight is left
+  -- a statement after which the thread continues, at which it gives up control, or for which no sight is left
   past : (home : List (Statement ℕ)) (y : PtState) (c : Context home y) (p q : Place) (now : Sight) (later : List Sight) (vars changed : List ℕ) (h : List Happening) (out : Completion)
       → IsLive p → reached code home vars now.event now.looks p ≡ goes_on changed q
       → From (c.place q) now later changed h out → From (c.place p) now later vars h out
@@ -309,7 +309,7 @@ module _ (code : Code) (part : Part) where
       yields_at home y c (at false (does yield) rest) (at true (does yield) rest) now next later vars h out tt refl
       (past home y c (at true (does yield) rest) (before false rest) next later vars vars h out tt refl f)
 
-  -- a statement that has yielded, by its condition
+  -- a statement that has yielded, depending on its condition
   module _ (home : List (Statement ℕ)) (y : PtState) (c : Context home y) (s : Statement ℕ) (e : Expression ℕ) (rest : List (Statement ℕ))
       (passing : (now : Sight) (vars : List ℕ) → holds (meaning e now vars) ≡ true → reached code home vars now.event now.looks (at true s rest) ≡ goes_on vars (before false rest))
       (failing : (now : Sight) (vars : List ℕ) → holds (meaning e now vars) ≡ false → reached code home vars now.event now.looks (at true s rest) ≡ answers Yielded (at true s rest)) where

@@ -17,12 +17,12 @@ use Rattle.protothread.specs.Runs.{Runs, operated, operated_last, gave_up, gave_
 use Rattle.protothread.proofs.Units.{follows, stepped, called}
 use Rattle.protothread.proofs.Follows.{IsLive, still}
 
--- a run after an answer that yields control
+-- a run after an answer that gives up control
 abbrev pub Again : (G : Place → Sight → List Sight → List ℕ → List Happening → Completion → Type 0) → PtState → Place → (later : List Sight) → List ℕ → List Happening → Completion → Type 0
 Again G a q [] vars h out = (h ≡ gives_up a ∷ []) × (out ≡ in_state vars)
 Again G a q (next ∷ later) vars h out = (k : List Happening) × (h ≡ gives_up a ∷ k) × G q next later vars k out
 
--- a run from a place, by the mark
+-- a run from a place, depending on the mark of the thread
 abbrev pub Held : (G : Place → Sight → List Sight → List ℕ → List Happening → Completion → Type 0) → Mark → Place → (now : Sight) → (later : List Sight) → List ℕ → List Happening → Completion → Type 0
 Held G AtRest q now later vars h out = G q now later vars h out
 Held G (UnderWay into) q now later vars h out = G q now later vars h out

@@ -1,4 +1,4 @@
--- The places at which a step yields control.
+-- The places at which a step gives up control.
 use Rattle.std.proofs.Common.{◌≡◌, ℕ, zero, suc, ◌-◌, ◌<◌, inl, inr, Bool, true, false, ◌&&◌, if◌then◌else◌, List, []}
 use Rattle.std.proofs.Common.{◌∷◌, None, refl, arith}
 use Rattle.std.specs.Prelude.{nat_lt, not, slice_index, ◌==◌}

@@ -92,7 +92,7 @@ spawn_there (c ∷ cs) b place t rest so here =
     let n : ℕ = below_last (before_number c.thread) cs in
     ltb-true t n (action_fits_there (earlier_threads n) b place (spawn t) rest so here)
 
--- tests, by the local property
+-- a test leads to the places that the local property requires
 pub takes_branch : (left_at : ℕ → List (Statement ℕ)) (c : Expression ℕ) (held failed : ℕ) (code : Code) (whole : List (Statement ℕ)) (y : Bool) (vars : List ℕ) (event : Event) (looks : Looks) (s : Statement ℕ) (rest : List (Statement ℕ))
     → Branches left_at c held failed (s ∷ rest) → statement_reached code whole y vars event looks s rest ≡ goes_on vars (before false (left_at (place_by vars event looks c held failed)))
 takes_branch left_at c held failed code whole y vars event looks (does a) rest h = absurd h
@@ -117,7 +117,7 @@ takes_loop left_at c body after code whole y vars event looks (while d a) rest h
     either true = sym h.2
     either false = sym h.1
 
--- at an instruction, a statement is left
+-- at each instruction, at least one statement is left
 pub leads_to_rest : (left_at : ℕ → List (Statement ℕ)) (i : Instruction) (here : List (Statement ℕ)) → Leads left_at i here → (s : Statement ℕ) × (rest : List (Statement ℕ)) × (here ≡ s ∷ rest)
 leads_to_rest left_at (Act a after) here h = (does (action_of a), left_at after, h)
 leads_to_rest left_at (Branch c held failed) here h = by_cases _ here h

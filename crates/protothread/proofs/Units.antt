@@ -1,4 +1,4 @@
--- The dependence of a step on the units of work, and the places at which it yields control.
+-- The dependence of a step on the units of work, and the places at which the step gives up control.
 use Rattle.std.proofs.Common.{◌≡◌, ℕ, zero, suc, ◌+◌, ◌-◌, ◌<◌, ◌≤◌, ◌⊎◌, inl, inr, Bool, true, false, if◌then◌else◌, List, refl, ap, sym, ◌∙◌, arith, subst}
 use Rattle.std.specs.Prelude.{nat_lt}
 use Rattle.std.proofs.lemmas.Bool.Decides.{nat_tests}
@@ -158,7 +158,7 @@ more_from RunAway code event looks r vars units n h = absurd (h refl)
 pub more_units : MoreUnitsChangeNothing
 more_units code event looks r vars units n h = more_from r.mark code event looks r vars units n h
 
--- a call of a thread at rest, by whether it has enough units for the spawns that it passes
+-- a call of a thread at rest, depending on whether it has enough units for the spawns that it passes
 abbrev pub called : Code → Event → Looks → Remainder → (vars : List ℕ) (units : ℕ) → Bool → Advanced
 called code event looks r vars units b =
     if b then record { step = step.Runaway; remainder = record r { mark = RunAway }; variables = vars; units = 0 } else continued code r.part event looks r.place vars (units - passed r.place)

@@ -60,7 +60,7 @@ IsHeld code whole (within t p rest) = IsHeld code (thread_block code t) p
 abbrev pub IsSound : Code → Remainder → Type 0
 IsSound code r = r.mark ≡ Pausing → IsHeld code (whole_of code r.part) r.place
 
--- A step that yields control leaves the thread at rest and held at its place, from which the next call continues.
+-- A step that gives up control leaves the thread at rest and held at its place. The next call continues from there.
 pub record GivesUpAtAWait (code : Code) (a : Advanced) : Type 0 where
   pub gives_up : (answer : PtState) → a.step ≡ Done answer → state_number answer < 2
       → (a.remainder.mark ≡ AtRest) × IsHeld code (whole_of code a.remainder.part) a.remainder.place

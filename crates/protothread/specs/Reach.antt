@@ -32,13 +32,13 @@ abbrev pub made_of : List Caller → (variables : List ℕ) → Reached → Reac
 made_of [] vars r = r
 made_of (c ∷ cs) vars r = spawner_reached c.thread c.rest vars (made_of cs vars r)
 
--- the effect of an action on the thread; the action is at the statement `s`, and the rest is after it
+-- the effect of an action on the thread, at the statement `s`; the rest is after this statement
 abbrev pub performed_at : Code → Thread → (variables : List ℕ) → (s : Statement ℕ) → (rest : List (Statement ℕ))
     → StatementEffect → Reached
 performed_at code t vars s rest d =
     made_of (callers_of code t) vars (performed code (listed (body_of_thread code t)) vars s rest d)
 
--- the effect of the statement `s` on the thread; the rest is after the statement
+-- the effect of the statement `s` on the thread; the rest is after this statement
 abbrev pub reached_at : Code → Thread → (variables : List ℕ) → Event → Looks → (s : Statement ℕ)
     → (rest : List (Statement ℕ)) → Reached
 reached_at code t vars event looks s rest =

@@ -28,7 +28,7 @@ pub record Sight : Type 0 where
   pub event : Event
   pub looks : Looks
 
--- the actions of a thread that its caller sees, in order: its operations, and its answers when it yields control
+-- the actions of a thread that its caller sees, in order: its operations, and its answers when it gives up control
 pub data Happening : Type 0 where
   operates : Op → Happening
   gives_up : PtState → Happening

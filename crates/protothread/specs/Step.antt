@@ -78,14 +78,13 @@ deed_of process yielded vars event looks (restart_timer t) = Operates (op.Restar
 deed_of process yielded vars event looks (stop t) = Operates (op.Stop t) None
 
 -- the effect of one statement on a thread: the thread continues with these variables from a place, stops with an
--- operation and this mark, or yields control
+-- operation and this mark, or gives up control
 pub data Reached : Type 0 where
   goes_on : (variables : List ℕ) → Place → Reached
   operates : Op → Mark → Place → Reached
   answers : PtState → Place → Reached
 
--- the effect of an action on the thread whose block is `whole`; the action is at the statement `s`, and the rest is
--- after it
+-- the effect of an action on the thread whose block is `whole`, at the statement `s`; the rest is after this statement
 abbrev pub performed : Code → (whole : List (Statement ℕ)) → (variables : List ℕ) → (s : Statement ℕ)
     → (rest : List (Statement ℕ)) → StatementEffect → Reached
 performed code whole vars s rest Passes = goes_on vars (before false rest)

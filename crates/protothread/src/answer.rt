@@ -2,7 +2,7 @@
 ghost use Rattle.std.specs.Prelude.{◌≡◌, ◌<◌, ◌↔◌, IsTrue};
 ghost use Rattle.protothread.specs.State.{state_number};
 
-/// The answer of a protothread when it yields control, as in Contiki's `pt.h`.
+/// The answer of a protothread when it gives up control, as in Contiki's `pt.h`.
 #[derive(Clone, Copy, Debug, PartialEq, Eq)]
 pub enum PtState {
     /// The protothread waits for a condition (`PT_WAITING`).
