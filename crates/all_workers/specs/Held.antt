@@ -24,8 +24,8 @@ pub record AreWith (share : Share) (taker : TakerView) (copies : List RadioCopy)
   pub gathered : IsPermutation (gathered_by taker) (taken_by taker ++ waiting)
   pub both : IsPermutation copies (packets items ++ waiting)
 
--- If the workers are ready before a moment, the copies of the net's agenda after all turns before this moment are
--- those that the workers hold and those in the inboxes, each exactly once.
+-- Suppose that the workers are ready before a moment. Then the copies of the net's agenda after all turns before this
+-- moment are those that the workers hold and those in the inboxes, each exactly once.
 abbrev pub AgendaIsHeld : Type 0
 AgendaIsHeld = (n : NetModel) → RunsForward (system_of n) → (of : List ℕ) (end : ℕ) (group : WorkerGroup)
     → IsAt n of (suc end) group

@@ -10,7 +10,7 @@ pub record Drains (old new : TakerState) (n : ℕ) : Type 0 where
   -- were made
   pub begun : TookFronts new.gathered new.taken
   pub made : OfMade new.made new.taken
-  -- if n items were known, and no item of a sender that isn't gathered could be before one of them, then these n items
-  -- are taken, and with them all items of the gathered senders
+  -- suppose that exactly n items were known, and that no item of a sender that isn't gathered could be before one of
+  -- them; then all items of the gathered senders are now taken
   pub whole : IsAllKnown old n → Whole new.gathered new.taken
   pub others : IsAllKnown old n → NoOthers old.gathered old.taken new.taken

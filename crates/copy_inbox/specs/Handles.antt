@@ -59,7 +59,7 @@ after_taking t xs = record {
 abbrev pub TakesCopies : TakerView → TakerView → List RadioCopy → Type 0
 TakesCopies old new copies = (items : List Item) × ArePackets items copies × (new ≡ after_taking old items)
 
--- n items are known, and no item of a sender that isn't gathered can be before one of them
+-- exactly n items are known, and no item of a sender that isn't gathered can be before one of them
 abbrev pub IsAllKnown : TakerState → ℕ → Type 0
 IsAllKnown state n = (n ≡ known_of state.gathered state.taken) × Later state.made state.gathered
 

@@ -16,8 +16,8 @@ use Rattle.worker_window.specs.Window.{CanRun, RunsWindow, IsOutgoing}
 use Rattle.all_workers.specs.WorkerGroup.{IsCut, IsNotBefore}
 use Rattle.all_workers.specs.declared.worker.Worker.{Worker}
 
--- A worker that can run through a window that ends at 2^40 or earlier. The partition fits, the share and the endpoint
--- are those of one worker, the worker's inbox has no marks, all copies that were gathered are for its motes, and each
+-- A worker that can run through a window that ends at 2^40 or earlier. The partition fits, and the share and the
+-- endpoint are those of one worker. The worker's inbox has no marks, all gathered copies are for its motes, and each
 -- copy that it takes in is expected.
 pub record IsReady (n : NetModel) (of : List ℕ) (inboxes : List InboxId) (until : ℕ) (worker : Worker) : Type 0 where
   pub early : until ≤ 2 ^ 40
@@ -35,9 +35,9 @@ pub record IsFirstOf (copies : List RadioCopy) (first : Option ℕ) : Type 0 whe
   pub none_before : Each (IsNotBefore first) copies
   pub greatest : (moment : ℕ) → Each (λ (copy : RadioCopy). moment ≤ copy.at) copies → NoneBefore moment first
 
--- If the share was at a moment that isn't after the window's end, if the window isn't longer than the lookahead, and
--- if each copy that arrived is expected, then the new share is the result of the window, on all copies that the worker
--- has then taken, and these are the outgoing copies.
+-- Suppose that the share was at a moment that isn't after the window's end, that the window isn't longer than the
+-- lookahead, and that each copy that arrived is expected. Then the new share is the result of the window, on all
+-- copies that the worker has taken by then, and these are the outgoing copies.
 abbrev pub RunsItsMotes : NetModel → (of : List ℕ) → (until : ℕ) → (arrived outgoing : List RadioCopy)
     → (old new : Worker) → Type 0
 RunsItsMotes n of until arrived outgoing old new = (from : ℕ) (motes : Motes)

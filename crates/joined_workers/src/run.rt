@@ -37,8 +37,8 @@ fn window_start(group: &WorkerGroup, end: u64) -> u64
 }
 
 /// Runs all workers to the end of the net, window by window. Each window begins at the moment of the first pending
-/// event, and ends before this moment plus the lookahead, or plus `longest` if that is above 0 and below the
-/// lookahead. `of` is the worker of each mote. The inboxes have no marks.
+/// event. Its length is the lookahead, or `longest` if that is above 0 and below the lookahead. No window goes past
+/// the net's end. `of` is the worker of each mote. The inboxes have no marks.
 ///
 /// # Errors
 /// `Memory` if an allocation fails; `Thread` if a thread couldn't be started, the gate refused a start, or the

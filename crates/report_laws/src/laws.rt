@@ -16,9 +16,9 @@ pub fn texts_declare()
     what_a_text_names_is_declared();
 }
 
-/// If the programs of a net declare all names that they use, each line in the report of a run of the net names only
-/// processes and events that the mote's program declares, and those of the system. This holds for every way to make
-/// the run.
+/// Suppose that the programs of a net declare all names that they use. Then each line in the report of a run of the
+/// net names only processes and events that the mote's program declares, and those of the system. This holds for every
+/// way to make the run.
 pub fn runs_name_only()
     ensures runs_name_only { RunsNameOnly }
 {}

@@ -9,8 +9,8 @@ pub fn window_copies_are_whole<S, L>()
     ensures window_copies_are_whole { (system : System S L) → WindowCopiesAreWhole system }
 {}
 
-/// If a worker gathered, for each mote, the copies that the mote sent to it across the partition, then it has gathered
-/// exactly those copies in the medium's log that cross to it, each once.
+/// Suppose that a worker gathered, for each mote, the copies that the mote sent to it across the partition. Then it
+/// has gathered exactly those copies in the medium's log that cross to it, each once.
 pub fn crossed_once<S, L>()
     ensures crossed_once { (system : System S L) → CrossedOnce system }
 {}

@@ -23,8 +23,8 @@ abbrev pub number_of : Node → ℕ
 number_of n = n.mote.state.mote
 
 -- One mote by itself with its copies, up to a bound. While the lesser of its wake and the first copy's moment is below
--- the bound, the mote has a turn at this moment, with all copies of the moment, in the order of sender and number. It
--- is `Alone` of the law of windows, for a mote in any net.
+-- the bound, the mote has a turn at this moment. It gets all copies of the moment, in the order of sender and number.
+-- This is `Alone` of the law of windows, for a mote in any net.
 abbrev pub WindowRun : (number until : ℕ) → (copies : List RadioCopy) → (mote last : LoneNode) → Type 0
 WindowRun number until copies mote last =
     (system : System Node Line) → system.turn ≡ node_turn → Alone system number until copies mote last

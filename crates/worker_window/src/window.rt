@@ -279,12 +279,12 @@ impl Share {
     }
 
     /// Runs the worker's motes through the window up to `until`, which is at most 2^40. It takes in the copies that
-    /// arrived from other workers, uses the worker's future to run each mote that has an event before `until`, and
+    /// arrived from other workers, and uses the worker's future to run each mote that has an event before `until`. It
     /// keeps the pending events of the worker's motes. It returns the copies for other workers' motes; those of each
     /// mote are in the order of sending. `of` is the worker of each mote.
     ///
     /// The time grows with the window's turns and with the copies that it takes and makes. In addition, there is one
-    /// slot for each mote number up to the highest number with a turn, and each poll of the worker's future visits all
+    /// slot for each mote number up to the highest number with a turn. Each poll of the worker's future visits all
     /// motes with a turn.
     ///
     /// # Errors
