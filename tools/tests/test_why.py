@@ -702,6 +702,24 @@ class Runs(unittest.TestCase):
         self.assertIn('examples/flooding.toml has the line: mote 1, line 41: 43 print flood 1', shown.stdout)
         self.assertIn('lossy.toml: the medium lost it, as it loses all packets from 0 to 1', shown.stdout)
 
+    def test_numbers_of_events_and_packets_do_not_part_two_runs(self) -> None:
+        """Mote 1 gets a packet more in the first run, and sends one more: later events and packets have other numbers."""
+        program = ('process p; autostart p; receiver p; code p { etimer t; body { set t 20; if (self == 0) { send 1; } '
+                   'while 1 { yield; if is(packet) { print data; if (data == 1) { send 2; } } '
+                   'if (fired(t) && (self == 1)) { send 9; } } } }')
+        text = ('version = 2\nend = 60\nmedium = { range = 10, base = 2, per = 100, collide = false }\n'
+                'mote = [{ x = 0, y = 0, program = "p" }, { x = 5, y = 0, program = "p" }]\n'
+                'programs = { p = "%s" }\n' % program)
+        dead = '[[loss]]\nfrom = 0\nto = 1\nevery = 1\n'
+        with tempfile.TemporaryDirectory() as room:
+            paths = [Path(room, name) for name in ('one.toml', 'without.toml', 'lost.toml')]
+            for path, more in zip(paths, ('', dead, dead + dead.replace('from = 0\nto = 1', 'from = 1\nto = 0'))):
+                path.write_text(text + more)
+            both, lost = (self.why(str(paths[0]), 'mote 0 prints p 9', '--other', str(it)).stdout for it in paths[1:])
+        self.assertIn('without.toml has all of this chain too.', both)
+        self.assertIn('lost.toml: the medium lost it, as it loses all packets from 1 to 0', lost)
+        self.assertRegex(lost, r'mote 1: 20 send 1 9 \(line [0-9]+ in .*\)\nThen they diverge:')
+
     def test_what_the_command_refuses(self) -> None:
         for arguments, said in (
                 (('examples/flooding.toml', 'mote 6 prints flod 1'), 'a process'),

@@ -1,13 +1,17 @@
 """The point at which the chain of a line in one run has no counterpart in another run: docs/use/WHY.md."""
 from __future__ import annotations
 
+from bisect import bisect_left, bisect_right
 from typing import NamedTuple
 
+from motesim.report import FIELDS
 from motesim.why.chain import Hop, chain
 from motesim.why.fate import after_post, after_recv, fate_of
 from motesim.why.source import At, Source
 
 MOST_LINES = 6
+# The fields of a line that count the events and packets before it. They may differ though the lines mean the same.
+COUNTERS = ('serial', 'number')
 
 
 class Diverged(NamedTuple):
@@ -23,16 +27,49 @@ class Diverged(NamedTuple):
     words: str
 
 
-def counterpart(one: Source, other: Source, where: At) -> At | None:
-    """The line of another run with the same text, of the same mote; of several, the one of the same rank."""
+def uncounted(line: str) -> list[str]:
+    """The words of a line without the numbers of its event and of its packet."""
+    at, kind, *words = line.split(' ')
+    return [at, kind, *(word for field, word in zip(FIELDS[kind].split(), words) if field not in COUNTERS)]
+
+
+def places_at(lines: list[str], at: int) -> range:
+    """The places of a mote's lines at a moment."""
+    return range(bisect_left(lines, at, key=moment), bisect_right(lines, at, key=moment))
+
+
+def moment(line: str) -> int:
+    return int(line.partition(' ')[0])
+
+
+def counterpart(one: Source, other: Source, hop: Hop, there: At) -> At | None:
+    """The line of another run that has the words of a hop, except numbers that count; `there` is that of its cause.
+
+    It is the arrival or the end of the same packet or event. Otherwise, of several such lines of a moment, it has the
+    same rank.
+    """
+    where = hop.where
     if where.mote >= other.traces.motes:
         return None
     if where.place < 0:
         return where if other.traces.programs[where.mote] == one.traces.programs[where.mote] else None
-    text = one.traces.text(where)
-    rank = one.traces.lines(where.mote)[:where.place].count(text)
-    places = [place for place, line in enumerate(other.traces.lines(where.mote)) if line == text]
-    return At(where.mote, places[rank]) if rank < len(places) else None
+    words, lines = uncounted(one.traces.text(where)), other.traces.lines(where.mote)
+    if hop.how == 'medium':
+        place = other.traces.arrivals(where.mote).get((there.mote, number_of(other, there)))
+        places = [] if place is None else [place]
+    elif hop.how == 'posted':
+        found = after_post(other, there).where
+        places = [found.place] if found else []
+    else:
+        own = one.traces.lines(where.mote)
+        rank = [uncounted(own[it]) for it in places_at(own, hop.at) if it < where.place].count(words)
+        places = [it for it in places_at(lines, hop.at) if uncounted(lines[it]) == words][rank:]
+    return At(where.mote, places[0]) if places and uncounted(lines[places[0]]) == words else None
+
+
+def number_of(source: Source, send: At) -> int:
+    """The number of the packet of a `send`."""
+    return int(source.traces.text(send).split(' ')[2])
 
 
 def diverged(one: Source, other: Source, where: At) -> Diverged | None:
@@ -40,7 +77,7 @@ def diverged(one: Source, other: Source, where: At) -> Diverged | None:
     hops = chain(one, where)[::-1]
     last, there = hops[0], At(hops[0].where.mote, -1)
     for common, hop in enumerate(hops):
-        found = counterpart(one, other, hop.where)
+        found = counterpart(one, other, hop, there)
         if found is None:
             return Diverged(common, last, there, hop, instead(one, other, hop, there))
         last, there = hop, found
@@ -51,7 +88,7 @@ def instead(one: Source, other: Source, hop: Hop, there: At) -> str:
     """The lines of the other run at the point at which a hop would follow."""
     words = one.traces.text(hop.where).split(' ')
     if hop.how == 'medium':
-        packet = other.traces.packet(int(words[2]), int(words[3]))
+        packet = other.traces.packet(there.mote, number_of(other, there))
         if packet:
             return fate_of(other, packet[0], packet[1].split(' '), hop.where.mote).words
     if hop.how == 'posted' and there.place >= 0:
