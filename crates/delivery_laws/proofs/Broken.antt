@@ -22,7 +22,7 @@ posts_share h = let e : ◌≡◌ {A = List ℕ} (0 ∷ 0 ∷ []) (0 ∷ 1 ∷ [
 goes_back : HandedOn traces.goes_back → ⊥
 goes_back h = let e : 1 ≤ 0 = h.never_back 0 1 (record { serial = 0; process = 0; taken = true; before = [] }) (omega arith) (omega arith) in omega arith
 
--- the serial of a `post` line is among those of the trace's
+-- the serial of a `post` line is one of the trace's serials
 
 at_head : (x y : Line) (t : List Line) → Contains (x ∷ t) y → (x ≡ y) ⊎ Contains t y
 at_head x y t c = elim (Contains-append_cases (x ∷ []) t y c) [ inl d ↦ inl (alone x y d) | inr d ↦ inr d ]
@@ -57,7 +57,7 @@ nobody h =
     let b : 1 < h.handed = h.none_above 0 (record { serial = 0; process = 0; taken = true; before = [] }) (omega arith) in
     none_but_one (h.none_missing 0 (omega arith))
 
--- events posted to one process
+-- events that were posted to one process
 
 unequal : (a b : ℕ) → (a == b) ≡ false → a ≡ b → ⊥
 unequal a b e f = grind (arith, nat_tests)
@@ -97,7 +97,8 @@ by_another h =
     let f : record { serial = 0; process = 6; taken = true; before = Start 5 ∷ Start 6 ∷ Post 0 (ToOne 5) ∷ [] } ≡ g.line = cc in
     unequal 6 5 refl (subst (λ (x : Handing). x.process ≡ 5) (sym f) g.process)
 
--- Events posted to all. Such an event's place may be anywhere in the trace, and a test rules out most places.
+-- Events that were posted to all processes. The place of such an event may be anywhere in the trace, and a test rules
+-- out most places.
 
 abbrev is_place : ℕ → List Line → ℕ → Bool
 is_place s t k = has s (posted_serials (take k t)) && not (has s (map (λ h. h.serial) (handings (take k t))))
@@ -136,7 +137,7 @@ two_for_one a lacking [] h i z w = z
 two_for_one a lacking (x ∷ []) h i z w = z.1
 two_for_one a lacking (x ∷ y ∷ is) h i z w = absurd (cc)
 
--- the first line is for the first that is listed
+-- the first line is for the first listed incarnation
 first_is : (a : Incarnation) (list lacking is : List Incarnation) (h : Handing) (hs : List Handing) → AllZip IsFor is (h ∷ hs) → a ∷ list ≡ is ++ lacking → IsFor a h
 first_is a list lacking [] h hs z w = absurd z
 first_is a list lacking (x ∷ is) h hs z w = let e : x ≡ a = cc in subst (λ y. IsFor y h) e z.0
@@ -146,7 +147,7 @@ second_is a b list lacking [] h i hs z w = absurd z
 second_is a b list lacking (x ∷ []) h i hs z w = absurd z.1
 second_is a b list lacking (x ∷ y ∷ is) h i hs z w = let e : y ≡ b = cc in subst (λ k. IsFor k i) e z.1.0
 
--- one line leaves one of two incarnations lacking
+-- if there is only one line, one of two incarnations lacks its line
 one_for_two : (a b : Incarnation) (lacking is : List Incarnation) (h : Handing) → AllZip IsFor is (h ∷ []) → a ∷ b ∷ [] ≡ is ++ lacking → lacking ≡ [] → ⊥
 one_for_two a b lacking [] h z w e = z
 one_for_two a b lacking (x ∷ []) h z w e = let f : a ∷ b ∷ [] ≡ x ∷ [] = w ∙ ap (λ l. x ∷ l) e in absurd (cc)

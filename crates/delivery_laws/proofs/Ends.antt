@@ -1,4 +1,4 @@
--- When no walk is under way, and at a halt, the lines have the property `HandedOn`.
+-- When no walk is in progress, and after a halt, the lines have the property `HandedOn`.
 use Rattle.std.proofs.Common.{ℕ, ◌≡◌, ◌+◌, ◌<◌, ◌==◌, ◌⊎◌, inl, inr, Bool, true, false, List, [], ◌∷◌, ◌++◌, length, refl, sym, ap, ◌∙◌, subst, arith, map}
 use Rattle.std.proofs.lemmas.List.{map-append}
 use Rattle.std.specs.List.{All, AllZip, Contains, range_with_len}
@@ -26,7 +26,7 @@ found s (x ∷ hs) h more e = elim (split (x.serial == s) refl) [ inl f ↦ foun
     split true q = inl q
     split false q = inr q
 
--- the events that were given and lack nothing have lines
+-- events that were given to all their processes have lines
 
 found_in_turn : (t : List Line) (s : ℕ) (lacking : List Incarnation) (g : IsGivenToAll t s lacking) → (is : List Incarnation) (hs : List Handing) → (is ≡ [] → ⊥) → AllZip IsFor is hs → of_serial s (handings_behind g.before g.behind) ≡ hs → HasLine t s
 found_in_turn t s lacking g [] hs f z e = absurd (f refl)
@@ -40,7 +40,8 @@ has_line : (g : Target) (t : List Line) (s : ℕ) → IsGivenTo g t s [] → Has
 has_line (ToOne p) t s h = found s (handings t) h.0.line [] h.0.alone
 has_line ToAll t s h = let g = h.0 in found_in_turn t s [] g g.reached _ (λ e. h.1 (g.whole ∙ rw (e) refl)) g.in_turn refl
 
--- the state at the end: the serials below a number have their lines, and lack none, except at a halt
+-- the state at the end: the events with serials below a number have their lines, and none is lacking, except after a
+-- halt
 pub record Ended (t : List Line) (handed : ℕ) : Type 0 where
   pub lacks : ℕ → List Incarnation
   pub given : (s : ℕ) → s < handed → IsGiven t s (lacks s)
@@ -113,7 +114,7 @@ none_reached t s lacking g e =
 given_before : (m : DeliveryMachine) (t : List Line) (h : IsInState m t) → m.walked + 1 ≡ h.taken → (s : ℕ) → s < m.walked → IsGiven t s []
 given_before m t h w s k = let g = h.are_given s (omega arith) in rw (lacking_other m.walked h.lacking s k) at g
 
--- the walk has no line yet: its event was not delivered
+-- the walk has no line yet: its event is not delivered
 ended_before : (m : DeliveryMachine) (t : List Line) (h : IsInState m t) → m.walked + 1 ≡ h.taken → All (λ x. x.serial ≡ m.walked → ⊥) (handings t) → Ended t m.walked
 ended_before m t h w a = record {
   lacks = λ s. [];

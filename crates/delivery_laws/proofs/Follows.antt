@@ -1,4 +1,4 @@
--- Each step of the machine keeps the invariant `IsInState` between it and its lines.
+-- Each step of the machine keeps the invariant `IsInState` of the machine and its lines.
 use Rattle.std.proofs.Common.{ℕ, ◌≡◌, ◌+◌, ◌<◌, ◌==◌, ◌⊎◌, inl, inr, true, false, cond, List, [], ◌∷◌, ◌++◌, length, refl, sym, ap, ◌∙◌, subst, append_assoc, append-nil, arith, map}
 use Rattle.std.proofs.lemmas.List.{length_push}
 use Rattle.std.specs.List.{All, AllZip, Contains}
@@ -66,7 +66,7 @@ in_state_post m g t h = let l = Post m.accepted g in record {
   current = h.current;
 }
 
--- a line that tells of no process and no event
+-- a line about no process and no event
 pub record IsAside (l : Line) : Type 0 where
   pub list : (n : ℕ) (list : List Incarnation) → list_after n list l ≡ list
   pub post : posted_serials (l ∷ []) ≡ []

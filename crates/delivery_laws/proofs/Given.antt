@@ -1,4 +1,4 @@
--- Deliveries stay, and each new one adds to them.
+-- Earlier deliveries are unchanged, and each new one is added to them.
 use Rattle.std.proofs.Common.{ℕ, ◌≡◌, ◌<◌, ◌≤◌, Bool, List, [], ◌∷◌, ◌++◌, refl, sym, ap, ◌∙◌, append_assoc, append-nil, arith}
 use Rattle.std.specs.List.{All, Contains}
 use Rattle.std.proofs.lemmas.List.Elements.{filter-append, Contains-append_left, All-append, All-nil, All-cons, All-weaker, All-head, All-tail}
@@ -9,7 +9,7 @@ use Rattle.delivery_laws.specs.Delivery.{take_or_drop}
 use Rattle.delivery_laws.proofs.Lines.{handings_more, given_handing}
 use Rattle.delivery_laws.proofs.IsInState.{IsGivenTo, IsGiven, handings_given}
 
--- the line is no `take` or `drop` of the serial or a smaller one
+-- the line is not a `take` or `drop` line of this serial or a smaller one
 pub record IsBeyond (s : ℕ) (l : Line) : Type 0 where
   pub later : (b : List Line) → All (λ h. s ≤ h.serial) (handing_at b l)
   pub other : (b : List Line) → of_serial s (handing_at b l) ≡ []
@@ -52,7 +52,7 @@ to_more : (g : Target) (t : List Line) (l : Line) (s : ℕ) (lacking : List Inca
 to_more (ToOne p) t l s lacking h g = (one_more t l s p h g.0, g.1)
 to_more ToAll t l s lacking h g = (all_more t l s lacking h g.0, g.1)
 
--- a line beyond its serial leaves an event given as it was
+-- a line beyond the serial of an event doesn't change the delivery of the event
 pub given_more : (t : List Line) (l : Line) (s : ℕ) (lacking : List Incarnation) → IsBeyond s l → IsGiven t s lacking → IsGiven (t ++ l ∷ []) s lacking
 given_more t l s lacking h g = record {
   target = g.target;
@@ -80,7 +80,7 @@ given_one t s p there c a e = record {
   );
 }
 
--- the walk of an event that was posted to all begins, with all incarnations to come
+-- the walk of an event that was posted to all processes begins; all incarnations still lack their lines
 pub given_begin : (t : List Line) (s : ℕ) → Contains t (Post s ToAll) → All (λ h. h.serial < s) (handings t) → (process_list t ≡ [] → ⊥) → IsGiven t s (process_list t)
 given_begin t s c a n = record {
   target = ToAll;
@@ -101,7 +101,7 @@ given_begin t s c a n = record {
   );
 }
 
--- the first of those who are lacking is reached
+-- the walk reaches the first incarnation that lacks its line
 abbrev all_next : (t : List Line) (s : ℕ) (i : Incarnation) (lacking : List Incarnation) (there : Bool) (p : ℕ) → p ≡ i.process → there ≡ is_on (process_list t) i → IsGivenToAll t s (i ∷ lacking) → IsGivenToAll (t ++ take_or_drop there s p ∷ []) s lacking
 all_next t s i lacking there p e f g =
     let l = take_or_drop there s p in

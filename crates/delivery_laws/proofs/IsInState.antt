@@ -1,4 +1,4 @@
--- The invariant between the machine and its lines so far.
+-- The invariant of the machine and its lines so far.
 use Rattle.std.proofs.Common.{ℕ, zero, suc, ◌≡◌, ◌+◌, ◌<◌, ◌≤◌, ◌==◌, not, ◌⊎◌, inl, inr, Bool, true, List, [], ◌∷◌, ◌++◌, length, refl, sym, ap, ◌∙◌, subst, append-nil, arith, if◌then◌else◌, map}
 use Rattle.std.proofs.lemmas.List.Quantifiers.{all_pairs_push}
 use Rattle.std.specs.List.{All, AllPairs, AllZip, Contains, filter, list_any, range_with_len}
@@ -8,44 +8,45 @@ use Rattle.delivery_laws.specs.HandedOn.{Target, ToOne, ToAll, Line, Post, Incar
 use Rattle.delivery_laws.specs.Delivery.{Waiting, DeliveryMachine, take_or_drop}
 use Rattle.delivery_laws.proofs.Lines.{on_start, on_leave, handings_more, posted_more, given_handing}
 
--- the `post` lines are those of the events that were accepted
+-- the `post` lines are the lines of the events that were accepted
 pub record Posts (accepted : ℕ) (t : List Line) : Type 0 where
   pub counted : posted_serials t ≡ range_with_len 0 accepted
   pub known : (s : ℕ) (g : Target) → Contains t (Post s g) → s < accepted
   pub single : (s : ℕ) (g g' : Target) → Contains t (Post s g) → Contains t (Post s g') → g ≡ g'
 
--- a `take` or `drop` line comes after the `post` line of its serial
+-- a `take` or `drop` line is after the `post` line of its serial
 abbrev pub IsAfterPost : Handing → Type 0
 IsAfterPost h = (g : Target) × Contains h.before (Post h.serial g)
 
 abbrev pub IsBelow : ℕ → Incarnation → Type 0
 IsBelow n i = i.number < n
 
--- two process lists have the same processes in the same order, and each a number that its incarnations haven't reached
+-- two process lists have the same processes in the same order; each list has a number that no incarnation on it has
+-- reached
 pub record SameList (list : List Incarnation) (numbered : ℕ) (there : List Incarnation) (n : ℕ) : Type 0 where
   pub same : map (λ i. i.process) list ≡ map (λ i. i.process) there
   pub below : All (IsBelow numbered) list
   pub before : All (IsBelow n) there
 
--- two incarnations of one process, one by the numbers of each list, which both have left or neither
+-- two incarnations of one process, one in the numbering of each list; either both have left or neither has
 pub record IsPair (list : List Incarnation) (numbered : ℕ) (there : List Incarnation) (n : ℕ) (x i : Incarnation) : Type 0 where
   pub process : x.process ≡ i.process
   pub below : x.number < numbered
   pub before : i.number < n
   pub same : is_on list x ≡ is_on there i
 
--- the `take` and `drop` lines are of events that were taken, in order
+-- the `take` and `drop` lines are about the events that were taken, in order
 pub record Gone (taken : ℕ) (t : List Line) : Type 0 where
   pub never_back : AllPairs (λ x y. x.serial ≤ y.serial) (handings t)
   pub after_posts : All IsAfterPost (handings t)
   pub below : All (λ h. h.serial < taken) (handings t)
 
--- the events that wait are the accepted ones from a serial on
+-- the waiting events are the accepted events from this serial on
 abbrev pub Waits : ℕ → List Waiting → ℕ → List Line → Type 0
 Waits k [] accepted t = k ≡ accepted
 Waits k (x ∷ xs) accepted t = (x.serial ≡ k) × Contains t (Post k x.target) × Waits (k + 1) xs accepted t
 
--- an event was given to the processes that it was posted to, except for the incarnations that are lacking
+-- an event was given to the processes to which it was posted, except to the incarnations that lack their lines
 abbrev pub IsGivenTo : Target → List Line → ℕ → List Incarnation → Type 0
 IsGivenTo (ToOne p) t s lacking = IsGivenToOne t s p × (lacking ≡ [])
 IsGivenTo ToAll t s lacking = (g : IsGivenToAll t s lacking) × (process_list g.before ≡ [] → ⊥)
@@ -188,7 +189,8 @@ pairs_of list numbered there n (x ∷ xs) (i ∷ is) e b c on on' =
       pairs_of list numbered there n xs is (cc) (All-tail (IsBelow numbered) x xs b) (All-tail (IsBelow n) i is c) (All-tail (IsOn list) x xs on) (All-tail (IsOn there) i is on'),
     )
 
--- at the beginning of a walk each incarnation on the one list is paired with its own on the other
+-- at the beginning of a walk, each incarnation on one list forms a pair with the incarnation at the same place of the
+-- other list
 pub pairs_begin : (list : List Incarnation) (numbered : ℕ) (there : List Incarnation) (n : ℕ) → SameList list numbered there n → AllZip (IsPair list numbered there n) list there
 pairs_begin list numbered there n s = pairs_of list numbered there n list there s.same s.below s.before (all_on list) (all_on there)
 

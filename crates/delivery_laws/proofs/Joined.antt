@@ -1,4 +1,4 @@
--- Runs that follow one another are one run.
+-- Runs one after another form one run.
 use Rattle.std.proofs.Common.{List, [], ◌∷◌, ◌++◌, sym, ◌∙◌, ap, append_assoc, append-nil}
 use Rattle.delivery_laws.specs.HandedOn.{Line, Halt}
 use Rattle.delivery_laws.specs.Delivery.{DeliveryMachine, DeliveryStep, DeliveryRuns, stays, goes_on, Halts}

@@ -11,7 +11,7 @@ use Rattle.delivery_laws.proofs.Lines.{alone}
 use Rattle.delivery_laws.proofs.IsInState.{IsInState, same_listed}
 use Rattle.delivery_laws.proofs.Follows.{in_state_runs, in_state_at_first}
 
--- a line of a trace with one line appended is the appended one, or a line of the trace
+-- if a line is appended to a trace, each line is the appended line, or a line of the old trace
 record IsFoundIn (t before : List Line) (x : Line) (behind : List Line) (l : Line) : Type 0 where
   rest : List Line
   of_rest : behind ≡ rest ++ l ∷ []

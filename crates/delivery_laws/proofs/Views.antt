@@ -1,4 +1,4 @@
--- Steps of a kernel as runs of the delivery machine, in the midst of any walk.
+-- Steps of a kernel as runs of the delivery machine, in the middle of any walk.
 use Rattle.std.proofs.Common.{ℕ, ◌≡◌, ◌+◌, ◌<◌, Bool, false, List, [], ◌∷◌, ◌++◌, inl, inr, refl, map}
 use Rattle.std.specs.List.{All}
 use Rattle.delivery_laws.specs.HandedOn.{Line, Target, ToOne, ToAll, Start, Leave, Post, Halt, Other, Incarnation, is_listed, is_on, without, HandedOn}
@@ -9,11 +9,11 @@ use Rattle.delivery_laws.proofs.Joined.{one_step, runs_joined, halts_joined}
 use Rattle.delivery_laws.proofs.Ends.{delivery_hands_on}
 use Rattle.delivery_laws.proofs.StartsAndHalts.{halt_is_last, starts_the_unlisted}
 
--- a kernel goes by these lines from one view to another, whatever walk is under way
+-- with these lines a kernel moves from one view to another, whatever walk is in progress
 abbrev pub Moves : View → List Line → View → Type 0
 Moves v lines w = (walked : ℕ) (coming : List Incarnation) → DeliveryRuns (machine_at v walked coming) lines (machine_at w walked coming)
 
--- it goes by these lines to a halt
+-- with these lines the kernel moves to a halt
 abbrev pub Stops : View → List Line → Type 0
 Stops v lines = (walked : ℕ) (coming : List Incarnation) → Halts (machine_at v walked coming) lines
 
@@ -41,7 +41,7 @@ post_moves v g queue e walked coming = rw e (one_step _ _ _ (posts (machine_at v
 pub halt_stops : (v : View) → Stops v (Halt ∷ [])
 halt_stops v walked coming = record { before = []; last = _; runs = stays; ends = refl }
 
--- the steps of the machine that only the delivery takes
+-- the steps of the machine that belong only to the delivery
 
 pub gives : (v : View) (walked s p : ℕ) (there : Bool) (queue : List Waiting) → v.queue ≡ record { serial = s; target = ToOne p } ∷ queue → there ≡ is_listed v.list p → DeliveryRuns (machine_at v walked []) (take_or_drop there s p ∷ []) (machine_at (record v { queue = queue }) walked [])
 gives v walked s p there queue q e = rw e (one_step _ _ _ (gives_one (machine_at v walked []) s p queue refl q))
@@ -55,7 +55,7 @@ walks v walked i coming there e = rw e (one_step _ _ _ (walks_on (machine_at v w
 pub numbers : (v : View) (walked : ℕ) (list : List Incarnation) (n : ℕ) → map (λ i. i.process) list ≡ map (λ i. i.process) v.list → All (λ i. i.number < n) list → DeliveryRuns (machine_at v walked []) [] (machine_at (record v { list = list; numbered = n }) walked [])
 numbers v walked list n e a = one_step _ _ _ (renumbers (machine_at v walked []) list n refl e a)
 
--- more lines of a kernel that goes with its lines so far
+-- more lines of a kernel whose lines so far agree with its view
 
 pub goes_further : (ls more : List Line) (v w : View) (walked : ℕ) → (g : GoesWithView ls v) → DeliveryRuns (machine_at v g.walked []) more (machine_at w walked []) → GoesWithView (ls ++ more) w
 goes_further ls more v w walked g r = record { walked = walked; runs = runs_joined _ _ _ _ _ g.runs r }
@@ -63,7 +63,7 @@ goes_further ls more v w walked g r = record { walked = walked; runs = runs_join
 pub goes_to_halt : (ls more : List Line) (v : View) → (g : GoesWithView ls v) → Halts (machine_at v g.walked []) more → HasHalted (ls ++ more)
 goes_to_halt ls more v g h = halts_joined _ _ _ _ g.runs h
 
--- lines that a kernel goes with, or that end in its halt, are a trace
+-- if the lines agree with a kernel's view, or end in the halt of the kernel, they are a trace
 
 pub goes_with_hands_on : (lines : List Line) (v : View) → GoesWithView lines v → HandedOn lines
 goes_with_hands_on lines v g = delivery_hands_on lines (inl (_, g.runs, refl))

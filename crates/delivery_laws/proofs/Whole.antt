@@ -32,7 +32,7 @@ whole = record {
   taken_by_the_next = delivery_hands_on _ (inl (_, goes_on _ _ _ _ (goes_on _ _ _ _ (goes_on _ _ _ _ next_posted.1 (starts _ 5 refl)) (gives_one _ 1 5 [] refl refl)) (posts _ ToAll), refl));
 }
 
--- lines that tell of no event have the property
+-- lines that are about no event have the property
 no_events : (t : List Line) → posted_serials t ≡ [] → handings t ≡ [] → HandedOn t
 no_events t p h = record {
   posts_count_up = rw p refl;

@@ -1,5 +1,5 @@
--- A machine that delivers events in the order in which they were accepted: the part of a mote's kernel on which the
--- order of delivery rests.
+-- A machine that delivers events in the order in which they were accepted. It is the part of a mote's kernel on which
+-- the order of delivery depends.
 use Rattle.std.specs.Prelude.{ℕ, Bool, false, ◌≡◌, ◌<◌, ◌+◌, ◌⊎◌, List, [], ◌∷◌, ◌++◌, map, if◌then◌else◌}
 use Rattle.std.specs.List.{All}
 use Rattle.delivery_laws.specs.HandedOn.{Target, ToOne, ToAll, Line, Start, Leave, Post, Take, Drop, Halt, Other}
@@ -11,27 +11,28 @@ pub record Waiting : Type 0 where
   pub target : Target
 
 pub record DeliveryMachine : Type 0 where
-  -- the process list, newest first, and a number that no incarnation on it has reached
+  -- the process list, newest process first, and a number that no incarnation on it has reached
   pub list : List Incarnation
   pub numbered : ℕ
-  -- the events that wait, the oldest first, and how many were ever accepted
+  -- the waiting events, the oldest first, and the number of events that were ever accepted
   pub queue : List Waiting
   pub accepted : ℕ
-  -- the serial of the event whose walk over the processes was begun last, and the incarnations still to come in it
+  -- the serial of the event whose walk over the processes began last, and the incarnations that are still to come in
+  -- this walk
   pub walked : ℕ
   pub coming : List Incarnation
 
--- before the first process starts
+-- the machine before the first process starts
 abbrev pub initial : DeliveryMachine
 initial = record { list = []; numbered = 0; queue = []; accepted = 0; walked = 0; coming = [] }
 
--- an event reaches a process that is listed, or is dropped
+-- an event is taken by a process that is listed, or is dropped
 abbrev pub take_or_drop : Bool → ℕ → ℕ → Line
 take_or_drop there s p = if there then Take s p else Drop s p
 
--- One step: from a machine, with the lines that it writes, to the machine that it leaves. Processes that are not
--- listed start, and processes leave and post, at any moment, also between the steps of a walk; but the next event is
--- taken only while no walk is under way.
+-- One step, from a machine, with the lines that it writes, to the machine after it. At any moment, also between the
+-- steps of a walk, processes that are not listed start, and processes leave and post. But the next event is taken only
+-- when no walk is in progress.
 pub data DeliveryStep : DeliveryMachine → List Line → DeliveryMachine → Type 0 where
   starts : (m : DeliveryMachine) (p : ℕ) → is_listed m.list p ≡ false →
       DeliveryStep m (Start p ∷ []) (record m
@@ -49,24 +50,24 @@ pub data DeliveryStep : DeliveryMachine → List Line → DeliveryMachine → Ty
   walks_on : (m : DeliveryMachine) (i : Incarnation) (rest : List Incarnation) → m.coming ≡ i ∷ rest →
       DeliveryStep m (take_or_drop (is_on m.list i) m.walked i.process ∷ []) (record m { coming = rest })
   writes : (m : DeliveryMachine) → DeliveryStep m (Other ∷ []) m
-  -- the incarnations are numbered again, which no line shows
+  -- the incarnations are numbered again; no line shows this
   renumbers : (m : DeliveryMachine) (list : List Incarnation) (n : ℕ) → m.coming ≡ []
       → map (λ i. i.process) list ≡ map (λ i. i.process) m.list → All (λ i. i.number < n) list →
       DeliveryStep m [] (record m { list = list; numbered = n })
 
--- some steps, one after another
+-- some steps one after another
 pub data DeliveryRuns (m : DeliveryMachine) : List Line → DeliveryMachine → Type 0 where
   stays : DeliveryRuns m [] m
   goes_on : (ls : List Line) (m' : DeliveryMachine) (more : List Line) (m'' : DeliveryMachine) → DeliveryRuns m ls m'
       → DeliveryStep m' more m'' → DeliveryRuns m (ls ++ more) m''
 
--- The machine may halt at any moment: it writes that it halts, and nothing more.
+-- The machine may halt at any moment. It writes a line about the halt, and nothing more.
 pub record Halts (m : DeliveryMachine) (lines : List Line) : Type 0 where
   pub before : List Line
   pub last : DeliveryMachine
   pub runs : DeliveryRuns m before last
   pub ends : lines ≡ before ++ Halt ∷ []
 
--- the lines of a machine from its beginning to a moment when no walk is under way, or to its halt
+-- the lines of a machine from its beginning to a moment when no walk is in progress, or to its halt
 abbrev pub IsTrace : List Line → Type 0
 IsTrace lines = ((m : DeliveryMachine) × DeliveryRuns initial lines m × (m.coming ≡ [])) ⊎ Halts initial lines

@@ -4,7 +4,8 @@ use Rattle.delivery_laws.specs.HandedOn.{Line, HandedOn}
 use Rattle.delivery_laws.specs.StartsAndHalts.{HaltIsLast, StartsTheUnlisted}
 use Rattle.delivery_laws.specs.Delivery.{IsTrace}
 
--- whatever is started, posted, left and halted, and when
+-- whatever processes and events the machine starts, posts and removes, and whenever it halts, its lines have the
+-- property `HandedOn`
 abbrev pub DeliveryHandsOn : Type 0
 DeliveryHandsOn = (lines : List Line) → IsTrace lines → HandedOn lines
 

@@ -1,12 +1,13 @@
--- Two properties of a trace besides the delivery of its events.
+-- Two more properties of a trace, besides the delivery of its events.
 use Rattle.std.specs.Prelude.{ℕ, false, ◌≡◌, List, [], ◌∷◌, ◌++◌}
 use Rattle.delivery_laws.specs.HandedOn.{Line, Start, Halt, is_listed, process_list}
 
--- nothing follows a `halt`
+-- no line follows a `halt` line
 abbrev pub HaltIsLast : List Line → Type 0
 HaltIsLast lines = (before behind : List Line) → lines ≡ before ++ Halt ∷ behind → behind ≡ []
 
--- Only a process that is not listed starts: between two `start` lines of a process there is a `leave` of it.
+-- Only a process that is not listed starts: between two `start` lines of a process there is a `leave` line of this
+-- process.
 abbrev pub StartsTheUnlisted : List Line → Type 0
 StartsTheUnlisted lines = (before behind : List Line) (p : ℕ) → lines ≡ before ++ Start p ∷ behind
     → is_listed (process_list before) p ≡ false

@@ -1,5 +1,5 @@
--- Small traces that have the property, and small ones that don't: each of the latter breaks the part that its name
--- says.
+-- Small traces that have the property, and small traces that don't. Each of the latter breaks the part of the property
+-- that is its name.
 use Rattle.std.specs.Prelude.{List, [], ◌∷◌}
 use Rattle.delivery_laws.specs.StartsAndHalts.{StartsTheUnlisted, HaltIsLast}
 use Rattle.delivery_laws.specs.HandedOn.{ToOne, ToAll, Line, Start, Leave, Post, Take, Drop, Halt, Other, HandedOn}
@@ -19,7 +19,7 @@ not_yet_posted = Start 5 ∷ Take 0 5 ∷ Post 0 (ToOne 5) ∷ []
 abbrev pub leaves_one_out : List Line
 leaves_one_out = Start 5 ∷ Post 0 (ToOne 5) ∷ Post 1 (ToOne 5) ∷ Take 1 5 ∷ []
 
--- an event posted to all when nobody is listed: no line shows it, and later serials have lines
+-- an event posted to all processes when none is listed: no line shows the event, and later serials have lines
 abbrev pub reaches_nobody : List Line
 reaches_nobody = Post 0 ToAll ∷ Start 5 ∷ Post 1 (ToOne 5) ∷ Take 1 5 ∷ []
 
@@ -53,11 +53,11 @@ lacks_the_first_line = Start 5 ∷ Start 6 ∷ Post 0 ToAll ∷ Take 0 5 ∷ Hal
 abbrev pub lacks_an_earlier_line : List Line
 lacks_an_earlier_line = Start 5 ∷ Start 6 ∷ Post 0 ToAll ∷ Post 1 (ToOne 6) ∷ Take 0 6 ∷ Take 1 6 ∷ Halt ∷ []
 
--- a broadcast during which a process leaves and another starts, which it doesn't reach
+-- a broadcast during which one process leaves and another process starts; the broadcast doesn't reach the new process
 abbrev pub broadcast_walk : List Line
 broadcast_walk = Start 5 ∷ Start 6 ∷ Post 0 ToAll ∷ Take 0 6 ∷ Leave 5 ∷ Start 7 ∷ Drop 0 5 ∷ []
 
--- the process that left during the walk has started again: the event is not for the new incarnation
+-- the process that left during the walk has started again; the new incarnation doesn't get the event
 abbrev pub restarted_within : List Line
 restarted_within = Start 5 ∷ Start 6 ∷ Post 0 ToAll ∷ Take 0 6 ∷ Leave 5 ∷ Start 5 ∷ Drop 0 5 ∷ Other ∷ []
 
@@ -65,26 +65,26 @@ restarted_within = Start 5 ∷ Start 6 ∷ Post 0 ToAll ∷ Take 0 6 ∷ Leave 5
 abbrev pub halted_within : List Line
 halted_within = Start 5 ∷ Start 6 ∷ Post 0 ToAll ∷ Take 0 6 ∷ Halt ∷ []
 
--- a mote that halts before the first line of the walk: the event is not delivered
+-- a mote that halts before the first line of the walk, so the event is not delivered
 abbrev pub halted_before_the_first : List Line
 halted_before_the_first = Start 5 ∷ Start 6 ∷ Post 0 ToAll ∷ Halt ∷ []
 
--- an event to one process goes to whatever incarnation is listed when it is taken
+-- an event for one process goes to the incarnation that is listed when the event is taken
 abbrev pub taken_by_the_next : List Line
 taken_by_the_next = Start 5 ∷ Post 0 (ToOne 5) ∷ Leave 5 ∷ Post 1 (ToOne 5) ∷ Drop 0 5 ∷ Start 5 ∷ Take 1 5
     ∷ Post 2 ToAll ∷ []
 
--- Traces that the property doesn't detect: they have it too, though a kernel would write other lines.
+-- Traces that have the property although a kernel would write other lines: the property doesn't detect their faults.
 
--- an event that waits forever
+-- an event that waits for ever
 abbrev pub never_taken : List Line
 never_taken = Start 5 ∷ Post 0 (ToOne 5) ∷ Other ∷ []
 
--- the list was fixed at the `post`, though process 6 was on it, too, when the event was taken
+-- the list was fixed at the `post` line, although process 6 was also on the list when the event was taken
 abbrev pub list_of_the_post : List Line
 list_of_the_post = Start 5 ∷ Post 0 ToAll ∷ Start 6 ∷ Other ∷ Take 0 5 ∷ []
 
--- a process on the list starts again, and one that is not on it leaves
+-- a process that is on the list starts again, and a process that is not on the list leaves
 abbrev pub starts_twice : List Line
 starts_twice = Start 5 ∷ Start 5 ∷ Leave 6 ∷ []
 
@@ -123,7 +123,7 @@ pub record TracesThatDoNot : Type 0 where
   pub lacks_the_first_line : HandedOn lacks_the_first_line → ⊥
   pub lacks_an_earlier_line : HandedOn lacks_an_earlier_line → ⊥
 
--- two of these are detected by the two other properties
+-- the other two properties detect the faults of two of these traces
 pub record TracesThatBreakTheOthers : Type 0 where
   pub starts_twice : StartsTheUnlisted starts_twice → ⊥
   pub goes_on_after_a_halt : HaltIsLast goes_on_after_a_halt → ⊥

@@ -14,13 +14,13 @@ pub fn nothing_follows_a_halt()
     ensures delivery_halts_last { DeliveryHaltsLast }
 {}
 
-/// No process of the machine starts while it is listed.
+/// No process of the machine starts while it is already listed.
 pub fn only_the_unlisted_start()
     ensures delivery_starts_the_unlisted { DeliveryStartsTheUnlisted }
 {}
 
-/// The property holds of small correct traces, and fails for small traces that break one thing each. There are faults
-/// that it doesn't detect; the two laws above detect two of them.
+/// Small correct traces have the property, and small traces with one fault each don't. There are faults that the
+/// property doesn't detect. The two laws above detect two of them.
 pub fn traces_are_distinct()
     ensures traces_that_hand_on { TracesThatHandOn }
     ensures broken { TracesThatDoNot }

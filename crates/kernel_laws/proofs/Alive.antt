@@ -1,4 +1,4 @@
--- Each small step leaves a system process in a state in which it can be polled.
+-- After each small step a system process is still in a state in which it can be polled.
 use Rattle.std.proofs.Common.{ℕ, ◌≡◌, ◌<◌, ◌⊎◌, inl, inr, ◌==◌, Bool, true, false, not, nat_lt, List, [], ◌∷◌, length, unwrap_or, slice_get, slice_set, refl, sym, ◌∙◌, subst, arith}
 use Rattle.std.specs.List.{filter}
 use Rattle.std.proofs.lemmas.List.{length-set}
@@ -17,7 +17,7 @@ use Rattle.kernel_laws.specs.Poll.{CanBePolled}
 use Rattle.kernel_laws.proofs.Steps.{any_or, others_stay}
 use Rattle.kernel_laws.proofs.Tables.{set_same, set_other, is_entry, is_equal}
 
--- it can still be polled, its tables still have room for it, and it stays on the process list
+-- the process can still be polled, the tables still have room for it, and it is still on the process list
 pub record Alive (p : Proc) (s t : State) : Type 0 where
   pub can : CanBePolled p s → CanBePolled p t
   pub state : has_process s p ≡ true → has_process t p ≡ true
@@ -30,11 +30,11 @@ is_off Off a e = cc
 is_off Running a e = cc
 is_off Called a e = cc
 
--- a process that is running or called is one of the mote's
+-- a process that is running or called is a process of the mote
 pub alive_has : (p : Proc) (s : State) → is_alive (process_state s p) ≡ true → has_process s p ≡ true
 alive_has p s a = let within = is_entry s.states (place_of p) Off (is_off (process_state s p) a) in grind (arith, nat_tests)
 
--- a number that a process of the program doesn't have
+-- a number below 3 is not the place of any process of the program
 pub no_own : (p : Proc) → (k : ℕ) → k < 3 → IsOwn p → k ≡ place_of p → ⊥
 no_own (Own p) k l own e = omega arith
 no_own Etimer k l own e = own
@@ -48,7 +48,7 @@ others_there (x ∷ ms) q m e = grind (arith, nat_tests, others_there ms q m e)
 pub still_has : (k j : ℕ) (b : Bool) (needs_poll : List Bool) → nat_lt k (length needs_poll) ≡ true → nat_lt k (length (slice_set needs_poll j b)) ≡ true
 still_has k j b needs_poll h = rw (length-set needs_poll j b) h
 
--- a process that needs a poll still does when one more does
+-- a process that needs a poll still needs it if another process also needs one
 pub needs_poll_more : (k j : ℕ) (needs_poll : List Bool) → unwrap_or (slice_get needs_poll k) false ≡ true → unwrap_or (slice_get (slice_set needs_poll j true) k) false ≡ true
 needs_poll_more k j needs_poll e = by (is_equal k j)
   where
@@ -60,7 +60,7 @@ module _ (p : Proc) (system : place_of p < 3) where
   apart : (q : Proc) → IsOwn q → (place_of p == place_of q) ≡ false
   apart q own = let n = no_own q (place_of p) system own in grind (arith, nat_tests)
 
-  -- nothing of this is changed
+  -- a step that changes none of these tables
   pub alive_still : (s t : State) → t.states ≡ s.states → t.needs_poll ≡ s.needs_poll → t.members ≡ s.members → Alive p s t
   alive_still s t states needs_poll members = record {
     can = λ c. record { alive = rw states c.alive; can_need_poll = rw needs_poll c.can_need_poll };

@@ -1,4 +1,4 @@
--- Each call keeps that the lines about a process are those of its lives, however deep calls nest.
+-- After each call the lines about a process are still those of its lives, however deep calls nest.
 use Rattle.std.proofs.Common.{ℕ, zero, suc, ◌≡◌, ◌⊎◌, inl, inr, not, ◌&&◌, ◌||◌, ◌==◌, Bool, true, false}
 use Rattle.std.proofs.Common.{if◌then◌else◌, List, [], ◌∷◌, ◌++◌, ◌+◌, Option, Some, None, slice_get, unwrap_or, refl}
 use Rattle.std.proofs.Common.{sym, ap, ◌∙◌, subst, append_assoc}
@@ -59,9 +59,9 @@ use Rattle.kernel_laws.proofs.OwnSteps.{enlist_in_mote}
 use Rattle.kernel_laws.proofs.BodyRuns.{IfGives, gives_bind, from_always, IsAway, ComesHere, HasLived, SoFar, RanFrom}
 use Rattle.kernel_laws.proofs.BodyRuns.{BodyRuns, IsNoPrint, runs_on}
 
--- after the earlier lines about the process
+-- the earlier lines about the process
 module _ (program : Tree) (mote p : ℕ) (code : Code) (earlier : List Line) where
-  -- on the process list, in a life that has come this far
+  -- the process is on the process list, in a life that has reached this point
   abbrev pub IsIn : Next → ProcessInMote → Remainder → List ℕ → Type 0
   IsIn next v r vars = telling.IsIn p code mote (earlier ++ v.lines_so_far) next v r vars
 
@@ -69,7 +69,7 @@ module _ (program : Tree) (mote p : ℕ) (code : Code) (earlier : List Line) whe
   abbrev pub IsInState : ProcessInMote → Type 0
   IsInState v = telling.RestsAsTraced program mote p code (earlier ++ v.lines_so_far) v
 
-  -- It can be called with this event: it is at rest, or has just started.
+  -- The process can be called with this event: it is at rest, or has just started.
   pub record IsReady (v : ProcessInMote) (e : Event) : Type 0 where
     pub of_program : v.program ≡ program
     pub of_mote : v.mote ≡ mote
@@ -84,7 +84,7 @@ module _ (program : Tree) (mote p : ℕ) (code : Code) (earlier : List Line) whe
     pub is_in : IsIn coming v still left
     pub so_far : SoFar program mote p code earlier v.lines_so_far
 
-  -- a process that is away is unchanged, and for one that is at rest the lines stay those of its lives
+  -- a process that is away is unchanged, and if a process is at rest, the lines are still those of its lives
   pub record Keeps (s t : State) : Type 0 where
     pub away : IsAway program mote (process_in_mote p s) → IsQuiet p s t
     pub in_state : IsInState (process_in_mote p s) → IsInState (process_in_mote p t)
@@ -98,7 +98,7 @@ module _ (program : Tree) (mote p : ℕ) (code : Code) (earlier : List Line) whe
     in_state = λ x. i.in_state (h.in_state x);
   }
 
-  -- and if the mote halts, the lines are those of lives so far
+  -- if the mote halts, the lines are those of the lives so far
   abbrev pub Stopped : State → Type 0
   Stopped t = SoFar program mote p code earlier (process_in_mote p t).lines_so_far
 
@@ -154,16 +154,16 @@ module _ (program : Tree) (mote p : ℕ) (code : Code) (earlier : List Line) whe
   quietly {A} s (Ends t) h = ends s t h
   quietly {A} s (Goes a t) h = goes s a t h
 
-  -- the process is at rest again, if the mote continues
+  -- if the mote continues, the process is at rest again
   abbrev pub Settles : {A : Type 0} → Outcome A → Type 0
   Settles {A} o = IfGives Stopped (λ a t. IsInState (process_in_mote p t)) o
 
-  -- from the two cases: the process is away, or it is at rest
+  -- a step for the two cases: the process is away, or it is at rest
   pub lead_of : {A : Type 0} (s : State) (o : Outcome A) → (IsAway program mote (process_in_mote p s) → Always (λ t. IsQuiet p s t) o) → (IsInState (process_in_mote p s) → Settles o) → Leads A s o
   lead_of {A} s (Ends t) h i = record { leads = record { away = λ a so. quiet_stopped s t (h a) so; in_state = i } }
   lead_of {A} s (Goes a t) h i = record { leads = record { away = h; in_state = i } }
 
-  -- if the program is known to be this one
+  -- a step for the case in which the program is this one
   pub knowing : {A : Type 0} (s : State) (o : Outcome A) → ((process_in_mote p s).program ≡ program → Leads A s o) → Leads A s o
   knowing {A} s (Ends t) h = record { leads = record { away = λ x. (h x.of_program).leads.away x; in_state = λ x. (h x.of_program).leads.in_state x } }
   knowing {A} s (Goes a t) h = record { leads = record { away = λ x. (h x.of_program).leads.away x; in_state = λ x. (h x.of_program).leads.in_state x } }
@@ -178,7 +178,7 @@ module _ (program : Tree) (mote p : ℕ) (code : Code) (earlier : List Line) whe
   unfolding spend_of
   spend_quiet s = always_if (λ t. IsQuiet p s t) (s.units == 0) _ _ (halted_quiet p s) refl
 
-  -- spending a unit leaves the process in the same state
+  -- if a unit is spent, the position of the process doesn't change
   spent : (v : ProcessInMote) (s : State) → process_in_mote p s ≡ v → SoFar program mote p code earlier v.lines_so_far → IfGives Stopped (λ a t. process_in_mote p t ≡ v) (spend_of s)
   spent v s e so =
       from_always (Unit {0}) Stopped (λ t. IsQuiet p s t) (λ t. process_in_mote p t ≡ v) (spend_of s) (spend_quiet s) (λ t same. subst (λ w. SoFar program mote p code earlier w.lines_so_far) (sym (same ∙ e)) so) (λ t same. same ∙ e)
@@ -238,8 +238,8 @@ module _ (program : Tree) (mote p : ℕ) (code : Code) (earlier : List Line) whe
     ring = ring_steps;
   }
 
-  -- an invariant of the calls of a process and the runs of a thread: threads of others, of its body, and of its other
-  -- blocks
+  -- an invariant of the calls of a process and the runs of a thread: threads of other processes, of the process's
+  -- body, and of its other blocks
   pub record AreTraced (calls : Calls) : Type 0 where
     pub call : (s : State) (q : Proc) (e : Event) → Leads (Unit {0}) s (calls.call s q e)
     pub ready : (s : State) (e : Event) → IsReady (process_in_mote p s) e → Settles (calls.call s (Own p) e)
@@ -247,7 +247,7 @@ module _ (program : Tree) (mote p : ℕ) (code : Code) (earlier : List Line) whe
     pub body : BodyRuns program mote p code earlier calls
     pub beside : (s : State) (r : Remainder) (e : Event) → IsQuietRest code r → Leads Answer s (calls.run s code r p e)
 
-  -- the body has run, or only the parts that run before it
+  -- the body has run, or only the parts that run before the body
   record Reacted (v : ProcessInMote) (a : PtState) (w : ProcessInMote) : Type 0 where
     left : List ℕ
     next : Remainder
@@ -255,7 +255,7 @@ module _ (program : Tree) (mote p : ℕ) (code : Code) (earlier : List Line) whe
     lived : HasLived program mote p code earlier w.lines_so_far left
     comes : has_ended a ≡ false → ComesHere program mote p code earlier w.lines_so_far AtCall next left
 
-  -- it is about to leave the list, which it may do by itself, without a last run
+  -- the process is about to leave the list; it may leave by itself, without a last run
   record IsLeaving (v : ProcessInMote) (by_itself : Bool) : Type 0 where
     of_program : v.program ≡ program
     of_mote : v.mote ≡ mote
@@ -307,7 +307,7 @@ module _ (program : Tree) (mote p : ℕ) (code : Code) (earlier : List Line) whe
           subst (λ k. slice_get s.program.codes k ≡ Some c → Leads Answer s (calls.run s c (fresh_of c (Callback e.word)) k e)) (sym same) (λ i. knowing s _ (own_callback s c e i)) is
       callback_led s c q e is (inr n) = are.run s c _ q e n
 
-      -- the calls as those of other processes
+      -- the calls of other processes
       led : each.AreLed Keeps Stops chain Whoever Others calls
       led = record {
         call = λ s q e f. are.call s q e;
@@ -349,7 +349,7 @@ module _ (program : Tree) (mote p : ℕ) (code : Code) (earlier : List Line) whe
           subst (λ v. IfGives Stopped (λ a w. Reacted v a (process_in_mote p w)) (resume_of calls t code p e)) same
           (resumed t r vars e coming (subst (λ v. IsAway program mote v) (sym same) away) (ap (λ v. v.vars) same ∙ has) (ap (λ v. v.rest) same ∙ rest) (subst (λ v. CanCome coming e v.moment) (sym same) can) (subst (λ v. ComesHere program mote p code earlier v.lines_so_far coming r vars) (sym same) here) (quiet_stopped s t same so))))
 
-      -- it leaves
+      -- the process leaves
 
       gone : (s : State) → IsGone (process_in_mote p s) → Settles (leave_of s (Own p))
       gone s h =
@@ -415,7 +415,7 @@ module _ (program : Tree) (mote p : ℕ) (code : Code) (earlier : List Line) whe
           (gives_bind (Unit {0}) (Unit {0}) Stopped (λ a t. At (on_its_way (process_in_mote p s)) t) (λ a t. IsInState (process_in_mote p t)) (walk_of calls (own_event Exited (process_number (Own p))) (Own p) s.members (exiting_of s (Own p))) _ (walked s _ _ s.members h) (λ a t same.
           gives_bind (Unit {0}) (Unit {0}) Stopped (λ a u. IsGone (process_in_mote p u)) (λ a u. IsInState (process_in_mote p u)) (if is_same (Own p) f then Goes tt t else last_run_of calls t (Own p)) _ (last s t (is_same (Own p) f) h same) (λ b u g. gone u g)))
 
-      -- it is called
+      -- the process is called
 
       answers_so : (s : State) (v : ProcessInMote) (e : Event) (a : PtState) (exit : Bool) → IsReady v e → Reacted (record v { state = Called }) a (process_in_mote p s) → Settles (answered calls s (Own p) (has_ended a || exit))
       unfolding answered
@@ -569,7 +569,7 @@ module _ (program : Tree) (mote p : ℕ) (code : Code) (earlier : List Line) whe
           by (inl e) = subst (λ k. Leads (Unit {0}) s (kill_of calls s k current)) (sym e) (own_kill s current)
           by (inr n) = each.kill_led Keeps Stops chain Whoever Others steps calls led s q current (is_ours q n) tt
 
-      -- operations, but for prints
+      -- operations, except for prints
 
       allowed : (current : ℕ) (x : Op) → IsNoPrint x → each.Allowed Keeps Stops chain Whoever Others current x
       allowed current (op.Synch q e w) f = λ z. tt

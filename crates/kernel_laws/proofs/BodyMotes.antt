@@ -1,4 +1,4 @@
--- Boots and kernel runs keep that the lines about a process are those of its lives, and so do all calls of a kernel.
+-- After each boot, kernel run and call of a kernel, the lines about a process are still those of its lives.
 use Rattle.std.proofs.Common.{ℕ, ◌≡◌, ◌+◌, Bool, true, false, nat_lt, if◌then◌else◌, List, [], ◌∷◌, ◌++◌, inl, inr}
 use Rattle.std.proofs.Common.{Some, length, slice_get, refl, sym, ap, ◌∙◌, subst, append-nil}
 use Rattle.std.specs.Prelude.{option_map}
@@ -70,7 +70,7 @@ module _ (program : Tree) (mote p : ℕ) (code : Code) where
   traced_twice : (xs ys : List Line) → starts_and_prints (Own p) (xs ++ ys) ≡ starts_and_prints (Own p) xs ++ starts_and_prints (Own p) ys
   traced_twice xs ys = filter-append (λ l. starts_or_prints (Own p) l.what) xs ys
 
-  -- whatever the lines of the run under way tell
+  -- the same, whatever the lines of the current run are
   traced_again : (lines_so_far : List Line) (v : ProcessInMote) (moment : ℕ) (now : List Line) → RestsAsTraced program mote p code lines_so_far v → RestsAsTraced program mote p code lines_so_far (record v { moment = moment; lines_so_far = now })
   traced_again lines_so_far v moment now h = record {
     of_program = h.of_program;
@@ -95,7 +95,7 @@ module _ (program : Tree) (mote p : ℕ) (code : Code) where
       subst (λ v. RestsAsTraced program mote p code (starts_and_prints (Own p) earlier ++ v.lines_so_far) v) (sym (begun_in_state m moment before sends))
       (subst (λ l. RestsAsTraced program mote p code l (record (process_in_mote p m.state) { moment = moment; lines_so_far = starts_and_prints (Own p) before })) (traced_twice earlier before) (traced_again _ (process_in_mote p m.state) moment _ h))
 
-  -- the lines that a boot or a run that continues adds
+  -- the lines that a boot or a run adds if it continues
   given_traced : (earlier : List Line) (m : Mote) (moment : ℕ) (before : List Line) (sends : List Sent) (o : Outcome ℕ) → RestsAsTraced program mote p code (starts_and_prints (Own p) (earlier ++ before)) (process_in_mote p m.state)
       → Leads program mote p code (starts_and_prints (Own p) earlier) ℕ (begun m moment before sends) o → TellsSoFar program mote p code (earlier ++ (given o).lines) (given o).mote
   given_traced earlier m moment before sends (Ends t) h leads = record {
@@ -195,7 +195,7 @@ telling_is_of_lives_so_far program mote p code lines m h = by m.halted refl
     by true e = h.halted e
     by false e = OnRecord (h.going e).lived
 
--- over any calls of a kernel
+-- any calls of a kernel
 
 module _ (program : Tree) (mote p : ℕ) (code : Code) (is : IsProcess program p code) where
   abbrev Tells : Traced → Type 0

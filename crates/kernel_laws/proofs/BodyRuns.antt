@@ -1,5 +1,5 @@
--- A run of the body of a process continues the run of its fresh thread, if the processes that it calls leave the
--- process alone.
+-- A run of the body of a process continues the run of its fresh thread, if the other processes that it calls don't
+-- change the process.
 use Rattle.std.proofs.Common.{ℕ, zero, ◌≡◌, ◌<◌, ◌||◌, Bool, true, false, if◌then◌else◌, List, [], ◌∷◌, ◌++◌, Some}
 use Rattle.std.proofs.Common.{None, slice_get, slice_set, refl, sym, ap, ◌∙◌, subst, arith, append_assoc, append-nil}
 use Rattle.std.proofs.lemmas.Bool.Decides.{nat_tests}
@@ -39,7 +39,8 @@ use Rattle.kernel_laws.proofs.Lives.{operates_on, performs_there, gives_up_on, i
 use Rattle.kernel_laws.proofs.Unanswered.{IsUnanswered, StepUnanswered, step_unanswered, answer_is_unused}
 use Rattle.kernel_laws.proofs.ProcessInMote.{Always, get_set, traced_more, halted_quiet, post_quiet}
 
--- a property of the answer and the state of an outcome that continues, and of the state in which it ends
+-- a property of the result and the state of an outcome that continues, and a property of the last state of an outcome
+-- that ends
 abbrev pub IfGives : {A : Type 0} → (State → Type 0) → (A → State → Type 0) → Outcome A → Type 0
 IfGives E P (Ends t) = E t
 IfGives E P (Goes a t) = P a t
@@ -56,14 +57,14 @@ pub from_always : (A : Type 0) (E P Q : State → Type 0) (o : Outcome A) → Al
 from_always A E P Q (Ends t) h i j = i t h
 from_always A E P Q (Goes a t) h i j = j t h
 
--- the process is called or being exited, so that nothing calls, starts or kills it
+-- the process is called or being exited, so no step calls, starts or kills it
 pub record IsAway (program : Tree) (mote : ℕ) (v : ProcessInMote) : Type 0 where
   pub of_program : v.program ≡ program
   pub of_mote : v.mote ≡ mote
   pub not_running : is_running_state v.state ≡ false
   pub busy : (is_called_state v.state || v.exiting) ≡ true
 
--- its next answer
+-- the next result that the thread gets
 abbrev answer_in : Next → ℕ
 answer_in (InCall answer e m) = answer
 answer_in next = 0
@@ -78,24 +79,24 @@ abbrev pub IsNoPrint : Op → Type 0
 IsNoPrint (op.Print v) = ⊥
 IsNoPrint o = Unit {0}
 
--- after the earlier lines about the process
+-- the earlier lines about the process
 module _ (program : Tree) (mote p : ℕ) (code : Code) (earlier : List Line) where
-  -- In the life that began with its last start it has come this far.
+  -- In the life that began with its last start, the process has reached this point.
   abbrev pub ComesHere : List Line → Next → Remainder → List ℕ → Type 0
   ComesHere lines_so_far next r vars = telling.ComesHere p code mote (earlier ++ lines_so_far) next r vars
 
-  -- The lines are those of lives that end with these variables.
+  -- The lines are those of lives after which the process has these variables.
   abbrev pub HasLived : List Line → List ℕ → Type 0
   HasLived lines_so_far vars = Lives code (Own p) mote code.starts (earlier ++ lines_so_far) vars
 
-  -- The lines are those of lives so far.
+  -- The lines are those of the lives so far.
   abbrev pub SoFar : List Line → Type 0
   SoFar lines_so_far = LivesSoFar code (Own p) mote code.starts (earlier ++ lines_so_far)
 
   abbrev pub Stopped : State → Type 0
   Stopped t = SoFar (process_in_mote p t).lines_so_far
 
-  -- A run of the body has answered: of the process, only its variables and the lines about it have changed.
+  -- A run of the body has ended. Only the variables of the process and the lines about it have changed.
   pub record Ran (v : ProcessInMote) (a : PtState) (r : Remainder) (w : ProcessInMote) : Type 0 where
     pub left : List ℕ
     pub same : w ≡ record v { vars = Some left; lines_so_far = w.lines_so_far }
@@ -111,7 +112,7 @@ module _ (program : Tree) (mote p : ℕ) (code : Code) (earlier : List Line) whe
       (s : State) (r : Remainder) (vars : List ℕ) (e : Event) (next : Next) → IsAway program mote (process_in_mote p s) → (process_in_mote p s).vars ≡ Some vars → CanCome next e s.moment → ComesHere (process_in_mote p s).lines_so_far next r vars → Stopped s
       → IfGives Stopped (RanFrom (process_in_mote p s)) (calls.run s code r p e)
 
-  -- while the process is away, its operations other than prints leave it unchanged
+  -- while the process is away, its operations, except for prints, don't change it
   abbrev pub ActsAside : Calls → Type 0
   ActsAside calls =
       (s : State) (o : Op) → IsNoPrint o → IsAway program mote (process_in_mote p s) → Stopped s → IfGives Stopped (λ a t. process_in_mote p t ≡ process_in_mote p s) (act_of calls s p o)
@@ -126,15 +127,15 @@ module _ (program : Tree) (mote p : ℕ) (code : Code) (earlier : List Line) whe
       (subst (λ o. Lives code (Own p) mote code.starts (before ++ lines_of (Own p) h.life) (left_by o)) h.became_so (LivesAgain lived h.life))
 
   module _ (calls : Calls) (s : State) (r : Remainder) (vars : List ℕ) (e : Event) (next : Next) (away : IsAway program mote (process_in_mote p s)) (has : (process_in_mote p s).vars ≡ Some vars) (can : CanCome next e s.moment) (here : ComesHere (process_in_mote p s).lines_so_far next r vars) (so_far : Stopped s) where
-    -- its sight
+    -- the sight of the process
     abbrev now : Sight
     now = record { answer = answer_in next; event = e; looks = looks_of s }
 
-    -- a step that it takes
+    -- a step that the thread takes
     abbrev Takes : Step → Remainder → List ℕ → Type 0
     Takes x after changed = Steps code now r vars x after changed
 
-    -- it gives up control, or has come to an end
+    -- the thread gives up control or has come to an end
     rests : (a : PtState) (after : Remainder) (changed : List ℕ) → Takes (step.Done a) after changed → state_number a < 2 → (w : ProcessInMote) → w ≡ record (process_in_mote p s) { vars = Some changed } → Ran (process_in_mote p s) a after w
     rests a after changed takes small w same = record {
       left = changed;
@@ -201,7 +202,7 @@ module _ (program : Tree) (mote p : ℕ) (code : Code) (earlier : List Line) whe
           now_traced : earlier ++ (process_in_mote p t).lines_so_far ≡ here.before ++ (here.lines ++ printed (Own p) now (operates o))
           now_traced = ap (λ v. earlier ++ v.lines_so_far) same ∙ traced_next (process_in_mote p s).lines_so_far here.before here.lines (printed (Own p) now (operates o)) here.is_traced
 
-      -- if the thread gets no answer to the operation
+      -- the thread gets no result of the operation
       goes_unanswered : (o : Op) (after : Remainder) (changed : List ℕ) → Takes (step.Op o) after changed → after.mark ≡ UnderWay None
           → (t : State) → IsBehind o changed t → IfGives Stopped (RanFrom (process_in_mote p s)) (calls.run t code after p e)
       goes_unanswered o after changed takes mark t same =
@@ -221,7 +222,7 @@ module _ (program : Tree) (mote p : ℕ) (code : Code) (earlier : List Line) whe
       stepped_so_far : (changed : List ℕ) (left : ℕ) (t : State) → process_in_mote p t ≡ process_in_mote p (stepped changed left) → Stopped t
       stepped_so_far changed left t same = subst (λ v. SoFar v.lines_so_far) (sym (same ∙ stepped_in_mote changed left)) so_far
 
-      -- it learned whether the queue was full
+      -- the thread was informed whether the queue was full
       abbrev IsFirstFault : Remainder → List ℕ → Remainder → State → Type 0
       IsFirstFault after changed r1 t =
           (lines_so_far : ℕ) × (lines_so_far < 2) × (r1 ≡ (answered_of after changed lines_so_far).remainder) × (process_in_mote p t ≡ record (process_in_mote p s) { vars = Some (answered_of after changed lines_so_far).variables })

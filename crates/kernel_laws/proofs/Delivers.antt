@@ -36,11 +36,13 @@ use Rattle.kernel_laws.specs.Going.{SystemStays}
 use Rattle.kernel_laws.proofs.EachStep.{Every, enlist_led, start_all, polls_due_led}
 use Rattle.kernel_laws.proofs.Steps.{GoesOn, Stops, Reach, chain, quiet, steps, listed_alike, lines_joined, first_sound, AreRuns, fits_other}
 
--- the machine that the kernel is, in the midst of a walk: the serial of its event and the members still to come
+-- the kernel as a delivery machine in the middle of a walk, with the serial of the walk's event and the members that
+-- are still to come
 abbrev pub machine_of : State → ℕ → List Member → DeliveryMachine
 machine_of s walked coming = machine_at (view_of s) walked (map seen_member coming)
 
--- from this machine and this state on, the lines are a run to a machine that walks no more, and the state is sound
+-- from this machine and this state on, the lines are a run to a machine without a walk in progress, and the state is
+-- sound
 pub record Rests (m : DeliveryMachine) (s t : State) : Type 0 where
   pub added : List Line
   pub wrote : t.lines ≡ s.lines ++ added
@@ -57,7 +59,7 @@ abbrev pub RestsAt : {A : Type 0} → DeliveryMachine → State → Outcome A �
 RestsAt m s (Ends t) = HaltsAt m s t
 RestsAt m s (Goes a t) = Rests m s t
 
--- some lines first
+-- some lines are written first
 pub rests_behind : (A : Type 0) (m : DeliveryMachine) (s u : State) (m' : DeliveryMachine) (o : Outcome A) (added : List Line) → u.lines ≡ s.lines ++ added → DeliveryRuns m (seen_lines added) m' → RestsAt m' u o → RestsAt m s o
 rests_behind A m s u m' (Ends t) added w r h = record {
   added = added ++ h.added;
@@ -72,14 +74,14 @@ rests_behind A m s u m' (Goes a t) added w r h = record {
   sound = h.sound;
 }
 
--- the first steps of calls, in the midst of a walk, if their outcome is known
+-- first the steps of calls, in the middle of a walk, if their outcome is known
 rests_first : (A B : Type 0) (s : State) (walked : ℕ) (coming : List Member) (o : Outcome A) (g : A → State → Outcome B) → Reach A s o →
     ((a : A) (t : State) → o ≡ Goes a t → (SystemStays s → SystemStays t) → RestsAt (machine_of t walked coming) t (g a t)) → RestsAt (machine_of s walked coming) s (o >>= g)
 rests_first A B s walked coming (Ends t) g r f = let e = r.leads in record { added = e.added; wrote = e.wrote; halts = e.halts walked (map seen_member coming) }
 rests_first A B s walked coming (Goes a t) g r f =
     let e = r.leads in rests_behind B (machine_of s walked coming) s t (machine_of t walked coming) (g a t) e.added e.wrote (e.moves walked (map seen_member coming)) (f a t refl e.sound)
 
--- the first steps of calls, from a sound state
+-- first the steps of calls, from a sound state
 rests_after : (A B : Type 0) (s : State) (walked : ℕ) (coming : List Member) (o : Outcome A) (g : A → State → Outcome B) → Reach A s o → SystemStays s →
     ((a : A) (t : State) → SystemStays t → RestsAt (machine_of t walked coming) t (g a t)) → RestsAt (machine_of s walked coming) s (o >>= g)
 rests_after A B s walked coming o g r h f = rests_first A B s walked coming o g r (λ a t q i. f a t (i h))
@@ -108,7 +110,7 @@ some_listed : (ms : List Member) → is_found_in ms Etimer ≡ true → map seen
 some_listed [] h e = absurd (cc)
 some_listed (m ∷ ms) h e = cc
 
--- numbering again changes only numbers
+-- numbering the members again changes only numbers
 
 same_processes : (k : ℕ) (ms : List Member) → map (λ i. i.process) (map seen_member (numbered_from k ms)) ≡ map (λ i. i.process) (map seen_member ms)
 same_processes k [] = refl
@@ -152,7 +154,7 @@ module _ (calls : Calls) (are : AreRuns calls) where
       let s1 = with_line s (what.Drop x.serial p) in
       rests_behind A m s s1 (machine_of s walked coming) _ _ refl r (k s1 (record { stays = h.stays; fits = h.fits }))
 
-  -- the walk of an event that goes to all, from the members that are still to come
+  -- the walk of an event for all processes, from the members that are still to come
   walk_run : (x : Posted) (ms : List Member) (s : State) → (x.event.number ≡ system_number Exit → ⊥) → SystemStays s → RestsAt (machine_of s x.serial ms) s (walk_broadcast calls x ms s)
   unfolding visit_of
   walk_run x [] s f h = rests_now s x.serial h
@@ -185,7 +187,7 @@ module _ (calls : Calls) (are : AreRuns calls) where
   front_run [] s walked e h = rests_now s walked h
   front_run (x ∷ q) s walked e h = target_run x.target x q s _ walked refl e (rw e refl) h
 
-  -- a kernel run, from any moment when no walk is under way
+  -- a kernel run, from any moment when no walk is in progress
   pub kernel_run : (s : State) (walked : ℕ) → SystemStays s → RestsAt (machine_of s walked []) s (kernel_of calls s)
   unfolding kernel_of
   kernel_run s walked h =
@@ -200,7 +202,7 @@ module _ (calls : Calls) (are : AreRuns calls) where
   unfolding start_of
   first_start s b t n = rw (b, t, n) refl
 
-  -- boot, from a state in which nothing was started or posted
+  -- a boot, from a state in which no process was started and no event posted
   pub boot_run : (s : State) (walked : ℕ) → s.members ≡ [] → s.queue.events ≡ [] → is_busy s Etimer ≡ false → has_process s Etimer ≡ true → RestsAt (machine_of s walked []) s (boot_of calls s)
   unfolding boot_of
   boot_run s walked m q b t =

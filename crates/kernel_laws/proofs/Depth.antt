@@ -1,4 +1,4 @@
--- More depth than units of work changes nothing: the rules over two sets of calls that agree give the same.
+-- More depth than units of work changes nothing: the rules have the same outcome with two sets of calls that agree.
 use Rattle.std.proofs.Common.{ℕ, zero, suc, ◌≡◌, ◌≤◌, ◌<◌, ◌-◌, ◌+◌, ◌==◌, Bool, true, false, ◌||◌, if◌then◌else◌, List, Option, Some, None, refl, ap, arith}
 use Rattle.program_tree.specs.declared.event.Proc.{Proc}
 use Rattle.program_tree.specs.declared.event.Event.{Event}
@@ -29,7 +29,7 @@ use Rattle.kernel_laws.specs.Depth.{CallsAreAnyDepth, ThreadsAreAnyDepth, BootsA
 use Rattle.kernel_laws.proofs.Fits.{FitsStep}
 use Rattle.kernel_laws.proofs.EachStep.{Every, Whoever, Whatever, AreJoined, AreSteps, AreRunSteps, AreBoth, Both, brackets_of, keeps_poll, keeps_set, ours, start_both, kill_both, called_both, step_both, all_fits, kernel_both, boot_both, calls_led}
 
--- as many units are left, or fewer
+-- the later state has at most as many units left
 abbrev Less : State → State → Type 0
 Less s t = t.units ≤ s.units
 
@@ -40,7 +40,7 @@ polled : (s : State) (p : Proc) → Less s (poll_of s p)
 unfolding with_needs_poll
 polled s p = keeps_poll Less Whatever chain s p (omega arith)
 
--- no small step gains units of work
+-- no small step adds units of work
 steps : AreSteps Less Whatever chain Whoever Every
 unfolding put_remainder with_state exiting_of with_exiting unlisted_of
 steps = record {
@@ -75,7 +75,7 @@ run_steps : AreRunSteps Less Whatever chain
 unfolding with_needs_poll
 run_steps = record { unrequested = λ s. omega arith; cleared = λ s p. omega arith; front = λ s. omega arith; takes = λ s n p. omega arith; drops = λ s n p. omega arith }
 
--- Calls from states with at most this many units are the same.
+-- Calls from states with at most this many units have the same outcomes.
 
 abbrev Within : ℕ → State → Type 0
 Within n s = s.units ≤ n
@@ -101,7 +101,7 @@ module _ (n : ℕ) (a b : Calls) (agree : Agree n a b) where
   kills : (s : State) (p : Proc) (current : ℕ) → Whoever p → Both Less Whatever chain (Within n) (Unit {0}) s (kill_of a s p current) (kill_of b s p current)
   kills s p current l = kill_both Less Whatever chain Whoever Every steps (Within n) (within n) (opens n) (exits n) a b agree s p current (ours Less Whatever chain Whoever steps p) l
 
--- After spending a unit of work there are fewer units.
+-- After a unit of work is spent, fewer units are left.
 
 one_fewer : (u n : ℕ) → (u == 0) ≡ false → u ≤ n → u - 1 < n
 one_fewer zero n e l = absurd (cc)

@@ -1,4 +1,4 @@
--- A kernel run in which a poll of etimer waits polls it, and writes a line for each timer that is due then.
+-- A kernel run in which a poll of etimer waits polls etimer, and writes a line for each timer that is due then.
 use Rattle.std.proofs.Common.{ℕ, ◌<◌, suc, ◌≡◌, ◌+◌, inl, inr, nat_lt, true, false, List, [], ◌∷◌, ◌++◌, length, refl, sym, ap, ◌∙◌, subst, append_assoc, arith}
 use Rattle.std.proofs.Math.ListN.{replicate}
 use Rattle.std.proofs.lemmas.List.{append_cancel_left, length-replicate}
@@ -171,7 +171,7 @@ boot_forgets_none program mote queue moment lines sends =
 
 -- the lines of a run
 
--- a chain of steps that went on, went on at each
+-- a chain of steps that continued, continued at each step
 pub record Through (A B : Type 0) (o : Outcome A) (f : A → State → Outcome B) (b : B) (t : State) : Type 0 where
   pub answer : A
   pub midst : State
@@ -189,7 +189,7 @@ record Adds (s t : State) : Type 0 where
 adds_by : (A : Type 0) (s t : State) (a : A) (o : Outcome A) → o ≡ Goes a t → stamps.Kept s o → Adds s t
 adds_by A s t a o e k = let h : stamps.Kept s (Goes a t) = subst (λ (x : Outcome A). stamps.Kept s x) e k in record { more = h.leads.stamped.lines; wrote = h.leads.stamped.wrote }
 
--- the lines around those of etimer's pass
+-- the lines before and after those of etimer's pass
 tells_within : (moment : ℕ) (s u v t : State) (h : Adds s u) (i : Adds u v) (j : Adds v t) → ((timer : ℕ) (owner : Proc) → IsDueFor moment u.timers timer owner → HasTelling moment i.more (One owner) (system_number Timer) timer) → TellsDue moment u s.lines t.lines
 tells_within moment s u v t h i j tells = record {
   added = h.more ++ (i.more ++ j.more);

@@ -1,5 +1,5 @@
--- An invariant of each small step of the kernel is one of each call, however deep calls nest, and of each boot and
--- kernel run. A call and an exit are brackets around the steps within them.
+-- An invariant of each small step of the kernel is an invariant of each call, however deep calls nest, and of each
+-- boot and kernel run. A call and an exit are brackets around the steps within them.
 use Rattle.std.proofs.Common.{ℕ, zero, suc, ◌≡◌, Bool, true, false, not, ◌&&◌, ◌||◌, ◌==◌, nat_lt, if◌then◌else◌, List, [], ◌∷◌, Option, Some, None, slice_get, slice_set, refl, sym, ap, ◌∙◌, subst, ◌++◌, ◌+◌, ◌-◌, ◌^◌, ◌≤◌, nat_le, length, arith, map}
 use Rattle.std.proofs.lemmas.Bool.Decides.{nat_tests}
 use Rattle.program_tree.specs.declared.event.Proc.{Proc}
@@ -70,11 +70,11 @@ Whoever p = Unit {0}
 abbrev pub Every : ℕ → Type 0
 Every p = Unit {0}
 
--- no claim is made about halted motes
+-- nothing is claimed about motes that have halted
 abbrev pub Whatever : State → State → Type 0
 Whatever s t = Unit {0}
 
--- the states that an accepted post, a packet that is sent, a start and the end of an exit leave
+-- the states after an accepted post, a sent packet, a start, and the end of an exit
 
 abbrev pub with_event : State → Target → Event → State
 with_event s t e = with_line (record s { queue = with_posted s.queue t e }) (what.Post s.queue.accepted t e.number e.word)
@@ -132,13 +132,13 @@ unless_halts P m lines sends g h i = by m.halted refl
     by true e = h e
     by false e = i e
 
--- Two relations from a state to a later one: one from which the kernel continues, and one in which the mote has halted.
+-- Two relations from a state to a later one: the first if the kernel continues, and the second if the mote has halted.
 module _ (Keeps Stops : State → State → Type 0) where
   abbrev pub Leads : {A : Type 0} → State → Outcome A → Type 0
   Leads s (Ends t) = Stops s t
   Leads s (Goes a t) = Keeps s t
 
-  -- whether it continues or ends
+  -- an outcome that continues or ends
   pub record Lead (A : Type 0) (s : State) (o : Outcome A) : Type 0 where
     pub leads : Leads s o
 
@@ -165,7 +165,7 @@ module _ (Keeps Stops : State → State → Type 0) where
     pub lead_bind : (A B : Type 0) (s : State) (o : Outcome A) (f : A → State → Outcome B) → Lead A s o → ((a : A) (t : State) → Lead B t (f a t)) → Lead B s (o >>= f)
     lead_bind A B s o f h go = record { leads = bind_leads A B s o f h.leads go }
 
-    -- if more is known of the state from which it continues
+    -- a step, if more is known of the state from which it continues
     pub lead_knowing : (A B : Type 0) (P : State → Type 0) (s : State) (o : Outcome A) (f : A → State → Outcome B) → Lead A s o → IfGoes P o → ((a : A) (t : State) → P t → Lead B t (f a t)) → Lead B s (o >>= f)
     lead_knowing A B P s (Ends t) f h k go = record { leads = h.leads }
     lead_knowing A B P s (Goes a t) f h k go = lead_from B s t (f a t) h.leads (go a t k)
@@ -202,7 +202,8 @@ module _ (Keeps Stops : State → State → Type 0) where
     single : (A : Type 0) (s : State) (o : Outcome A) → Leads s o → Lead A s o
     single A s o h = record { leads = h }
 
-    -- A rule over two sets of calls: it leads as over one, and from a state of which this holds the outcomes are the same.
+    -- A rule with two sets of calls: with each set it is made of steps, and from a state with the property `Holds`
+    -- both outcomes are the same.
     module _ (Holds : State → Type 0) where
       pub record Both (A : Type 0) (s : State) (o q : Outcome A) : Type 0 where
         pub leads : Leads s o
@@ -246,7 +247,7 @@ module _ (Keeps Stops : State → State → Type 0) where
           same = λ x. (go a t).same (on s t h.leads x) ∙ ap (λ y. y >>= g) (h.same x);
         }
 
-    -- A post, a packet and a timer that is set, if what they are made of is a step.
+    -- A post, a packet, and a timer that is set, if each of their parts is a step.
 
     pub lead_post : (s : State) (t : Target) (e : Event) → Stops s (halted_of s) → Keeps s (with_line s (what.Full t e.number e.word)) → Keeps s (with_event s t e) → Lead Bool s (post_of s t e)
     unfolding post_of write_of
@@ -288,7 +289,7 @@ module _ (Keeps Stops : State → State → Type 0) where
           lead_knowing _ _ (Handed receiver (record s { ring = later }) a) s _ _ (hand_led receiver a later s ring r) (hand_tells receiver (record s { ring = later }) a)
           (λ u t h. empty_led receiver later t h.0.ring (ap (λ p. p.receiver) h.0.program ∙ r))
 
-    -- the polls, if a call with POLL is made of steps
+    -- the polls, if a call with POLL consists of steps
     module _ (Holds : State → Type 0) (on : (s t : State) → Keeps s t → Holds s → Holds t) (unrequested : (s : State) → Keeps s (record s { poll_requested = false })) (cleared : (s : State) (p : Proc) → Keeps s (with_needs_poll s p false))
         (a b : Calls) (polled : (s : State) (p : Proc) → Both Holds (Unit {0}) s (a.call s p (own_event Poll 0)) (b.call s p (own_event Poll 0))) where
       pub polls_both : (ms : List Member) (s : State) → Both Holds (Unit {0}) s (walk_polls a ms s) (walk_polls b ms s)
@@ -301,7 +302,7 @@ module _ (Keeps Stops : State → State → Type 0) where
       unfolding polls_due_of polls_of
       polls_due_both s = both_if Holds _ s s.poll_requested _ _ _ _ (both_from Holds on _ s _ _ _ (unrequested s) (polls_both s.members _)) (both_still Holds _ s tt)
 
-    -- the steps of boots and kernel runs outside any call
+    -- the steps of boots and kernel runs outside of calls
     pub record AreRunSteps : Type 0 where
       pub unrequested : (s : State) → Keeps s (record s { poll_requested = false })
       pub cleared : (s : State) (p : Proc) → Keeps s (with_needs_poll s p false)
@@ -309,7 +310,7 @@ module _ (Keeps Stops : State → State → Type 0) where
       pub takes : (s : State) (serial : ℕ) (p : Proc) → Keeps s (with_line s (what.Take serial p))
       pub drops : (s : State) (serial : ℕ) (p : Proc) → Keeps s (with_line s (what.Drop serial p))
 
-    -- boots and kernel runs, if each call is made of steps
+    -- boots and kernel runs, if each call consists of steps
     module _ (Holds : State → Type 0) (on : (s t : State) → Keeps s t → Holds s → Holds t) (steps : AreRunSteps) (a b : Calls)
         (called : (s : State) (p : Proc) (e : Event) → Both Holds (Unit {0}) s (a.call s p e) (b.call s p e)) where
       due_polls_both : (s : State) → Both Holds (Unit {0}) s (polls_due_of a s) (polls_due_of b s)
@@ -349,7 +350,7 @@ module _ (Keeps Stops : State → State → Type 0) where
       unfolding boot_of
       boot_both s = both_bind Holds on _ _ s _ _ _ _ (starts_both (Etimer ∷ Ctimer ∷ Radio ∷ map Own s.program.autostart) s) (λ u t. both_still Holds _ t _)
 
-    -- over one set of calls
+    -- the same with one set of calls
     module _ (calls : Calls) where
       pub polls_led : ((s : State) → Keeps s (record s { poll_requested = false })) → ((s : State) (p : Proc) → Keeps s (with_needs_poll s p false)) → ((s : State) (p : Proc) → Lead (Unit {0}) s (calls.call s p (own_event Poll 0)))
           → (ms : List Member) (s : State) → Lead (Unit {0}) s (walk_polls calls ms s)
@@ -375,15 +376,15 @@ module _ (Keeps Stops : State → State → Type 0) where
         pub kernel_led : (s : State) → Lead ℕ s (kernel_of calls s)
         kernel_led s = single _ s _ (kernel_both Anywhere anywhere steps calls calls called_twice s).leads
 
-    -- which processes may be exited, and which of the program's own are looked at
+    -- the processes that may be exited, and the processes of the program that are observed
     module _ (Leaves : Proc → Type 0) (Ours : ℕ → Type 0) where
-      -- a process that is looked at: one of these, or a system process
+      -- a process that is observed: one of these, or a system process
       abbrev pub IsOurs : Proc → Type 0
       IsOurs (Own p) = Ours p
       IsOurs p = Unit {0}
 
-      -- The brackets of a call, of an exit, and of the exit of a process that its own call ends: with steps in between,
-      -- they are a step.
+      -- The brackets of a call, of an exit, and of the exit of a process that its own call ends. With steps between
+      -- the two sides, brackets are a step.
       pub record AreBrackets : Type 0 where
         pub call : (s t : State) (p : Proc) → IsOurs p → is_running s p ≡ true → Keeps (with_state s p Called) t → Keeps s (with_state t p Running)
         pub call_stops : (s t : State) (p : Proc) → IsOurs p → is_running s p ≡ true → Stops (with_state s p Called) t → Stops s t
@@ -393,7 +394,7 @@ module _ (Keeps Stops : State → State → Type 0) where
         pub last_stops : (s t u : State) (p : Proc) → IsOurs p → Leaves p → is_running s p ≡ true → Keeps (with_state s p Called) t → is_listed t p ≡ true → Stops (exiting_of t p) u → Stops s u
         pub gone : (s t : State) (p : Proc) → IsOurs p → is_running s p ≡ true → Keeps (with_state s p Called) t → is_listed t p ≡ false → Keeps s t
 
-      -- if both sides of each bracket are steps
+      -- brackets of which both sides are steps
       pub brackets_of : ((s : State) (p : Proc) → IsOurs p → Keeps s (with_state s p Called)) → ((s : State) (p : Proc) → IsOurs p → Keeps s (with_state s p Running)) → ((s : State) (p : Proc) → IsOurs p → Leaves p → Keeps s (exiting_of s p))
           → ((s : State) (p : Proc) → IsOurs p → Leaves p → Keeps s (without_process s p)) → AreBrackets
       brackets_of called runs exiting leaves = record {
@@ -406,7 +407,7 @@ module _ (Keeps Stops : State → State → Type 0) where
         gone = λ s t p o r k i. chain.joined s _ t (called s p o) k;
       }
 
-      -- each small step, and the brackets
+      -- all small steps and the brackets
       pub record AreSteps : Type 0 where
         pub own : (p : Proc) → IsOwn p → Leaves p
         pub brackets : AreBrackets
@@ -430,7 +431,7 @@ module _ (Keeps Stops : State → State → Type 0) where
         pub starts : (s : State) (p : Proc) → IsOurs p → is_busy s p ≡ false → has_process s p ≡ true → is_listed s p ≡ false → Keeps s (with_started s p)
         pub ring : AreRingSteps
 
-      -- an event that may come to this process: an exit, only if the process may leave
+      -- an event that may reach this process: an exit, only if the process may leave
       abbrev pub Fits : Proc → (number : ℕ) → Type 0
       Fits p number = number ≡ system_number Exit → Leaves p
 
@@ -443,7 +444,7 @@ module _ (Keeps Stops : State → State → Type 0) where
         pub run : (s : State) (code : Code) (r : Remainder) (p : ℕ) (e : Event) → Ours p → Lead Answer s (calls.run s code r p e)
         pub callback : (s : State) (code : Code) (p : ℕ) (e : Event) → slice_get s.program.codes p ≡ Some code → Lead Answer s (calls.run s code (fresh_of code (Callback e.word)) p e)
 
-      -- and over two sets of calls
+      -- the same with two sets of calls
       pub record AreBoth (Holds : State → Type 0) (a b : Calls) : Type 0 where
         pub call : (s : State) (p : Proc) (e : Event) → Fits p e.number → Both Holds (Unit {0}) s (a.call s p e) (b.call s p e)
         pub run : (s : State) (code : Code) (r : Remainder) (p : ℕ) (e : Event) → Ours p → Both Holds Answer s (a.run s code r p e) (b.run s code r p e)
@@ -615,7 +616,7 @@ module _ (Keeps Stops : State → State → Type 0) where
           left_led s t p (Ends u) h kept stopped = stopped u h
           left_led s t p (Goes a u) h kept stopped = kept u h
 
-          -- an exit that began in a state t, and that is a step from s on
+          -- an exit that began in a state t and is a step from s on
           leaves_both : (s t : State) (p f : Proc) (ms : List Member) → IsOurs p → (Holds s → Holds t) → ((u : State) → Keeps t u → Keeps s (without_process u p)) → ((u : State) → Stops t u → Stops s u)
               → Both Holds (Unit {0}) s (walk_of a (own_event Exited (process_number p)) p ms t >>= λ _ u. ((if is_same p f then Goes tt u else last_run_of a u p) >>= λ _ v. leave_of v p)) (walk_of b (own_event Exited (process_number p)) p ms t >>= λ _ u. ((if is_same p f then Goes tt u else last_run_of b u p) >>= λ _ v. leave_of v p))
           leaves_both s t p f ms o holds kept stopped =
@@ -643,7 +644,7 @@ module _ (Keeps Stops : State → State → Type 0) where
           unfolding kill_of
           kill_both s p current o l = both_cases Holds _ s (is_busy s p) _ _ _ _ (λ b. both_plain Holds _ s _ (busy_led s p)) (λ b. exit_both s p (Own current) o l b)
 
-          -- the operations of a thread, if each start and each kill is made of steps
+          -- the operations of a thread, if each start and each kill consists of steps
           module _ (started : (s : State) (p : Proc) → Both Holds (Unit {0}) s (start_of a s p) (start_of b s p)) (killed : (s : State) (p : Proc) (current : ℕ) → Leaves p → Both Holds (Unit {0}) s (kill_of a s p current) (kill_of b s p current)) where
             pub act_both : (s : State) (current : ℕ) (o : Op) → Allowed current o → Both Holds (Unit {0}) s (act_of a s current o) (act_of b s current o)
             unfolding act_of write_of
@@ -681,7 +682,7 @@ module _ (Keeps Stops : State → State → Type 0) where
             unfolding run_of
             one_run_both s code r p e o = both_from Holds on _ s _ _ _ (stepped_kept s code r p e o) (step_both code p e _ _ _ (all_fits s code r p e) o)
 
-          -- a call that has come from s to t
+          -- a call that has led from s to t
           answered_both : (s t : State) (p : Proc) (ends : Bool) → IsOurs p → is_running s p ≡ true → (ends ≡ true → Leaves p) → Keeps (with_state s p Called) t → Both Holds (Unit {0}) s (answered a t p ends) (answered b t p ends)
           unfolding answered exit_of
           answered_both s t p true o r l k =
@@ -689,7 +690,7 @@ module _ (Keeps Stops : State → State → Type 0) where
               (λ i. both_goes Holds _ s tt t (steps.brackets.gone s t p o r k i))
           answered_both s t p false o r l k = both_goes Holds _ s tt _ (steps.brackets.call s t p o r k)
 
-          -- a process of the program reacts, and its answer decides the next step
+          -- a process of the program reacts, and its answer determines the next step
           reacted_both : (s : State) (p : ℕ) (e : Event) (x y : Outcome PtState) → Ours p → is_running s (Own p) ≡ true → Both Holds PtState (with_state s (Own p) Called) x y
               → Both Holds (Unit {0}) s (x >>= λ answer t. answered a t (Own p) (has_ended answer || is_system_event Exit e)) (y >>= λ answer t. answered b t (Own p) (has_ended answer || is_system_event Exit e))
           reacted_both s p e (Ends t) y o r h = record { leads = steps.brackets.call_stops s t (Own p) o r h.leads; same = λ z. ap (λ w. w >>= λ answer t. answered b t (Own p) (has_ended answer || is_system_event Exit e)) (h.same (opens s (Own p) z)) }
@@ -724,7 +725,7 @@ module _ (Keeps Stops : State → State → Type 0) where
           unfolding call_of spend_of
           call_both s p e o f = both_cases Holds _ s (is_running s p) _ _ _ _ (λ r. spent_both s p e _ o r f) (λ r. both_still Holds _ s tt)
 
-        -- over one set of calls
+        -- the same with one set of calls
         module _ (calls : Calls) (are : AreLed calls) where
           twice : AreBoth Anywhere calls calls
           twice = record {
@@ -755,7 +756,7 @@ module _ (Keeps Stops : State → State → Type 0) where
             pub one_run_led : (s : State) (code : Code) (r : Remainder) (p : ℕ) (e : Event) → Ours p → Lead Answer s (run_of calls s code r p e)
             one_run_led s code r p e o = single _ s _ (one_run_both Anywhere anywhere (λ t q y. tt) (λ t q y. tt) calls calls twice starts_twice kills_twice s code r p e o).leads
 
-    -- if all processes are looked at
+    -- the case in which all processes are observed
     module _ (Leaves : Proc → Type 0) (steps : AreSteps Leaves Every) where
       pub ours : (p : Proc) → IsOurs Leaves Every p
       ours (Own p) = tt

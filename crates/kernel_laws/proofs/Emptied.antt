@@ -72,7 +72,7 @@ call_empties calls s running = rw running (by (s.units == 0))
     by true = tt
     by false = let t = with_state (record s { units = s.units - 1 }) Radio Called in answers_empty calls (radio_of t (own_event Poll 0)) (radio_empties t)
 
--- the properties of the calls that nest less deep
+-- the properties of the calls that nest one less deep
 record AreHeard (calls : Calls) : Type 0 where
   led : AreLed (Watches Radio) Whatever (chain Radio) IsOwn Every calls
   kept : tables.AreKept calls

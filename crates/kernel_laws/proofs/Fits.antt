@@ -1,4 +1,4 @@
--- Each operation of a thread that exits a process exits one of the program's own.
+-- Each operation of a thread that exits a process exits a process of the program.
 use Rattle.std.proofs.Common.{ℕ, List}
 use Rattle.program_tree.specs.declared.event.Proc.{Proc}
 use Rattle.program_tree.specs.declared.event.Proc.TheVariants.{Own, Etimer, Ctimer, Radio}
@@ -17,7 +17,7 @@ use Rattle.protothread.proofs.Own as thread
 use Rattle.protothread.proofs.Own.{NamesOwn, StepNamesOwn, step_names_own}
 use Rattle.kernel_laws.specs.Own.{IsOwn, FitsTarget}
 
--- an exit that it posts or gives at once, and a kill, is for a process of the program
+-- if the operation posts or sends an exit event, or kills, its target is a process of the program
 abbrev pub FitsOp : Op → Type 0
 FitsOp (op.Post t e w) = FitsTarget t e
 FitsOp (op.Synch p e w) = FitsTarget (One p) e

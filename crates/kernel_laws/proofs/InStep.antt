@@ -1,4 +1,5 @@
--- Each call keeps the process list and the states of the processes in step, and leaves those busy that were.
+-- Each call keeps the process list and the states of the processes in step, and doesn't change which processes are
+-- busy.
 use Rattle.std.proofs.Common.{ℕ, ◌≡◌, ◌<◌, Bool, true, false, ◌||◌, inl, inr, List, ◌∷◌, slice_set, length, refl, sym, ap, ◌∙◌, subst}
 use Rattle.std.proofs.lemmas.List.{length-set}
 use Rattle.program_tree.specs.declared.event.Proc.{Proc}
@@ -20,12 +21,12 @@ use Rattle.kernel_laws.specs.InStep.{state_at_place, exiting_at, listed_in, AreI
 use Rattle.kernel_laws.proofs.EachStep.{Every, Whoever, Whatever, Lead, AreJoined, AreBrackets, AreSteps, AreRunSteps, AreLed, with_started, without_process, keeps_set, calls_led, polls_led, give_led, polled_or_not}
 use Rattle.kernel_laws.proofs.Tables.{set_same, set_other, is_entry, is_equal, left_out, left_in, first_listed, others_listed, DiffersAt, in_step_but, state_differs, exiting_differs, differs_twice, state_set, exiting_set, below_of}
 
--- in step, and as busy as before
+-- the later state is in step, and the same processes are busy
 pub record Keeps (s t : State) : Type 0 where
   pub step : IsInStep t
   pub busy : IsAsBusy s t
 
--- from a state that is in step
+-- the same, if the earlier state is in step
 pub record KeepsStep (s t : State) : Type 0 where
   pub kept : IsInStep s → Keeps s t
 
@@ -35,7 +36,7 @@ as_busy s = record { called = λ k. refl; exiting = λ k. refl }
 pub as_busy_twice : (s t u : State) → IsAsBusy s t → IsAsBusy t u → IsAsBusy s u
 as_busy_twice s t u h i = record { called = λ k. i.called k ∙ h.called k; exiting = λ k. i.exiting k ∙ h.exiting k }
 
--- nothing is changed of the process list and the states
+-- the process list and the states of the processes don't change
 pub record IsStill (s t : State) : Type 0 where
   pub states : t.states ≡ s.states
   pub exiting : t.exiting ≡ s.exiting
@@ -81,7 +82,7 @@ exiting_is Off e l h q = (refl, sym h ∙ q)
 exiting_is Running e l h q = absurd (let f : true ≡ false = sym q ∙ h.0 in cc)
 exiting_is Called e l h q = absurd (let f : true ≡ false = sym q ∙ h.0 in cc)
 
--- a process that is listed and is not being exited is not off
+-- a process that is listed and is not being exited isn't off
 listed_is : (x : ProcessState) (e l : Bool) → AreInStep x e l → e ≡ false → l ≡ true → x ≡ Off → ⊥
 listed_is Off e l h q r z = let f : false ≡ true = sym q ∙ h ∙ r in cc
 listed_is Running e l h q r z = cc
@@ -91,7 +92,7 @@ not_busy : (c e : Bool) → (c || e) ≡ false → (c ≡ false) × (e ≡ false
 not_busy true e q = absurd (cc)
 not_busy false e q = (refl, q)
 
--- A process that was neither called nor being exited is neither now, and the others are as busy as they were.
+-- A process that was neither called nor being exited is neither of them now, and the same other processes are busy.
 settles : (k : ℕ) (s t : State) → is_called_state (state_at_place s k) ≡ false → exiting_at s k ≡ false → IsInStep t → is_called_state (state_at_place t k) ≡ false → exiting_at t k ≡ false →
     ((j : ℕ) → (j ≡ k → ⊥) → is_called_state (state_at_place t j) ≡ is_called_state (state_at_place s j)) → ((j : ℕ) → (j ≡ k → ⊥) → exiting_at t j ≡ exiting_at s j) → Keeps s t
 settles k s t n m step c e f g = record {
@@ -102,7 +103,7 @@ settles k s t n m step c e f g = record {
   };
 }
 
--- while it is being exited
+-- the process is being exited
 record IsOnItsWay (p : ℕ) (s t : State) : Type 0 where
   step : IsInStep t
   exiting : exiting_at t p ≡ true
@@ -205,7 +206,7 @@ still_called p s t u h k = record {
   exits = λ j n. k.busy.exiting j ∙ h.exits j n;
 }
 
--- from the start of its call on
+-- the state after a process was called
 called_to : (s t : State) (p : Proc) → IsInStep s → is_running s p ≡ true → KeepsStep (with_state s p Called) t → IsCalled (place_of p) s t
 called_to s t p i r k = let now = now_called s p i r in still_called (place_of p) s (with_state s p Called) t now (k.kept now.step)
 
@@ -222,7 +223,7 @@ was_running s p i r =
 is_called : (s t : State) (p : Proc) → IsCalled (place_of p) s t → let k = place_of p in (state_at_place t k ≡ Called) × (exiting_at t k ≡ false) × (listed_in t.members k ≡ true)
 is_called s t p h = let k = place_of p in called_is (state_at_place t k) (exiting_at t k) (listed_in t.members k) (h.step.each k) h.called
 
--- it is running again
+-- the process is running again
 runs_again : (s u : State) (p : Proc) → WasRunning (place_of p) s → IsCalled (place_of p) s u → Keeps s (with_state u p Running)
 unfolding with_state
 runs_again s u p was h =
@@ -233,7 +234,7 @@ runs_again s u p was h =
     let x : state_at_place (with_state u p Running) k ≡ Running = state_set u p Running within in
     settles k s (with_state u p Running) was.called was.exiting (in_step_but k u (with_state u p Running) h.step d (rw x (is.1, is.2))) (rw x refl) is.1 (λ j n. ap is_called_state (d.states j n) ∙ h.calls j n) (λ j n. d.exiting j n ∙ h.exits j n)
 
--- its call ends with its exit
+-- the call of the process ends with its exit
 leaves_from : (s t u : State) (p : Proc) → WasRunning (place_of p) s → IsCalled (place_of p) s t → (listed_in t.members (place_of p)) ≡ true → KeepsStep (exiting_of t p) u → Keeps s (without_process u p)
 leaves_from s t u p was c l h =
     let k = place_of p in
@@ -307,7 +308,8 @@ run_steps = record {
   drops = λ s n p. steps_still s _ (record { states = refl; exiting = refl; members = refl });
 }
 
--- an outcome that continues leaves a state that is in step, if it was before, and as busy
+-- if the state before was in step, an outcome that continues leaves a state that is in step, with the same processes
+-- busy
 abbrev pub Kept : (A : Type 0) → State → Outcome A → Type 0
 Kept A s o = Lead KeepsStep Whatever A s o
 

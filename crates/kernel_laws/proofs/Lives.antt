@@ -1,4 +1,4 @@
--- The life so far of a process, from which it continues.
+-- The life so far of a process, and its continuations.
 use Rattle.std.proofs.Common.{ℕ, ◌≡◌, ◌<◌, List, [], ◌∷◌, ◌++◌, refl, sym, ap, subst, append_assoc, append-nil}
 use Rattle.program_tree.specs.declared.event.Proc.TheVariants.{Own}
 use Rattle.program_tree.specs.Code.{Code}
@@ -38,9 +38,9 @@ module _ (p : ℕ) (code : Code) (mote : ℕ) (start : List ℕ) where
   then_more : (lines more : List Line) (now : Sight) (h : Happening) (out : Completion) → HasLife (lines ++ (printed (Own p) now h ++ more)) out → HasLife ((lines ++ printed (Own p) now h) ++ more) out
   then_more lines more now h out life = subst (λ l. HasLife l out) (sym (append_assoc lines (printed (Own p) now h) more)) life
 
-  -- in a sight that can come
+  -- with a sight that can come next
   module _ (lines : List Line) (next : Next) (r after : Remainder) (vars changed : List ℕ) (now : Sight) (can : CanCome next now.event now.looks.moment) (answered : IsAnswered next now.answer) (of_mote : now.looks.mote ≡ mote) (c : ComesTo lines next r vars) where
-    -- an operation, whose answer the process gets next
+    -- the thread performs an operation, whose result the process gets next
     pub operates_on : (lines_so_far : ℕ) (o : Op) → lines_so_far < 2 → Steps code now r vars (step.Op o) after changed
         → ComesTo (lines ++ printed (Own p) now (operates o)) (InCall lines_so_far now.event now.looks.moment) (answered_of after changed lines_so_far).remainder (answered_of after changed lines_so_far).variables
     operates_on lines_so_far o small steps = record {

@@ -1,4 +1,4 @@
--- The lines that each call of a kernel adds keep them in step with its mote.
+-- After each call of a kernel, the mote's lines still agree with the mote.
 use Rattle.std.proofs.Common.{ℕ, ◌≡◌, ◌+◌, Bool, true, false, if◌then◌else◌, List, [], ◌∷◌, ◌++◌, refl, sym, ◌∙◌, subst, append-nil}
 use Rattle.std.proofs.lemmas.List.{map-append}
 use Rattle.delivery_laws.specs.HandedOn as handed
@@ -23,7 +23,7 @@ use Rattle.kernel_laws.specs.Going.{SystemStays, IsBlank, GoesWithAs, GoesWith, 
 use Rattle.kernel_laws.proofs.Steps.{IsQuiet, quiet, view_quiet, poll_quiet, calls_run}
 use Rattle.kernel_laws.proofs.Delivers.{machine_of, RestsAt, rests_behind, begun_run, begun_lines, begun_sound, boot_run, kernel_run}
 
--- more lines of a mote that goes with its lines so far
+-- more lines of a mote whose lines so far agree with it
 traced_more : (lines : List Line) (s : State) (before : List Line) (sends : List Sent) (g : view.GoesWithView (seen_lines lines) (view_of s)) (o : Outcome ℕ) →
     RestsAt (machine_of s g.walked []) (record s { lines = before; sends = sends }) o → Adds lines before (given o)
 traced_more lines s before sends g (Ends t) r = record {
@@ -134,7 +134,7 @@ pub note_keeps : (lines : List Line) (m : Mote) (l : Line) → m.halted ≡ fals
 note_keeps lines m l h n g =
     let k : GoesWithAs m.booted false lines m.state = subst (λ x. GoesWithAs m.booted x lines m.state) h g in rw h (noted m.booted lines m.state l n k)
 
--- the properties of lines that are in step with a mote
+-- the properties of lines that agree with a mote
 
 traced_in_order : (lines : List Line) (s : State) → view.GoesWithView (seen_lines lines) (view_of s) → IsInOrder lines
 traced_in_order lines s g = record { handed_on = goes_with_hands_on _ _ g; halt_is_last = goes_with_halts_last _ _ g; starts = goes_with_starts _ _ g }

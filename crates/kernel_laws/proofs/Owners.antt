@@ -1,4 +1,4 @@
--- Each small step of the kernel keeps that each timer on the list has an owner.
+-- After each small step of the kernel, each timer on the list still has an owner.
 use Rattle.std.proofs.Common.{ℕ, ◌≡◌, ◌+◌, ◌==◌, Bool, true, false, not, nat_lt, if◌then◌else◌, List, ◌∷◌, Some, length, refl, sym, subst, arith}
 use Rattle.std.specs.Prelude.{IsSome}
 use Rattle.std.proofs.lemmas.List.{get_or-set_same, get_or-set_other}

@@ -16,7 +16,7 @@ use Rattle.process_kernel.specs.Radio.{packet_of, hand_to, empty_ring, radio_of}
 use Rattle.process_kernel.specs.Writes.{write_of}
 use Rattle.kernel_laws.specs.Polled.{TellsPost, Accepted, Refused, TellsPacket, TellEach, NoneLeft, TellsNext, lines_at, PacketsAreHanded}
 
--- one line was written, and of the rest only the queue and the ring may have changed
+-- one line was written, and otherwise only the queue and the ring may have changed
 pub record WritesOne (s t : State) : Type 0 where
   pub telling : What
   pub wrote : t.lines ≡ s.lines ++ record { at = s.moment; what = telling } ∷ []
@@ -58,7 +58,7 @@ hand_tells (Some p) s a =
     goes_bind Bool (Unit {0}) (Offered (One (Own p)) (system_number Packet) a.value s) (Handed (Some p) s a) (post_of s (One (Own p)) (packet_of a)) _ (post_offers s (One (Own p)) (packet_of a)) (λ full t h. h)
 hand_tells None s a = (record { telling = what.Deaf a.sender a.number; wrote = refl; moment = refl; program = refl; ring = refl; timers = refl }, refl)
 
--- from a state whose ring holds these packets
+-- the ring of the first state holds these packets
 pub record Empties (receiver : Option ℕ) (packets : List Arrival) (s t : State) : Type 0 where
   pub empty : t.ring ≡ []
   pub tellings : List What

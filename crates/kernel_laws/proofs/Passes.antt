@@ -1,4 +1,4 @@
--- Etimer's pass leaves no timer forgotten, and so does a call that polls it.
+-- Etimer's pass forgets no timer, and neither does a call that polls etimer.
 use Rattle.std.proofs.Common.{ℕ, zero, suc, ◌≡◌, ◌-◌, ◌≤◌, ◌==◌, ◌^◌, ◌||◌, inl, inr, Bool, true, false, nat_le, length, if◌then◌else◌, List, [], ◌∷◌, Option, Some, None, refl, ◌∙◌, subst, arith}
 use Rattle.std.proofs.lemmas.Bool.{eqb-true}
 use Rattle.program_tree.specs.declared.event.Proc.{Proc}
@@ -59,14 +59,14 @@ waits_on : (s : State) (o : Went) → PollWaits Etimer s → Watched (Unit {0}) 
 waits_on s (Ends t) w h = tt
 waits_on s (Goes a t) w h = inr (still_waits Etimer s t h.leads w)
 
--- each timer that is due is one of these
+-- each timer that is due is on this list
 abbrev AreAhead : List ℕ → State → Type 0
 AreAhead ts s = (id : ℕ) (owner : Proc) → IsDueFor s.moment s.timers id owner → is_member id ts ≡ true
 
 abbrev AreListed : List ℕ → State → Type 0
 AreListed ts s = (id : ℕ) → is_member id ts ≡ true → is_member id s.timers.listed ≡ true
 
--- a timer that isn't due for anybody is passed over
+-- a timer that is due for no owner is passed over
 ahead_later : (s : State) (x : ℕ) (ts : List ℕ) → ((owner : Proc) → IsDueFor s.moment s.timers x owner → ⊥) → AreAhead (x ∷ ts) s → AreAhead ts s
 ahead_later s x ts not ahead id owner d = by (id == x) refl
   where
@@ -75,7 +75,7 @@ ahead_later s x ts not ahead id owner d = by (id == x) refl
     by false e = further id x ts (ahead id owner d) e
 
 module _ (few : ℕ) (again : State → Went) (led : (s : State) → Watched (Unit {0}) s (again s)) (begins : (s : State) → CanBePolled Etimer s → length s.timers.listed ≤ few → IfGoes Forgets (again s)) where
-  -- the event was accepted, and the walk begins again, or the queue was full, and etimer is asked to be polled
+  -- the event was accepted, and the walk begins again; or the queue was full, and a poll of etimer is requested
   offered : (on : State → Went) → ((s : State) → Watched (Unit {0}) s (on s)) → (s u : State) (x : ℕ) (full : Bool) → IsStill s u → CanBePolled Etimer s → length s.timers.listed ≤ suc few → is_member x s.timers.listed ≡ true
       → IfGoes Forgets (if full then on (poll_of u Etimer) else again (fired_of u x))
   unfolding fired_of
@@ -114,7 +114,7 @@ walks_forget (suc few) s can within =
 
 -- a call of etimer that polls it
 
--- the timers that etimer leaves, and those that it reports
+-- the timers that are left after etimer's pass, and those that it reports
 pub record Serves (s t : State) : Type 0 where
   pub forgets : ForgetsNone t.moment t
   pub tells : (timer : ℕ) (owner : Proc) → IsDueFor s.moment s.timers timer owner → TellsOfPost s t (One owner) (system_number Timer) timer
@@ -127,7 +127,7 @@ pass_serves s (Goes a t) can e = record {
   tells = λ timer owner d. timers_are_traced s t (own_event Poll 0) timer owner refl e d.listed d.due d.owned;
 }
 
--- a call changes more before etimer reacts, and after it
+-- a call changes more, before and after etimer reacts
 serves_like : (s s' t : State) → s'.lines ≡ s.lines → s'.moment ≡ s.moment → s'.timers ≡ s.timers → Serves s' t → Serves s (with_state t Etimer Running)
 unfolding with_state
 serves_like s s' t lines moment timers h = record {
@@ -147,7 +147,7 @@ unfolding answered
 answers_serve calls s s' (Ends t) lines moment timers h = tt
 answers_serve calls s s' (Goes a t) lines moment timers h = serves_like s s' t lines moment timers h
 
--- a unit of work is spent, or there is none
+-- a unit of work is spent, unless none is left
 abbrev pub spent : State → (none : Bool) → Went
 spent s none = if none then Ends (halted_of s) else Goes tt (record s { units = s.units - 1 })
 

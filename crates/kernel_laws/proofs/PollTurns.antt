@@ -54,7 +54,7 @@ unfolding polls_due_of polls_of
 polls_are calls s e = rw e refl
 
 module _ (p : Proc) where
-  -- the first member of this process on the list, and those after it
+  -- the first member of this process on the list, and the members after it
   pub record Splits (ms : List Member) : Type 0 where
     pub member : Member
     pub after : List Member
@@ -73,12 +73,12 @@ module _ (p : Proc) where
           let k = later (subst (λ b. (b || is_found_in ms p) ≡ true) back h) in
           record { member = k.member; after = k.after; split = rw e (ap (λ l. m ∷ l) k.split); is_it = k.is_it; holds = any_or _ (holds_member ms k.member) k.holds }
 
-  -- the polls: those before it, its own, and those after it
+  -- the polls of the members before it, of this member, and of the members after it
   pub walk_splits : (calls : Calls) (ms : List Member) (x : Member) (after : List Member) (s : State) → ms ≡ members_before p ms ++ x ∷ after
       → walk_polls calls ms s ≡ (walk_polls calls (members_before p ms) s >>= λ _ t. (poll_turn_of calls t x >>= λ _ u. walk_polls calls after u))
   walk_splits calls ms x after s e = subst (λ l. walk_polls calls l s ≡ (walk_polls calls (members_before p ms) s >>= λ _ t. walk_polls calls (x ∷ after) t)) (sym e) (walk_joined calls (members_before p ms) (x ∷ after) s)
 
-  -- at its turn it is called, if it is on the list and needs a poll
+  -- when its turn comes, it is called if it is on the list and needs a poll
   pub turn_calls : (calls : Calls) (u : State) (x : Member) → x.process ≡ p → is_on_list u x ≡ true → process_needs_poll u p ≡ true → poll_turn_of calls u x ≡ calls.call (with_needs_poll u p false) p (own_event Poll 0)
   unfolding poll_turn_of
   turn_calls calls u x e there needs_poll = rw (there, e, needs_poll) refl

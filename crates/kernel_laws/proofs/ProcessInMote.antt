@@ -1,4 +1,4 @@
--- The position of a process of the program, and the small steps that don't change it: all those of others.
+-- The position of a process of the program, and the small steps that don't change it: all steps of other processes.
 use Rattle.std.proofs.Common.{ℕ, zero, suc, ◌≡◌, ◌+◌, ◌^◌, ◌⊎◌, inl, inr, Bool, true, false, nat_lt, nat_le}
 use Rattle.std.proofs.Common.{if◌then◌else◌, List, [], ◌∷◌, ◌++◌, Some, None, length, slice_get, slice_set, refl, sym}
 use Rattle.std.proofs.Common.{ap, ◌∙◌, arith, append-nil}
@@ -67,7 +67,7 @@ traced_more p lines l = filter-append (λ k. starts_or_prints p k.what) lines (l
 traced_nothing : (p : Proc) (l : Line) → starts_or_prints p l.what ≡ false → (if starts_or_prints p l.what then l ∷ [] else []) ≡ []
 traced_nothing p l e = rw e refl
 
--- all processes other than the program's of this number
+-- all processes except the process of the program with this number
 abbrev pub IsOther : ℕ → Proc → Type 0
 IsOther p q = place_of (Own p) ≡ place_of q → ⊥
 
@@ -95,7 +95,7 @@ which p Etimer = inr (etimer_other p)
 which p Ctimer = inr (ctimer_other p)
 which p Radio = inr (radio_other p)
 
--- a property if it continues, and if it ends
+-- a property of the last state, whether the outcome continues or ends
 abbrev pub Always : {A : Type 0} → (State → Type 0) → Outcome A → Type 0
 Always P (Ends t) = P t
 Always P (Goes a t) = P t

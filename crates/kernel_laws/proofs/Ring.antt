@@ -1,5 +1,5 @@
 -- Each small step of the kernel leaves the ring unchanged, except for the radio's poll, which writes a line for each
--- packet.
+-- packet in the ring.
 use Rattle.std.proofs.Common.{ℕ, ◌≡◌, ◌+◌, List, [], ◌∷◌, ◌++◌, Option, Some, None, refl, sym, ap, ◌∙◌, subst, append-nil}
 use Rattle.program_tree.specs.declared.event.Proc.{Proc}
 use Rattle.program_tree.specs.declared.event.Proc.TheVariants.{Own, Etimer}
@@ -33,7 +33,7 @@ ring_runs_on receiver a b c xs ys (Loses none l) r = Loses none (ring_runs_on re
 ring_runs_on receiver a b c xs ys (Hands tells l) r = Hands tells (ring_runs_on receiver _ b c _ ys l r)
 ring_runs_on receiver a b c xs ys (Passes apart l) r = Passes apart (ring_runs_on receiver a b c _ ys l r)
 
--- lines of no packet that arrives
+-- lines that are not about arriving packets
 
 abbrev pub HearsNone : List Line → Type 0
 HearsNone lines = All (λ l. IsNote l.what → ⊥) lines
@@ -72,7 +72,7 @@ ring_ended a b c h i = record {
 pub chain : AreJoined RingGoes RingHalts
 chain = record { same = ring_same; joined = ring_joined; ended = ring_ended }
 
--- nothing is written, and the ring stays
+-- no line is written, and the ring is unchanged
 record IsStill (s t : State) : Type 0 where
   lines : t.lines ≡ s.lines
   ring : t.ring ≡ s.ring
@@ -87,7 +87,7 @@ goes_still s t q = record {
   program = q.program;
 }
 
--- a line that tells of no packet
+-- a line that is not about a packet
 goes_apart : (s u : State) (w : What) → IsStill s u → IsApart w → (IsNote w → ⊥) → RingGoes s (with_line u w)
 goes_apart s u w q apart n = record {
   added = record { at = u.moment; what = w } ∷ [];
@@ -121,7 +121,7 @@ sets_still s timers timer = keeps_set RingGoes RingHalts chain s timers timer (�
 
 -- the radio's poll
 
--- the packet in front leaves the ring, with its line
+-- the packet in front leaves the ring, and its line is written
 hands_front : (receiver : Option ℕ) (a : Arrival) (later : List Arrival) (s u : State) (w : What) → s.ring ≡ a ∷ later → s.program.receiver ≡ receiver → u.lines ≡ s.lines → u.ring ≡ later → u.program ≡ s.program → TellsPacket receiver a w → (IsNote w → ⊥) → RingGoes s (with_line u w)
 hands_front receiver a later s u w ring r lines rest program tells n = record {
   added = record { at = u.moment; what = w } ∷ [];
@@ -131,7 +131,7 @@ hands_front receiver a later s u w ring r lines rest program tells n = record {
   program = program;
 }
 
--- the ring goes by each small step, whichever process is exited
+-- the ring changes along the lines of each small step, whichever process is exited
 
 pub steps : AreSteps RingGoes RingHalts chain Whoever Every
 unfolding put_remainder with_state exiting_of with_exiting unlisted_of

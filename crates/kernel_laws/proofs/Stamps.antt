@@ -1,5 +1,5 @@
--- Each small step of the kernel writes lines and packets that are stamped with its moment, and so do calls, boots and
--- kernel runs.
+-- Each small step of the kernel writes lines and packets that are stamped with its moment. The same is true of calls,
+-- boots and kernel runs.
 use Rattle.std.proofs.Common.{ℕ, zero, suc, ◌≡◌, ◌+◌, List, [], ◌∷◌, length, refl, sym, ap, ◌∙◌, subst, arith, ◌++◌, append_assoc, append-nil}
 use Rattle.std.proofs.lemmas.List.{map-append, length-append}
 use Rattle.program_tree.specs.declared.event.Proc.{Proc}
@@ -26,12 +26,12 @@ use Rattle.process_kernel.specs.Given.{given, begun, unless_halted, boot_given, 
 use Rattle.trace_lines.specs.declared.line.Line.{Line}
 use Rattle.kernel_laws.specs.Laws.{CallsStamp, BootStamps, RunStamps}
 
--- All that is written is stamped with the moment, and the moment stays.
+-- Everything that is written is stamped with the moment, and the moment doesn't change.
 pub record Keeps (s t : State) : Type 0 where
   pub stamped : Stamped s.moment s t
   pub moment : t.moment ≡ s.moment
 
--- whether it continues or ends
+-- the same for an outcome, whether it continues or ends
 abbrev pub Kept : {A : Type 0} → State → Outcome A → Type 0
 Kept {A} s o = Lead Keeps Keeps A s o
 
@@ -51,7 +51,7 @@ numbered_on first xs ys h i = rw (map-append, h, i, length-append) (sym (numbers
 sends_joined : (a b c x y : List Sent) → b ≡ a ++ x → c ≡ b ++ y → c ≡ a ++ (x ++ y)
 sends_joined a b c x y e f = f ∙ ap (λ k. k ++ y) e ∙ append_assoc a x y
 
--- one after another
+-- two such steps one after another
 pub stamped_twice : (moment : ℕ) (a b c : State) → Stamped moment a b → Stamped moment b c → Stamped moment a c
 stamped_twice moment a b c h i = record {
   lines = h.lines ++ i.lines;
@@ -75,7 +75,7 @@ keeps_twice a b c h i = record {
   moment = i.moment ∙ h.moment;
 }
 
--- nothing is written, and nothing of this is changed
+-- nothing is written, and none of these values changes
 pub record IsStill (s t : State) : Type 0 where
   pub lines : t.lines ≡ s.lines
   pub sends : t.sends ≡ s.sends
@@ -129,7 +129,7 @@ keeps_line s w = record {
   moment = refl;
 }
 
--- a line after something else has changed
+-- a line is written after another change
 keeps_written : (s u : State) (w : What) → IsStill s u → Keeps s (with_line u w)
 keeps_written s u w q = keeps_twice s u _ (keeps_still s u q) (keeps_line u w)
 
@@ -158,7 +158,7 @@ keeps_packet s v = record {
   moment = refl;
 }
 
--- all of them
+-- all small steps
 
 pub steps : AreSteps Keeps Keeps chain Whoever Every
 unfolding put_remainder halted_of with_state exiting_of with_exiting unlisted_of

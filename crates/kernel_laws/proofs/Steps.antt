@@ -1,4 +1,4 @@
--- Each small step of the kernel is a run of the delivery machine, in the midst of any walk.
+-- Each small step of the kernel is a run of the delivery machine, in the middle of any walk.
 use Rattle.std.proofs.Common.{ℕ, ◌≡◌, ◌||◌, ◌==◌, not, Bool, true, false, cond, List, [], ◌∷◌, ◌++◌, refl, sym, ap, subst, ◌∙◌, append_assoc, append-nil, arith, map}
 use Rattle.std.proofs.lemmas.List.{map-append}
 use Rattle.std.specs.List.{filter}
@@ -33,14 +33,14 @@ use Rattle.kernel_laws.specs.Seen.{seen_what, seen_lines, seen_target, seen_memb
 use Rattle.kernel_laws.specs.Going.{SystemStays}
 use Rattle.kernel_laws.proofs.EachStep.{Every, Leads, Lead, AreJoined, AreSteps, AreLed, with_event, with_started, without_process, enlist_is, keeps_set, brackets_of, fits_no_exit, calls_led, polled_or_not}
 
--- the later state is reached by lines that are a run of the machine, whatever walk is under way
+-- the lines from one state to the later one are a run of the machine, whatever walk is in progress
 pub record GoesOn (s t : State) : Type 0 where
   pub added : List Line
   pub wrote : t.lines ≡ s.lines ++ added
   pub moves : Moves (view_of s) (seen_lines added) (view_of t)
   pub sound : SystemStays s → SystemStays t
 
--- the same lines and then a halt
+-- the same lines, and then a halt
 pub record Stops (s t : State) : Type 0 where
   pub added : List Line
   pub wrote : t.lines ≡ s.lines ++ added
@@ -49,11 +49,11 @@ pub record Stops (s t : State) : Type 0 where
 abbrev pub Reaches : {A : Type 0} → State → Outcome A → Type 0
 Reaches s o = Leads GoesOn Stops s o
 
--- whether it continues or ends
+-- an outcome that continues or ends
 abbrev pub Reach : (A : Type 0) → State → Outcome A → Type 0
 Reach A s o = Lead GoesOn Stops A s o
 
--- nothing that the delivery sees is changed
+-- nothing changes that the delivery of events sees
 pub record IsQuiet (s t : State) : Type 0 where
   pub lines : t.lines ≡ s.lines
   pub members : t.members ≡ s.members
@@ -97,7 +97,7 @@ chain = record { same = λ s. quiet s s (quiet_same s); joined = joined; ended =
 
 -- lines
 
--- one line more, which a step of the machine writes
+-- one more line, which a step of the machine writes
 one_line : (s u : State) (w : What) → u.lines ≡ s.lines → Moves (view_of s) (seen_what w ∷ []) (view_of u) → (SystemStays s → SystemStays u) → GoesOn s (with_line u w)
 one_line s u w e m f = record {
   added = record { at = u.moment; what = w } ∷ [];
@@ -106,7 +106,7 @@ one_line s u w e m f = record {
   sound = λ h. let k = f h in record { stays = k.stays; fits = k.fits };
 }
 
--- a line that tells of no process and no event
+-- a line about no process and no event
 pub line_aside : (s : State) (w : What) → seen_what w ≡ handed.Other → GoesOn s (with_line s w)
 line_aside s w e = one_line s s w refl (rw e (other_moves (view_of s))) (λ h. h)
 
@@ -114,7 +114,7 @@ pub halts : (s : State) → Stops s (halted_of s)
 unfolding halted_of
 halts s = record { added = record { at = s.moment; what = what.Halt } ∷ []; wrote = refl; halts = halt_stops (view_of s) }
 
--- steps that change nothing that the delivery sees
+-- steps without a change that the delivery of events sees
 
 pub poll_quiet : (s : State) (p : Proc) → IsQuiet s (poll_of s p)
 unfolding with_needs_poll
@@ -135,7 +135,7 @@ unfolding with_state
 starts s p n =
     one_line s _ (what.Start p) refl (start_moves (view_of s) (place_of p) (sym (listed_alike s.members p) ∙ n)) (λ h. record { stays = any_or (is_same Etimer p) (is_listed s Etimer) h.stays; fits = h.fits })
 
--- if the etimer process has just started, with no event posted, the state is sound
+-- the state is sound after the etimer process started, if no event is queued
 pub first_sound : (s : State) (a : Unit {0}) (t : State) → s.queue.events ≡ [] → enlist_of s Etimer ≡ Goes a t → SystemStays t
 unfolding with_state
 first_sound s a t f e =
@@ -144,7 +144,7 @@ first_sound s a t f e =
     let h : SystemStays u = record { stays = refl; fits = rw f (All-nil _) } in
     subst SystemStays q h
 
--- a process leaves the list of members, and so the list of the machine
+-- a process leaves the list of members, and so also the list of the machine
 left_members : (ms : List Member) (p : Proc) → map seen_member (filter (λ m. not (is_same m.process p)) ms) ≡ without (map seen_member ms) (place_of p)
 left_members [] p = refl
 left_members (m ∷ ms) p = left_first (not (is_same m.process p)) m ms p (left_members ms p)
@@ -176,7 +176,7 @@ posts_at s u t e q f =
     joined s u _ (quiet s u q) (one_line u (record u { queue = with_posted u.queue t e }) (what.Post u.queue.accepted t e.number e.word) refl (post_moves (view_of u) (seen_target t) _ (map-append seen_posted u.queue.events _))
     (λ h. record { stays = h.stays; fits = All-push (λ x. FitsTarget x.target x.event.number) u.queue.events _ h.fits f }))
 
--- all of them
+-- all small steps
 
 pub steps : AreSteps GoesOn Stops chain IsOwn Every
 unfolding put_remainder with_state exiting_of with_exiting

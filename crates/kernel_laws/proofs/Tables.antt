@@ -1,4 +1,4 @@
--- How small changes of a state show in its tables.
+-- The effect of small changes of a state on its tables.
 use Rattle.std.proofs.Common.{ℕ, ◌≡◌, ◌<◌, ◌≤◌, ◌==◌, nat_lt, ◌⊎◌, inl, inr, not, Bool, true, false, List, [], ◌∷◌, unwrap_or, slice_get, slice_set, length, refl, sym, ◌∙◌, arith}
 use Rattle.std.specs.List.{filter}
 use Rattle.std.proofs.lemmas.List.{get_or-set_same, get_or-set_other, length-set}
@@ -50,7 +50,7 @@ first_listed m ms = grind (arith, nat_tests)
 pub others_listed : (m : Member) (ms : List Member) (k : ℕ) → (k ≡ place_of m.process → ⊥) → listed_in (m ∷ ms) k ≡ listed_in ms k
 others_listed m ms k h = grind (arith, nat_tests, h)
 
--- the two states differ at this place alone
+-- the two states differ only at this place
 pub record DiffersAt (p : ℕ) (s t : State) : Type 0 where
   pub states : (k : ℕ) → (k ≡ p → ⊥) → state_at_place t k ≡ state_at_place s k
   pub exiting : (k : ℕ) → (k ≡ p → ⊥) → exiting_at t k ≡ exiting_at s k

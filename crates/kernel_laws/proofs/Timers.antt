@@ -26,7 +26,7 @@ use Rattle.kernel_laws.specs.Own.{IsOwn}
 use Rattle.kernel_laws.proofs.EachStep.{Every, walk_timers_led, walks_led}
 use Rattle.kernel_laws.proofs.Steps.{GoesOn, Stops, Reach, Reaches, chain, steps}
 
--- a list without a number
+-- a list of timers without one number
 
 le_without : (x : ℕ) (ks : List ℕ) → length (without_member x ks) ≤ length ks
 le_without x [] = omega arith
@@ -102,7 +102,7 @@ module _ (id : ℕ) (owner : Proc) where
   abbrev Tells : State → State → Type 0
   Tells s t = TellsOfPost s t (One owner) (system_number Timer) id
 
-  -- a line that is written after some others is among all of them
+  -- if a line is among the last lines, it is among all lines
   tells_behind : (s u t : State) (added : List Line) → u.lines ≡ s.lines ++ added → u.moment ≡ s.moment → Tells u t → Tells s t
   tells_behind s u t added e m h = record {
     telling = h.telling;
@@ -116,7 +116,7 @@ module _ (id : ℕ) (owner : Proc) where
   goes_behind s u added (Ends t) e m h = tt
   goes_behind s u added (Goes a t) e m h = tells_behind s u t added e m h
 
-  -- its line was written, and then others after it
+  -- the line of the timer was written first, and other lines after it
   traced_first : (s v u : State) (o : Went) → (w : WritesOne s v) → TellsPost (One owner) (system_number Timer) id w.telling → u.lines ≡ v.lines → Reaches u o → IfGoes (Tells s) o
   traced_first s v u (Ends t) w h e r = tt
   traced_first s v u (Goes a t) w h e r = record {
@@ -154,7 +154,7 @@ module _ (id : ℕ) (owner : Proc) where
   abbrev Again : (few : ℕ) → (again : State → Went) → Type 0
   Again few again = (s : State) → Waits few s → IfGoes (Tells s) (again s)
 
-  -- a timer's event was offered to this owner, and the walk continues
+  -- the event of a timer was offered to this owner, and the walk continues
   offered : (few : ℕ) (again on : State → Went) → Goes_on again → Again few again → Goes_on on → (s u : State) (x : ℕ) (q : Proc) (full : Bool) → (h : Offered (One q) (system_number Timer) x s u) → Waits (suc few) s → is_member x s.timers.listed ≡ true
       → ((id == x) ≡ true → q ≡ owner) → ((id == x) ≡ false → IfGoes (Tells (poll_of u Etimer)) (on (poll_of u Etimer)))
       → IfGoes (Tells s) (if full then on (poll_of u Etimer) else again (fired_of u x))

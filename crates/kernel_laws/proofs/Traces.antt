@@ -1,4 +1,4 @@
--- The trace of a kernel goes with its mote, call by call.
+-- After each call, the trace of a kernel still agrees with its mote.
 use Rattle.std.proofs.Common.{ℕ, ◌≡◌, ◌+◌, nat_lt, Bool, true, false, if◌then◌else◌, List, [], ◌∷◌, ◌++◌, length, unwrap_or, slice_get, refl, ◌∙◌, arith}
 use Rattle.std.proofs.Math.ListN.{replicate}
 use Rattle.std.proofs.lemmas.List.{get_or-replicate, length-replicate}
@@ -31,11 +31,11 @@ unfolding unbooted
 no_lines_first program mote queue =
     let n = length program.processes in record { matches = record { walked = 0; runs = stays }; blank = record { members = refl; events = refl; idle = rw (is_off n, is_unset n) refl; there = is_there n } }
 
--- a call that was given no lines before adds all the lines that it gives
+-- a call without earlier lines adds all the lines that it returns
 given_adds : (t : Traced) (g : Given) → Adds t.lines [] g → GoesWith (with_given t g).lines (with_given t g).mote
 given_adds t g h = rw (h.wrote) h.goes
 
--- a mote that was booted, with lines that go with it
+-- a booted mote and lines that agree with it
 record IsTraced (t : Traced) : Type 0 where
   booted : t.mote.booted ≡ true
   goes : GoesWith t.lines t.mote
@@ -52,7 +52,7 @@ pub run_booted : (m : Mote) (moment : ℕ) (before : List Line) (sends : List Se
 unfolding run_given
 run_booted m moment before sends b = unless_booted m.halted _ _ b (given_booted _)
 
--- a mote that was not booted and goes with its lines has not halted
+-- a mote that was not booted, and whose lines agree with it, has not halted
 open_first : (halted : Bool) (lines : List Line) (s : State) → GoesWithAs false halted lines s → halted ≡ false
 open_first true lines s g = absurd g
 open_first false lines s g = refl

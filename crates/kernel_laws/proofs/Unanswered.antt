@@ -1,4 +1,4 @@
--- A thread that gets no answer: the answer to its last operation changes it only after a post.
+-- A thread that gets no result: only the result of a post changes the thread.
 use Rattle.std.proofs.Common.{ℕ, zero, suc, ◌≡◌, ◌-◌, Bool, true, false, ◌&&◌, if◌then◌else◌, List, None, refl, sym, subst}
 use Rattle.std.specs.Prelude.{nat_lt, not, slice_index, ◌==◌}
 use Rattle.program_tree.specs.declared.event.Event.{Event}
@@ -18,7 +18,7 @@ use Rattle.protothread.specs.Remainder.{Place, ended, at, within, settled, Remai
 use Rattle.protothread.specs.Step.{Reached, goes_on, operates, answers, deed_of, performed, spawner_reached, reached, Advanced, continued, passed, advanced_of, answered_of}
 use Rattle.protothread.proofs.Units.{called, follows, stepped}
 
--- how a thread is marked after this operation: unless it is a post, no answer is expected
+-- the mark of a thread after this operation: a result is expected only after a post
 abbrev pub IsUnanswered : Op → Mark → Type 0
 IsUnanswered (Post t e w) m = Unit {0}
 IsUnanswered o m = m ≡ UnderWay None
@@ -115,7 +115,7 @@ unanswered_from (UnderWay into) code event looks r vars units = unanswered_step 
 unanswered_from Pausing code event looks r vars units = tt
 unanswered_from RunAway code event looks r vars units = tt
 
--- an operation other than a post gives the thread no answer
+-- after an operation other than a post, the thread gets no result
 pub step_unanswered : (code : Code) (event : Event) (looks : Looks) (r : Remainder) (vars : List ℕ) (units : ℕ)
     → AdvancedUnanswered (advanced_of code event looks r vars units)
 step_unanswered code event looks r vars units = unanswered_from r.mark code event looks r vars units
@@ -123,7 +123,7 @@ step_unanswered code event looks r vars units = unanswered_from r.mark code even
 abbrev IsSame : (answer : ℕ) → Remainder → List ℕ → Type 0
 IsSame answer r vars = ((answered_of r vars answer).remainder ≡ r) × ((answered_of r vars answer).variables ≡ vars)
 
--- an answer that isn't expected changes nothing
+-- a result that isn't expected changes nothing
 pub answer_is_unused : (r : Remainder) (vars : List ℕ) (answer : ℕ) → r.mark ≡ UnderWay None → IsSame answer r vars
 answer_is_unused r vars answer e = by r.mark e
   where

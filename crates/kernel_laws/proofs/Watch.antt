@@ -1,5 +1,5 @@
 -- An invariant of each small step: etimer and the radio process can be polled, a poll that was requested still waits,
--- and a timer that is set requests one.
+-- and setting a timer requests a poll of etimer.
 use Rattle.std.proofs.Common.{ℕ, ◌≡◌, ◌+◌, ◌<◌, inl, inr, ◌==◌, Bool, true, false, not, if◌then◌else◌, List, [], ◌∷◌, length, Some, refl, sym, ◌∙◌, subst, arith}
 use Rattle.std.specs.List.{filter}
 use Rattle.std.proofs.lemmas.Bool.Decides.{nat_tests}
@@ -29,7 +29,7 @@ use Rattle.kernel_laws.proofs.Tables.{set_same, set_other, below_of}
 use Rattle.kernel_laws.proofs.Timers.{other_timer}
 use Rattle.kernel_laws.proofs.EachStep.{Every, Whatever, AreJoined, AreSteps, brackets_of, with_started}
 
--- an invariant of a step, with whether one process needs a poll
+-- an invariant of a step: whether this process still needs a poll
 pub record Watches (p : Proc) (s t : State) : Type 0 where
   pub moment : t.moment ≡ s.moment
   pub etimer : Alive Etimer s t
@@ -48,7 +48,7 @@ forgets_by p s t h e c (inr w) = inr (subst (λ q. PollWaits q t) e (still_waits
 pub forgets_on : (s t : State) → Watches Etimer s t → CanBePolled Etimer s → ForgetsNone s.moment s → ForgetsNone t.moment t
 forgets_on s t h c f = forgets_by Etimer s t h refl c f
 
--- nothing of this is changed
+-- none of these values changes
 pub record IsStill (s t : State) : Type 0 where
   pub moment : t.moment ≡ s.moment
   pub states : t.states ≡ s.states
@@ -63,7 +63,7 @@ etimer_system = omega arith
 pub radio_system : place_of Radio < 3
 radio_system = omega arith
 
--- asks for a poll
+-- a poll is requested
 pub waits_now : (p : Proc) (s : State) → CanBePolled p s → PollWaits p (poll_of s p)
 unfolding poll_of with_needs_poll
 waits_now p s c = rw (c.alive) (record { needs_poll = set_same s.needs_poll (place_of p) true false (below_of (place_of p) (length s.needs_poll) c.can_need_poll); poll_requested = refl })
@@ -123,7 +123,7 @@ module _ (p : Proc) where
   pub chain : AreJoined (Watches p) Whatever
   chain = record { same = watches_same; joined = watches_joined; ended = λ a b c h i. tt }
 
-  -- states, and who needs a poll
+  -- states, and the processes that need a poll
 
   watches_state : (s : State) (q : Proc) (x : ProcessState) → is_alive x ≡ true → Watches p s (with_state s q x)
   unfolding with_state
@@ -190,7 +190,7 @@ module _ (p : Proc) where
         due = λ is c n. inr (waits_now Etimer _ (record { alive = c.alive; can_need_poll = c.can_need_poll }));
       }
 
-  -- fewer timers are due, and nothing else is changed
+  -- fewer timers are due, and no other value changes
   watches_fewer : (s : State) (timers : TimerLists) → ((id : ℕ) (owner : Proc) → IsDueFor s.moment timers id owner → IsDueFor s.moment s.timers id owner) → Watches p s (record s { timers = timers })
   watches_fewer s timers f = record {
     moment = refl;

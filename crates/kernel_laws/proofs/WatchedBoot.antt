@@ -76,7 +76,7 @@ module _ (calls : Calls) (are : AreWatched calls) where
   starts_good r moment [] s g = g
   starts_good r moment (p ∷ ps) s g = goes_bind _ _ (Good r moment) (Good r moment) (start_of calls s p) _ (start_good r moment s p g) (λ a t h. starts_good r moment ps t h)
 
-  -- etimer first
+  -- etimer starts first
 
   first_goes : (s : State) → is_busy s Etimer ≡ false → has_process s Etimer ≡ true → is_listed s Etimer ≡ false → start_of calls s Etimer ≡ calls.call (enlisted s Etimer) Etimer (own_event Init 0)
   unfolding enlisted enlist_of write_of

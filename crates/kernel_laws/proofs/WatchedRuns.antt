@@ -43,7 +43,7 @@ pub record RadioIsReady (s : State) : Type 0 where
   pub can : CanBePolled Radio s
   pub listed : is_listed s Radio ≡ true
 
--- Etimer can be polled, as no process is in a call; and so can the radio process, if it has started.
+-- Etimer can be polled, because no process is in a call. The radio process can be polled, too, if it has started.
 pub record IsInState (started : Bool) (s : State) : Type 0 where
   pub can : CanBePolled Etimer s
   pub step : IsInStep s
@@ -72,7 +72,7 @@ runs_now Called a c = absurd (cc)
 pub etimer_runs : (r : Bool) (s : State) → IsInState r s → is_running s Etimer ≡ true
 etimer_runs r s h = runs_now (process_state s Etimer) h.can.alive (h.idle.called 0)
 
--- at this moment no timer is forgotten
+-- no timer is forgotten at this moment
 pub record Good (r : Bool) (moment : ℕ) (t : State) : Type 0 where
   pub now_is : t.moment ≡ moment
   pub in_state : IsInState r t
@@ -118,14 +118,14 @@ unrequested r s h = record {
   radio = λ e. let q = h.radio e in record { can = record { alive = q.can.alive; can_need_poll = q.can.can_need_poll }; listed = q.listed };
 }
 
--- at etimer's turn: it is on the list, and either no timer is due or it needs a poll
+-- the state when etimer's turn comes: etimer is on the list, and no timer is due or etimer needs a poll
 pub record Comes (r : Bool) (moment : ℕ) (x : Member) (t : State) : Type 0 where
   pub now_is : t.moment ≡ moment
   pub in_state : IsInState r t
   pub there : is_on_list t x ≡ true
   pub due : NoneIsDue moment t.timers ⊎ (process_needs_poll t Etimer ≡ true)
 
--- the properties of the calls that nest less deep
+-- the properties of the calls that nest one less deep
 pub record AreWatched (calls : Calls) : Type 0 where
   pub led : AreLed (Watches Etimer) Whatever (chain Etimer) IsOwn Every calls
   pub kept : tables.AreKept calls
@@ -140,7 +140,7 @@ module _ (calls : Calls) (are : AreWatched calls) where
   served_good r moment s (Goes a t) e h w k f =
       let now : t.moment ≡ moment = w.leads.moment ∙ e in record { now_is = now; in_state = in_state_on r s t h w.leads (k.leads.kept h.step); forgets = subst (λ n. ForgetsNone n t) now f.forgets }
 
-  -- a poll is no exit
+  -- a poll is not an exit
   pub fits_poll : (p : Proc) → FitsTarget (One p) (own_event Poll 0).number
   fits_poll p = fits_no_exit (Watches Etimer) Whatever (chain Etimer) IsOwn Every p (own_event Poll 0).number refl
 
@@ -165,7 +165,7 @@ module _ (calls : Calls) (are : AreWatched calls) where
   polls_good r moment [] s g = g
   polls_good r moment (x ∷ ms) s g = goes_bind _ _ (Good r moment) (Good r moment) (poll_turn_of calls s x) _ (turn_good r moment s x g) (λ a t h. polls_good r moment ms t h)
 
-  -- before etimer's turn it still needs a poll
+  -- before its turn etimer still needs a poll
 
   comes_by : (r : Bool) (moment : ℕ) (x : Member) (s : State) (o : Went) → s.moment ≡ moment → IsInState r s → x.process ≡ Etimer → is_on_list s x ≡ true → NoneIsDue moment s.timers ⊎ (process_needs_poll s Etimer ≡ true)
       → Lead (Watches Etimer) Whatever (Unit {0}) s o → tables.Kept (Unit {0}) s o → IfGoes (Comes r moment x) o

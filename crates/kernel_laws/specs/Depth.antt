@@ -1,4 +1,4 @@
--- The depth to which calls nest in the rules is no limit: the units of work end first.
+-- The depth to which calls nest in the rules doesn't limit a mote, because its units of work end first.
 use Rattle.std.specs.Prelude.{ℕ, ◌≡◌, ◌<◌, List}
 use Rattle.program_tree.specs.declared.event.Proc.{Proc}
 use Rattle.program_tree.specs.declared.event.Event.{Event}
@@ -13,19 +13,19 @@ use Rattle.process_kernel.specs.Run.{kernel_of, most_units}
 use Rattle.process_kernel.specs.Boot.{boot_of}
 use Rattle.process_kernel.specs.Given.{begun, given, unless_halted, boot_given, run_given}
 
--- a call is the same at any depth above the units of work that are left
+-- the outcome of a call is the same at each depth above the number of units of work that are left
 abbrev pub CallsAreAnyDepth : Type 0
 CallsAreAnyDepth =
     (depth other : ℕ) (s : State) (p : Proc) (e : Event) → s.units < depth → s.units < other
     → (calls_of depth).call s p e ≡ (calls_of other).call s p e
 
--- and so is the run of a thread up to its answer
+-- the same is true of the run of a thread up to its answer
 abbrev pub ThreadsAreAnyDepth : Type 0
 ThreadsAreAnyDepth =
     (depth other : ℕ) (s : State) (code : Code) (r : Remainder) (p : ℕ) (e : Event) → s.units < depth → s.units < other
     → (calls_of depth).run s code r p e ≡ (calls_of other).run s code r p e
 
--- the outcome of a boot is the same at any depth above its units
+-- the outcome of a boot is the same at each depth above its number of units
 abbrev pub BootsAreAnyDepth : Type 0
 BootsAreAnyDepth =
     (depth moment : ℕ) (m : Mote) (lines : List Line) (sends : List Sent) → most_units < depth

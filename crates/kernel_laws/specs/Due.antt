@@ -1,4 +1,4 @@
--- Timers that are due, and the poll of etimer that serves them.
+-- Timers that are due, and the poll of etimer that posts their events.
 use Rattle.std.specs.Prelude.{ℕ, ◌≡◌, ◌⊎◌, ◌+◌, true, false, List, ◌∷◌, ◌++◌, Some, IsSome}
 use Rattle.program_tree.specs.declared.event.Proc.{Proc}
 use Rattle.program_tree.specs.declared.event.Proc.TheVariants.{Etimer, Radio}
@@ -26,7 +26,7 @@ use Rattle.kernel_laws.specs.Own.{FitsTarget}
 use Rattle.kernel_laws.specs.Poll.{PollWaits, CanBePolled, polls_before}
 use Rattle.kernel_laws.specs.Polled.{TellsPost}
 
--- the timer is on the timer list, its expiration has come by this moment, and this is its owner
+-- the timer is on the timer list, it has expired by this moment, and this process is its owner
 pub record IsDueFor (moment : ℕ) (l : TimerLists) (timer : ℕ) (owner : Proc) : Type 0 where
   pub listed : is_member timer l.listed ≡ true
   pub due : is_due moment (timer_at l.timers timer) ≡ true
@@ -39,7 +39,7 @@ NoneIsDue moment l = (timer : ℕ) (owner : Proc) → IsDueFor moment l timer ow
 abbrev pub HaveOwners : TimerLists → Type 0
 HaveOwners l = (timer : ℕ) → is_member timer l.listed ≡ true → IsSome (timer_at l.timers timer).owner
 
--- no timer is forgotten: none is due, or a poll of etimer waits
+-- no timer is forgotten: no timer is due, or a poll of etimer waits
 abbrev pub ForgetsNone : (moment : ℕ) → State → Type 0
 ForgetsNone moment s = NoneIsDue moment s.timers ⊎ PollWaits Etimer s
 
@@ -53,7 +53,7 @@ pub record IsAtRest (s : State) : Type 0 where
   pub radio : CanBePolled Radio s
   pub radio_stays : is_listed s Radio ≡ true
 
--- one of these lines is about this post, at this moment
+-- one of these lines is about this post at this moment
 pub record HasTelling (moment : ℕ) (lines : List Line) (target : Target) (number word : ℕ) : Type 0 where
   pub telling : What
   pub tells : TellsPost target number word telling
@@ -61,28 +61,28 @@ pub record HasTelling (moment : ℕ) (lines : List Line) (target : Target) (numb
   pub after : List Line
   pub split : lines ≡ before ++ record { at = moment; what = telling } ∷ after
 
--- Whatever a call does in its turn: if no timer was forgotten before, none is forgotten after it.
+-- A call forgets no timer: if none was forgotten before it, none is forgotten after it, whatever the call does.
 abbrev pub CallsForgetNone : Type 0
 CallsForgetNone =
     (depth : ℕ) (s t : State) (p : Proc) (e : Event) → FitsTarget (One p) e.number → CanBePolled Etimer s
     → ForgetsNone s.moment s → (calls_of depth).call s p e ≡ Goes tt t
     → ForgetsNone t.moment t
 
--- a mote that was booted is at rest, with no timer forgotten
+-- a mote that was booted is at rest, and no timer is forgotten
 abbrev pub BootForgetsNone : Type 0
 BootForgetsNone =
     (program : Tree) (mote queue moment : ℕ) (lines : List Line) (sends : List Sent)
     → let m = (boot_given moment (unbooted program mote queue) lines sends).mote in
     m.halted ≡ false → IsAtRest m.state × ForgetsNone moment m.state
 
--- and so is one after a kernel run, if it was before
+-- if a mote is at rest and no timer is forgotten, the same is true after a kernel run
 abbrev pub RunForgetsNone : Type 0
 RunForgetsNone =
     (moment : ℕ) (m : Mote) (lines : List Line) (sends : List Sent) → IsAtRest m.state → ForgetsNone moment m.state
     → let after = (run_given moment m lines sends).mote in
     after.halted ≡ false → IsAtRest after.state × ForgetsNone moment after.state
 
--- boots and kernel runs keep that each timer on the list has an owner, even if the mote halts
+-- after boots and kernel runs each timer on the list still has an owner, even if the mote halts
 abbrev pub BootKeepsOwners : Type 0
 BootKeepsOwners = (moment : ℕ) (m : Mote) (lines : List Line) (sends : List Sent) → HaveOwners m.state.timers
     → HaveOwners (boot_given moment m lines sends).mote.state.timers
@@ -91,21 +91,21 @@ abbrev pub RunKeepsOwners : Type 0
 RunKeepsOwners = (moment : ℕ) (m : Mote) (lines : List Line) (sends : List Sent) → HaveOwners m.state.timers
     → HaveOwners (run_given moment m lines sends).mote.state.timers
 
--- Lines that a run appended: for each timer that is due in this state, one of them is about it.
+-- Lines that a run appended: for each timer that is due in this state, one of these lines is about the timer.
 pub record TellsDue (moment : ℕ) (u : State) (lines after : List Line) : Type 0 where
   pub added : List Line
   pub wrote : after ≡ lines ++ added
   pub each : (timer : ℕ) (owner : Proc) → IsDueFor moment u.timers timer owner
       → HasTelling moment added (One owner) (system_number Timer) timer
 
--- the polls of a run that begins like this come to etimer, and each timer that is due then has its line, unless the
+-- the polls of a run that begins in this state reach etimer, and each timer that is due then has its line, unless the
 -- mote halts
 pub record PollsEtimer (moment : ℕ) (s : State) (lines after : List Line) : Type 0 where
   pub at_turn : State
   pub comes : polls_before Etimer (calls_of (most_units + 1)) s ≡ Goes tt at_turn
   pub tells : TellsDue moment at_turn lines after
 
--- a kernel run in which a poll of etimer waits polls it, and each timer that is due then gets its line
+-- a kernel run in which a poll of etimer waits polls etimer, and each timer that is due then gets its line
 abbrev pub RunTellsDue : Type 0
 RunTellsDue =
     (moment : ℕ) (m : Mote) (lines : List Line) (sends : List Sent) → m.halted ≡ false → IsAtRest m.state

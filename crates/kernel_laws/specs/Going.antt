@@ -1,4 +1,4 @@
--- The lines of a mote so far, and how they go with the current mote.
+-- The lines of a mote so far, and how they agree with the current mote.
 use Rattle.std.specs.Prelude.{Bool, true, false, ◌≡◌, List, [], ◌++◌}
 use Rattle.std.specs.List.{All}
 use Rattle.delivery_laws.specs.HandedOn.{HandedOn}
@@ -16,24 +16,24 @@ use Rattle.process_kernel.specs.Given.{Given}
 use Rattle.kernel_laws.specs.Own.{FitsTarget}
 use Rattle.kernel_laws.specs.Seen.{seen_lines, view_of}
 
--- the etimer process is on the list, and no event that waits can make a system process leave
+-- the etimer process is on the list, and no waiting event can make a system process leave
 pub record SystemStays (s : State) : Type 0 where
   pub stays : is_listed s Etimer ≡ true
   pub fits : All (λ x. FitsTarget x.target x.event.number) s.queue.events
 
--- nothing was started or posted, and the etimer process can start
+-- no process was started and no event posted, and the etimer process can start
 pub record IsBlank (s : State) : Type 0 where
   pub members : s.members ≡ []
   pub events : s.queue.events ≡ []
   pub idle : is_busy s Etimer ≡ false
   pub there : has_process s Etimer ≡ true
 
--- the lines are a run of the delivery machine to the mote's state, with no walk under way
+-- the lines are a run of the delivery machine to the mote's state, and no walk is in progress
 pub record GoesAsBooted (lines : List Line) (s : State) : Type 0 where
   pub matches : view.GoesWithView (seen_lines lines) (view_of s)
   pub sound : SystemStays s
 
--- and the mote was not booted
+-- the lines of a mote that was not booted
 pub record GoesAsNew (lines : List Line) (s : State) : Type 0 where
   pub matches : view.GoesWithView (seen_lines lines) (view_of s)
   pub blank : IsBlank s
@@ -44,26 +44,26 @@ GoesWithAs false true lines s = ⊥
 GoesWithAs true false lines s = GoesAsBooted lines s
 GoesWithAs true true lines s = HasHalted (seen_lines lines)
 
--- The lines of a mote are a run of the delivery machine: to the mote's state, or to its halt. No mote halts before it
--- is booted.
+-- The lines of a mote agree with it: they are a run of the delivery machine to the mote's state, or to its halt. No
+-- mote halts before it is booted.
 abbrev pub GoesWith : List Line → Mote → Type 0
 GoesWith lines m = GoesWithAs m.booted m.halted lines m.state
 
--- A boot or a run appends some lines, and with these the mote's lines go with it.
+-- A boot or a run appends some lines, and after that the mote's lines agree with the mote.
 pub record Adds (lines before : List Line) (g : Given) : Type 0 where
   pub added : List Line
   pub wrote : g.lines ≡ before ++ added
   pub goes : GoesWith (lines ++ added) g.mote
 
--- a line of a packet that arrives: it goes into the ring, or is lost
+-- a line about an arriving packet, which is put into the ring or is lost
 abbrev pub IsNote : What → Type 0
 IsNote (what.Recv f n v) = Unit {0}
 IsNote (what.Lost f n) = Unit {0}
 IsNote (what.Collide f n) = Unit {0}
 IsNote w = ⊥
 
--- events are delivered in the order in which they were accepted, nothing follows a halt, and only an unlisted process
--- starts
+-- events are delivered in the order in which they were accepted, nothing follows a halt, and only a process that isn't
+-- listed starts
 pub record IsInOrder (lines : List Line) : Type 0 where
   pub handed_on : HandedOn (seen_lines lines)
   pub halt_is_last : HaltIsLast (seen_lines lines)

@@ -1,4 +1,4 @@
--- The process list and the states of the processes, in step.
+-- The process list and the states of the processes, which are in step.
 use Rattle.std.specs.Prelude.{ℕ, ◌≡◌, ◌==◌, Bool, true, false, List, length, unwrap_or, slice_get}
 use Rattle.std.specs.List.{list_any}
 use Rattle.process_kernel.specs.declared.process.ProcessState.{ProcessState}
@@ -8,7 +8,7 @@ use Rattle.process_kernel.specs.Members.{place_of}
 use Rattle.process_kernel.specs.State.{State}
 use Rattle.process_kernel.specs.Processes.{is_called_state}
 
--- of the process at this place: its state, whether it is being exited, and whether it is on the process list
+-- for the process at this place: its state, whether it is being exited, and whether it is on the process list
 abbrev pub state_at_place : State → (place : ℕ) → ProcessState
 state_at_place s k = unwrap_or (slice_get s.states k) Off
 
@@ -18,8 +18,8 @@ exiting_at s k = unwrap_or (slice_get s.exiting k) false
 abbrev pub listed_in : List Member → (place : ℕ) → Bool
 listed_in ms k = list_any (λ m. k == place_of m.process) ms
 
--- A process that is running or called is on the list and is not being exited; of the others, those that are being
--- exited are on the list.
+-- A process that is running or called is on the list and is not being exited. A process that is off is on the list if
+-- and only if it is being exited.
 abbrev pub AreInStep : ProcessState → (is_exiting is_listed : Bool) → Type 0
 AreInStep Off exiting listed = exiting ≡ listed
 AreInStep Running exiting listed = (exiting ≡ false) × (listed ≡ true)
@@ -29,7 +29,7 @@ pub record IsInStep (s : State) : Type 0 where
   pub tables : length s.exiting ≡ length s.states
   pub each : (k : ℕ) → AreInStep (state_at_place s k) (exiting_at s k) (listed_in s.members k)
 
--- a process is called, or being exited, exactly if it was
+-- the processes that are called or being exited are the same in both states
 pub record IsAsBusy (s t : State) : Type 0 where
   pub called : (k : ℕ) → is_called_state (state_at_place t k) ≡ is_called_state (state_at_place s k)
   pub exiting : (k : ℕ) → exiting_at t k ≡ exiting_at s k

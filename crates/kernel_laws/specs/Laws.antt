@@ -16,12 +16,13 @@ use Rattle.kernel_laws.specs.InStep.{IsInStep, IsAsBusy}
 use Rattle.kernel_laws.specs.Stamps.{Stamped, state_after, GivesStamped}
 use Rattle.kernel_laws.specs.Traces.{KernelCall, after_calls, booted_at, trace_of}
 
--- whatever the program is, and whatever calls follow the boot
+-- the lines of a kernel are in order, whatever its program is and whatever calls follow the boot
 abbrev pub KernelsHandOn : Type 0
 KernelsHandOn = (program : Tree) (mote queue moment : ℕ) (calls : List KernelCall)
     → IsInOrder (trace_of program mote queue moment calls)
 
--- Lines that go with a mote are in order, and each call of its kernel keeps that they go with it.
+-- Lines that agree with a mote are in order, and after each call of the mote's kernel the lines still agree with the
+-- mote.
 
 abbrev pub GoingIsInOrder : Type 0
 GoingIsInOrder = (lines : List Line) (m : Mote) → GoesWith lines m → IsInOrder lines
@@ -49,28 +50,29 @@ abbrev pub NoteKeeps : Type 0
 NoteKeeps = (lines : List Line) (m : Mote) (l : Line) → m.halted ≡ false → IsNote l.what → GoesWith lines m
     → GoesWith (lines ++ l ∷ []) m
 
--- Processes are called only while they are running, and those that are running or called are on the process list.
+-- Processes are called only while they are running, and the processes that are running or called are on the process
+-- list.
 
--- with a process that is not running nothing happens
+-- calling a process that is not running has no effect
 abbrev pub OnlyTheRunningAreCalled : Type 0
 OnlyTheRunningAreCalled = (depth : ℕ) (s : State) (p : Proc) (e : Event) → is_running s p ≡ false
     → (calls_of (depth + 1)).call s p e ≡ Goes tt s
 
--- whatever a call does in its turn, it keeps the process list and the states in step, and who was busy stays so
+-- whatever a call does, the process list and the states stay in step, and the same processes are busy after it
 abbrev pub CallsKeepStep : Type 0
 CallsKeepStep = (depth : ℕ) (s t : State) (p : Proc) (e : Event) → IsInStep s → (calls_of depth).call s p e ≡ Goes tt t
     → IsInStep t × IsAsBusy s t
 
--- between the calls of a kernel that has not halted, the processes on the list are running, and no others
+-- between the calls of a kernel that has not halted, exactly the processes on the list are running
 abbrev pub ListedAreRunning : Type 0
 ListedAreRunning =
     (program : Tree) (mote queue moment : ℕ) (calls : List KernelCall)
     → let m = (after_calls (booted_at program mote queue moment) calls).mote in
     m.halted ≡ false → (p : Proc) → is_running m.state p ≡ is_listed m.state p
 
--- Whatever is written is stamped with the moment of the boot or the run, even if the mote halts.
+-- Everything that is written is stamped with the moment of the boot or the run, even if the mote halts.
 
--- whatever a call does in its turn, the moment stays, and each line and packet is stamped with it
+-- whatever a call does, the moment doesn't change, and each line and packet is stamped with it
 abbrev pub CallsStamp : Type 0
 CallsStamp =
     (depth : ℕ) (s : State) (p : Proc) (e : Event) → let t = state_after ((calls_of depth).call s p e) in

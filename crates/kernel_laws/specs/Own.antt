@@ -1,4 +1,4 @@
--- The processes that leave: only those of the program.
+-- The processes that may leave: only the processes of the program.
 use Rattle.std.specs.Prelude.{ℕ, ◌≡◌}
 use Rattle.program_tree.specs.declared.event.Proc.{Proc}
 use Rattle.program_tree.specs.declared.event.Proc.TheVariants.{Own, Etimer, Ctimer, Radio}
@@ -13,7 +13,7 @@ IsOwn Etimer = ⊥
 IsOwn Ctimer = ⊥
 IsOwn Radio = ⊥
 
--- an event EXIT is only for a process of the program
+-- an event EXIT has only a process of the program as its target
 abbrev pub FitsTarget : Target → (number : ℕ) → Type 0
 FitsTarget (One p) number = number ≡ system_number Exit → IsOwn p
 FitsTarget All number = number ≡ system_number Exit → ⊥

@@ -13,7 +13,7 @@ pub record PollWaits (p : Proc) (s : State) : Type 0 where
   pub needs_poll : process_needs_poll s p ≡ true
   pub poll_requested : s.poll_requested ≡ true
 
--- the process is running or called, and can need a poll: `needs_poll` has a place for it
+-- the process is running or called, and `needs_poll` has a place for it
 pub record CanBePolled (p : Proc) (s : State) : Type 0 where
   pub alive : is_alive (process_state s p) ≡ true
   pub can_need_poll : nat_lt (place_of p) (length s.needs_poll) ≡ true

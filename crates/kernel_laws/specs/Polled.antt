@@ -1,4 +1,4 @@
--- The radio with its packets, and etimer with the timers that are due, when they are polled.
+-- The poll of the radio process and its packets, and the poll of etimer and the timers that are due.
 use Rattle.std.specs.Prelude.{ℕ, ◌≡◌, true, List, [], ◌∷◌, ◌++◌, map, Option, Some, None}
 use Rattle.program_tree.specs.declared.event.Proc.{Proc}
 use Rattle.program_tree.specs.declared.event.Proc.TheVariants.{Own}
@@ -24,7 +24,7 @@ pub data TellsPost (t : Target) (number word : ℕ) : What → Type 0 where
   Accepted : {serial : ℕ} → TellsPost t number word (what.Post serial t number word)
   Refused : TellsPost t number word (what.Full t number word)
 
--- the line of a packet that leaves the ring: it is posted to the receiver, or nobody hears it
+-- the line of a packet that leaves the ring: the packet is posted to the receiver, or nobody hears it
 abbrev pub TellsPacket : (receiver : Option ℕ) → Arrival → What → Type 0
 TellsPacket (Some p) a w = TellsPost (One (Own p)) (system_number Packet) a.value w
 TellsPacket None a w = w ≡ what.Deaf a.sender a.number
@@ -38,7 +38,7 @@ pub data TellEach (receiver : Option ℕ) : List Arrival → List What → Type 
 abbrev pub lines_at : (moment : ℕ) → List What → List Line
 lines_at moment ws = map (λ w. record { at = moment; what = w }) ws
 
--- the ring is empty, and there is a line for each packet that was in it, in order, and no other line
+-- the ring is empty, and there is a line for each packet that was in the ring, in order, and no other line
 pub record EmptiesRing (s t : State) : Type 0 where
   pub empty : t.ring ≡ []
   pub tellings : List What
@@ -58,7 +58,7 @@ pub record TellsOfPost (s t : State) (target : Target) (number word : ℕ) : Typ
   pub after : List Line
   pub wrote : t.lines ≡ s.lines ++ (before ++ record { at = s.moment; what = telling } ∷ after)
 
--- a timer that is due is posted to its owner, whose queue may be full
+-- the event of a timer that is due is posted to the timer's owner; the queue may be full
 abbrev pub DueTimersArePosted : Type 0
 DueTimersArePosted =
     (s t : State) (e : Event) (timer : ℕ) (owner : Proc) → is_system_event Poll e ≡ true → etimer_of s e ≡ Goes tt t

@@ -19,7 +19,7 @@ use Rattle.process_kernel.specs.Members.{is_same}
 use Rattle.process_kernel.specs.Calls.{own_event}
 use Rattle.kernel_laws.specs.Traces.{KernelCall, after_calls, booted_at}
 
--- A statement, or a block, that is quiet: it prints nothing, sets no variable and spawns no thread.
+-- A quiet statement or block: it prints nothing, sets no variable and spawns no thread.
 
 abbrev pub is_quiet_action : Action ℕ → Bool
 is_quiet_action (print e) = false
@@ -51,14 +51,15 @@ abbrev pub is_quiet_block : Option (Body ℕ) → Bool
 is_quiet_block None = true
 is_quiet_block (Some b) = is_quiet b
 
--- Apart from its body a process is quiet, in the blocks that are run at POLL and at EXIT, and in those of its callback
--- timers. Otherwise these would print in its name, too, and change its variables between the calls of its body.
+-- Apart from its body, a process is quiet: in the blocks that are run at POLL and at EXIT, and in the blocks of its
+-- callback timers. Otherwise these blocks would also print on behalf of the process, and change its variables between
+-- the calls of its body.
 pub record IsQuietApart (code : Code) : Type 0 where
   pub at_poll : is_quiet_block code.on_poll ≡ true
   pub at_exit : is_quiet_block code.on_exit ≡ true
   pub in_callbacks : are_quiet code.callbacks ≡ true
 
--- a line for the start of this process, or one that it prints
+-- a line about the start of this process, or a line that this process prints
 abbrev pub starts_or_prints : Proc → What → Bool
 starts_or_prints p (what.Start q) = is_same q p
 starts_or_prints p (what.Print q v) = is_same q p
@@ -68,8 +69,8 @@ starts_or_prints p w = false
 abbrev pub starts_and_prints : Proc → List Line → List Line
 starts_and_prints p lines = filter (λ l. starts_or_prints p l.what) lines
 
--- the lines that a process prints when it is shown these sights and does these actions: one for each print, at the
--- moment of its sight
+-- the lines that a process prints when it gets these sights and performs these actions: one line for each print, at
+-- the moment of its sight
 abbrev pub printed : Proc → Sight → Happening → List Line
 printed p now (operates (op.Print v)) = record { at = now.looks.moment; what = what.Print p v } ∷ []
 printed p now h = []
@@ -79,8 +80,8 @@ prints p [] did = []
 prints p (now ∷ later) [] = []
 prints p (now ∷ later) (h ∷ did) = printed p now h ++ prints p later did
 
--- After an operation a process is shown the same event at the same moment, since it is still in the same call, and its
--- answer is 0, or 1 for a full queue.
+-- After an operation a process gets a sight with the same event and the same moment, because it is still in the same
+-- call. The sight's answer is 0, or 1 if the queue was full.
 pub record IsSameCall (now then : Sight) : Type 0 where
   pub event : then.event ≡ now.event
   pub moment : then.looks.moment ≡ now.looks.moment
@@ -90,7 +91,7 @@ abbrev pub IsShownThen : Happening → Sight → Sight → Type 0
 IsShownThen (operates o) now then = IsSameCall now then
 IsShownThen (gives_up a) now then = Unit {0}
 
--- sights of this mote that follow one another like this
+-- sights of this mote that follow one another in this way
 abbrev pub AreShown : (mote : ℕ) → List Sight → List Happening → Type 0
 AreShown mote [] did = Unit {0}
 AreShown mote (now ∷ []) did = now.looks.mote ≡ mote
@@ -98,15 +99,15 @@ AreShown mote (now ∷ then ∷ later) [] = ⊥
 AreShown mote (now ∷ then ∷ later) (h ∷ did) = (now.looks.mote ≡ mote) × IsShownThen h now then
     × AreShown mote (then ∷ later) did
 
--- the variables that a reading leaves
+-- the variables at the end of a reading
 abbrev pub left_by : Completion → List ℕ
 left_by (done now later variables) = variables
 left_by (restarts now later variables) = variables
 left_by (exits now later variables) = variables
 left_by (in_state variables) = variables
 
--- One life of a process that starts with these variables: it is shown these sights, INIT first, and its actions are a
--- reading of its body by its structure.
+-- One life of a process that starts with these variables. It gets these sights, INIT first, and its actions are a
+-- reading of its body by the structure of the body.
 pub record Life (code : Code) (mote : ℕ) (variables : List ℕ) : Type 0 where
   pub now : Sight
   pub later : List Sight
@@ -116,32 +117,33 @@ pub record Life (code : Code) (mote : ℕ) (variables : List ℕ) : Type 0 where
   pub shown : AreShown mote (now ∷ later) did
   pub reads : ReadsThread code Yielded (listed code.body) now later variables did became
 
--- its lines: its start, and its prints
+-- the lines of a life: its start and its prints
 abbrev pub lines_of : {code : Code} {mote : ℕ} {variables : List ℕ} → Proc → Life code mote variables → List Line
 lines_of p life = record { at = life.now.looks.moment; what = what.Start p } ∷ prints p (life.now ∷ life.later) life.did
 
--- Its lives, one after another, and their lines: the next one has the variables that the one before left.
+-- The lives of a process one after another, and their lines. Each life begins with the variables that the previous one
+-- left.
 pub data Lives (code : Code) (p : Proc) (mote : ℕ) (variables : List ℕ) : List Line → (left : List ℕ) → Type 0 where
   Unborn : Lives code p mote variables [] variables
   LivesAgain : {lines : List Line} {left : List ℕ}
       → Lives code p mote variables lines left → (life : Life code mote left)
       → Lives code p mote variables (lines ++ lines_of p life) (left_by life.became)
 
--- The lines about a process at any time: those of its lives, of which the last may not be over; or these and one more
--- start, after which it has not done anything yet.
+-- The lines about a process at any time: the lines of its lives, the last of which may not have ended; or these lines
+-- and one more start, after which the process has not done anything yet.
 pub data LivesSoFar (code : Code) (p : Proc) (mote : ℕ) (variables : List ℕ) : List Line → Type 0 where
   OnRecord : {lines : List Line} {left : List ℕ} → Lives code p mote variables lines left
       → LivesSoFar code p mote variables lines
   HasStarted : {lines : List Line} {left : List ℕ} → Lives code p mote variables lines left → (moment : ℕ)
       → LivesSoFar code p mote variables (lines ++ record { at = moment; what = what.Start p } ∷ [])
 
--- the starts and the prints among these lines are those of lives of the process, in which it came to these variables
+-- the starts and the prints among these lines are those of lives of the process, after which it has these variables
 abbrev pub TellsLives : Code → (p mote : ℕ) → List Line → (variables : Option (List ℕ)) → Type 0
 TellsLives code p mote lines variables = (left : List ℕ) × (variables ≡ Some left)
     × Lives code (Own p) mote code.starts (starts_and_prints (Own p) lines) left
 
--- A process that is quiet apart from its body prints, from each start on, the lines of a reading of its body, whatever
--- the others do, and whatever calls follow the boot, as long as the mote doesn't halt.
+-- A process that is quiet apart from its body prints, from each of its starts on, the lines of a reading of its body,
+-- whatever other processes do, and whatever calls follow the boot, as long as the mote doesn't halt.
 abbrev pub PrintsAreTheReading : Type 0
 PrintsAreTheReading =
     (program : Tree) (p : ℕ) (code : Code) (mote queue moment : ℕ) (calls : List KernelCall)
@@ -149,7 +151,7 @@ PrintsAreTheReading =
     let t = after_calls (booted_at program mote queue moment) calls in
     t.mote.halted ≡ false → TellsLives code p mote t.lines (slice_get t.mote.state.variables p)
 
--- and if the mote halts, up to the line that says so: the lines that the process printed by then in its last life are
+-- the same up to the line about a halt, if the mote halts: the lines that the process has printed in its last life are
 -- those of a reading
 abbrev pub PrintsSoFarAreTheReading : Type 0
 PrintsSoFarAreTheReading =

@@ -1,4 +1,4 @@
--- The receive ring of a mote and its lines: the packets that wait, and the line that each of them gets.
+-- The receive ring of a mote and its lines: the waiting packets, and the line that each of them gets.
 use Rattle.std.specs.Prelude.{ℕ, ◌≡◌, ◌⊎◌, ◌<◌, ◌≤◌, false, List, [], ◌∷◌, ◌++◌, length, Option}
 use Rattle.std.specs.List.{All}
 use Rattle.program_tree.specs.declared.event.Proc.{Proc}
@@ -25,10 +25,10 @@ IsApart (what.Lost f n) = ⊥
 IsApart (what.Deaf f n) = ⊥
 IsApart w = Unit {0}
 
--- Lines in order, and a ring that first holds these packets, the oldest in front, and at last those that are left. A
--- packet that is received goes to the back, if the ring of 8 has room; one is lost only if it has none. A packet
--- leaves from the front with its line: it was posted to the receiver, the receiver's queue was full, or nobody hears
--- it. Each line about a received, a lost or an unheard packet is one of these.
+-- Lines in order, and a ring that holds these packets first, the oldest in front, and the packets that are left at
+-- last. A packet that is received is appended to the ring if the ring of 8 has room. A packet is lost only if the ring
+-- has no room. A packet leaves from the front with its line: it was posted to the receiver, the receiver's queue was
+-- full, or nobody hears it. Each line about a received, a lost or an unheard packet is one of these lines.
 pub data RingRuns (receiver : Option ℕ) : List Arrival → List Line → List Arrival → Type 0 where
   NoneMore : {ring : List Arrival} → RingRuns receiver ring [] ring
   Receives : {ring left : List Arrival} {lines : List Line} {moment : ℕ} (a : Arrival)
@@ -44,8 +44,8 @@ pub data RingRuns (receiver : Option ℕ) : List Arrival → List Line → List 
       → IsApart w → RingRuns receiver ring lines left
       → RingRuns receiver ring (record { at = moment; what = w } ∷ lines) left
 
--- lines were added from one state to a later one; along these the ring changes from its old contents to its new ones,
--- and none is of a packet that arrives
+-- lines were added from one state to a later one; along these lines the ring changes from its old contents to its new
+-- contents, and none of the lines is about an arriving packet
 pub record RingGoes (s t : State) : Type 0 where
   pub added : List Line
   pub wrote : t.lines ≡ s.lines ++ added
@@ -53,7 +53,7 @@ pub record RingGoes (s t : State) : Type 0 where
   pub hears_none : All (λ l. IsNote l.what → ⊥) added
   pub program : t.program ≡ s.program
 
--- if the mote halts, some packets may be left that have no line
+-- if the mote halts, some packets may be left without a line
 pub record RingHalts (s t : State) : Type 0 where
   pub added : List Line
   pub wrote : t.lines ≡ s.lines ++ added
@@ -66,12 +66,12 @@ abbrev pub RingLeads : {A : Type 0} → State → Outcome A → Type 0
 RingLeads s (Ends t) = RingHalts s t
 RingLeads s (Goes a t) = RingGoes s t
 
--- whatever a call does in its turn, each packet that leaves the ring has its line, in order
+-- whatever a call does, each packet that leaves the ring has its line, in order
 abbrev pub CallsTellPackets : Type 0
 CallsTellPackets = (depth : ℕ) (s : State) (p : Proc) (e : Event) → RingLeads s ((calls_of depth).call s p e)
 
--- along the lines that a boot or a run adds, the ring changes from its old contents to its new ones, unless the mote
--- has halted; none is of a packet that arrives
+-- along the lines that a boot or a run adds, the ring changes from its old contents to its new contents, unless the
+-- mote has halted; none of the lines is about an arriving packet
 pub record GivesPackets (m : Mote) (lines : List Line) (g : Given) : Type 0 where
   pub added : List Line
   pub wrote : g.lines ≡ lines ++ added
@@ -89,7 +89,7 @@ abbrev pub RunTellsPackets : Type 0
 RunTellsPackets = (moment : ℕ) (m : Mote) (lines : List Line) (sends : List Sent)
     → GivesPackets m lines (run_given moment m lines sends)
 
--- A kernel run leaves no packet in the ring, if none was there before or a poll of the radio process waited.
+-- A kernel run leaves the ring empty if the ring was empty before, or if a poll of the radio process waited.
 abbrev pub RunEmptiesRing : Type 0
 RunEmptiesRing =
     (moment : ℕ) (m : Mote) (lines : List Line) (sends : List Sent) → IsAtRest m.state → (m.state.ring ≡ [])

@@ -1,4 +1,4 @@
--- A kernel as the delivery of events sees it: its lines, and its state as a delivery machine.
+-- A kernel as the delivery of events sees it: its lines, and its state as that of a delivery machine.
 use Rattle.std.specs.Prelude.{List, map}
 use Rattle.delivery_laws.specs.HandedOn as handed
 use Rattle.delivery_laws.specs.HandedOn.{Incarnation, ToOne, ToAll}

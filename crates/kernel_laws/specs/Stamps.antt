@@ -15,13 +15,13 @@ LinesBear moment lines = All (λ l. l.at ≡ moment) lines
 abbrev pub PacketsBear : (moment mote : ℕ) → List Sent → Type 0
 PacketsBear moment mote sends = All (λ x. (x.at ≡ moment) × (x.sender ≡ mote)) sends
 
--- the numbers of these packets are this one, the next, and so on, in order
+-- the numbers of these packets are `first`, the next number, and so on, in order
 abbrev pub AreNumberedFrom : (first : ℕ) → List Sent → Type 0
 AreNumberedFrom first sends = map (λ x. x.number) sends ≡ range_with_len first (length sends)
 
--- From one state to a later one, each line and each packet that was written is stamped with the moment, the packets
--- with the mote too; their numbers continue from the number of packets sent before, and they are counted; the mote's
--- number and its program stay.
+-- From one state to a later one, each line that was written is stamped with the moment, and each packet with the
+-- moment and the mote. The numbers of the packets continue from the number of packets sent before, and the packets are
+-- counted. The mote's number and its program don't change.
 pub record Stamped (moment : ℕ) (s t : State) : Type 0 where
   pub lines : List Line
   pub wrote : t.lines ≡ s.lines ++ lines
@@ -43,6 +43,6 @@ state_after (Goes a t) = t
 abbrev pub with_output : Mote → List Line → List Sent → State
 with_output m lines sends = record m.state { lines = lines; sends = sends }
 
--- the outcome of a boot or a run at this moment, after these lines and packets were written
+-- the outcome of a boot or a run at this moment, if these lines and packets were written before
 abbrev pub GivesStamped : (moment : ℕ) → Mote → List Line → List Sent → Given → Type 0
 GivesStamped moment m lines sends g = Stamped moment (with_output m lines sends) (with_output g.mote g.lines g.sends)

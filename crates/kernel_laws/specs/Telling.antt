@@ -1,4 +1,4 @@
--- The remainder of a process after the lines about its lives, which each call of its kernel keeps.
+-- The remainder of a process after the lines about its lives. Each call of the process's kernel keeps this relation.
 use Rattle.std.specs.Prelude.{ℕ, ◌≡◌, ◌⊎◌, Bool, true, false, nat_lt, List, [], ◌∷◌, ◌++◌, length, Option, Some}
 use Rattle.std.specs.Prelude.{slice_get}
 use Rattle.program_tree.specs.declared.event.Proc.{Proc}
@@ -25,7 +25,7 @@ use Rattle.kernel_laws.specs.Printed.{IsQuietApart, starts_and_prints, prints, A
 use Rattle.kernel_laws.specs.Printed.{LivesSoFar, TellsLives}
 
 -- the next sight of the process: INIT at its start, at this moment; the same event at the same moment, with this
--- answer; or anything
+-- answer; or any sight
 pub data Next : Type 0 where
   AtStart : (moment : ℕ) → Next
   InCall : (answer : ℕ) → Event → (moment : ℕ) → Next
@@ -47,14 +47,15 @@ pub record HasLife (p : ℕ) (code : Code) (mote : ℕ) (start : List ℕ) (line
   pub became_so : life.became ≡ became
   pub has_lines : lines_of (Own p) life ≡ lines
 
--- These are its lines so far, and whatever it does from here on, in a sight that can come, belongs to the same life.
+-- These are the lines so far of a life. Whatever the process does from now on, in a sight that can come, belongs to
+-- the same life.
 pub record ComesTo (p : ℕ) (code : Code) (mote : ℕ) (start : List ℕ) (lines : List Line) (next : Next) (r : Remainder)
     (vars : List ℕ) : Type 0 where
   pub on : (now : Sight) (later : List Sight) (more : List Happening) (out : Completion)
       → CanCome next now.event now.looks.moment → IsAnswered next now.answer → AreShown mote (now ∷ later) more
       → Runs code r vars now later more out → HasLife p code mote start (lines ++ prints (Own p) (now ∷ later) more) out
 
--- In the life that began with its last start the process has come this far.
+-- In the life that began with its last start, the process has reached this point.
 pub record ComesHere (p : ℕ) (code : Code) (mote : ℕ) (lines_so_far : List Line) (next : Next) (r : Remainder)
     (vars : List ℕ) : Type 0 where
   pub before : List Line
@@ -64,9 +65,9 @@ pub record ComesHere (p : ℕ) (code : Code) (mote : ℕ) (lines_so_far : List L
   pub comes : ComesTo p code mote start lines next r vars
   pub is_traced : lines_so_far ≡ before ++ lines
 
--- A process in the state of a mote: the program, the mote and the moment; whether the tables have room for it; its
--- state, whether it is being exited, and whether it is on the process list; the remainder of its body, its variables,
--- and the lines of the run under way about it.
+-- A process in the state of a mote: the program, the mote and the moment; whether the tables have room for the
+-- process; its state, whether it is being exited, and whether it is on the process list; the remainder of its body,
+-- its variables, and the lines about it in the current run.
 pub record ProcessInMote : Type 0 where
   pub program : Tree
   pub mote : ℕ
@@ -95,7 +96,7 @@ process_in_mote p s = record {
   lines_so_far = starts_and_prints (Own p) s.lines;
 }
 
--- off the process list; or on it, in a life that has come this far
+-- the process is not on the process list; or it is on the list, in a life that has reached this point
 pub record IsOut (v : ProcessInMote) : Type 0 where
   pub state : v.state ≡ Off
   pub listed : v.listed ≡ false
@@ -108,7 +109,7 @@ pub record IsIn (p : ℕ) (code : Code) (mote : ℕ) (lines_so_far : List Line) 
   pub listed : v.listed ≡ true
   pub comes : ComesHere p code mote lines_so_far next r vars
 
--- The process is at rest, and the lines about it are those of its lives, up to the variables that it has.
+-- The process is at rest. The lines about it are those of its lives, after which it has its current variables.
 pub record RestsAsTraced (program : Tree) (mote p : ℕ) (code : Code) (lines_so_far : List Line) (v : ProcessInMote)
     : Type 0 where
   pub of_program : v.program ≡ program
@@ -122,18 +123,18 @@ pub record RestsAsTraced (program : Tree) (mote p : ℕ) (code : Code) (lines_so
   pub lived : Lives code (Own p) mote code.starts lines_so_far left
   pub where_it_is : IsOut v ⊎ IsIn p code mote lines_so_far AtCall v still left
 
--- The lines so far of a mote are about the lives of the process up to its state; or up to the halt of the mote.
+-- The lines so far of a mote are about the lives of the process up to its state, or up to the halt of the mote.
 pub record TellsSoFar (program : Tree) (mote p : ℕ) (code : Code) (lines : List Line) (m : Mote) : Type 0 where
   pub going : m.halted ≡ false → RestsAsTraced program mote p code (starts_and_prints (Own p) lines)
       (process_in_mote p m.state)
   pub halted : m.halted ≡ true → LivesSoFar code (Own p) mote code.starts (starts_and_prints (Own p) lines)
 
--- a process of this number, with this code, that is quiet apart from its body
+-- a process with this number and this code that is quiet apart from its body
 pub record IsProcess (program : Tree) (p : ℕ) (code : Code) : Type 0 where
   pub is_code : slice_get program.codes p ≡ Some code
   pub quiet : IsQuietApart code
 
--- from `TellsSoFar`: the lines are those of lives of the process
+-- a consequence of `TellsSoFar`: the lines are those of lives of the process
 
 abbrev pub TellingIsOfLives : Type 0
 TellingIsOfLives =
@@ -145,8 +146,7 @@ TellingIsOfLivesSoFar =
     (program : Tree) (mote p : ℕ) (code : Code) (lines : List Line) (m : Mote) → TellsSoFar program mote p code lines m
     → LivesSoFar code (Own p) mote code.starts (starts_and_prints (Own p) lines)
 
--- A mote that was not booted has no lines, and each call of its kernel keeps `TellsSoFar`, whatever was written
--- before.
+-- A mote that was not booted has no lines. Each call of its kernel keeps `TellsSoFar`, whatever was written before.
 
 abbrev pub NoLinesTellFirst : Type 0
 NoLinesTellFirst = (program : Tree) (mote p : ℕ) (code : Code) (queue : ℕ) → IsProcess program p code

@@ -8,8 +8,8 @@ use Rattle.process_kernel.specs.Mote.{Mote, unbooted, with_packet, with_poll}
 use Rattle.process_kernel.specs.Given.{Given, boot_given, run_given}
 use Rattle.kernel_laws.specs.Going.{IsNote}
 
--- A call of a kernel after its boot: a kernel run at a moment, a process that is to be polled, or a packet for the
--- ring. Between the calls lines of packets that arrive may be written.
+-- A call of a kernel after its boot: a kernel run at a moment, the request of a poll of a process, or a packet for the
+-- ring. Between the calls, lines about arriving packets may be written.
 pub data KernelCall : Type 0 where
   RunAt : (moment : ℕ) → KernelCall
   PollOf : Proc → KernelCall
@@ -34,11 +34,11 @@ abbrev pub after_calls : Traced → List KernelCall → Traced
 after_calls t [] = t
 after_calls t (c ∷ cs) = after_calls (after_call t c) cs
 
--- a mote of this program is booted at a moment
+-- a mote with this program after its boot at a moment
 abbrev pub booted_at : Tree → (mote queue moment : ℕ) → Traced
 booted_at program mote queue moment =
     let m = unbooted program mote queue in with_given (record { mote = m; lines = [] }) (boot_given moment m [] [])
 
--- the lines of its boot and of these calls
+-- the lines of the boot and of these calls
 abbrev pub trace_of : Tree → (mote queue moment : ℕ) → List KernelCall → List Line
 trace_of program mote queue moment calls = (after_calls (booted_at program mote queue moment) calls).lines

@@ -13,14 +13,14 @@ ghost use Rattle.kernel_laws.specs.Laws.{KernelsHandOn, GoingIsInOrder, NoLinesG
 ghost use Rattle.kernel_laws.specs.Laws.{RunAddsItsLines, PollKeeps, PacketKeeps, NoteKeeps, OnlyTheRunningAreCalled};
 ghost use Rattle.kernel_laws.specs.Laws.{CallsKeepStep, ListedAreRunning, CallsStamp, BootStamps, RunStamps};
 
-/// Whatever its program is, and whatever calls follow its boot: the lines of a kernel, joined, deliver each accepted
-/// event, in order, nothing follows a halt, and a process starts only if it isn't listed.
+/// The lines of a kernel, joined, deliver each accepted event, in order; nothing follows a halt; and a process starts
+/// only if it isn't listed. This is true for any program and for any calls after the boot.
 pub fn kernels_hand_on()
     ensures kernels_hand_on { KernelsHandOn }
 {}
 
-/// Lines that go with a mote are in order. A mote that was not booted has no lines. After each call of its kernel, the
-/// lines still go with it.
+/// Lines that agree with a mote are in order. A mote that was not booted has no lines. After each call of the mote's
+/// kernel, the lines still agree with the mote.
 pub fn each_call_keeps_order()
     ensures in_order { GoingIsInOrder }
     ensures first { NoLinesGoFirst }
@@ -31,35 +31,35 @@ pub fn each_call_keeps_order()
     ensures note { NoteKeeps }
 {}
 
-/// A process is called only while it is on the process list and running: with one that isn't running nothing happens,
-/// and the states of the processes stay in step with the list, within calls and between those of the kernel.
+/// A process is called only while it is on the process list and running: calling a process that isn't running has no
+/// effect. The states of the processes stay in step with the list, within calls and between the calls of the kernel.
 pub fn the_listed_are_running()
     ensures called { OnlyTheRunningAreCalled }
     ensures within { CallsKeepStep }
     ensures between { ListedAreRunning }
 {}
 
-/// Packets and timers that wait when the system processes are polled are accounted for: each packet that was accepted
-/// into the receive ring is posted to the receiver once, in order, or nobody hears it; and for a timer that is due by
-/// now, TIMER is posted to its owner. If the queue was full, a line says so.
+/// Packets and timers that wait when the system processes are polled are accounted for. Each packet that was accepted
+/// into the receive ring is posted to the receiver once, in order, or nobody hears it. For each timer that is due by
+/// now, TIMER is posted to its owner. If the queue was full, a line states this.
 pub fn what_waits_is_traced()
     ensures packets { PacketsAreHanded }
     ensures timers { DueTimersArePosted }
 {}
 
 /// Each line that is written in a boot or a kernel run is stamped with its moment, whatever calls nest, and even if
-/// the mote halts; each packet that is sent is stamped with the moment and the mote, and the numbers of packets
-/// continue from the number of packets sent before.
+/// the mote halts. Each packet that is sent is stamped with the moment and the mote. The numbers of packets continue
+/// from the number of packets sent before.
 pub fn what_is_written_bears_its_moment()
     ensures within { CallsStamp }
     ensures boot { BootStamps }
     ensures run { RunStamps }
 {}
 
-/// No packet leaves the receive ring without its line, and packets leave in the order in which they arrived. This
-/// holds within calls, however they nest, and over boots and kernel runs, which write no line of a packet that
-/// arrives. If a poll of the radio process waits, a kernel run leaves the ring empty. If the mote halts, the packets
-/// that are left have no line.
+/// No packet leaves the receive ring without its line, and packets leave in the order in which they arrived. This is
+/// true within calls, however they nest, and in boots and kernel runs, which write no line about an arriving packet.
+/// If a poll of the radio process waits, a kernel run leaves the ring empty. If the mote halts, the packets that are
+/// left have no line.
 pub fn the_ring_is_traced()
     ensures within { CallsTellPackets }
     ensures boot { BootTellsPackets }
@@ -67,10 +67,10 @@ pub fn the_ring_is_traced()
     ensures emptied { RunEmptiesRing }
 {}
 
-/// No timer is forgotten. After a boot no timer is due, or a poll of etimer waits; and if this holds before a call or
-/// a kernel run, it holds after it too. If a poll of etimer waits, a kernel run polls etimer, after the processes
-/// before it on the process list: for each timer that is due then, a line says that TIMER was posted to its owner, or
-/// that the queue was full, unless the mote halts.
+/// No timer is forgotten. After a boot no timer is due, or a poll of etimer waits. If this is true before a call or a
+/// kernel run, it is also true after it. If a poll of etimer waits, a kernel run polls etimer, after the processes
+/// before it on the process list. For each timer that is due then, a line states that TIMER was posted to its owner,
+/// or that the queue was full, unless the mote halts.
 pub fn no_timer_is_forgotten()
     ensures within { CallsForgetNone }
     ensures boot { BootForgetsNone }
@@ -81,19 +81,19 @@ pub fn no_timer_is_forgotten()
 {}
 
 /// Let a process be quiet apart from its body: its blocks at POLL and EXIT and those of its callback timers print
-/// nothing, set no variable and spawn no thread. From each of its starts on, it prints the lines of a reading of its
-/// body: the block is read by its structure, over sights of the mote, whatever other processes do in between, and
-/// whatever calls of the kernel follow the boot. INIT comes first, each call has one event and one moment, and each
-/// line is at the moment of its sight. The rest of a sight (later events, timers, processes, semaphores) isn't in the
-/// lines. The next life begins with the variables that the one before left. If the mote halts, the lines have the last
-/// life up to there.
+/// nothing, set no variable and spawn no thread. From each of its starts on, the process prints the lines of a reading
+/// of its body. A reading follows the structure of the block, with sights of the mote. This is true whatever other
+/// processes do meanwhile, and whatever calls of the kernel follow the boot. INIT comes first, each call has one event
+/// and one moment, and each line is at the moment of its sight. The rest of a sight (later events, timers, processes,
+/// semaphores) isn't in the lines. The next life begins with the variables that the previous one left. If the mote
+/// halts, the lines are those of the last life up to the halt.
 pub fn prints_are_the_reading()
     ensures prints_are_the_reading { PrintsAreTheReading }
     ensures so_far { PrintsSoFarAreTheReading }
 {}
 
-/// The lines so far of a kernel are about the lives of such a process, up to its position: a mote that was not booted
-/// has none, and each call of its kernel keeps this, whatever was written before the call.
+/// The lines so far of a kernel are about the lives of such a process, up to its position. A mote that was not booted
+/// has no lines, and each call of its kernel keeps this relation, whatever was written before the call.
 pub fn each_call_tells_lives()
     ensures lives { TellingIsOfLives }
     ensures lives_so_far { TellingIsOfLivesSoFar }
@@ -105,8 +105,9 @@ pub fn each_call_tells_lives()
     ensures note { NoteTells }
 {}
 
-/// The depth that the rules give to calls is no limit, because each call spends a unit of work: if the depth is above
-/// the number of units, more depth doesn't change the outcome of a call, a thread, a boot or a kernel run.
+/// The depth that the rules allow for calls doesn't limit a mote, because each call spends a unit of work. If the
+/// depth is above the number of units, more depth doesn't change the outcome of a call, a thread, a boot or a kernel
+/// run.
 pub fn depth_is_no_limit()
     ensures calls { CallsAreAnyDepth }
     ensures threads { ThreadsAreAnyDepth }

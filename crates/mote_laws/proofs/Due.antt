@@ -1,4 +1,4 @@
--- Each step of a turn keeps the mote at rest, and its kernel runs forget no timer.
+-- After each step of a turn the mote is still at rest, and its kernel runs forget no timer.
 use Rattle.std.proofs.Common.{ℕ, zero, suc, ◌≡◌, ◌+◌, ◌⊎◌, inl, inr, ◌==◌, ◌||◌, ◌&&◌, nat_lt, nat_le, max, min, Bool, true, false, if◌then◌else◌, List, [], ◌∷◌, ◌++◌, length, map, Option, Some, None, option_map, refl, sym, ap, ◌∙◌, subst, append_assoc, arith}
 use Rattle.std.specs.Option.{option_map_or}
 use Rattle.std.proofs.lemmas.Bool.Decides.{nat_tests}
@@ -49,7 +49,7 @@ pub record Rested (m : Mote) : Type 0 where
   pub booted : m.booted ≡ true
   pub rest : m.halted ≡ false → IsAtRest m.state
 
--- and none of its timers is forgotten at this moment
+-- the same, and none of the mote's timers is forgotten at this moment
 pub record Watched (moment : ℕ) (m : Mote) : Type 0 where
   pub rested : Rested m
   pub forgets : m.halted ≡ false → ForgetsNone moment m.state
@@ -101,7 +101,7 @@ hear_all_rested moment packets u r =
     let h = hear_each_rested moment packets u r in
     either (λ w. Rested w.mote) (took_some u.mote v.mote) (with_mote v (with_poll v.mote Radio)) v (poll_rested v.mote Radio h) h
 
--- and they leave the timers as they are
+-- arriving packets don't change the timers
 
 hear_timers : (moment : ℕ) (a : Arrival) (u : Underway) → ((hear moment a u).mote.state.timers ≡ u.mote.state.timers) × ((hear moment a u).mote.halted ≡ u.mote.halted)
 unfolding hear with_packet
@@ -129,7 +129,7 @@ hear_all_timers moment packets u =
     by true v h = (poll_timers v.mote.state Radio ∙ h.0, h.1)
     by false v h = h
 
--- if no expiration has come, no timer is due; if one has, etimer is to be polled
+-- if no timer has expired, no timer is due; if one has, etimer is to be polled
 
 above_least : (moment : ℕ) (f : ℕ → ℕ) (ks : List ℕ) (k : ℕ) → is_some_due moment (least (map f ks)) ≡ false → is_member k ks ≡ true → nat_le (f k) moment ≡ false
 above_least moment f [] k e h = absurd (cc)
@@ -174,7 +174,7 @@ run_by moment u false e w =
 runs_watched : (most moment : ℕ) (u : Underway) → Watched moment u.mote → Watched moment (runs_of most moment u).mote
 runs_watched most moment u w = runs_keep moment (λ v. Watched moment v.mote) (λ v h. run_by moment v v.mote.halted refl h) most u w
 
--- a turn of a mote that is as it was made, or is at rest
+-- a turn of a mote that is new or at rest
 
 abbrev pub IsAsMade : Tree → (number queue : ℕ) → Mote → Type 0
 IsAsMade program number queue m = m ≡ unbooted program number queue
@@ -222,7 +222,7 @@ turn_watched : (program : Tree) (number queue moment : ℕ) (packets : List Arri
 unfolding turn_of net_turn
 turn_watched program number queue moment packets n s = net_if program number queue moment packets (record { mote = n.mote; lines = []; sends = [] }) (n.collides && is_collision n.mote packets) s
 
--- a node as it was made, or one that is at rest, with no timer forgotten at its last turn
+-- a node that is new, or a node at rest, with no timer forgotten at its last turn
 abbrev pub IsInState : Tree → (number queue : ℕ) → Node → Type 0
 IsInState program number queue n = (IsAsMade program number queue n.mote × (n.last ≡ None)) ⊎ (Rested n.mote × ((moment : ℕ) → n.last ≡ Some moment → Watched moment n.mote))
 
@@ -281,7 +281,7 @@ first_not_halted most moment (ran.Left (suc n)) v h = not_halted most moment v v
 
 -- the first kernel run of a turn
 
--- the run that begins here comes to etimer, and the lines tell of each timer that is due then
+-- the run that begins in this state polls etimer, and the lines are about each timer that is due then
 record ServesFrom (moment : ℕ) (u : Underway) (lines : List Line) : Type 0 where
   at_turn : State
   comes : polls_before Etimer (calls_of (most_units + 1)) (begun u.mote moment u.lines u.sends) ≡ Goes tt at_turn
@@ -315,7 +315,7 @@ due_comes moment l timer owner d = by (is_some_due moment (next_expiration_of l)
     by true e = refl
     by false e = absurd (none_due moment l e timer owner d)
 
--- etimer is to be polled when the kernel runs begin
+-- etimer is to be polled at the beginning of the kernel runs
 record Begins (moment : ℕ) (u : Underway) : Type 0 where
   rest : IsAtRest u.mote.state
   waits : PollWaits Etimer u.mote.state
@@ -340,7 +340,7 @@ boot_over moment u e = by u.mote.booted e
     by true e = refl
     by false e = absurd (cc)
 
--- a turn of a mote that was booted, and doesn't halt in it
+-- a turn of a booted mote that doesn't halt in this turn
 mote_serves : (moment : ℕ) (packets : List Arrival) (u : Underway) (timer : ℕ) (owner : Proc) → Rested u.mote → IsDueFor moment u.mote.state.timers timer owner → (mote_turn moment packets u).mote.halted ≡ false
     → ServesFrom moment (runs_begin moment packets u) (mote_turn moment packets u).lines
 unfolding mote_turn work_of

@@ -1,4 +1,4 @@
--- A property that each step of a turn keeps is one of the turn.
+-- A property that each step of a turn keeps is a property that the turn keeps.
 use Rattle.std.proofs.Common.{ℕ, zero, suc, ◌≡◌, not, ◌&&◌, nat_le, Bool, true, false, if◌then◌else◌, List, [], ◌∷◌, length, refl, sym, subst, append_assoc, append-nil}
 use Rattle.program_tree.specs.declared.event.Proc.{Proc}
 use Rattle.program_tree.specs.declared.event.Proc.TheVariants.{Etimer, Radio}
@@ -19,7 +19,7 @@ pub either : (P : Underway → Type 0) (b : Bool) (u v : Underway) → P u → P
 either P true u v h i = h
 either P false u v h i = i
 
--- after a kernel run, and after those that follow it
+-- a property after a kernel run, and after the runs that follow it
 pub follows : (P : Underway → Type 0) (r : Ran) (others : Underway → Underway) (u : Underway) → P u → P (others u) → P (follow r others u)
 follows P ran.Halted others u h i = h
 follows P (ran.Left zero) others u h i = h
@@ -36,7 +36,7 @@ module _ (moment : ℕ) where
   runs_keep P run (suc most) u h =
       let g = run_given moment u.mote u.lines u.sends in follows P g.ran (runs_of most moment) (after g) (run u h) (runs_keep P run most (after g) (run u h))
 
-  -- Up to the boot of the mote one property holds, and from then on another one.
+  -- One property is true up to the boot of the mote, and another one after it.
   module _ (First Holds : Underway → Type 0) where
     pub record AreTurnSteps : Type 0 where
       pub collides : (u : Underway) (a : Arrival) → u.mote.halted ≡ false → First u → First (with_lines u (collision_line moment a ∷ []))

@@ -30,7 +30,7 @@ use Rattle.mote_laws.proofs.Due.{Rested, Watched, hear_each_rested, hear_all_res
 record Emptied (m : Mote) : Type 0 where
   none : m.halted ≡ false → m.state.ring ≡ []
 
--- or a poll of the radio process waits
+-- the ring is empty, or a poll of the radio process waits
 record Ready (m : Mote) : Type 0 where
   ready : m.halted ≡ false → (m.state.ring ≡ []) ⊎ PollWaits Radio m.state
 

@@ -1,4 +1,4 @@
--- Each packet that arrives at a turn has its line there.
+-- Each packet that arrives at a turn has its line in that turn.
 use Rattle.std.proofs.Common.{ℕ, ◌≡◌, ◌&&◌, Bool, true, false, if◌then◌else◌, List, [], ◌∷◌, ◌++◌, map, refl, sym, ap, ◌∙◌, subst, append_assoc, append-nil}
 use Rattle.std.specs.List.{All}
 use Rattle.std.proofs.lemmas.List.Elements.{All-head, All-tail}
@@ -42,13 +42,13 @@ no_notes : (lines : List Line) → All (λ l. IsNote l.what → ⊥) lines → n
 no_notes [] h = refl
 no_notes (l ∷ lines) h = rw (no_note l.what (All-head (λ l. IsNote l.what → ⊥) l lines h)) (no_notes lines (All-tail (λ l. IsNote l.what → ⊥) l lines h))
 
--- from one point of a turn to a later one these packets were heard
+-- these packets were heard from one point of a turn to a later point
 record Hears (packets : List Arrival) (u v : Underway) : Type 0 where
   added : List Line
   wrote : v.lines ≡ u.lines ++ added
   heard : AreHeard packets (notes_in added)
 
--- none was
+-- no packet was heard
 record Quiet (u v : Underway) : Type 0 where
   added : List Line
   wrote : v.lines ≡ u.lines ++ added
@@ -142,7 +142,7 @@ turns_hear moment arrivals n apart running =
 none_heard : (ws : List What) → AreHeard [] ws → ws ≡ []
 none_heard ws NoneCame = refl
 
--- a turn at which no packet arrives hears none
+-- a turn at which no packet arrives hears no packet
 mote_turn_quiet : (moment : ℕ) (u : Underway) → Quiet u (mote_turn moment [] u)
 unfolding mote_turn
 mote_turn_quiet moment u = let b = boot_due moment u in by b b.mote.halted (boot_quiet moment u)

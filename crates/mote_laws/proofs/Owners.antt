@@ -1,4 +1,4 @@
--- Each step of a turn keeps that each timer on the list has an owner.
+-- After each step of a turn, each timer on the list still has an owner.
 use Rattle.std.proofs.Common.{ℕ, Bool, List, [], sym, subst}
 use Rattle.program_tree.specs.Code.{Tree}
 use Rattle.mote_timers.specs.TimerLists.{new_timers}

@@ -1,4 +1,4 @@
--- Each step of a turn keeps the ring in step with the mote's lines.
+-- After each step of a turn, the ring still agrees with the mote's lines.
 use Rattle.std.proofs.Common.{ℕ, ◌≡◌, ◌≤◌, nat_lt, Bool, true, false, List, [], ◌∷◌, ◌++◌, length, Option, Some, None, refl, sym, ap, ◌∙◌, subst, append_assoc, append-nil, arith}
 use Rattle.std.proofs.lemmas.Bool.Decides.{nat_tests}
 use Rattle.program_tree.specs.declared.event.Proc.{Proc}
@@ -27,7 +27,7 @@ use Rattle.mote_laws.specs.Ring.{GoesWithRing, RingGoesWithLines, received_of, r
 use Rattle.mote_laws.proofs.EachTurn.{AreTurnSteps, net_turn_holds}
 use Rattle.kernel_laws.proofs.EachStep.{polled_or_not}
 
--- along the lines before the turn and those of the turn so far, the ring changes to the mote's contents
+-- along the lines before the turn and those of the turn so far, the ring changes to the mote's current ring
 record Goes (program : Tree) (before : List Line) (u : Underway) : Type 0 where
   ring : GoesWithRing program.receiver (before ++ u.lines) u.mote
   program_is : u.mote.state.program ≡ program
@@ -65,14 +65,14 @@ boot_by program before moment u false e h = given_goes program before u _ e (boo
 
 -- packets that arrive
 
--- more lines, along which the ring changes to the mote's contents then
+-- more lines, along which the ring changes to the mote's new ring
 lines_go : (program : Tree) (before : List Line) (u : Underway) (m : Mote) (more : List Line) → (h : Goes program before u) → RingRuns program.receiver h.ring.left more m.state.ring → m.state.program ≡ u.mote.state.program → Goes program before (with_lines (with_mote u m) more)
 lines_go program before u m more h r e = record {
   ring = record { left = m.state.ring; runs = subst (λ l. RingRuns program.receiver [] l m.state.ring) (append_assoc before u.lines more) (ring_runs_on program.receiver [] h.ring.left m.state.ring (before ++ u.lines) more h.ring.runs r); holds = λ q. refl };
   program_is = e ∙ h.program_is;
 }
 
--- the ring to which the lines lead is the mote's
+-- the ring to which the lines lead is the mote's ring
 held : (program : Tree) (u : Underway) (before : List Line) (h : Goes program before u) → u.mote.halted ≡ false → (more : List Line) (left : List Arrival) → RingRuns program.receiver u.mote.state.ring more left → RingRuns program.receiver h.ring.left more left
 held program u before h running more left r = subst (λ x. RingRuns program.receiver x more left) (h.ring.holds running) r
 
@@ -125,7 +125,7 @@ first_goes program number queue collides = record { ring = record { left = []; r
 pub ring_goes_with_lines : RingGoesWithLines
 ring_goes_with_lines program number queue collides given lines last t = (turns_go program _ last given lines t [] (first_goes program number queue collides)).ring
 
--- the packets in their order
+-- the packets in order
 
 pub record Accounts (receiver : Option ℕ) (ring : List Arrival) (lines : List Line) (left : List Arrival) : Type 0 where
   pub handed : List Arrival
@@ -134,7 +134,7 @@ pub record Accounts (receiver : Option ℕ) (ring : List Arrival) (lines : List 
   pub each : TellEach receiver handed tellings
   pub among : AreAmong tellings lines
 
--- a line that tells of no packet received
+-- a line that isn't about a received packet
 passes : (receiver : Option ℕ) (ring left : List Arrival) (l : Line) (lines : List Line) → received_of l.what ≡ [] → Accounts receiver ring lines left → Accounts receiver ring (l ∷ lines) left
 passes receiver ring left l lines e h = record { handed = h.handed; all = rw e h.all; tellings = h.tellings; each = h.each; among = Another h.among }
 

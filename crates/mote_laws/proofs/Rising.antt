@@ -1,4 +1,4 @@
--- Numbers that don't fall along a list, and along two lists joined.
+-- Numbers that don't fall along a list, and along two joined lists.
 use Rattle.std.proofs.Common.{ℕ, ◌≡◌, ◌-◌, ◌≤◌, inl, inr, List, [], ◌++◌, length, refl, ap, arith}
 use Rattle.std.proofs.lemmas.Bool.{cases_lt}
 use Rattle.std.proofs.lemmas.List.{get_or_append_left, get_or-append_right, length-append}
@@ -12,7 +12,7 @@ module _ {X : Type 0} (n : X → ℕ) where
   pub rises_level : (m : ℕ) (xs : List X) → All (λ x. n x ≡ m) xs → IsNonDecreasingBy n xs
   rises_level m xs h i j d le lt = omega (arith, h i d (omega arith), h j d lt)
 
-  -- the second list begins no lower than the first ends
+  -- the second list begins with a number that isn't below the end of the first list
   pub rises_joined : (m : ℕ) (xs ys : List X) → IsNonDecreasingBy n xs → All (λ x. n x ≤ m) xs → IsNonDecreasingBy n ys → All (λ y. m ≤ n y) ys → IsNonDecreasingBy n (xs ++ ys)
   rises_joined m xs ys hx below hy above i j d le lt =
       let long = length-append xs ys in

@@ -137,7 +137,7 @@ pub now_last : (moment : ℕ) (arrivals : List Arrival) (n : Node) → (turn_of 
 unfolding turn_of
 now_last moment arrivals n = refl
 
--- the lines of turns after this moment are not below it
+-- the lines of turns after this moment are not earlier than it
 lines_above : (n last : Node) (given : List TurnInput) (lines : List Line) (m : ℕ) → n.last ≡ Some m → Turns n given lines last → All (λ l. m ≤ l.at) lines
 lines_above n last given lines m is Rests = All-nil (λ (l : Line). m ≤ l.at)
 lines_above n last given lines m is (Takes {given = g} {lines = more} past t) =

@@ -1,4 +1,4 @@
--- Each step of a turn keeps that the lines go with the mote.
+-- After each step of a turn, the lines still agree with the mote.
 use Rattle.std.proofs.Common.{ℕ, ◌≡◌, true, false, List, [], ◌∷◌, ◌++◌, sym, ap, ◌∙◌, subst, append_assoc, append-nil}
 use Rattle.trace_lines.specs.declared.line.Line.{Line}
 use Rattle.process_kernel.specs.Mote.{with_packet, with_poll}
@@ -15,11 +15,11 @@ use Rattle.kernel_laws.proofs.Traces.{run_booted, boot_booted, no_lines_first}
 use Rattle.mote_laws.specs.Laws.{TurnKeeps, NewGoesWithNoLines, MotesHandOn}
 use Rattle.mote_laws.proofs.EachTurn.{AreTurnSteps, net_turn_holds}
 
--- the lines before the turn, with those of the turn so far, go with its mote
+-- the lines before the turn and those of the turn so far agree with its mote
 abbrev Goes : List Line → Underway → Type 0
 Goes before u = GoesWith (before ++ u.lines) u.mote
 
--- and the mote was booted
+-- the same, and the mote was booted
 record IsBooted (before : List Line) (u : Underway) : Type 0 where
   goes : Goes before u
   booted : u.mote.booted ≡ true

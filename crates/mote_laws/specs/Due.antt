@@ -27,8 +27,8 @@ pub record WakesForEtimer (moment : ℕ) (n : Node) : Type 0 where
   pub waits : PollWaits Etimer n.mote.state
   pub wakes : wake_of n ≡ Some (moment + 1)
 
--- After each turn of a mote that has not halted: each timer on the list expires later than the turn's moment, or a
--- poll of etimer waits, and the mote wakes at the next moment.
+-- After each turn of a mote that has not halted, each timer on the list expires later than the turn's moment, or a
+-- poll of etimer waits and the mote wakes at the next moment.
 abbrev pub TurnsForgetNone : Type 0
 TurnsForgetNone =
     (program : Tree) (number queue : ℕ) (collides : Bool) (given : List TurnInput) (lines : List Line) (last : Node)
@@ -36,20 +36,20 @@ TurnsForgetNone =
     → last.last ≡ Some moment → last.mote.halted ≡ false → NoneIsDue moment last.mote.state.timers
     ⊎ WakesForEtimer moment last
 
--- and each timer on its list has an owner, whatever turns a mote takes
+-- whatever turns a mote takes, each timer on its list has an owner
 abbrev pub TurnsKeepOwners : Type 0
 TurnsKeepOwners =
     (program : Tree) (number queue : ℕ) (collides : Bool) (given : List TurnInput) (lines : List Line) (last : Node)
     → Turns (first_node program number queue collides) given lines last
     → HaveOwners last.mote.state.timers
 
--- a turn as its kernel runs begin: the mote was booted, the packets that arrive were heard, and etimer is to be polled
--- if a timer is due
+-- a turn at the beginning of its kernel runs: the mote was booted, the arriving packets were heard, and etimer is to
+-- be polled if a timer is due
 abbrev pub runs_begin : (moment : ℕ) → List Arrival → Underway → Underway
 runs_begin moment arrivals u = let heard = hear_all moment arrivals (boot_due moment u) in
     with_mote heard (poll_due moment heard.mote)
 
--- the same of a node's turn, in which packets may collide
+-- the same for a node's turn, in which packets may collide
 abbrev pub node_begins : (moment : ℕ) → List Arrival → Node → Underway
 node_begins moment arrivals n =
     let u : Underway = record { mote = n.mote; lines = []; sends = [] } in
@@ -60,15 +60,15 @@ node_begins moment arrivals n =
 abbrev pub first_run : (moment : ℕ) → List Arrival → Node → State
 first_run moment arrivals n = let u = node_begins moment arrivals n in begun u.mote moment u.lines u.sends
 
--- The first kernel run of the turn comes to poll etimer: the processes before it on the process list have been polled,
--- if they had asked for it. Each timer that is due then has a line in the turn, at its moment.
+-- The first kernel run of the turn polls etimer, after it has polled the processes before etimer on the process list
+-- that had asked for a poll. Each timer that is due then has a line in the turn, at its moment.
 pub record ServesTimers (moment : ℕ) (arrivals : List Arrival) (n : Node) : Type 0 where
   pub at_turn : State
   pub comes : polls_before Etimer (calls_of (most_units + 1)) (first_run moment arrivals n) ≡ Goes tt at_turn
   pub each : (timer : ℕ) (owner : Proc) → IsDueFor moment at_turn.timers timer owner
       → HasTelling moment (turn_of moment arrivals n).lines (One owner) (system_number Timer) timer
 
--- a turn at which a timer is due serves its timers, unless the mote halts in it
+-- a turn at which a timer is due serves its timers, unless the mote halts in this turn
 abbrev pub TurnsServeTimers : Type 0
 TurnsServeTimers =
     (program : Tree) (number queue : ℕ) (collides : Bool) (given : List TurnInput) (lines : List Line) (n : Node)

@@ -9,11 +9,12 @@ use Rattle.mote_node.specs.Node.{with_collide}
 use Rattle.mote_node.specs.Turn.{turn_of}
 use Rattle.mote_node.specs.Laws.{TurnInput, Turns}
 
--- a node before its first turn, whether packets that arrive together collide or not
+-- a node before its first turn; packets that arrive together either collide or don't
 abbrev pub first_node : Tree → (number queue : ℕ) → (collides : Bool) → Node
 first_node program number queue collides = with_collide collides (new_node program number queue)
 
--- the lines of a mote so far, with those of a turn appended, go with the mote after the turn
+-- if the lines of a mote so far agree with it, they agree with it after a turn, too, with the lines of the turn
+-- appended
 abbrev pub TurnKeeps : Type 0
 TurnKeeps =
     (lines : List Line) (moment : ℕ) (arrivals : List Arrival) (n : Node) → GoesWith lines n.mote
@@ -23,7 +24,7 @@ TurnKeeps =
 abbrev pub NewGoesWithNoLines : Type 0
 NewGoesWithNoLines = (program : Tree) (number queue : ℕ) → GoesWith [] (new_node program number queue).mote
 
--- whatever its program is, and whatever turns it takes
+-- the lines of a mote are in order, whatever its program is and whatever turns it takes
 abbrev pub MotesHandOn : Type 0
 MotesHandOn =
     (program : Tree) (number queue : ℕ) (collides : Bool) (given : List TurnInput) (lines : List Line) (last : Node)

@@ -1,4 +1,4 @@
--- The packets that a mote receives, and the line that each of them gets, over its turns.
+-- The packets that a mote receives in its turns, and the line that each of them gets.
 use Rattle.std.specs.Prelude.{ℕ, ◌≡◌, ◌&&◌, Bool, true, false, List, [], ◌∷◌, ◌++◌, map, Option}
 use Rattle.program_tree.specs.Code.{Tree}
 use Rattle.radio_packet.specs.declared.arrival.Arrival.{Arrival}
@@ -14,7 +14,7 @@ use Rattle.mote_node.specs.Turn.{turn_of}
 use Rattle.mote_node.specs.Laws.{TurnInput, Turns}
 use Rattle.mote_laws.specs.Laws.{first_node}
 
--- the lines of packets that arrive
+-- the lines about arriving packets
 abbrev pub note_of : What → List What
 note_of (what.Recv sender number value) = what.Recv sender number value ∷ []
 note_of (what.Lost sender number) = what.Lost sender number ∷ []
@@ -25,7 +25,7 @@ abbrev pub notes_in : List Line → List What
 notes_in [] = []
 notes_in (l ∷ lines) = note_of l.what ++ notes_in lines
 
--- each of these packets was received or is lost, in order
+-- each of these packets was received or lost, in order
 pub data AreHeard : List Arrival → List What → Type 0 where
   NoneCame : AreHeard [] []
   IsReceived : {a : Arrival} {later : List Arrival} {ws : List What} → AreHeard later ws
@@ -33,14 +33,14 @@ pub data AreHeard : List Arrival → List What → Type 0 where
   IsLost : {a : Arrival} {later : List Arrival} {ws : List What} → AreHeard later ws
       → AreHeard (a ∷ later) (what.Lost a.sender a.number ∷ ws)
 
--- a turn hears each packet that arrives, and no other, unless they collide or the mote halts in it
+-- a turn hears exactly the arriving packets, unless they collide or the mote halts in the turn
 abbrev pub TurnsHear : Type 0
 TurnsHear =
     (moment : ℕ) (arrivals : List Arrival) (n : Node) → let t = turn_of moment arrivals n in
     (n.collides && is_collision n.mote arrivals) ≡ false → t.node.mote.halted ≡ false
     → AreHeard arrivals (notes_in t.lines)
 
--- lines that begin with one for each of these packets, in order, and mention no other packet that arrives
+-- lines that begin with one line for each of these packets, in order, and are about no other arriving packet
 pub record BeginWithCollisions (moment : ℕ) (arrivals : List Arrival) (lines : List Line) : Type 0 where
   pub later : List Line
   pub first : lines ≡ map (collision_line moment) arrivals ++ later
@@ -52,14 +52,14 @@ TurnsCollide =
     (moment : ℕ) (arrivals : List Arrival) (n : Node) → (n.collides && is_collision n.mote arrivals) ≡ true
     → BeginWithCollisions moment arrivals (turn_of moment arrivals n).lines
 
--- Along these lines the ring goes from empty to the packets that are left: those that the mote holds, unless it has
--- halted.
+-- Along these lines, the ring changes from empty to the packets that are left. These are the packets that the mote
+-- holds, unless it has halted.
 pub record GoesWithRing (receiver : Option ℕ) (lines : List Line) (m : Mote) : Type 0 where
   pub left : List Arrival
   pub runs : RingRuns receiver [] lines left
   pub holds : m.halted ≡ false → m.state.ring ≡ left
 
--- whatever turns a mote takes, up to any of them
+-- after any turns of a mote, its ring agrees with its lines
 abbrev pub RingGoesWithLines : Type 0
 RingGoesWithLines =
     (program : Tree) (number queue : ℕ) (collides : Bool) (given : List TurnInput) (lines : List Line) (last : Node)
@@ -75,21 +75,21 @@ abbrev pub received_in : List Line → List Arrival
 received_in [] = []
 received_in (l ∷ lines) = received_of l.what ++ received_in lines
 
--- these are lines of the list, each at a place of its own, in the order of the list
+-- these are lines of the list, each at its own place, in the order of the list
 pub data AreAmong : List What → List Line → Type 0 where
   AllPassed : AreAmong [] []
   Another : {ws : List What} {lines : List Line} {l : Line} → AreAmong ws lines → AreAmong ws (l ∷ lines)
   ThisOne : {ws : List What} {lines : List Line} {l : Line} → AreAmong ws lines → AreAmong (l.what ∷ ws) (l ∷ lines)
 
--- after a turn of a mote that has not halted its ring is empty
+-- after a turn of a mote that has not halted, its ring is empty
 abbrev pub TurnsEmptyRing : Type 0
 TurnsEmptyRing =
     (program : Tree) (number queue : ℕ) (collides : Bool) (given : List TurnInput) (lines : List Line) (last : Node)
     → Turns (first_node program number queue collides) given lines last
     → last.mote.halted ≡ false → last.mote.state.ring ≡ []
 
--- The packets that were received are, in order, those that lines mention, each with a line of its own in the same
--- order. Only if the mote halts are some left after those.
+-- The packets that were received are, in order, the packets that lines are about. Each has its own line, in the same
+-- order. Only if the mote halts, some packets may be left after these.
 pub record AccountsForPackets (receiver : Option ℕ) (lines : List Line) (m : Mote) : Type 0 where
   pub handed : List Arrival
   pub left : List Arrival

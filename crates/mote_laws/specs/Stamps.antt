@@ -11,8 +11,9 @@ use Rattle.mote_node.specs.Turn.{TurnGiven, turn_of}
 use Rattle.mote_node.specs.Laws.{TurnInput, Turns}
 use Rattle.mote_laws.specs.Laws.{first_node}
 
--- The lines of a turn are stamped with its moment, and so are its packets, which have the mote too, and whose numbers
--- continue from the number of packets that the mote sent before; these are counted, and the mote keeps its number.
+-- The lines of a turn are stamped with its moment, and its packets with its moment and the mote. The numbers of the
+-- packets continue from the number of packets that the mote sent before. The packets are counted, and the mote keeps
+-- its number.
 pub record IsStamped (moment : ℕ) (n : Node) (t : TurnGiven) : Type 0 where
   pub lines : LinesBear moment t.lines
   pub packets : PacketsBear moment n.mote.state.mote t.sends
@@ -36,7 +37,7 @@ PacketsCountUp =
     → let sends = packets_of (first_node program number queue collides) given in
     All (λ x. x.sender ≡ number) sends × AreNumberedFrom 0 sends
 
--- no line is of an earlier moment than one before it
+-- no line is at an earlier moment than the line before it
 abbrev pub NeverGoBack : List Line → Type 0
 NeverGoBack lines = IsNonDecreasingBy (λ l. l.at) lines
 

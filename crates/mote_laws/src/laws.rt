@@ -1,4 +1,4 @@
-//! Laws of the traces of a mote: theorems, each stated as the contract of an empty function.
+//! Laws of the traces of a mote. Each is a theorem, stated as the contract of an empty function.
 
 ghost use Rattle.mote_laws.specs.Laws.{MotesHandOn, NewGoesWithNoLines, TurnKeeps};
 ghost use Rattle.mote_node.specs.Laws.{WakesInTime, WakesLater};
@@ -7,17 +7,17 @@ ghost use Rattle.mote_laws.specs.Ring.{TurnsHear, TurnsCollide, RingGoesWithLine
 ghost use Rattle.mote_laws.specs.Ring.{PacketsAreAccountedFor};
 ghost use Rattle.mote_laws.specs.Stamps.{TurnsStamp, PacketsCountUp, TurnsNeverGoBack};
 
-/// Whatever its program is, and whatever turns it takes: each trace of a mote delivers events in the order in which
-/// they were accepted; nothing follows a halt, and a process starts only if it isn't listed.
+/// Each trace of a mote delivers events in the order in which they were accepted, nothing follows a halt, and a
+/// process starts only if it isn't listed. This is true for any program and for any turns.
 pub fn motes_hand_on()
     ensures motes_hand_on { MotesHandOn }
 {}
 
-/// The lines of a mote go with its state, turn after turn.
+/// The lines of a mote agree with its state, turn after turn.
 pub fn each_turn_keeps_order()
     // A mote that was not booted has no lines.
     ensures new { NewGoesWithNoLines }
-    // Each turn keeps that the lines so far go with the mote.
+    // After each turn, the lines so far still agree with the mote.
     ensures turn { TurnKeeps }
 {}
 
@@ -27,41 +27,44 @@ pub fn each_turn_bears_its_moment()
     ensures turn { TurnsStamp }
     // The packets of a mote are numbered from 0 on, in order, whatever turns it takes.
     ensures packets { PacketsCountUp }
-    // Its lines never go back in moment.
+    // The moments of the lines never go back.
     ensures lines { TurnsNeverGoBack }
 {}
 
 /// Each packet that arrives gets its lines, whatever turns a mote takes. If the mote halts, some packets may be left
-/// after those that were delivered. A program that posts `packet` to the receiver itself writes the same `post` or
-/// `full` line.
+/// after those that were delivered. If a program itself posts `packet` to the receiver, the `post` or `full` line is
+/// the same.
 pub fn each_packet_is_handed_on()
     // Each packet that arrives is received (`recv`) or lost (`lost`), unless the packets of the turn collide.
     ensures heard { TurnsHear }
-    // If they collide, the lines of the turn begin with `collide` for each of them, in order; none is received.
+    // If they collide, the lines of the turn begin with one `collide` line for each of them, in order, and none is
+    // received.
     ensures collide { TurnsCollide }
-    // The ring takes a packet at its back if it holds fewer than 8, loses one only if it holds 8, and gives each up
-    // from the front; no `deaf` line is written for another reason.
+    // A packet is appended to the ring if the ring holds fewer than 8, is lost only if it holds 8, and leaves the ring
+    // from the front. No `deaf` line is written for another reason.
     ensures ring { RingGoesWithLines }
-    // After a turn the ring is empty, unless the mote halted in it.
+    // After a turn the ring is empty, unless the mote halted in the turn.
     ensures emptied { TurnsEmptyRing }
-    // Unless the mote halts, each packet that was received gets one line of its own, in the same turn and in order: it
-    // is posted to the receiver (`post`), refused by a full queue (`full`), or, without a receiver, `deaf`.
+    // Unless the mote halts, each packet that was received gets one line of its own, in the same turn and in order.
+    // The packet is posted to the receiver (`post`), refused because the queue is full (`full`), or heard by nobody
+    // because there is no receiver (`deaf`).
     ensures packets { PacketsAreAccountedFor }
 {}
 
-/// No timer is forgotten, whatever turns a mote takes; no claim is made about halted motes. A timer that met a full
-/// queue, or was set too late in the turn, is served at the next moment.
+/// No timer is forgotten, whatever turns a mote takes. Nothing is claimed about halted motes. A timer whose event was
+/// refused by a full queue, or that was set too late in the turn, is served at the next moment.
 pub fn no_timer_is_forgotten()
     // Each timer on the list has an owner.
     ensures owners { TurnsKeepOwners }
     // A turn at or after the expiration of a listed timer polls etimer in its first kernel run, after the processes
-    // that are before it on the process list and had asked for a poll. For each timer that is due then, a line of that
-    // turn says that TIMER was posted to its owner (`post`), or that the queue was full (`full`).
+    // before etimer on the process list that had asked for a poll. For each timer that is due then, a line of that
+    // turn states that TIMER was posted to its owner (`post`), or that the queue was full (`full`).
     ensures serves { TurnsServeTimers }
     // After a turn each listed timer expires later than the turn's moment, or a poll of etimer waits and the mote
     // wakes at the next moment.
     ensures forgets_none { TurnsForgetNone }
-    // The next wake is never later than the next expiration, except for the turn's own moment.
+    // The next wake is never later than the next expiration; if that isn't later than the turn, the mote wakes at the
+    // next moment.
     ensures wakes_in_time { WakesInTime }
     // The next wake is always later than the turn's moment.
     ensures wakes_later { WakesLater }

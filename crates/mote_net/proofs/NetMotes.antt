@@ -18,7 +18,7 @@ slice_get-map f [] i d h = absurd (omega arith)
 slice_get-map f (x ∷ xs) zero d h = refl
 slice_get-map f (x ∷ xs) (suc i) d h = slice_get-map f xs i d (omega arith)
 
--- the program at an index within the list
+-- the program at an index that the list has
 pub program_at-index : (ps : List NamedProgram) (i : ℕ) (d : NamedProgram) → i < length ps → program_at ps i ≡ named_tree (get_or ps i d)
 program_at-index [] i d h = absurd (omega arith)
 program_at-index (p ∷ ps) zero d h = refl
@@ -29,14 +29,14 @@ all_at test [] i d h lt = absurd (omega arith)
 all_at test (x ∷ xs) zero d h lt = (and_parts _ _ h).0
 all_at test (x ∷ xs) (suc i) d h lt = all_at test xs i d (and_parts _ _ h).1 (omega arith)
 
--- the mote at an index
+-- the mote at an index of the net
 pub mote_at : (ps : List NamedProgram) (ms : List SetupOfCode) (i : ℕ) (m : SetupOfCode) → i < length (map (setup_of ps) ms) → m ≡ get_or ms i m
     → slice_get (map (setup_of ps) ms) i ≡ Some (setup_of ps m)
 mote_at ps ms i m there m-is =
     let lt : i < length ms = rw (length-map ms (setup_of ps)) at there in
     slice_get-map (setup_of ps) ms i m lt ∙ ap (λ (k : SetupOfCode). Some (setup_of ps k)) (sym m-is)
 
--- a property of each mote is one of the mote at an index
+-- a property of each mote is a property of the mote at an index
 pub mote_fits : (ps : List NamedProgram) (ms : List SetupOfCode) (i : ℕ) (m : SetupOfCode) → IsTrue (list_all (is_mote_of (length ps)) ms)
     → i < length (map (setup_of ps) ms) → m ≡ get_or ms i m → is_mote_of (length ps) m ≡ true
 mote_fits ps ms i m all there m-is =

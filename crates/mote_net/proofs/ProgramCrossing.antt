@@ -1,4 +1,5 @@
--- Programs may be shared by threads. Blocks and statements hold each other, as expressions hold themselves, so each layer is shown from its holes.
+-- Programs may be shared by threads. Blocks contain statements and statements contain blocks, and expressions contain
+-- expressions. So the proof treats each layer by itself, with holes for the layers in it.
 use denote.Builtin as builtin
 use denote.Hole.{as_row}
 use denote.Hole.FixSend.{Syncs, fix_sync}

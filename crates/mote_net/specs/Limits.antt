@@ -11,7 +11,7 @@ most_motes = 1000
 abbrev pub latest_end : ℕ
 latest_end = 1000000
 
--- events in the queue of a mote
+-- the number of events for which a mote's queue has room
 abbrev pub shortest_queue : ℕ
 shortest_queue = 1
 

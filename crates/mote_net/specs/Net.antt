@@ -17,7 +17,7 @@ pub record NetModel : Type 0 where
   pub radio : Radio
   pub motes : List MoteSetup
 
--- the default for a program that doesn't exist, which no net has
+-- the value for a program that doesn't exist; no net has such a program
 abbrev pub no_program : NamedTree
 no_program = record {
   name = [];

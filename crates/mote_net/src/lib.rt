@@ -1,7 +1,7 @@
 //! A net to be simulated: the last moment, the medium with the places of the motes, and for each mote its program and
-//! the length of its queue. The report of its run: the traces, and the fate of each packet. This crate reads and
-//! writes no texts: `net_scenario` reads one into a net, `trace_printer` writes one of a report, and the crates that
-//! run a net depend on this one, so that they wait for neither.
+//! the length of its queue. The report of a run: the traces, and the fate of each packet. This crate reads and writes
+//! no texts. `net_scenario` reads a net from a text, and `trace_printer` writes a report as a text. The crates that
+//! run a net depend only on this crate, so their check waits for neither of the two.
 #![tactic(auto)]
 
 mod net;

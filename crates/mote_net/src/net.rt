@@ -8,8 +8,8 @@ use crate::programs::NamedProgram;
 use program_tree::Program;
 use radio_medium::Medium;
 
-/// The setup of a mote before a run: the place of its program among the programs of the net, and how many
-/// events its queue holds.
+/// The set-up of a mote before a run: the index of its program among the programs of the net, and the number of events
+/// for which its queue has room.
 #[derive(Clone, Copy, Debug)]
 pub struct MoteSetup {
     pub program: usize,
@@ -17,7 +17,7 @@ pub struct MoteSetup {
 }
 
 /// A net: the last moment at which turns are taken, whether packets collide, the medium with the places of the motes,
-/// and the motes, which are numbered from 0 in the order of the text.
+/// and the motes. The motes are numbered from 0 in the order of the scenario.
 pub struct Net {
     end: u32,
     collide: bool,
@@ -31,7 +31,7 @@ pub struct Net {
     ghost fit: { IsTrue (list_all (is_mote_of (length programs.items)) motes.items) },
 }
 
-/// Implemented by hand: the check of a function that owns a net then sees only one call for its drop.
+/// Implemented by hand, so that the check of a function that owns a net sees only one call for its drop.
 impl Drop for Net {
     fn drop(self) {
         let Net {
@@ -48,8 +48,8 @@ impl Net {
     ghost use Rattle.program_tree.specs.Program.{tree_of};
     ghost use Rattle.mote_net.specs.Meaning.{net_of, setup_of};
 
-    /// The net of these parts: `end` is its last moment, the medium has a place for each mote, and each mote's program
-    /// is one of the programs.
+    /// The net of these parts. `end` is its last moment. The medium has a place for each mote, and the program of each
+    /// mote is one of `programs`.
     pub fn new(
         end: u32,
         collide: bool,
@@ -86,14 +86,14 @@ impl Net {
         u64::from(self.end)
     }
 
-    /// Returns `true` if copies that reach a mote at one moment are all lost.
+    /// Returns `true` if packets collide: copies that reach a mote at the same moment are all lost.
     pub fn collide(&self) -> bool
         ensures value { result ≡ (net_of self.now).collide }
     {
         self.collide
     }
 
-    /// The medium, in which each mote has its place.
+    /// The medium. Each mote has its place in it.
     pub fn medium(&self) -> &Medium
         ensures value { result.now ≡ (net_of self.now).radio }
         ensures placed { length result.now.places ≡ length (net_of self.now).motes }
@@ -128,7 +128,7 @@ impl Net {
         self.programs[place].name.as_str()
     }
 
-    /// The number of events that the queue of a mote of the net holds.
+    /// The number of events for which the queue of a mote of the net has room.
     pub fn queue(&self, mote: u16) -> u16
         requires mote_exists { mote < length (net_of self.now).motes }
         ensures value { option_map (λ m. m.queue) (slice_get (net_of self.now).motes mote) ≡ Some result }

@@ -37,7 +37,7 @@ impl Eq for ProgramName {
 }
 
 impl ProgramName {
-    /// A text as a name.
+    /// Makes a name from a text.
     ///
     /// # Errors
     /// If an allocation failed.

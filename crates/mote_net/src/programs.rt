@@ -2,7 +2,7 @@
 use crate::program_name::ProgramName;
 use program_tree::Program;
 
-/// A program with the name that motes call it by.
+/// A program, and the name that motes use for it.
 #[derive(Drop)]
 pub struct NamedProgram {
     pub name: ProgramName,

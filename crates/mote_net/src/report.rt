@@ -9,8 +9,8 @@ pub struct LogLine {
     pub fates: Vec<Fate>,
 }
 
-/// The trace of each mote, by its number; the log of the medium, in the order of sending; and how many copies of
-/// packets were still on their way at the end.
+/// The trace of each mote, by its number; the log of the medium, in the order of sending; and the number of copies
+/// that were still on their way at the end.
 #[derive(Debug, Drop)]
 pub struct Report {
     pub traces: Vec<Vec<Line>>,

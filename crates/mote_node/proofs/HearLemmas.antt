@@ -1,4 +1,4 @@
--- How packets are heard, one after another.
+-- The effect of packets that are heard one after another.
 use Rattle.std.proofs.Common.{ℕ, ◌≡◌, ◌≤◌, ◌+◌, Bool, true, false, ◌||◌, nat_lt, List, [], ◌∷◌, length, drop, option_map, Option, Some, None, refl, sym, ap, ◌∙◌, subst, IfSome, if◌then◌else◌, arith, length-append}
 use Rattle.std.proofs.lemmas.Bool.Decides.{nat_tests}
 use Rattle.std.proofs.lemmas.Grind.{common_steps}
@@ -14,7 +14,7 @@ use Rattle.mote_node.proofs.StepLemmas.{underway}
 abbrev pub ring_of : Underway → ℕ
 ring_of u = length u.mote.state.ring
 
--- a packet that is heard is one more in the ring
+-- after a packet is heard, the ring has one more packet
 abbrev pub grown_by : Bool → ℕ → ℕ
 grown_by b n = if b then n + 1 else n
 
@@ -25,7 +25,7 @@ ring_after moment a u =
     (λ b. ring_of (if b then with_lines (with_mote u (with_packet u.mote a)) (received_line moment a ∷ []) else with_lines u (lost_line moment a ∷ [])) ≡ grown_by b (ring_of u))
     [ true ↦ length-append u.mote.state.ring (a ∷ []) | false ↦ refl ]
 
--- the packets heard so far, and whether any went into the ring
+-- the packets heard so far, and whether any of them was appended to the ring
 pub record HeardSoFar (moment : ℕ) (packets later : List Arrival) (first : Underway) (by_now : Option Underway) (any : Bool) : Type 0 where
   pub u : Underway
   pub is : by_now ≡ Some u
@@ -71,7 +71,7 @@ heard_next moment packets front later a first old new out out' any heard e h goe
       matches = rw ring (any_grown any heard (ring_of first) (ring_of h.u) h.grows h.matches);
     }
 
--- all are heard, and some went into the ring
+-- all packets are heard, and some were appended to the ring
 pub heard_some : (moment : ℕ) (packets later : List Arrival) (any : Bool) (first : Underway) (old new : Option Mote) (out : Out)
     → later ≡ [] → any ≡ true → HeardSoFar moment packets later first (underway_in old out) any → new ≡ option_map (λ m. with_poll m Radio) old
     → underway_in new out ≡ Some (hear_all moment packets first)
@@ -83,7 +83,7 @@ heard_some moment packets later any first (Some m) new out e b h is =
     let some : true ≡ nat_lt (ring_of first) (length m.state.ring) = let P : Underway → Type 0 = λ v. true ≡ nat_lt (ring_of first) (ring_of v) in subst P (sym same) (sym b ∙ h.matches) in
     rw (is, all, ← some) refl
 
--- all are heard, and none went into the ring
+-- all packets are heard, and none was appended to the ring
 pub heard_lost : (moment : ℕ) (packets later : List Arrival) (any : Bool) (first : Underway) (old : Option Mote) (out : Out)
     → later ≡ [] → any ≡ false → HeardSoFar moment packets later first (underway_in old out) any
     → underway_in old out ≡ Some (hear_all moment packets first)
@@ -95,6 +95,6 @@ heard_lost moment packets later any first (Some m) out e b h =
     let some : false ≡ nat_lt (ring_of first) (length m.state.ring) = let P : Underway → Type 0 = λ v. false ≡ nat_lt (ring_of first) (ring_of v) in subst P (sym same) (sym b ∙ h.matches) in
     rw (all, ← some) refl
 
--- after the last packet there is none
+-- no packet is left after the last one
 pub at_end : {A : Type 0} (k : ℕ) (xs : List A) → length xs ≤ k → drop k xs ≡ []
 at_end k xs h = grind (arith, common_steps)

@@ -6,7 +6,7 @@ use Rattle.mote_node.specs.Underway.{with_mote}
 use Rattle.mote_node.specs.Steps.{GoesOn}
 pub use Rattle.process_kernel.proofs.Steps.{underway, from_none, from_some, kernel_step}
 
--- a condition that is known
+-- a condition whose value is known
 pub if_true : {A : Type 0} (b : Bool) (x y : A) → true ≡ b → (if b then x else y) ≡ x
 if_true true x y h = refl
 if_true false x y h = cc
@@ -15,7 +15,7 @@ pub if_false : {A : Type 0} (b : Bool) (x y : A) → false ≡ b → (if b then 
 if_false true x y h = cc
 if_false false x y h = refl
 
--- a step of the mote alone
+-- a step that changes only the mote
 pub mote_step : (f : Mote → Mote) (old new : Option Mote) (out : Out) → new ≡ option_map f old → GoesOn (λ u. with_mote u (f u.mote)) old out new out
 mote_step f None new out h = from_none _ out new out
 mote_step f (Some m) new out h = from_some (λ u. with_mote u (f u.mote)) m out new out (rw h refl)

@@ -12,14 +12,14 @@ use Rattle.mote_node.specs.Steps.{underway_in, GoesOn}
 use Rattle.mote_node.specs.Turn.{boot_due, poll_due, most_runs, runs_of, work_of, mote_turn}
 use Rattle.mote_node.proofs.StepLemmas.{underway, if_true, if_false, mote_step}
 
--- whether the mote has halted, read from its kernel, holds for the turn under way
+-- if a kernel tells whether its mote has halted, the same is true of the mote in the turn
 pub halted_at : (old : Option Mote) (out : Out) (u : Underway) (b : Bool) → IfSome old (λ m. b ≡ m.halted) → underway_in old out ≡ Some u → b ≡ u.mote.halted
 halted_at None out u b h is = cc
 halted_at (Some m) out u b h is =
     let same : underway m out ≡ u = cc in
     let P : Underway → Type 0 = λ v. b ≡ v.mote.halted in subst P same h
 
--- the boot halted the mote
+-- a turn in which the boot halts the mote
 pub halted_turn : (moment : ℕ) (packets : List Arrival) (old new : Option Mote) (out out' : Out)
     → GoesOn (boot_due moment) old out new out' → IfSome new (λ m. true ≡ m.halted) → GoesOn (mote_turn moment packets) old out new out'
 unfolding mote_turn
@@ -30,7 +30,7 @@ halted_turn moment packets old new out out' boot halted = record {
       booted ∙ ap Some (sym (if_true (boot_due moment u).mote.halted (boot_due moment u) (work_of moment packets (boot_due moment u)) b));
 }
 
--- all of a turn
+-- a whole turn of a mote that doesn't halt in the boot
 pub whole_turn : (moment : ℕ) (packets : List Arrival) (m1 m2 m3 m4 m5 : Option Mote) (o1 o2 o3 o5 : Out)
     → GoesOn (boot_due moment) m1 o1 m2 o2 → IfSome m2 (λ m. false ≡ m.halted)
     → GoesOn (hear_all moment packets) m2 o2 m3 o3 → m4 ≡ option_map (poll_due moment) m3
@@ -58,7 +58,7 @@ some_if : {A : Type 0} (failed : Bool) (x y : A) → IsSome (if failed then None
 some_if true x y h = h
 some_if false x y h = refl
 
--- a kernel that has not failed, whatever its program
+-- if a kernel has not failed with one program, it has not failed with any other
 pub some_anyhow : (t t' : Tree) (k : Kernel) → IsSome (mote_in t k) → IsSome (mote_in t' k)
 unfolding mote_in
 some_anyhow t t' k h = some_if k.failed _ _ h

@@ -22,25 +22,25 @@ hear moment a u =
     if has_room u.mote then with_lines (with_mote u (with_packet u.mote a)) (received_line moment a ∷ [])
     else with_lines u (lost_line moment a ∷ [])
 
--- one after another
+-- the packets are heard one after another
 abbrev pub hear_each : (moment : ℕ) → List Arrival → Underway → Underway
 hear_each moment [] u = u
 hear_each moment (a ∷ later) u = hear_each moment later (hear moment a u)
 
--- the ring holds more packets than it did
+-- the ring holds more packets than before
 abbrev pub took_some : Mote → Mote → Bool
 took_some old new = nat_lt (length old.state.ring) (length new.state.ring)
 
--- the radio process is polled if the ring took any packet
+-- the packets are heard, and the radio process is polled if the ring accepted any of them
 unfoldable pub hear_all : (moment : ℕ) → List Arrival → Underway → Underway
 hear_all moment arrivals u =
     let heard = hear_each moment arrivals u in
     if took_some u.mote heard.mote then with_mote heard (with_poll heard.mote Radio) else heard
 
--- two packets or more that arrive together collide, unless the mote has halted
+-- two or more packets that arrive together collide, unless the mote has halted
 abbrev pub is_collision : Mote → List Arrival → Bool
 is_collision m arrivals = not m.halted && nat_le 2 (length arrivals)
 
--- packets that collide are lost, each with its line
+-- packets that collide are lost, and a line is written for each of them
 abbrev pub with_collisions : (moment : ℕ) → List Arrival → Underway → Underway
 with_collisions moment arrivals u = with_lines u (map (collision_line moment) arrivals)

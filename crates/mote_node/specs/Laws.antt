@@ -8,29 +8,29 @@ use Rattle.trace_lines.specs.declared.line.Line.{Line}
 use Rattle.mote_node.specs.Node.{Node, is_past}
 use Rattle.mote_node.specs.Turn.{turn_of}
 
--- the wake that a turn returns is above its own moment
+-- the wake that a turn returns is later than the turn
 abbrev pub WakesLater : Type 0
 WakesLater = (moment : ℕ) (arrivals : List Arrival) (n : Node)
     → IfSome (turn_of moment arrivals n).wake (λ wake. moment < wake)
 
--- there is a wake, and it isn't later than this
+-- there is a wake, and it isn't later than `limit`
 abbrev pub WakesBy : (limit : ℕ) → (wake : Option ℕ) → Type 0
 WakesBy limit wake = (w : ℕ) × (wake ≡ Some w) × (w ≤ limit)
 
--- no timer is forgotten: a node that has not halted wakes when its first timer is due, or before, except for the
--- turn's own moment
+-- no timer is forgotten: a node that has not halted wakes when its first timer is due, or before; if the timer is due
+-- at the turn's own moment or earlier, the node wakes at the next moment
 abbrev pub WakesInTime : Type 0
 WakesInTime =
     (moment : ℕ) (arrivals : List Arrival) (n : Node) (due : ℕ) → let after = (turn_of moment arrivals n).node in
     after.mote.halted ≡ false → next_expiration_of after.mote.state.timers ≡ Some due
     → WakesBy (max (moment + 1) due) (turn_of moment arrivals n).wake
 
--- a turn that a node is to take
+-- the input of a turn of a node
 pub record TurnInput : Type 0 where
   pub moment : ℕ
   pub arrivals : List Arrival
 
--- turns one after another, each at a moment that isn't past, lead from a node to a node, and write these lines
+-- turns one after another, each later than the previous one: they lead from one node to another, and write these lines
 pub data Turns : Node → List TurnInput → List Line → Node → Type 0 where
   Rests : {n : Node} → Turns n [] [] n
   Takes : {n last : Node} {given : TurnInput} {later : List TurnInput} {lines : List Line}
@@ -42,7 +42,7 @@ abbrev pub TurnsRise : Type 0
 TurnsRise = (n last : Node) (given : List TurnInput) (lines : List Line) → Turns n given lines last
     → IsStrictlyIncreasing (map (λ g. g.moment) given)
 
--- a turn of a node that has halted changes only its clock, writes and sends nothing, and has no next wake
+-- a turn of a node that has halted changes only its clock, writes nothing, sends nothing, and returns no wake
 abbrev pub HaltedRests : Type 0
 HaltedRests =
     (moment : ℕ) (arrivals : List Arrival) (n : Node) → n.mote.halted ≡ true

@@ -3,7 +3,7 @@ use Rattle.std.specs.Prelude.{ℕ, nat_le, Bool, false, Option, Some, None}
 use Rattle.program_tree.specs.Code.{Tree}
 use Rattle.process_kernel.specs.Mote.{Mote, unbooted}
 
--- the mote; the moment of its last turn, or none before the first; and whether packets that arrive together are lost
+-- the mote; the moment of its last turn, if it had one; and whether packets that arrive together are lost
 pub record Node : Type 0 where
   pub mote : Mote
   pub last : Option ℕ
@@ -13,7 +13,7 @@ pub record Node : Type 0 where
 unfoldable pub new_node : Tree → (number queue : ℕ) → Node
 new_node t number queue = record { mote = unbooted t number queue; last = None; collides = false }
 
--- the moment is not above that of the last turn
+-- the moment is not later than that of the last turn
 abbrev pub is_past : (moment : ℕ) → (last : Option ℕ) → Bool
 is_past moment None = false
 is_past moment (Some last) = nat_le moment last

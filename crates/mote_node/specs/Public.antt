@@ -13,16 +13,16 @@ use Rattle.mote_node.specs.Turn.{TurnGiven}
 abbrev pub node_over : (last : Option ℕ) → (collides : Bool) → Mote → Node
 node_over last collides m = record { mote = m; last = last; collides = collides }
 
--- The node of a `Mote` with this program, unless it has failed.
+-- The node that a `Mote` with this program represents, unless the `Mote` has failed.
 unfoldable pub node_in : Tree → MoteOfCode → Option Node
 node_in t m = if m.failed then None else option_map (node_over m.last m.collide) (mote_in t m.kernel.value)
 
--- a mote that has failed wakes no more
+-- the next wake of the node; a mote that has failed has none
 abbrev pub wake_in : Option Node → Option ℕ
 wake_in None = None
 wake_in (Some n) = wake_of n
 
--- there is a node, and this moment isn't above that of its last turn
+-- there is a node, and this moment isn't later than that of its last turn
 abbrev pub is_past_in : (moment : ℕ) → Option Node → Bool
 is_past_in moment None = false
 is_past_in moment (Some n) = is_past moment n.last
@@ -31,6 +31,6 @@ is_past_in moment (Some n) = is_past moment n.last
 abbrev pub turn_out_of : Out → (wake : Option ℕ) → TurnOut
 turn_out_of out wake = record { lines = out.lines; sends = out.sends; wake = wake }
 
--- the outcome of a turn, and the node that it left
+-- the outcome of a turn, with the node after the turn
 abbrev pub turn_given : TurnOut → Node → TurnGiven
 turn_given out n = record { node = n; lines = out.lines.items; sends = out.sends.items; wake = out.wake }

@@ -22,15 +22,15 @@ abbrev pub is_some_due : (moment : ℕ) → (expiration : Option ℕ) → Bool
 is_some_due moment None = false
 is_some_due moment (Some expiration) = nat_le expiration moment
 
--- the etimer process is polled if a timer is due by now
+-- the etimer process is polled if a timer is due at this moment
 unfoldable pub poll_due : (moment : ℕ) → Mote → Mote
 poll_due moment m = if is_some_due moment (next_expiration_of m.state.timers) then with_poll m Etimer else m
 
--- the most kernel runs of a turn, not counting the boot
+-- the greatest number of kernel runs in a turn, without the boot
 abbrev pub most_runs : ℕ
 most_runs = 64
 
--- once it is booted: the packets that arrive, the timers, and the kernel runs
+-- the work of a turn after the boot: the packets that arrive, the timers, and the kernel runs
 unfoldable pub work_of : (moment : ℕ) → List Arrival → Underway → Underway
 work_of moment arrivals u =
     let heard = hear_all moment arrivals u in runs_of most_runs moment (with_mote heard (poll_due moment heard.mote))
@@ -38,7 +38,8 @@ work_of moment arrivals u =
 unfoldable pub mote_turn : (moment : ℕ) → List Arrival → Underway → Underway
 mote_turn moment arrivals u = let booted = boot_due moment u in turn_goes_on booted (work_of moment arrivals booted)
 
--- the turn of a mote in a net: if packets that collide are to be lost, and these collide, it gets none of them
+-- the turn of a mote in a net: if colliding packets are to be lost, and these packets collide, the mote gets none of
+-- them
 unfoldable pub net_turn : (collides : Bool) → (moment : ℕ) → List Arrival → Underway → Underway
 net_turn collides moment arrivals u =
     if collides && is_collision u.mote arrivals then mote_turn moment [] (with_collisions moment arrivals u)
@@ -51,7 +52,7 @@ pub record TurnGiven : Type 0 where
   pub sends : List Sent
   pub wake : Option ℕ
 
--- the node after a turn at this moment that left its mote like this
+-- the node after a turn at this moment, in which the mote became this one
 abbrev pub node_after : Node → (moment : ℕ) → Mote → Node
 node_after n moment m = record n { mote = m; last = Some moment }
 

@@ -4,18 +4,18 @@ use Rattle.mote_timers.specs.TimerLists.{next_expiration_of}
 use Rattle.process_kernel.specs.Mote.{Mote, is_pending}
 use Rattle.mote_node.specs.Node.{Node}
 
--- After a turn at this moment: the next moment, if events or polls are left; otherwise the moment at which the first
--- timer is due, but not before the next moment; otherwise none.
+-- The wake after a turn at this moment. If events or polls are left, it is the next moment. Otherwise it is the moment
+-- at which the first timer is due, but not before the next moment. Without timers there is none.
 unfoldable pub wake_after : (moment : ℕ) → Mote → Option ℕ
 wake_after moment m =
     if is_pending m then Some (moment + 1) else option_map (λ due. max (moment + 1) due)
     (next_expiration_of m.state.timers)
 
--- at 0, before the first turn
+-- the next wake: 0 before the first turn
 abbrev pub wake_since : (last : Option ℕ) → Mote → Option ℕ
 wake_since None m = Some 0
 wake_since (Some last) m = wake_after last m
 
--- a mote that has halted wakes no more
+-- the next wake of a node; a mote that has halted has none
 abbrev pub wake_of : Node → Option ℕ
 wake_of n = if n.mote.halted then None else wake_since n.last n.mote

@@ -2,13 +2,13 @@
 
 ghost use Rattle.mote_node.specs.Laws.{HaltedRests, TurnsRise, WakesInTime, WakesLater};
 
-/// The wake that a turn returns is above the turn's own moment.
+/// The wake that a turn returns is later than the turn.
 pub fn wakes_later()
     ensures wakes_later { WakesLater }
 {}
 
-/// A node that has not halted wakes when its first timer is due, or before: at the moment after its turn, if the timer
-/// is due by then.
+/// A node that has not halted wakes when its first timer is due, or before. If the timer is due at the turn's own
+/// moment or earlier, the node wakes at the next moment.
 pub fn wakes_in_time()
     ensures wakes_in_time { WakesInTime }
 {}
@@ -18,7 +18,7 @@ pub fn turns_rise()
     ensures turns_rise { TurnsRise }
 {}
 
-/// A turn of a node that has halted changes only its clock, and writes nothing.
+/// A turn of a node that has halted changes only its clock, writes nothing, sends nothing, and returns no wake.
 pub fn halted_rests()
     ensures halted_rests { HaltedRests }
 {}

@@ -1,4 +1,4 @@
-//! A mote of a net: its turns, and when it wakes next.
+//! A mote of a net: its turns and its next wake.
 #![tactic(auto)]
 
 mod laws;

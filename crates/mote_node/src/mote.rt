@@ -1,4 +1,4 @@
-//! A mote with its clock: one turn after another.
+//! A mote with its clock: it takes one turn after another.
 
 ghost use Rattle.std.specs.Prelude.{◌≡◌, ◌≤◌, ◌^◌, ◌↔◌, true, false, IsTrue, IsSome, IfSome, IfOk, IfErr, Some, None};
 ghost use Rattle.std.specs.Prelude.{Err, [], option_map, OnOk, OnErr};
@@ -17,14 +17,14 @@ use std::alloc::{AllocError, Global};
 use std::error::Error;
 use std::{fmt, mem};
 
-/// The reason why a mote has no turn.
+/// The reason for which a mote can't take a turn.
 #[derive(Clone, Copy, Debug, PartialEq, Eq)]
 pub enum MoteError {
     /// Out of memory: an allocation failed.
     Memory = 1,
     /// An earlier turn ran out of memory.
     Failed = 2,
-    /// The moment isn't above that of the last turn.
+    /// The moment isn't later than that of the last turn.
     Past = 3,
 }
 
@@ -62,8 +62,8 @@ pub struct TurnOut {
     pub wake: Option<u64>,
 }
 
-/// A mote of a net. Its turns come at rising moments, always with the same program. The kernel is behind a pointer,
-/// so a mote is moved at little cost.
+/// A mote of a net. Its turns are at rising moments, always with the same program. The kernel is behind a pointer, so
+/// it costs little to move a mote.
 pub struct Mote {
     alloc: Global,
     kernel: Box<Kernel>,
@@ -74,7 +74,7 @@ pub struct Mote {
     ghost running: { (t : Tree) → failed ≡ false → IsSome (mote_in t kernel.value) } by { Prim.hlevel props },
 }
 
-/// Implemented by hand: the check of a function that owns a mote then sees only one call for its drop.
+/// Implemented by hand, so that the check of a function that owns a mote sees only one call for its drop.
 impl Drop for Mote {
     fn drop(self) {
         let Mote {
@@ -87,7 +87,7 @@ impl Drop for Mote {
     }
 }
 
-/// The wake, after its turn at this moment, of a mote that has not halted.
+/// The next wake of a mote that has not halted, after its turn at this moment.
 #[tactic(auto, unfolding(crate::specs::Wake::wake_after))]
 fn wake_after(kernel: &Kernel, moment: u64) -> Option<u64>
     requires moment_bounded { moment ≤ 2 ^ 40 }
@@ -102,7 +102,7 @@ fn wake_after(kernel: &Kernel, moment: u64) -> Option<u64>
     }
 }
 
-/// Returns whether the moment isn't above that of the last turn.
+/// Returns `true` if the moment isn't later than that of the last turn.
 fn is_past(moment: u64, last: Option<u64>) -> bool
     ensures value { result ≡ is_past moment last }
 {
@@ -155,7 +155,7 @@ impl Mote {
         self.kernel.number()
     }
 
-    /// Sets whether packets that arrive together are lost. Before the first call they aren't.
+    /// Sets whether packets that arrive together are lost. Before the first call of this function they aren't lost.
     #[tactic(auto, unfolding(crate::specs::Public::node_in))]
     pub fn set_collide(&mut self, collide: bool)
         ensures node { (t : Tree) → node_in t self.new ≡ option_map (with_collide collide) (node_in t self.old) }
@@ -177,12 +177,12 @@ impl Mote {
         }
     }
 
-    /// A turn at this moment with the packets that arrive, in order of sender and number. The first turn boots the
-    /// mote.
+    /// Takes a turn at this moment with the packets that arrive, in the order of sender and number. The first turn
+    /// boots the mote.
     ///
     /// # Errors
-    /// In this order: `Failed` after a turn that ran out of memory, for good; `Past` if the moment isn't above that of
-    /// the last turn, and nothing changes. `Memory` only if an allocation failed.
+    /// In this order: `Failed` if an earlier turn ran out of memory (the mote has failed for good); `Past` if the
+    /// moment isn't later than that of the last turn (nothing changes then); `Memory` only if an allocation failed.
     #[tactic(auto, unfolding(crate::specs::Public::node_in, crate::specs::Turn::turn_of))]
     pub fn turn(
         &mut self,
@@ -200,7 +200,7 @@ impl Mote {
             (result ≡ Err MoteError.Past) ↔ IsTrue (is_past_in moment (node_in t self.old)) }
         ensures unchanged { result ≡ Err MoteError.Past → self.new ≡ self.old }
 
-        // It has failed for good, whatever its program.
+        // The mote has failed for good, whatever its program.
         ensures fails { (t : Tree) → result ≡ Err MoteError.Memory → node_in t self.new ≡ None }
         ensures stays_failed { result ≡ Err MoteError.Failed → self.new ≡ self.old }
     {
@@ -210,11 +210,11 @@ impl Mote {
         Ok(TurnOut { lines, sends, wake })
     }
 
-    /// The same turn as `turn`: its lines and packets replace the contents of `out`, in the memory of `out`, and the
-    /// next wake is returned. After an error the content of `out` is unspecified.
+    /// Takes the same turn as `turn`. The lines and packets replace the contents of `out` and reuse its memory, and
+    /// the next wake is returned. After an error the contents of `out` are unspecified.
     ///
     /// # Errors
-    /// Those of `turn`.
+    /// The same as those of `turn`.
     #[inline(always)]
     #[tactic(auto, unfolding(crate::specs::Public::node_in, crate::specs::Turn::turn_of))]
     pub fn turn_into(
@@ -234,7 +234,7 @@ impl Mote {
             (result ≡ Err MoteError.Past) ↔ IsTrue (is_past_in moment (node_in t self.old)) }
         ensures unchanged { result ≡ Err MoteError.Past → self.new ≡ self.old }
 
-        // It has failed for good, whatever its program.
+        // The mote has failed for good, whatever its program.
         ensures fails { (t : Tree) → result ≡ Err MoteError.Memory → node_in t self.new ≡ None }
         ensures stays_failed { result ≡ Err MoteError.Failed → self.new ≡ self.old }
     {

@@ -1,4 +1,4 @@
-//! The steps of a turn, over a kernel and its output in the turn.
+//! The steps of a turn. Each changes the kernel and its output in the turn.
 
 ghost use Rattle.std.specs.Prelude.{◌≡◌, ◌≤◌, ◌^◌, ◌++◌, map, option_map, OnOk, IfOk, IfSome};
 ghost use Rattle.program_tree.specs.Code.{Tree};
@@ -14,10 +14,10 @@ use program_tree::{Proc, Program};
 use radio_packet::Arrival;
 use std::alloc::AllocError;
 
-/// The most kernel runs of a turn, not counting the boot.
+/// The greatest number of kernel runs in a turn, without the boot.
 const RUNS: u8 = 64;
 
-/// The first turn boots the mote.
+/// Boots the mote if this is its first turn.
 #[tactic(auto, unfolding(crate::specs::Turn::boot_due))]
 fn boot(
     kernel: &mut Kernel,
@@ -37,7 +37,7 @@ fn boot(
     Ok(())
 }
 
-/// Appends a packet to the receive ring, or loses it if the ring is full; returns whether it was appended.
+/// Appends a packet to the receive ring, or loses it if the ring is full. Returns `true` if the packet was appended.
 #[tactic(auto, unfolding(crate::specs::Arrivals::hear))]
 fn hear_or_lose(
     kernel: &mut Kernel,
@@ -59,7 +59,7 @@ fn hear_or_lose(
     Ok(heard)
 }
 
-/// Appends the packets to the ring in their order. If any fits, it asks for a poll of the radio process.
+/// Appends the packets to the ring in their order. If any of them fits, asks for a poll of the radio process.
 fn hear_all(
     kernel: &mut Kernel,
     moment: u64,
@@ -109,7 +109,7 @@ fn run_all(
     }
 }
 
-/// The turn of the mote with these packets.
+/// Takes the turn of the mote with these packets.
 #[tactic(auto, unfolding(crate::specs::Turn::mote_turn, crate::specs::Turn::work_of))]
 fn turn_mote(
     kernel: &mut Kernel,
@@ -132,7 +132,7 @@ fn turn_mote(
     run_all(kernel, program, moment, out)
 }
 
-/// Writes that each of these packets was lost by a collision.
+/// Writes a line for each of these packets: it was lost by a collision.
 fn write_collisions(moment: u64, packets: &[Arrival], out: &mut Out) -> Result<(), AllocError>
     ensures lines { OnOk result (out.new.lines.items ≡ out.old.lines.items ++ map (collision_line moment) packets.now) }
     ensures sends { OnOk result (out.new.sends.items ≡ out.old.sends.items) }
@@ -146,11 +146,12 @@ fn write_collisions(moment: u64, packets: &[Arrival], out: &mut Out) -> Result<(
     Ok(())
 }
 
-/// The turn of a mote in a net: if packets that collide are to be lost, and these collide, it gets none of them.
+/// Takes the turn of a mote in a net. If colliding packets are to be lost, and these packets collide, the mote gets
+/// none of them.
 ///
 /// # Errors
-/// `AllocError` if an allocation fails, or failed in an earlier call of the kernel. Lines and packets may have been
-/// appended to `out` then.
+/// `AllocError` if an allocation fails, or failed in an earlier call of the kernel. In that case some lines and
+/// packets may have been appended to `out`.
 #[tactic(auto, unfolding(crate::specs::Turn::net_turn))]
 pub fn turn_in_net(
     kernel: &mut Kernel,

@@ -1,4 +1,4 @@
--- The events of an agenda for each mote at each moment, as items come and go.
+-- The events of an agenda for each mote at each moment, while items are added and taken out.
 use Rattle.std.proofs.Common.{◌≡◌, ℕ, Bool, true, false, cond, not, ◌&&◌, eqb, if◌then◌else◌, List, [], ◌∷◌, ◌++◌, map, refl, sym, ap, ◌∙◌, inl, inr, append-nil, length-append, arith, zero, suc, ◌<◌, subst, append_assoc, take, get_or, length, ◌+◌, Option, Some, None, unwrap_or}
 use Rattle.std.specs.List.{filter, filter_map, list_any, AllByRecursion}
 use Rattle.std.specs.Ordering.{nat_cmp, is_eq}
@@ -48,7 +48,7 @@ wake_more xs t m =
     let k = ap (map arrival_of) (packets_append xs (Wake t m ∷ []) ∙ append-nil (packets xs)) in
     some_more xs (Wake t m) ∙ (ap Some (two _ _ _ _ w k) ∙ ap (λ d. Some (with_wake d)) (sym (unwrapped xs)))
 
--- an item more, there or elsewhere
+-- one more item, which is for this moment and mote or for another
 due_more : (t m : ℕ) (items : List Item) (x : Item) → comes_at t m x ≡ true → due_of t m (items ++ x ∷ []) ≡ gathered (filter (comes_at t m) items ++ x ∷ [])
 due_more t m items x e = ap gathered (filter-append (comes_at t m) items (x ∷ []) ∙ ap (λ l. filter (comes_at t m) items ++ l) (one e))
   where
@@ -81,14 +81,14 @@ due_wake items u k t m =
       | inr e ↦ rw e (due_same t m items (Wake u k) e)
     ]
 
--- tests over plain numbers
+-- comparisons of plain numbers
 both_places : (u k t m a b : ℕ) → (eqb a t && eqb b m) ≡ true → (eqb u t && eqb k m) ≡ true → not (eqb a u && eqb b k) ≡ false
 both_places u k t m a b h e = grind (arith, nat_tests)
 
 other_place : (u k t m a b : ℕ) → (eqb u t && eqb k m) ≡ false → (eqb a t && eqb b m) ≡ true → not (eqb a u && eqb b k) ≡ true
 other_place u k t m a b h e = grind (arith, nat_tests)
 
--- all that was there, taken out
+-- all due events, taken out
 pub due_taken : (items : List Item) (u k t m : ℕ)
     → due_of t m (filter (λ item. not (comes_at u k item)) items) ≡ (if is_here u k t m then None else due_of t m items)
 due_taken items u k t m =
@@ -101,7 +101,7 @@ due_taken items u k t m =
 
 -- a mote's wake, taken out
 
--- items for one mote, without its wakes
+-- the items for one mote, without its wakes
 wakeless : (k : ℕ) (xs : List Item) → AllByRecursion (λ item. mote_of item ≡ k) xs → filter (λ item. not (is_wake_of k item)) xs ≡ map Packet (packets xs)
 wakeless k [] h = refl
 wakeless k (Wake u m ∷ xs) h = let e : eqb m k ≡ true = eq-eqb m k h.0 in rw e (wakeless k xs h.1)
@@ -138,7 +138,7 @@ due_unwoken items u k one t m =
     elsewhere : is_here u k t m ≡ false → filter (comes_at t m) (Wake u k ∷ []) ≡ []
     elsewhere e = rw e refl
 
--- without a mote's wakes, of which there may be more than one
+-- the events without a mote's wakes, of which there may be several
 pub due_asleep : (items : List Item) (k t m : ℕ)
     → due_of t m (filter (λ item. not (is_wake_of k item)) items) ≡ (if eqb k m then without_wake (due_of t m items) else due_of t m items)
 due_asleep items k t m =
@@ -157,7 +157,7 @@ due_asleep items k t m =
         apart k m j e h = grind (arith, nat_tests)
     other_mote k m e (Packet c) h = refl
 
--- two lists with the same due stay so with one item more
+-- two lists with the same due events still have the same due events after one more item is added to both
 pub due_both : (t m : ℕ) (xs ys : List Item) (x : Item) → due_of t m xs ≡ due_of t m ys → due_of t m (xs ++ x ∷ []) ≡ due_of t m (ys ++ x ∷ [])
 due_both t m xs ys (Packet c) same =
     due_copy xs c t m ∙ (elim (cases_Bool (is_here c.at c.to t m)) [
@@ -174,14 +174,14 @@ due_both t m xs ys (Wake u k) same =
       | inr e ↦ rw e same
     ] ∙ sym (due_wake ys u k t m))
 
--- and one that comes at another moment changes nothing
+-- an item at another moment doesn't change the due events
 pub due_elsewhere : (u m t : ℕ) (items : List Item) (x : Item) → moment_of x ≡ t → eqb t u ≡ false → due_of u m (items ++ x ∷ []) ≡ due_of u m items
 due_elsewhere u m t items x at e = due_same u m items x (other (moment_of x) (mote_of x) at)
   where
     other : (a b : ℕ) → a ≡ t → (eqb a u && eqb b m) ≡ false
     other a b f = grind (arith, nat_tests)
 
--- a change at one moment: the bucket there becomes o
+-- a change at one moment: the bucket of this moment becomes o
 pub held : (old new : Buckets) (t : ℕ) (o : Option Bucket) (items more : List Item) → Holds old items
     → ((q : ℕ) → get nat_cmp new q ≡ cond (is_eq (nat_cmp t q)) o (get nat_cmp old q))
     → ((b : Bucket) → o ≡ Some b → IsReady b)
@@ -204,12 +204,12 @@ held old new t o items more holds updates ready there elsewhere = record {
     found : (u : ℕ) → get nat_cmp new u ≡ (if eqb t u then o else get nat_cmp old u)
     found u = updates u ∙ ap (λ b. if b then o else get nat_cmp old u) (same_number t u)
 
--- changed, and then taken out
+-- a bucket that is changed and then taken out
 pub then_out : {A : Type 0} (b : Bool) (o : Option A) (x : Option A) → cond b None (cond b o x) ≡ cond b None x
 then_out true o x = refl
 then_out false o x = refl
 
--- the least place, and none
+-- the least moment and mote, if there is one
 
 filled_some : (xs : List Item) (d : Due) → gathered xs ≡ Some d → is_filled xs ≡ true
 filled_some [] d e = cc
@@ -218,7 +218,7 @@ filled_some (x ∷ xs) d e = refl
 pub any_from_some : (t m : ℕ) (items : List Item) (d : Due) → due_of t m items ≡ Some d → list_any (comes_at t m) items ≡ true
 any_from_some t m items d e = sym (filled_any (comes_at t m) items) ∙ filled_some (filter (comes_at t m) items) d e
 
--- if two lists have the same due, something comes in one exactly if it does in the other
+-- if two lists have the same due events, one has a due event if and only if the other has one
 pub any_same : (t m : ℕ) (xs ys : List Item) → due_of t m xs ≡ due_of t m ys → list_any (comes_at t m) xs ≡ list_any (comes_at t m) ys
 any_same t m xs ys e = sym (filled_any (comes_at t m) xs) ∙ (both _ _ e ∙ filled_any (comes_at t m) ys)
   where
@@ -228,7 +228,7 @@ any_same t m xs ys e = sym (filled_any (comes_at t m) xs) ∙ (both _ _ e ∙ fi
     both (x ∷ xs) [] e = absurd (cc)
     both (x ∷ xs) (y ∷ ys) e = refl
 
--- a property at each place with a due event is one of each item
+-- a property of each moment and mote with a due event is a property of each item
 pub from_due : (P : ℕ → ℕ → Type 0) (items : List Item) → ((t m : ℕ) → list_any (comes_at t m) items ≡ true → P t m) → AllByRecursion (λ item. P (moment_of item) (mote_of item)) items
 from_due P [] f = tt
 from_due P (x ∷ xs) f = (
@@ -244,7 +244,7 @@ pub more_copies : (items : List Item) (cs : List RadioCopy) (i : ℕ) (d : Radio
     → (items ++ map Packet (take i cs)) ++ Packet (get_or cs i d) ∷ [] ≡ items ++ map Packet (take (i + 1) cs)
 more_copies items cs i d h = let more = take_more cs i d h in rw more (simp (map-append, append_assoc))
 
--- the copies of one fate more
+-- the copies of one more fate
 pub more_fates : (items : List Item) (sent : Sent) (fs : List Fate) (i : ℕ) (d : Fate) → i < length fs
     → (items ++ map Packet (filter_map (copy_of sent) (take i fs))) ++ map Packet (filter_map (copy_of sent) (get_or fs i d ∷ [])) ≡ items ++ map Packet (filter_map (copy_of sent) (take (i + 1) fs))
 more_fates items sent fs i d h = let more = take_more fs i d h in rw more (simp (filter_map-append, map-append, append_assoc))

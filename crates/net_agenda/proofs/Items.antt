@@ -26,7 +26,7 @@ use Rattle.net_agenda.proofs.Gathered.{unwrapped, due_taken, any_same}
 use Rattle.net_agenda.proofs.Keys.{same_number}
 use Rattle.net_agenda.proofs.Moments.{moment_at}
 
--- the events due in the items of all buckets are those due in the bucket of its moment
+-- the due events among the items of all buckets are those in the bucket of their moment
 
 abbrev pub Entries : Type 0
 Entries = List (ℕ × Bucket)
@@ -67,7 +67,7 @@ at_its_moment (e ∷ es) sorted t m = filter-append (comes_at t m) (bucket_items
               ap (λ l. l ++ filter (comes_at t m) (items_among es)) (none_elsewhere t m e.0 e.1.coming.items h) ∙ (later ∙ ap (λ o. filter (comes_at t m) (items_in t o)) (passed f)))
         ]
 
--- lists with the same due everywhere have the same items
+-- lists that have the same due events for each moment and mote have the same items
 
 abbrev IsSame : List Item → List Item → Type 0
 IsSame xs ys = (t m : ℕ) → due_of t m xs ≡ due_of t m ys
@@ -93,7 +93,7 @@ not_wakes [] = refl
 not_wakes (Wake u k ∷ xs) = not_wakes xs
 not_wakes (Packet c ∷ xs) = ap (λ l. Packet c ∷ l) (not_wakes xs)
 
--- the due events, as items again
+-- the due events, turned back into items
 abbrev items_of_due : (t m : ℕ) → Due → List Item
 items_of_due t m due = replicate due.wakes (Wake t m) ++ map Packet (map (copy_at t m) due.copies)
 
@@ -115,7 +115,7 @@ packets_here : (t m : ℕ) (xs ys : List Item) → due_of t m xs ≡ due_of t m 
 packets_here t m xs ys e =
     sym (put_back t m (filter (comes_at t m) xs) (every_passes (comes_at t m) xs)) ∙ (ap (λ (d : Due). map (copy_at t m) d.copies) (due_alls t m xs ys e) ∙ put_back t m (filter (comes_at t m) ys) (every_passes (comes_at t m) ys))
 
--- the packets that pass a test, and the others
+-- the packets that pass a test, and the other packets
 parted : (p : Item → Bool) (items : List Item) → IsPermutation (packets items) (packets (filter p items) ++ packets (filter (λ item. not (p item)) items))
 parted p items =
     subst (λ l. IsPermutation (packets items) (l ++ packets (filter (λ item. not (p item)) items))) (sym (packets_filter p items))

@@ -1,4 +1,4 @@
--- How many packets are left, counted bucket by bucket.
+-- The number of packets that are left, counted bucket by bucket.
 use Rattle.std.proofs.Common.{◌≡◌, ℕ, suc, ◌+◌, List, [], ◌∷◌, length, length-append, map, refl, ap, ◌∙◌, arith}
 use Rattle.std.proofs.Common.{Option, Some, None}
 use Rattle.std.specs.List.{filter}

@@ -1,4 +1,4 @@
--- A bucket changed at one moment, and the agenda that the buckets hold then.
+-- The change of a bucket at one moment, and the agenda that the buckets hold after it.
 use mathlib.Core.Bool.{and-false, and-true}
 use Rattle.std.proofs.Common.{◌≡◌, ℕ, true, false, cond, not, ◌&&◌, ◌||◌, ltb, eqb, if◌then◌else◌, List, [], ◌∷◌}
 use Rattle.std.proofs.Common.{◌++◌, map, refl, sym, ap, ◌∙◌, subst, inl, inr, arith, ◌≤◌, Option, Some, None}
@@ -85,7 +85,7 @@ asleep_at t k (c ∷ cs) =
       | inr e ↦ (let f = is_wake_here t k c ∙ e in rw (e, f) (ap (λ l. item_at t c ∷ l) (asleep_at t k cs)))
     ]
 
--- something put in
+-- an event is added
 
 not_none : (cs : List PendingEvent) (c : PendingEvent) → is_nothing (cs ++ c ∷ []) ≡ false
 not_none [] c = refl
@@ -101,7 +101,7 @@ put_more old new t c b cs items holds at more falls updates =
     ready : (d : Bucket) → Some b ≡ Some d → IsReady d
     ready d e = let f : b ≡ d = cc in subst IsReady f (record { filled = ap is_nothing more ∙ not_none cs c; falls = falls })
 
--- a bucket from which something was taken out, and which is removed if nothing is left in it
+-- a bucket from which events were taken out; it is removed if no event is left in it
 
 abbrev pub left_of : Bucket → Option Bucket
 left_of b = if is_nothing b.coming.items then None else Some b
@@ -148,7 +148,7 @@ changed_gone old mid new t d e put out q =
     let last : cond (is_eq (nat_cmp t q)) None (get nat_cmp mid q) ≡ cond (is_eq (nat_cmp t q)) None (get nat_cmp old q) = ap (cond (is_eq (nat_cmp t q)) None) (put q) ∙ then_out (is_eq (nat_cmp t q)) (Some d) (get nat_cmp old q) in
     rw e (out q ∙ last)
 
--- all of a mote taken out
+-- all events of a mote are taken out
 
 pub taken : (old new : Buckets) (t k : ℕ) (b d : Bucket) (items : List Item) → Holds old items → get nat_cmp old t ≡ Some b → IsTaken k b d
     → ((q : ℕ) → get nat_cmp new q ≡ cond (is_eq (nat_cmp t q)) (left_of d) (get nat_cmp old q)) → Holds new (filter (λ item. not (comes_at t k item)) items)
@@ -194,7 +194,7 @@ none_found old t k items holds none =
     let same = copies_same t k [] items (due_absent old t k items holds none) in
     sym none_in_order ∙ (ap arrivals_in_order same ∙ given_in_order (packets (filter (comes_at t k) items)))
 
--- a wake taken out
+-- a wake is taken out
 
 pub unwoken : (old new : Buckets) (t k : ℕ) (b d : Bucket) (items : List Item) → Holds old items → get nat_cmp old t ≡ Some b
     → d.coming.items ≡ filter (λ c. not (is_wake_for k c)) b.coming.items → FallsIfSaid d → filter (is_wake_of k) items ≡ Wake t k ∷ []

@@ -10,7 +10,7 @@ pub new_wakes : (n : NetModel) (k : ℕ) → wake_of (first_node_in n k) ≡ Som
 unfolding new_node unbooted
 new_wakes n k = refl
 
--- and it knows its number
+-- a new mote has its own number
 pub new_numbers : (n : NetModel) (k : ℕ) → (first_node_in n k).mote.state.mote ≡ k
 unfolding new_node unbooted
 new_numbers n k = refl

@@ -1,4 +1,4 @@
--- The first pending event comes later and later: its place rises, up to the last place before an end.
+-- The first pending event is later after each turn: its moment and mote rise, up to the last ones before an end.
 use Rattle.std.proofs.Common.{◌≡◌, ℕ, suc, ◌+◌, ◌-◌, ◌*◌, ◌<◌, ◌≤◌, true, not, ◌&&◌, ◌||◌, ltb, eqb, List, [], ◌∷◌, sym, ap, ◌∙◌, refl, subst, arith, Option, Some, None, option_map, slice_get, inl, inr, suc-mul, ◌⊎◌}
 use Rattle.std.specs.List.{list_any, AllByRecursion}
 use Rattle.std.specs.Map.{lookup}
@@ -15,7 +15,7 @@ use Rattle.window_laws.proofs.Lists.{every_weaker}
 use Rattle.net_agenda.proofs.Keys.{same_number}
 use Rattle.net_agenda.proofs.Moments.{there_of}
 
--- how many turns may still follow, if this is the place of the first pending event
+-- the number of turns that may still follow, if the first pending event is at this moment and mote
 abbrev pub turns_left : (motes end : ℕ) → Option (ℕ × ℕ) → ℕ
 turns_left motes end None = 0
 turns_left motes end (Some key) = suc end * motes - (key.0 * motes + key.1)
@@ -48,7 +48,7 @@ first_due buckets items u k holds e = of buckets.entries refl (e)
             let same : ◌≡◌ {A = ℕ × ℕ} (t, m) (u, k) = cc in
             subst (λ p. list_any (comes_at p.0 p.1) items ≡ true) same (there_of buckets t m b items holds found h)
 
--- the first pending event is later, if nothing is left up to a place
+-- the first pending event is later, if no event is left up to a moment and mote
 pub left_falls : (motes end t m : ℕ) (items : List Item) (old new : Option (ℕ × ℕ)) (buckets : Buckets) → old ≡ Some (t, m) → m < motes → t ≤ end
     → AllByRecursion (λ item. is_from t (suc m) item ≡ true) items → Holds buckets items → new ≡ first_key buckets
     → turns_left motes end new < turns_left motes end old

@@ -1,4 +1,4 @@
--- The copies of a packet that come at one moment, put in one after another.
+-- The copies of a packet that arrive at one moment, added one after another.
 use Rattle.std.proofs.Common.{◌≡◌, ℕ, suc, ◌+◌, ◌-◌, ◌<◌, cond, false, eqb, List, [], ◌∷◌, ◌++◌, length, map, take}
 use Rattle.std.proofs.Common.{drop, get_or, refl, sym, ap, ◌∙◌, subst, append_assoc, take_all, length-drop, append-nil}
 use Rattle.std.proofs.Common.{add-one, arith, Option, Some, None, Result, Ok, Err, IfOk, OnOk}
@@ -23,7 +23,7 @@ use Rattle.net_agenda.proofs.Moments.{moment_at}
 abbrev pub copies_with : Sent → List Fate → List Item
 copies_with sent fates = map Packet (filter_map (copy_of sent) fates)
 
--- the copy that comes at a moment to a mote
+-- the copy that arrives at a mote at a moment
 abbrev pub copy_to : (moment mote : ℕ) → Sent → Item
 copy_to moment mote sent = Packet (record { at = moment; to = mote; sender = sent.sender; number = sent.number; value = sent.value })
 
@@ -52,7 +52,7 @@ pub lost_more : (before : List Item) (sent : Sent) (fs : List Fate) (i : ℕ) (f
 lost_more before sent fs i f low at =
     sym (append-nil _) ∙ (ap (λ l. (before ++ copies_with sent (take i fs)) ++ l) (sym (no_copy sent (get_or fs i f) at)) ∙ more_fates before sent fs i f low)
 
--- many put in at one moment
+-- many events are added at one moment
 
 all_then : (t : ℕ) (cs : List PendingEvent) → AllByRecursion (λ item. moment_of item ≡ t) (map (item_at t) cs)
 all_then t [] = tt
@@ -92,7 +92,7 @@ if_all (Err e) f p q h = tt
 pub rest_is : {X : Type 0} (xs : List X) (k : ℕ) → take (length xs - k) (drop k xs) ≡ drop k xs
 rest_is xs k = take_all (length xs - k) (drop k xs) (let n = length-drop k xs in omega arith)
 
--- the elements up to an index, and those of a run from there
+-- the elements up to an index, and a run of elements from this index on
 run_on : {X : Type 0} (xs : List X) (i n : ℕ) (x : X) → i < length xs → take i xs ++ (get_or xs i x ∷ take n (take (length xs - (i + 1)) (drop (i + 1) xs))) ≡ take (i + (1 + n)) xs
 run_on xs i n x low =
     let more : i + suc n ≡ i + (1 + n) = omega arith in

@@ -1,4 +1,4 @@
--- A net runs forward, and the node after a turn has the wake that the turn gave.
+-- A net runs forward, and the node after a turn has the wake that the turn returned.
 use Rattle.std.proofs.Common.{◌≡◌, ℕ, ◌<◌, List, length, map, subst, refl, Option, Some, None, option_map, unwrap_or}
 use Rattle.std.proofs.Common.{slice_get}
 use Rattle.program_tree.specs.Code.{Tree}
@@ -24,7 +24,7 @@ system_is n fault placed = record {
   copies_later = λ sent. every_weaker _ _ (λ copy h. record { sender = h.sender; to = subst (λ k. copy.to < k) placed h.there; later = h.later n.end }) _ (copies_later n.radio sent);
 }
 
--- a turn gives the wake of the mote that it leaves
+-- a turn returns the wake of the mote after the turn
 pub turn_wakes : (mote : ℕ) (state : Node) (moment : ℕ) (given : List RadioCopy) → (node_turn mote state moment given).wake ≡ wake_of (node_turn mote state moment given).state
 unfolding turn_of
 turn_wakes mote state moment given = refl

@@ -1,4 +1,4 @@
--- A wake taken out and put in again at the same place.
+-- A wake that is taken out, and then added again at the same moment and mote.
 use Rattle.std.proofs.Common.{◌≡◌, ℕ, true, not, eqb, List, [], ◌∷◌, ◌++◌, length, refl, sym, ap, ◌∙◌, inl, inr, append-nil, arith, Option, Some, None, unwrap_or}
 use Rattle.std.specs.List.{filter, AllByRecursion}
 use Rattle.std.specs.Option.{option_eq}
@@ -9,7 +9,7 @@ use Rattle.net_agenda.specs.Buckets.{Due, nothing_due, is_wake, gathered, due_of
 use Rattle.window_laws.proofs.Lists.{filter_not, filter_filter}
 use Rattle.net_agenda.proofs.Gathered.{due_with, due_wake, due_unwoken, due_at_mote}
 
--- the wake is the only one at its moment
+-- the wake is the only wake of its mote at its moment
 one_wake : (u k : ℕ) (items : List Item) → filter (is_wake_of k) items ≡ Wake u k ∷ [] → length (filter is_wake (filter (comes_at u k) items)) ≡ 1
 one_wake u k items one = ap length (only_of (filter (comes_at u k) items) (due_at_mote u k items) ∙ (filter_filter (is_wake_of k) (comes_at u k) items ∙ (ap (filter (comes_at u k)) one ∙ here (eq-eqb u u refl) (eq-eqb k k refl))))
   where

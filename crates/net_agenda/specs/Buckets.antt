@@ -1,4 +1,4 @@
--- The pending events of the motes at each moment, gathered in a bucket.
+-- The pending events of the motes, gathered in one bucket for each moment.
 use Rattle.std.specs.Prelude.{ℕ, suc, ◌≡◌, ◌≤◌, ◌-◌, Bool, true, false, not, ◌&&◌, ◌==◌, nat_lt, if◌then◌else◌, List}
 use Rattle.std.specs.Prelude.{[], ◌∷◌, ◌++◌, length, map, Option, Some, None, option_map, is_some, slice_get}
 use Rattle.std.specs.List.{filter, filter_map, AllByRecursion}
@@ -12,11 +12,11 @@ pub use Rattle.net_agenda.specs.NetSystem.{arrival_of}
 use Rattle.window_laws.specs.Order.{sorted_by, in_order}
 use Rattle.window_laws.specs.Agenda.{Item, Wake, Packet, comes_at, packets}
 
--- by sender, then by number; those that agree in both keep their order
+-- arrivals sorted by sender, then by number; arrivals that agree in both keep their order
 abbrev pub arrivals_in_order : List Arrival → List Arrival
 arrivals_in_order arrivals = sorted_by (λ arrival. arrival.sender) (λ arrival. arrival.number) arrivals
 
--- how often the mote wakes, and the copies for it, as they came
+-- the due events of a mote: the number of its wakes, and the copies for it, in the order in which they were added
 pub record Due : Type 0 where
   pub wakes : ℕ
   pub copies : List Arrival
@@ -31,23 +31,23 @@ is_wake (Packet copy) = false
 abbrev pub due_all : List Item → Due
 due_all items = record { wakes = length (filter is_wake items); copies = map arrival_of (packets items) }
 
--- the events of one mote at one moment as one pending event, if there are any
+-- the events of one mote at one moment as one record, if there are any
 abbrev pub gathered : List Item → Option Due
 gathered [] = None
 gathered (item ∷ items) = Some (due_all (item ∷ items))
 
--- the pending event of a mote at a moment
+-- the due events of a mote at a moment
 abbrev pub due_of : (moment mote : ℕ) → List Item → Option Due
 due_of moment mote items = gathered (filter (comes_at moment mote) items)
 
 -- one bucket: the pending events of a moment
 
--- the mote to which it comes
+-- the mote for which the event is
 abbrev pub goes_to : PendingEvent → ℕ
 goes_to (coming.Wake mote) = mote
 goes_to (coming.Copy to sender value number) = to
 
--- the packet, as the mote is given it, if it is one
+-- the packet as the mote gets it, if the event is a copy
 abbrev pub packet_in : PendingEvent → Option Arrival
 packet_in (coming.Wake mote) = None
 packet_in (coming.Copy to sender value number) = Some (record { sender = sender; number = number; value = value })
@@ -67,7 +67,7 @@ is_wake_for mote one = is_for mote one && not (is_packet one)
 abbrev pub packets_of : List PendingEvent → List Arrival
 packets_of all = filter_map packet_in all
 
--- no mote is above one before it
+-- no mote is above a mote before it
 abbrev pub Falls : List PendingEvent → Type 0
 Falls [] = Unit {0}
 Falls (first ∷ rest) = AllByRecursion (λ one. goes_to one ≤ goes_to first) rest × Falls rest
@@ -90,13 +90,13 @@ least_from least (first ∷ rest) = least_from (lower_mote least (goes_to first)
 abbrev pub least_mote : List PendingEvent → Option ℕ
 least_mote all = least_from None all
 
--- the least mote, which is that of the last if the motes fall
+-- the least mote; if the motes fall, it is the mote of the last event
 abbrev pub first_mote : Bucket → Option ℕ
 first_mote bucket =
     let all = bucket.coming.items in
     if bucket.falls then option_map goes_to (slice_get all (length all - 1)) else least_mote all
 
--- all of this mote was taken out; the others keep theirs
+-- all events of this mote were taken out; the events of the other motes are unchanged
 pub record IsTaken (mote : ℕ) (old new : Bucket) : Type 0 where
   pub others : (other : ℕ) → of_mote other new.coming.items
       ≡ (if mote == other then [] else of_mote other old.coming.items)
@@ -130,17 +130,17 @@ items_at buckets moment = items_in moment (get nat_cmp buckets moment)
 abbrev pub due_in : Buckets → (moment mote : ℕ) → Option Due
 due_in buckets moment mote = due_of moment mote (items_at buckets moment)
 
--- the place is this one
+-- the moment and the mote are these
 abbrev pub is_here : (moment mote t k : ℕ) → Bool
 is_here moment mote t k = (moment == t) && (mote == k)
 
--- the buckets hold the items of this agenda: each has all that is due there, no bucket is empty, and a bucket that
--- says so falls by mote
+-- the buckets hold the items of this agenda: each bucket has all events that are due at its moment, no bucket is
+-- empty, and if `falls` is true in a bucket, the motes fall in it
 pub record Holds (buckets : Buckets) (items : List Item) : Type 0 where
   pub due : (moment mote : ℕ) → due_in buckets moment mote ≡ due_of moment mote items
   pub ready : (moment : ℕ) (bucket : Bucket) → get nat_cmp buckets moment ≡ Some bucket → IsReady bucket
 
--- a packet more
+-- one more packet
 abbrev pub with_copy : Arrival → Due → Due
 with_copy a due = record due { copies = due.copies ++ a ∷ [] }
 
@@ -151,7 +151,7 @@ abbrev pub is_none_left : List Arrival → Bool
 is_none_left [] = true
 is_none_left (a ∷ rest) = false
 
--- without the wake, if packets are left
+-- the due events without the wake, if packets are left
 abbrev pub without_wake : Option Due → Option Due
 without_wake None = None
 without_wake (Some due) = if is_none_left due.copies then None else Some (record due { wakes = 0 })
@@ -161,7 +161,7 @@ abbrev pub wake_but_at : (moment : ℕ) → Option ℕ → Option ℕ
 wake_but_at moment None = None
 wake_but_at moment (Some wake) = if wake == moment then None else Some wake
 
--- the event that a mote is given at a moment
+-- the arrivals that a mote gets at a moment
 abbrev pub arrivals_at : (moment mote : ℕ) → List Item → List Arrival
 arrivals_at moment mote items = map arrival_of (in_order (packets (filter (comes_at moment mote) items)))
 
@@ -169,6 +169,6 @@ abbrev pub first_of : Option (ℕ × Bucket) → Option (ℕ × ℕ)
 first_of None = None
 first_of (Some entry) = option_map (λ mote. (entry.0, mote)) (first_mote entry.1)
 
--- the least moment, and the least mote of its bucket
+-- the least moment, and the least mote in the bucket of this moment
 abbrev pub first_key : Buckets → Option (ℕ × ℕ)
 first_key buckets = first_of (slice_get buckets.entries 0)

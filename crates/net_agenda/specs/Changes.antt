@@ -1,4 +1,4 @@
--- The changes that the calls of an agenda make, whatever list of items its buckets hold.
+-- The changes that the calls of an agenda make, for any list of items that its buckets hold.
 use Rattle.std.specs.Prelude.{ℕ, ◌≡◌, not, List, ◌++◌, Option}
 use Rattle.std.specs.List.{filter}
 use Rattle.radio_packet.specs.declared.arrival.Arrival.{Arrival}
@@ -12,24 +12,24 @@ Adds old new more = (items : List Item) → Holds old items → Holds new (items
 abbrev pub without_wakes : (mote : ℕ) → List Item → List Item
 without_wakes mote items = filter (λ item. not (is_wake_of mote item)) items
 
--- the wake of this mote was taken out, if this is its only one, or it has none
+-- the wake of this mote was taken out, if it is the mote's only wake, or if the mote has none
 abbrev pub DropsWake : (mote : ℕ) → (wake : Option ℕ) → (old new : Buckets) → Type 0
 DropsWake mote wake old new = (items : List Item) → Holds old items → filter (is_wake_of mote) items
     ≡ wake_items mote wake
     → Holds new (without_wakes mote items)
 
--- and another one, if there is one, was put in its place
+-- the wake of this mote was taken out, and its next wake, if it has one, was added
 abbrev pub MovesWake : (mote : ℕ) → (wake next : Option ℕ) → (old new : Buckets) → Type 0
 MovesWake mote wake next old new = (items : List Item) → Holds old items → filter (is_wake_of mote) items
     ≡ wake_items mote wake
     → Holds new (without_wakes mote items ++ wake_items mote next)
 
--- the packets that come to this mote at this moment, in order
+-- the packets that arrive at this mote at this moment, in order
 abbrev pub AreDue : (moment mote : ℕ) → Buckets → List Arrival → Type 0
 AreDue moment mote buckets arrivals = (items : List Item) → Holds buckets items → arrivals
     ≡ arrivals_at moment mote items
 
--- all that comes to this mote at this moment was taken out
+-- all events for this mote at this moment were taken out
 abbrev pub TakesDue : (moment mote : ℕ) → (old new : Buckets) → Type 0
 TakesDue moment mote old new = (items : List Item) → Holds old items
     → Holds new (filter (λ item. not (comes_at moment mote item)) items)

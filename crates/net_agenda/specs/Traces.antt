@@ -3,7 +3,7 @@ use Rattle.std.specs.Prelude.{ℕ, ◌≡◌, ◌++◌, List, Vec, slice_index_o
 use Rattle.std.specs.declared.alloc.Global.{Global}
 use Rattle.trace_lines.specs.declared.line.Line.{Line}
 
--- one trace has these lines more, at its end
+-- one trace has these lines added at its end
 pub record AddsLines (k : ℕ) (lines : List Line) (old new : List (Vec Line Global)) : Type 0 where
   pub after : Vec Line Global
   pub put : new ≡ slice_set old k after

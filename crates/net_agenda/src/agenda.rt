@@ -21,7 +21,7 @@ pub struct Agenda {
     lists: Lists,
 }
 
-/// The sum of two counts of copies. If it overflows, there are more copies than any memory holds.
+/// The sum of two numbers of copies. If it overflows, there are more copies than any memory has room for.
 fn plus(one: u64, other: u64) -> Result<u64, AllocError>
     ensures sum { IfOk result (λ sum. sum ≡ one + other) }
 {
@@ -29,7 +29,7 @@ fn plus(one: u64, other: u64) -> Result<u64, AllocError>
 }
 
 impl Agenda {
-    /// No event is pending.
+    /// Makes an agenda without pending events.
     pub fn new(alloc: Global) -> Agenda
         ensures empty { Holds result.buckets [] }
     {
@@ -76,8 +76,8 @@ impl Agenda {
         Ok(())
     }
 
-    /// Adds a packet on its way, and those after it that come at the same moment, up to the first one that doesn't.
-    /// Returns how many of `later` were added.
+    /// Adds a packet on its way, and then those packets of `later` that arrive at the same moment, up to the first one
+    /// that doesn't. Returns how many packets of `later` were added.
     fn put_same_copies(
         &mut self,
         copy: &RadioCopy,
@@ -96,10 +96,10 @@ impl Agenda {
         Ok(count)
     }
 
-    /// Adds packets on their way.
+    /// Adds copies of packets that are on their way.
     ///
     /// # Errors
-    /// `AllocError` if an allocation fails. Some of the packets may have been added then.
+    /// `AllocError` if an allocation fails. In that case some of the packets may have been added.
     pub fn put_copies(&mut self, copies: &[RadioCopy]) -> Result<(), AllocError>
         ensures adds { OnOk result (Adds self.old.buckets self.new.buckets (map Packet copies.now)) }
     {
@@ -110,9 +110,9 @@ impl Agenda {
         Ok(())
     }
 
-    /// Adds the copy of a packet with this fate, and then those with the fates after it, up to the first one that
-    /// comes at another moment. Lost copies among these are passed over; if the first one is lost, nothing is added.
-    /// Returns how many of `later` it went through.
+    /// Adds the copy of a packet with this fate, and then the copies with the fates in `later`, up to the first one
+    /// that arrives at another moment. Lost copies among these are passed over. If the first copy is lost, nothing is
+    /// added. Returns how many fates of `later` were handled.
     fn put_same_fates(
         &mut self,
         sent: &Sent,
@@ -135,10 +135,10 @@ impl Agenda {
         Ok(count)
     }
 
-    /// Adds the copies of a packet whose fates these are: those that aren't lost.
+    /// Adds the copies of a packet that has these fates, except the lost copies.
     ///
     /// # Errors
-    /// `AllocError` if an allocation fails. Some of the copies may have been added then.
+    /// `AllocError` if an allocation fails. In that case some of the copies may have been added.
     pub fn put_fates(&mut self, sent: &Sent, fates: &[Fate]) -> Result<(), AllocError>
         ensures adds { OnOk result (Adds self.old.buckets self.new.buckets
             (map Packet (filter_map (copy_of sent.now) fates.now))) }
@@ -150,10 +150,10 @@ impl Agenda {
         Ok(())
     }
 
-    /// Takes out the one wake of a mote, if it has one.
+    /// Takes out the only wake of a mote, if it has one.
     ///
     /// # Errors
-    /// `AllocError` by its type only: the body allocates nothing and returns no error.
+    /// `AllocError` only because of the type: the body allocates nothing and returns no error.
     pub fn drop_wake(&mut self, wake: Option<u64>, mote: u16) -> Result<(), AllocError>
         ensures drops_wake { OnOk result (DropsWake mote wake self.old.buckets self.new.buckets) }
     {
@@ -169,10 +169,11 @@ impl Agenda {
         Ok(())
     }
 
-    /// Moves the one wake of a mote, if it has one, to its next one.
+    /// Moves the only wake of a mote, if it has one, to the mote's next wake.
     ///
     /// # Errors
-    /// `AllocError` if an allocation fails. The old wake may be gone then, without the next one.
+    /// `AllocError` if an allocation fails. In that case the old wake may have been taken out without the next one
+    /// being added.
     pub fn move_wake(
         &mut self,
         wake: Option<u64>,
@@ -193,7 +194,8 @@ impl Agenda {
     /// order.
     ///
     /// # Errors
-    /// `AllocError` if an allocation fails. The events are out of the agenda then too, and the list may lack packets.
+    /// `AllocError` if an allocation fails. In that case, too, the events were taken out, and the list may lack
+    /// packets.
     pub fn take_due_into(
         &mut self,
         moment: u64,
@@ -229,16 +231,17 @@ impl Agenda {
         }
     }
 
-    /// The number of copies on their way. This allocates nothing.
+    /// The number of copies on their way. The function allocates nothing.
     ///
     /// # Errors
-    /// Only for a number above `u64::MAX`, for which no memory has room.
+    /// Only if the number is above `u64::MAX`. No memory has room for so many copies.
     pub fn left(self) -> Result<u64, AllocError>
         ensures count { (items : List Item) → Holds self.buckets items → IfOk result
             (λ left. left ≡ length (packets items)) }
     {
         let mut buckets = self.buckets;
-        // Asks the map for its length: the contract of that call says that the keys rise, which the proof needs.
+        // Asks the map for its length, because the contract of that call states that the keys rise. The proof needs
+        // this.
         let _length = buckets.len();
         let mut left = 0;
         while let Some((_, bucket)) = buckets.pop_first() {

@@ -1,4 +1,4 @@
-//! The pending events of a net: an agenda in buckets, one for each moment; its traces; and its motes as they begin.
+//! The pending events of a net, in an agenda with a bucket for each moment; the traces of the net; and its new motes.
 #![tactic(auto)]
 
 mod agenda;

@@ -1,4 +1,4 @@
-//! A mote of a net, as it begins.
+//! A new mote of a net.
 
 ghost use Rattle.std.specs.Prelude.{◌≡◌, ◌<◌, length, Some, IfOk};
 ghost use Rattle.mote_node.specs.Public.{node_in};

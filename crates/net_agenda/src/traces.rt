@@ -9,13 +9,13 @@ use std::alloc::AllocError;
 /// A trace with fewer lines than this is short.
 const SHORT: usize = 64;
 
-/// The number of lines for which a long trace has room. This much memory (128 KiB) comes from the system as whole
-/// pages: those to which no line is written cost nothing, and a trace that grows keeps its pages, so that its lines
-/// aren't copied.
+/// The number of lines for which a long trace has room. The system provides this much memory (128 KiB) in whole pages.
+/// Pages to which no line is written cost nothing. A trace that grows keeps its pages, so its lines aren't copied.
 const LONG: usize = 4_096;
 
-/// Makes room for more lines, if there is none. A short trace gets room for four times its lines, since they are
-/// copied then; one that isn't short gets all the room of a long one at once, and a long one grows as a list does.
+/// Makes room for more lines if there isn't enough. A short trace gets room for four times its lines, because its
+/// lines are copied. A trace that is no longer short gets the whole room of a long trace at once. A long trace grows
+/// as any list does.
 fn make_room(trace: &mut Vec<Line>, more: usize) -> Result<(), AllocError>
     ensures same { trace.new.items ≡ trace.old.items }
 {

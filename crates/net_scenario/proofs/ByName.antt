@@ -1,4 +1,4 @@
--- Finding a program among those in byte order of their names.
+-- The search for a program among programs in byte order of their names.
 use Rattle.std.proofs.Common.{◌≡◌, ◌<◌, ◌≤◌, ◌+◌, ⊎_elim, ℕ, zero, suc, Bool, true, false, List, [], ◌∷◌, map, length}
 use Rattle.std.proofs.Common.{get_or, refl, sym, ap, ◌∙◌, arith, Some, None, String, Global, string_bytes, string_cmp}
 use Rattle.std.proofs.Common.{Ordering, Less, Equal, Greater, nat_cmp, is_eq, HoldsAt, BTreeMap}
@@ -69,7 +69,7 @@ rises ps i j d s lt there =
     (omega (arith, many)) in
     rw (name_at ps i d, name_at ps j d) at less
 
--- an element less than a name is less than an equal one
+-- if an element is less than a name, it is also less than an equal name
 less_than_tied : (a b c : List ℕ) → slice_cmp nat_cmp a b ≡ Less → slice_cmp nat_cmp b c ≡ Equal
     → slice_cmp nat_cmp a c ≡ Less
 less_than_tied a b c less e = ap (λ (x : List ℕ). slice_cmp nat_cmp a x) (sym (same b c e)) ∙ less
@@ -84,7 +84,7 @@ index_rises a b c Greater Less p q less = let z = nat_list_cmp_total.trans a b c
 index_rises a b c Greater Equal p q less = let z = less_than_tied a b c less q in cc
 index_rises a b c Greater Greater p q less = omega arith
 
--- against a name the programs are first less, then equal, then greater
+-- compared with a name, the programs are first less, then equal, then greater
 against : (ps : List NamedProgram) (name : List ℕ) → AreInOrder ps
     → IsNonDecreasingBy (λ p. ordering_index (slice_cmp nat_cmp p.name name)) ps
 against ps name s i j d le there =
@@ -96,7 +96,7 @@ against ps name s i j d le there =
     (rises ps i j d s lt there))
     (eq-or-lt_of_le le)
 
--- the program that a binary search finds is the first of its name
+-- the program that a binary search finds is the first one with its name
 pub found_place : (ps : List NamedProgram) (name : List ℕ) (i : ℕ) → AreInOrder ps → i < length ps
     → HoldsAt (λ p. slice_cmp nat_cmp p.name name ≡ Equal) ps i
     → Some i ≡ position_from (λ p. bytes_eq p.name name) 0 ps
@@ -110,7 +110,7 @@ found_place (q ∷ qs) name i s lt h =
     sym (first_at (λ (p : NamedProgram). bytes_eq p.name name) ps 0 i q lt (tied (get_or ps i q).name name (h q)) less
     ∙ ap Some sum)
 
--- if a binary search finds none, none has the name
+-- if a binary search finds no program, no program has the name
 pub no_place : (ps : List NamedProgram) (name : List ℕ) (i : ℕ) → AreInOrder ps
     → (IsNonDecreasingBy (λ p. ordering_index (slice_cmp nat_cmp p.name name)) ps
     → IsPartitionPoint (λ p. slice_cmp nat_cmp p.name name ≡ Less) (λ p. slice_cmp nat_cmp p.name name ≡ Greater)
@@ -146,7 +146,7 @@ names_are (e ∷ es) (p ∷ ps) r =
     let rest = names_are es ps r.2 in
     cc
 
--- programs read from a table are in byte order of their names
+-- programs that were read from a table are in byte order of their names
 pub read_in_order : (m : BTreeMap (String Global) Value) (ps : List NamedProgram) → IsOrdered string_cmp m
     → AllRead (texts_of (table_view m)) (map named_tree ps) → AreInOrder ps
 read_in_order m ps ordered r = rw (names_are m.entries ps r) (bytes_in_order (keys_of m.entries) ordered)

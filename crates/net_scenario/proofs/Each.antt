@@ -17,7 +17,8 @@ first_of_item : {Y : Type 0} (f : Members → Option Y) (o : Option Members) (ts
 first_of_item f None ts = refl
 first_of_item f (Some ms) ts = refl
 
--- the first fault of the items from i on is that of the item at i, if it is a table with one, else of those after it
+-- the first fault of the items from i on is that of the item at i, if it is a table with a fault, and otherwise that
+-- of the items after it
 pub after_item : {Y : Type 0} (f : Members → Option Y) (vs : List Value) (i : ℕ) (d : Value) → i < length vs
     → first_some f (tables_in (items_view (drop i vs)))
     ≡ option_or (option_map_or f (as_table (view (get_or vs i d))) None)
@@ -40,7 +41,7 @@ first_some-append f [] ys = refl
 first_some-append f (x ∷ xs) ys = rw (first_some-append f xs ys)
     (sym (or_assoc (f x) (first_some f xs) (first_some f ys)))
 
--- the fault of a document, by the checks that the code makes
+-- the fault of a document, found by the checks in the code
 pub document_fault_of : (top : Members) → document_fault top ≡
     option_or (keys_fault (known_in (version_of top) top_rules) top)
     (option_or (keys_fault (known_in (version_of top) medium_rules) (table_at (codes "medium") top))
@@ -59,7 +60,7 @@ front_of_item : (o : Option Members) (ts : List Members) → option_map_or (λ m
 front_of_item None ts = refl
 front_of_item (Some ms) ts = refl
 
--- the tables from i on
+-- the tables among the items from i on
 pub tables_after_item : (vs : List Value) (i : ℕ) (d : Value) → i < length vs
     → tables_in (items_view (drop i vs)) ≡ option_to_list (as_table (view (get_or vs i d)))
     ++ tables_in (items_view (drop (i + 1) vs))
@@ -70,7 +71,7 @@ pub or_none : {Y : Type 0} (o p : Option Y) → option_or o p ≡ None → (o �
 or_none None p h = (refl, h)
 or_none (Some x) p h = cc
 
--- neither the item at i nor those after it have a fault
+-- if the items from i on have no fault, the item at i and the items after it have none
 pub none_from : {Y : Type 0} (f : Members → Option Y) (vs : List Value) (i : ℕ) (d : Value) → i < length vs
     → d ≡ get_or vs i d → first_some f (tables_in (items_view (drop i vs))) ≡ None
     → (option_map_or f (as_table (view d)) None ≡ None)
@@ -86,7 +87,7 @@ pub none_at : {Y : Type 0} (f : Members → Option Y) (vs : List Value) (i : ℕ
 none_at f vs i d ms within is h table =
     ap (λ o. option_map_or f o None) table ∙ (none_from f vs i d within is h).0
 
--- the tables from i on, by the table of the item at i
+-- the tables among the items from i on, found with the table of the item at i
 tables_from : (vs : List Value) (i : ℕ) (d : Value) (o : Option Members) → i < length vs → d ≡ get_or vs i d
     → o ≡ as_table (view d)
     → tables_in (items_view (drop i vs)) ≡ option_to_list o ++ tables_in (items_view (drop (i + 1) vs))
@@ -94,7 +95,7 @@ tables_from vs i d o within is table = tables_after_item vs i d within
     ∙ ap (λ t. option_to_list t ++ tables_in (items_view (drop (i + 1) vs)))
     (sym (table ∙ ap (λ v. as_table (view v)) is))
 
--- the result of the tables, after the item at i: a table, with the result b
+-- the results for the tables after the item at i, which is a table with the result b
 pub map_table : {B : Type 0} (g : Members → B) (vs : List Value) (i : ℕ) (d : Value) (ms : Members) (b : B)
     (all before after : List B) → i < length vs → d ≡ get_or vs i d → Some ms ≡ as_table (view d) → b ≡ g ms
     → after ≡ before ++ (b ∷ []) → all ≡ before ++ map g (tables_in (items_view (drop i vs)))
@@ -105,7 +106,7 @@ map_table g vs i d ms b all before after within is table gave pushed h =
     ∙ sym (append_assoc before (g ms ∷ []) rest)
     ∙ ap (λ bs. bs ++ rest) (sym (pushed ∙ ap (λ x. before ++ (x ∷ [])) gave))
 
--- the same, if it is no table
+-- the same, if the item at i isn't a table
 pub map_no_table : {B : Type 0} (g : Members → B) (vs : List Value) (i : ℕ) (d : Value) (all before after : List B)
     → i < length vs → d ≡ get_or vs i d → None ≡ as_table (view d) → after ≡ before
     → all ≡ before ++ map g (tables_in (items_view (drop i vs)))
@@ -120,7 +121,7 @@ pub map_all : {B : Type 0} (g : Members → B) (vs : List Value) (i : ℕ) (all 
 map_all g vs i all bs past h =
     sym (h ∙ ap (λ ws. bs ++ map g (tables_in (items_view ws))) (drop_all i vs past) ∙ append-nil bs)
 
--- no table of the document has a fault, and each name is that of a program
+-- no table of the document has a fault, and each name is the name of a program
 pub record Faultless (document : Members) : Type 0 where
   pub top : keys_fault (known_in (version_of document) top_rules) document ≡ None
   pub medium : keys_fault (known_in (version_of document) medium_rules) (table_at (codes "medium") document) ≡ None

@@ -25,7 +25,7 @@ use Rattle.net_scenario.specs.Net.{net_in, radio_in}
 use Rattle.net_scenario.specs.Reading.{Document, document_of, faultless, HasTrees, TellsNet, TellsFault}
 use Rattle.net_scenario.specs.Laws.{NetOrFault}
 
--- some programs' texts are read, or one of them is the first that isn't
+-- the texts of some programs are all read, or one of them is the first that can't be read
 abbrev Reads : List ProgramText → Type 0
 Reads ps = ((trees : List NamedTree) × AllRead ps trees) ⊎ ((name : List ℕ) × (e : ReadError) × FirstRefused ps name e)
 

@@ -14,7 +14,7 @@ use Rattle.net_scenario.specs.Rules.{Rule, needed, has_come, known_in, keys_faul
 use Rattle.net_scenario.specs.Rules.{holds_other_kind, holds_out_of_range}
 use Rattle.net_scenario.specs.Document.{HoldsNumber, HoldsTable, integer_at, number_at}
 
--- a table is faultless at one rule
+-- a table without a fault at one rule
 pub record Keeps (ms : Members) (r : Rule) : Type 0 where
   pub present : misses ms r ≡ false
   pub kind : holds_other_kind ms r ≡ false
@@ -44,7 +44,7 @@ first_known : {X : Type 0} (b : Bool) (p : X → Bool) (x : X) (xs : List X) →
 first_known true p x xs e h = (neither (p x) (list_any p xs) h).0
 first_known false p x xs e h = cc
 
--- the default past the end of some rules
+-- the value past the end of a list of rules
 abbrev pub no_rule : Rule
 no_rule = needed First [] Table
 
@@ -56,7 +56,7 @@ none_known v p (r ∷ rs) zero lt k h = first_known (has_come r.since v) p r (kn
 none_known v p (r ∷ rs) (suc i) lt k h = none_known v p rs i (omega arith) k
     (rest_known (has_come r.since v) p r (known_in v rs) h)
 
--- a table without fault keeps each rule of its version
+-- a table without a fault keeps each rule of its version
 pub keeps_all : (v : Version) (rs : List Rule) (ms : Members) → keys_fault (known_in v rs) ms ≡ None → (i : ℕ)
     → i < length rs
     → has_come (get_or rs i no_rule).since v ≡ true → Keeps ms (get_or rs i no_rule)
@@ -94,7 +94,7 @@ pub number_kept : {since : Version} (low high : ℤ) (name : List ℕ) (ms : Mem
     → Keeps ms (needed since name (Number low high)) → HoldsNumber low high name ms
 number_kept low high name ms k = held_number low high name ms (get_member name ms) refl k.present k.kind k.range
 
--- a number that is not negative and within 32 bits
+-- a number that is not negative and has at most 32 bits
 pub natural_kept : {since : Version} (high : ℕ) (name : List ℕ) (ms : Members) → high ≤ 4294967295
     → Keeps ms (needed since name (Number (pos 0) (pos high))) → HoldsNumber (pos 0) (pos 4294967295) name ms
 natural_kept high name ms fits k =
@@ -103,7 +103,7 @@ natural_kept high name ms fits k =
     let below = n.below in
     record { value = n.value; held = n.held; above = n.above; below = omega (arith, ints) }
 
--- a number within 32 bits with a sign
+-- a signed number with at most 32 bits
 pub signed_kept : {since : Version} (low high : ℤ) (name : List ℕ) (ms : Members) → negsuc 2147483647 ≤ℤ low
     → high ≤ℤ pos 2147483647 → Keeps ms (needed since name (Number low high))
     → HoldsNumber (negsuc 2147483647) (pos 2147483647) name ms
@@ -127,7 +127,7 @@ held_table name ms (Some (table x)) e a b = record { inner = x; held = e }
 within_abs : (far : ℕ) (z : ℤ) → neg_ℤ (pos far) ≤ℤ z → z ≤ℤ pos far → unsigned_abs z ≤ far
 within_abs far z a b = omega (arith, ints)
 
--- a number read is within the limits that its key holds
+-- a number that was read is within the limits of its key
 pub natural_within : (high : ℕ) (name : List ℕ) (ms : Members) (n : ℕ) → HoldsNumber (pos 0) (pos high) name ms
     → integer_at name ms ≡ Some (pos n) → n ≤ high
 natural_within high name ms n h e =
@@ -136,7 +136,7 @@ natural_within high name ms n h e =
     let same : h.value ≡ pos n = cc in
     omega (arith, ints)
 
--- a signed number read is no farther from 0
+-- a signed number that was read is no farther from 0 than its limit
 pub signed_within : (far : ℕ) (name : List ℕ) (ms : Members) → HoldsNumber (neg_ℤ (pos far)) (pos far) name ms
     → unsigned_abs (number_at name ms) ≤ far
 signed_within far name ms h =

@@ -1,4 +1,4 @@
--- The table of programs and the programs read, and the number of motes.
+-- The table of programs, the programs that were read, and the number of motes.
 use Rattle.std.proofs.Common.{◌≡◌, ◌≤◌, ◌≤ℤ◌, ℕ, ℤ, pos, Bool, true, false, not, ◌&&◌, cond, List, [], ◌∷◌, length}
 use Rattle.std.proofs.Common.{refl, sym, ap, ◌∙◌, arith, Option, Some, None, is_none, unwrap_or, find, nat_le}
 use Rattle.std.proofs.Common.{Ordering, Less, Equal, Greater, nat_cmp, is_eq}
@@ -26,7 +26,7 @@ use Rattle.net_scenario.proofs.Each.{or_none}
 use Rattle.net_scenario.proofs.Keeps.{Keeps, passed, neither, both, le_of}
 use borrow.Author.Tests.{leb-true}
 
--- the test for equal bytes holds of equal texts
+-- the test for equal bytes is true for equal texts
 eq_is : (xs ys : List ℕ) → xs ≡ ys → bytes_eq xs ys ≡ true
 eq_is xs ys h = (bytes_eq-Decides xs ys).1 h
 
@@ -44,7 +44,7 @@ named_first k d held t rest name Equal false n c e h more =
     let yes : bytes_eq t.name name ≡ true = eq_is _ _ (n ∙ sym same) in
     cc
 
--- a name that the table has is that of a program read
+-- each name in the table is the name of a program that was read
 pub named_read : (ms : Members) (ts : List NamedTree) (name : List ℕ) → AllRead (texts_of ms) ts
     → is_none (get_member name ms) ≡ false
     → is_none (find (λ t. bytes_eq t.name name) ts) ≡ false
@@ -67,7 +67,7 @@ none_or : {Y : Type 0} (o p : Option Y) → o ≡ None → p ≡ None → option
 none_or None p a b = b
 none_or (Some x) p a b = cc
 
--- if each mote's program is in the table, it is among those read
+-- if each mote's program is in the table, it is among the programs that were read
 pub all_read : (ms : Members) (ts : List NamedTree) (motes : List Members) → AllRead (texts_of ms) ts
     → first_some (program_fault ms) motes ≡ None → first_some (unread_fault ts) motes ≡ None
 all_read ms ts [] r h = refl
@@ -104,7 +104,7 @@ held : (low high : ℕ) (o : Option Data) → option_map_or (λ d. not (is_in_ra
 held low high None h = omega arith
 held low high (Some d) h = held_tables low high (as_array d) h
 
--- there are no more tables at a key than its rule allows
+-- a key has at most as many tables as its rule allows
 pub tables_kept : {since : Version} (low high : ℕ) (name : List ℕ) (ms : Members)
     → Keeps ms (needed since name (Tables low high)) → length (tables_in (items_at name ms)) ≤ high
 tables_kept low high name ms k = held low high (get_member name ms) k.range
@@ -136,7 +136,7 @@ least_held low high (Some (array ds)) a b c =
     (and_parts (nat_le low (items_len ds)) (nat_le (items_len ds) high) (not_false _ c)).0 in
     omega (arith, e)
 
--- there are no fewer tables at a key than its rule asks for
+-- a key has at least as many tables as its rule requires
 pub tables_asked : {since : Version} (low high : ℕ) (name : List ℕ) (ms : Members)
     → Keeps ms (needed since name (Tables low high)) → low ≤ length (tables_in (items_at name ms))
 tables_asked low high name ms k = least_held low high (get_member name ms) k.present k.kind k.range
@@ -148,7 +148,7 @@ held_step Less test x d rest h more e = more e
 held_step Greater test x d rest h more e = more e
 held_step Equal test x d rest h more e = let same : x ≡ d = cc in rw (sym same) h
 
--- if no value of a table passes a test, the value at a key doesn't
+-- if no value of a table passes a test, the value at a key doesn't pass it
 pub none_held : (test : Data → Bool) (ms : Members) (name : List ℕ) (d : Data) → values_any test ms ≡ false
     → get_member name ms ≡ Some d → test d ≡ false
 none_held test no_members name d h e = cc
@@ -157,7 +157,7 @@ none_held test (member k x ms) name d h e =
     held_step (slice_cmp nat_cmp name k) test x d (get_member name ms) parts.0
     (λ more. none_held test ms name d parts.1 more) e
 
--- a length read is within the limits
+-- a length that was read is within the limits
 pub length_within : (ms : Members) (name : List ℕ) (z : ℤ) → lengths_fault ms ≡ None
     → get_member name ms ≡ Some (integer z)
     → (pos shortest_queue ≤ℤ z) × (z ≤ℤ pos longest_queue)
@@ -186,7 +186,7 @@ length_kept ms name (datetime t) h e = let kind = kind_of_length ms name (dateti
 length_kept ms name (array ds) h e = let kind = kind_of_length ms name (array ds) h e in cc
 length_kept ms name (table ts) h e = let kind = kind_of_length ms name (table ts) h e in cc
 
--- as the code reads it
+-- the same length, as the code reads it
 pub length_fits : (ms : Members) (name : List ℕ) → HoldsNumber (pos shortest_queue) (pos longest_queue) name ms
     → HoldsNumber (pos 0) (pos 4294967295) name ms
 length_fits ms name n =
@@ -194,7 +194,7 @@ length_fits ms name n =
     let below = n.below in
     record { value = n.value; held = n.held; above = omega (arith, ints); below = omega (arith, ints) }
 
--- the number read is within the limits
+-- the number that was read is within the limits
 pub length_read : (ms : Members) (name : List ℕ) (n : ℕ) → HoldsNumber (pos shortest_queue) (pos longest_queue) name ms
     → integer_at name ms ≡ Some (pos n)
     → (shortest_queue ≤ n) × (n ≤ longest_queue)

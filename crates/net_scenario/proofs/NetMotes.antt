@@ -1,4 +1,4 @@
--- The motes of a net by their tables.
+-- The motes of a net, made from their tables.
 use Rattle.std.proofs.Common.{◌≡◌, ◌<◌, ◌≤◌, ◌&&◌, le-leb, lt-ltb, ℕ, suc, List, [], ◌∷◌, map, length, refl, ap, arith}
 use Rattle.std.proofs.Common.{Some, None, cond, ◌∙◌, Bool, true, false, codes, IsTrue, IsSome, is_none, ◌+◌, find}
 use Rattle.std.proofs.Common.{rules, ◌++◌}
@@ -74,7 +74,7 @@ pub some_place : (ps : List NamedProgram) (name : List ℕ) (k : ℕ)
 some_place [] name k h = cc
 some_place (p ∷ ps) name k h = some_first p ps name k (bytes_eq p.name name) h (some_place ps name (k + 1))
 
--- the mote of a table, by the index of its program and the length of its queue
+-- the mote that is made from a table, with the index of its program and the length of its queue
 pub mote_is : (ps : List NamedProgram) (queue ms : Members) (name : List ℕ) (i q : ℕ)
     → name ≡ text_at (codes "program") ms
     → position_from (λ q. bytes_eq q.name name) 0 ps ≡ Some i → q ≡ queue_of queue name
@@ -95,7 +95,7 @@ pub place_within : (ps : List NamedProgram) (name : List ℕ) (i : ℕ) → posi
     ≡ Some i → i < length ps
 place_within ps name i h = let f = found ps name 0 i h in omega (arith, f.is, f.within)
 
--- a mote's program is found, unless that is a fault
+-- the program of a mote is found, unless it is a fault that the program doesn't exist
 pub read_is_found : (ps : List NamedProgram) (ms : Members) (name : List ℕ) → unread_fault (map named_tree ps) ms
     ≡ None → name ≡ text_at (codes "program") ms
     → IsSome (position_from (λ q. bytes_eq q.name name) 0 ps)
@@ -105,13 +105,13 @@ read_is_found ps ms name h name-is =
 both_true : (a b : Bool) → a ≡ true → b ≡ true → (a && b) ≡ true
 both_true a b x y = rw (x, y) refl
 
--- a program within the list and a length within the limits
+-- a mote whose program is in the list, and whose length of the queue is within the limits
 pub is_mote : (n i q : ℕ) → i < n → shortest_queue ≤ q → q ≤ longest_queue
     → IsTrue (is_mote_of n (record { program = i; queue = q }))
 is_mote n i q a b c = both_true _ _ (lt-ltb i n a)
     (both_true _ _ (le-leb shortest_queue q b) (le-leb q longest_queue c))
 
--- all the elements of a list pass with one more that passes
+-- if all elements of a list pass a test, and one more element passes it, all elements of the longer list pass it
 pub all_push : {X : Type 0} (p : X → Bool) (xs : List X) (x : X) → IsTrue (list_all p xs) → IsTrue (p x)
     → IsTrue (list_all p (xs ++ (x ∷ [])))
 all_push p xs x all this = list_all-append p xs (x ∷ []) ∙ both_true _ _ all (both_true _ _ this refl)

@@ -35,7 +35,7 @@ one_reading laws (p ∷ ps) (t ∷ ts) (u ∷ us) a b =
     let rest : ts ≡ us = one_reading laws ps ts us a.2 b.2 in
     cc
 
--- a program among those read has a tree
+-- a program that was read has a tree
 tree_of_read : (before : List ProgramText) (p : ProgramText) (after : List ProgramText) (ts : List NamedTree)
     → AllRead (before ++ p ∷ after) ts
     → (t : Tree) × IsTreeOf p.text t
@@ -51,7 +51,7 @@ read_or_refused laws ps ts name e a m =
     let t = tree_of_read m.before (record { name = name; text = m.text }) m.after ts (subst P m.split a) in
     laws.never_both m.text t.0 e.kind e.line t.1 m.matches
 
--- the first program with a fault is one program, if those before it have trees
+-- there is only one first program with a fault if the programs before it have trees
 one_split : ProgramLaws → (b c : List ProgramText) (p q : ProgramText) (r s : List ProgramText)
     (ts us : List NamedTree) (k l : ReadErrorKind) (m n : ℕ)
     → b ++ p ∷ r ≡ c ++ q ∷ s → AllRead b ts → AllRead c us → IsErrorOf p.text k m → IsErrorOf q.text l n → p ≡ q
@@ -116,7 +116,7 @@ never_both laws text n WrongKind a b = let is = a.0.is in cc
 never_both laws text n OutOfRange a b = let is = a.0.is in cc
 never_both laws text n UnknownProgram a b = let is = a.0.is in cc
 
--- a fault that the tables show is the only one
+-- a fault of the tables is the only fault of the text
 of_tables : (text : List ℕ) (e f : ScenarioError) → document_of text ≡ Err e → TellsFault text f → e ≡ f
 of_tables text e (Program name x) a b = let is = b.0.is in cc
 of_tables text e (Medium x) a b = let is = b.0.is in cc

@@ -12,7 +12,7 @@ use Rattle.mote_net.specs.Meaning.{named_tree}
 use Rattle.net_scenario.specs.Programs.{ProgramText, AllRead}
 use Rattle.net_scenario.specs.Reads.{ReadsProgram, ReadsPrograms}
 
--- the programs read so far are a prefix of all, and the rest is still to be read
+-- the programs that were read are a prefix of all programs, and the rest is still to be read
 pub record ReadSoFar (texts : List ProgramText) (trees : List NamedTree) (rest : List ProgramText) : Type 0 where
   pub before : List ProgramText
   pub split : texts ≡ before ++ rest

@@ -1,4 +1,4 @@
--- The meaning of a text, from that of its document.
+-- The meaning of a text, found from the meaning of its document.
 use Rattle.std.proofs.Common.{◌≡◌, ◌≤◌, ℕ, List, length, map, codes, ℤ, pos, Bool, unwrap_or, nat_lt, false, lit<}
 use Rattle.std.proofs.Common.{refl, sym, ap, ◌∙◌, arith, Result, Ok, Err, Option, Some, None}
 use Rattle.std.proofs.lemmas.Bool.Decides.{nat_tests}
@@ -34,7 +34,7 @@ use Rattle.net_scenario.specs.Net.{mote_of_table, place_in, radio_in}
 use Rattle.net_scenario.specs.Reading.{document_of, HasTrees, IsNetOf}
 use Rattle.net_scenario.specs.Reads.{MakesRadio, MakesNet, Answers}
 
--- the result of a document is the meaning of its text
+-- the result for a document is the meaning of its text
 pub answered : (text : List ℕ) (top : Members) (r : Result Net ScenarioError) → document_of text ≡ Ok top
     → MakesNet top r → Answers text r
 answered text top (Ok net) is m = (record { top = top; is = is }, m)
@@ -48,7 +48,7 @@ answered text top (Err WrongKind) is m = absurd m
 answered text top (Err OutOfRange) is m = absurd m
 answered text top (Err UnknownProgram) is m = absurd m
 
--- a program that isn't read
+-- a program that can't be read
 pub refused : (top : Members) (e : ScenarioError) → ReadsPrograms (texts_of (table_at (codes "programs") top)) (Err e)
     → MakesNet top (Err e)
 refused top (Program name e) m = m
@@ -61,7 +61,7 @@ refused top WrongKind m = absurd m
 refused top OutOfRange m = absurd m
 refused top UnknownProgram m = absurd m
 
--- a medium that isn't made
+-- a medium that can't be made
 pub no_medium : (top : Members) (e : ScenarioError) (programs : HasTrees top) → MakesRadio (radio_in top) (Err e)
     → MakesNet top (Err e)
 no_medium top (Program name e) programs m = absurd m
@@ -74,14 +74,14 @@ no_medium top WrongKind programs m = absurd m
 no_medium top OutOfRange programs m = absurd m
 no_medium top UnknownProgram programs m = absurd m
 
--- the fault of a medium as one of the scenario
+-- the fault of a medium as a fault of the scenario
 pub as_reported : (radio : Radio) (e : MediumError) → MakesMedium radio (Err e) → MakesRadio radio (Err (of_medium e))
 as_reported radio medium.Memory m = tt
 as_reported radio medium.ZeroBase m = m
 as_reported radio medium.ZeroPer m = m
 as_reported radio medium.BadLoss m = m
 
--- a text short enough, that is TOML with a table without fault, has that document
+-- a text that is short enough, and is TOML with tables without a fault, has this document
 pub document_is : (text : List ℕ) (top : Members) → length text ≤ longest_text → parse_document text ≡ Some top
     → document_fault top ≡ None → document_of text ≡ Ok top
 document_is text top short parsed faultless =
@@ -107,7 +107,7 @@ made top e flag radio ps ms read end-is flag-is radio-is motes-are =
       matches = rw (same-end, flag-is, same-radio, motes-are) refl;
     }
 
--- as many motes as there are tables of them
+-- there are as many motes as tables of motes
 pub mote_count : (top : Members) (ps : List NamedProgram) (ms : List SetupOfCode) (queue : Members)
     → map (setup_of ps) ms ≡ map (mote_of_table queue (map named_tree ps)) (tables_at (codes "mote") top)
     → length ms ≡ length (tables_at (codes "mote") top)
@@ -115,7 +115,7 @@ mote_count top ps ms queue motes-are =
     sym (length-map ms (setup_of ps)) ∙ ap (λ (l : List MoteSetup). length l) motes-are
     ∙ length-map (tables_at (codes "mote") top) (mote_of_table queue (map named_tree ps))
 
--- there are as few and as many motes as the rules allow
+-- the number of motes is within its limits
 pub few_motes : (top : Members) → Faultless top → length (tables_at (codes "mote") top) ≤ most_motes
 few_motes top f = tables_kept fewest_motes most_motes (codes "mote") top
     (keeps_all (version_of top) top_rules top f.top 4 (lit< tt) refl)
@@ -124,7 +124,7 @@ pub some_motes : (top : Members) → Faultless top → fewest_motes ≤ length (
 some_motes top f = tables_asked fewest_motes most_motes (codes "mote") top
     (keeps_all (version_of top) top_rules top f.top 4 (lit< tt) refl)
 
--- as many places as motes
+-- there are as many places as motes
 pub place_count : (top : Members) (radio : Radio) → MakesRadio (radio_in top) (Ok radio)
     → length radio.places ≡ length (tables_at (codes "mote") top)
 place_count top radio made = ap (λ (r : Radio). length r.places) made.0 ∙ length-map (tables_at (codes "mote") top)

@@ -1,4 +1,4 @@
--- Tables and arrays of code and the data that they mean.
+-- Tables and arrays in the code, and the data that they represent.
 use Rattle.std.proofs.Common.{◌≡◌, ℕ, Bool, ◌&&◌, ◌||◌, nat_le, List, [], ◌∷◌, map, length, is_some, is_none, not}
 use Rattle.std.proofs.Common.{cond, true, false, Some, None, BTreeMap, if◌then◌else◌, String, Global, string_bytes}
 use Rattle.std.proofs.Common.{refl, ap, arith}
@@ -45,14 +45,14 @@ known_first : (b c : Bool) (r : Rule) (rs : List Rule) (p : Rule → Bool) (rest
 known_first true c r rs p rest e h = rw (e, h) refl
 known_first false c r rs p rest e h = h
 
--- a test of the rules that a version has
+-- a test of the rules that a version knows
 pub list_any_known : (version : Version) (p : Rule → Bool) (ks : List Key)
     → list_any p (known_in version (map rule_of ks)) ≡ list_any (λ k. has_come k.since version && p (rule_of k)) ks
 list_any_known version p [] = refl
 list_any_known version p (k ∷ ks) = known_first (has_come k.since version) (p (rule_of k)) (rule_of k) _ p _ refl
     (list_any_known version p ks)
 
--- the fault of a table, by the tests that the code makes
+-- the fault of a table, found by the tests in the code
 pub keys_fault_of : (version : Version) (ks : List Key) (m : BTreeMap (String Global) Value)
     → keys_fault (known_in version (map rule_of ks)) (table_view m) ≡
     (if list_any (λ k. has_come k.since version && misses (table_view m) (rule_of k)) ks then Some MissingKey
@@ -75,7 +75,7 @@ pub members_len_view : (es : List Entry) → members_len (members_view es) ≡ l
 members_len_view [] = refl
 members_len_view (e ∷ es) = omega (arith, members_len_view es)
 
--- the fault of the table of programs, by the tests that the code makes
+-- the fault of the table of programs, found by the tests in the code
 pub names_fault_of : (m : BTreeMap (String Global) Value) → names_fault (table_view m) ≡
     (if list_any (λ k. not (is_program_name (string_bytes k))) (keys_of m.entries) then Some UnknownKey
     else if list_any (λ v. not (is_some (as_str (view v)))) (values_of m.entries) then Some WrongKind
@@ -84,7 +84,7 @@ pub names_fault_of : (m : BTreeMap (String Global) Value) → names_fault (table
 unfolding names_fault
 names_fault_of m = simp (members_any_view, values_any_view, members_len_view)
 
--- the fault of the table of lengths, by the tests that the code makes
+-- the fault of the table of lengths, found by the tests in the code
 pub lengths_fault_of : (m : BTreeMap (String Global) Value) → lengths_fault (table_view m) ≡
     (if list_any (λ v. not (has_kind queue_length (view v))) (values_of m.entries) then Some WrongKind
     else if list_any (λ v. not (is_in_range queue_length (view v))) (values_of m.entries) then Some OutOfRange
@@ -96,7 +96,7 @@ pub lengths_fault_of_none : lengths_fault no_members ≡ None
 unfolding lengths_fault
 lengths_fault_of_none = refl
 
--- the fault of the names of lengths, by the test that the code makes
+-- the fault of the names of lengths, found by the test in the code
 pub queue_fault_of : (programs : Members) (m : BTreeMap (String Global) Value) → queue_fault programs (table_view m) ≡
     (if list_any (λ k. is_none (get_member (string_bytes k) programs)) (keys_of m.entries) then
     Some UnknownProgram else None)

@@ -1,4 +1,4 @@
--- A document without fault keeps the limits of the medium.
+-- A document without a fault keeps the limits of the medium.
 use Rattle.std.proofs.Common.{◌≡◌, ◌≤◌, ℕ, List, [], ◌∷◌, map, codes, refl, sym, ap, ℤ, pos, neg_ℤ, unsigned_abs}
 use Rattle.std.proofs.Common.{unwrap_or, Option, Some, None, lit<, All, zero, suc, arith}
 use Rattle.std.proofs.lemmas.List.{length-map}
@@ -25,13 +25,13 @@ near ms h = (
       (pos 30000) _ _ (keeps_all First mote_rules ms h 1 (lit< tt) refl)),
 )
 
--- no place is farther than a coordinate may be
+-- each coordinate of a place is within its limits
 pub all_near : (ts : List Members) → first_some (keys_fault mote_rules) ts ≡ None → All IsNear (map place_in ts)
 all_near [] h k d lt = absurd (omega arith)
 all_near (t ∷ ts) h zero d lt = near t (or_none _ _ h).0
 all_near (t ∷ ts) h (suc k) d lt = all_near ts (or_none _ _ h).1 k d (omega arith)
 
--- the medium that the code asks for is that of the document
+-- the medium that the code requests is the medium of the document
 pub same_radio : (top : Members) (range base per : ℕ)
     → integer_at (codes "range") (table_at (codes "medium") top) ≡ Some (pos range)
     → integer_at (codes "base") (table_at (codes "medium") top) ≡ Some (pos base)

@@ -1,4 +1,4 @@
--- A document: its tables in the order in which their errors are reported, and their contents.
+-- A document: its tables, in the order in which their errors are reported, and their contents.
 use Rattle.std.specs.Prelude.{◌≡◌, ℕ, ℤ, pos, negsuc, ◌≤ℤ◌, List, [], ◌∷◌, ◌++◌, map, codes, Option, Some, None, String}
 use Rattle.std.specs.Prelude.{option_map, Bool, false, is_none, option_and_then, unwrap_or, if◌then◌else◌}
 use Rattle.std.specs.BTreeMap.{BTreeMap}
@@ -21,23 +21,23 @@ use Rattle.net_scenario.specs.Names.{names_fault, lengths_fault}
 abbrev pub integer_at : List ℕ → Members → Option ℤ
 integer_at name ms = option_and_then as_integer (get_member name ms)
 
--- the flag at a key, false if there is none
+-- the flag at a key; false if there is none
 abbrev pub boolean_at : List ℕ → Members → Bool
 boolean_at name ms = unwrap_or (option_and_then as_bool (get_member name ms)) false
 
--- the text at a key, empty if there is none
+-- the text at a key; empty if there is none
 abbrev pub text_at : List ℕ → Members → List ℕ
 text_at name ms = unwrap_or (option_and_then as_str (get_member name ms)) []
 
--- the table at a key, empty if there is none
+-- the table at a key; empty if there is none
 abbrev pub table_at : List ℕ → Members → Members
 table_at name ms = unwrap_or (option_and_then as_table (get_member name ms)) no_members
 
--- the members of an optional table, none if it is missing
+-- the members of an optional table; none if the table is missing
 abbrev pub members_of : Option (Bor (BTreeMap (String Global) Value)) → Members
 members_of held = unwrap_or (option_map (λ t. table_view t.now) held) no_members
 
--- the items of the array at a key, none if there is no array
+-- the items of the array at a key; none if there is no array
 abbrev pub items_at : List ℕ → Members → Items
 items_at name ms = unwrap_or (option_and_then as_array (get_member name ms)) no_items
 
@@ -58,7 +58,7 @@ first_some f (x ∷ xs) = option_or (f x) (first_some f xs)
 abbrev pub version_of : Members → Version
 version_of top = if option_map_or (int_eq (pos 2)) (integer_at (codes "version") top) false then Second else First
 
--- the keys of a table: those of some rules, any names of programs, or names of programs with lengths of queues
+-- the keys of a table: the keys of these rules, names of programs, or names of programs with lengths of queues
 pub data Keys : Type 0 where
   ruled : List Rule → Keys
   program_names : Keys
@@ -79,17 +79,18 @@ tables_of top =
     ∷ (queue_lengths, table_at (codes "queue") top)
     ∷ map (λ ms. (ruled mote_rules, ms)) (tables_at (codes "mote") top)
 
--- each length of a queue is for one of the programs
+-- the fault of lengths of queues: one is for a name that no program has
 abbrev pub queue_fault : (programs queue : Members) → Option TableFault
 queue_fault programs queue =
     if members_any (λ k. is_none (get_member k programs)) queue then Some UnknownProgram else None
 
--- a mote's program has to be among the programs
+-- the fault of a mote: its program isn't among the programs
 abbrev pub program_fault : (programs mote : Members) → Option TableFault
 program_fault programs mote =
     if is_none (get_member (text_at (codes "program") mote) programs) then Some UnknownProgram else None
 
--- the first fault: table by table, and then of names that no program has
+-- the first fault of a document: first the faults of its tables, one table after another, and then names that no
+-- program has
 unfoldable pub document_fault : Members → Option TableFault
 document_fault top =
     option_or
@@ -98,14 +99,14 @@ document_fault top =
     (queue_fault (table_at (codes "programs") top) (table_at (codes "queue") top))
     (first_some (program_fault (table_at (codes "programs") top)) (tables_at (codes "mote") top)))
 
--- a key holds a whole number from the first to the second
+-- the value at a key is a whole number from `low` to `high`
 pub record HoldsNumber (low high : ℤ) (name : List ℕ) (ms : Members) : Type 0 where
   pub value : ℤ
   pub held : get_member name ms ≡ Some (integer value)
   pub above : low ≤ℤ value
   pub below : value ≤ℤ high
 
--- a key holds a table
+-- the value at a key is a table
 pub record HoldsTable (name : List ℕ) (ms : Members) : Type 0 where
   pub inner : Members
   pub held : get_member name ms ≡ Some (table inner)
@@ -114,7 +115,7 @@ abbrev pub natural : ℤ → ℕ
 natural (pos n) = n
 natural (negsuc n) = 0
 
--- the number at a key, 0 if there is none
+-- the number at a key; 0 if there is none
 abbrev pub number_at : List ℕ → Members → ℤ
 number_at name ms = unwrap_or (integer_at name ms) (pos 0)
 

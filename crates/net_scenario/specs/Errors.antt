@@ -1,4 +1,4 @@
--- The numbers of the faults, and the fault of a part as one of the scenario.
+-- The numbers of the faults, and faults of parts as faults of the scenario.
 use Rattle.net_scenario.specs.declared.error.TableFault.{TableFault}
 use Rattle.net_scenario.specs.declared.error.TableFault.TheVariants as table
 use Rattle.net_scenario.specs.declared.error.ScenarioError.{ScenarioError}

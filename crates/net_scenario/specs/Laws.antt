@@ -7,7 +7,7 @@ use Rattle.net_scenario.specs.declared.error.ScenarioError.{ScenarioError}
 use Rattle.mote_net.specs.Net.{NetModel}
 use Rattle.net_scenario.specs.Reading.{TellsNet, TellsFault}
 
--- the same of the texts of programs
+-- the same laws for the texts of programs
 pub record ProgramLaws : Type 0 where
   pub one_tree : (text : List ℕ) (t u : Tree) → IsTreeOf text t → IsTreeOf text u → t ≡ u
   pub one_fault : (text : List ℕ) (k l : ReadErrorKind) (m n : ℕ) → IsErrorOf text k m → IsErrorOf text l n
@@ -20,7 +20,7 @@ OneNet = (text : List ℕ) (m n : NetModel) → TellsNet text m → TellsNet tex
 abbrev pub NeverBoth : Type 0
 NeverBoth = (text : List ℕ) (n : NetModel) (e : ScenarioError) → TellsNet text n → TellsFault text e → ⊥
 
--- and each has one of them
+-- each text describes a net or has a fault
 abbrev pub NetOrFault : Type 0
 NetOrFault = (text : List ℕ) → ((n : NetModel) × TellsNet text n) ⊎ ((e : ScenarioError) × TellsFault text e)
 

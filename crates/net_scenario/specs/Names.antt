@@ -14,7 +14,7 @@ use Rattle.net_scenario.specs.Rules.{has_kind, is_in_range, members_any}
 abbrev pub is_between : ℕ → ℕ → ℕ → Bool
 is_between low high c = nat_le low c && nat_le c high
 
--- `A-Z a-z 0-9 _ -`
+-- a byte of `A-Z a-z 0-9 _ -`
 abbrev pub is_name_byte : ℕ → Bool
 is_name_byte c = is_between 65 90 c || is_between 97 122 c || is_between 48 57 c || c == 95 || c == 45
 
@@ -36,7 +36,7 @@ names_fault ms =
     else if not (nat_le (members_len ms) most_programs) then Some OutOfRange
     else None
 
--- the length of an event queue
+-- the kind of value that is the length of an event queue
 abbrev pub queue_length : Kind
 queue_length = Number (pos shortest_queue) (pos longest_queue)
 

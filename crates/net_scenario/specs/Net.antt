@@ -14,11 +14,11 @@ use Rattle.net_scenario.specs.Document.{natural, number_at, natural_at, integer_
 use Rattle.net_scenario.specs.Document.{tables_at}
 use Rattle.mote_net.specs.Programs.{NamedTree}
 
--- the program of a name
+-- the program with this name
 abbrev pub program_named : List NamedTree → List ℕ → NamedTree
 program_named trees name = unwrap_or (find (λ t. bytes_eq t.name name) trees) no_program
 
--- the length of the queue in motes of a program
+-- the length of the queue in the motes of a program
 abbrev pub queue_of : (queue : Members) → (program : List ℕ) → ℕ
 queue_of queue program = option_map_or natural (integer_at program queue) usual_queue
 
@@ -49,7 +49,7 @@ radio_in top = record {
   losses = map loss_of (tables_at (codes "loss") top);
 }
 
--- the net of a document and the trees of its programs
+-- the net of a document, if these are the trees of its programs
 abbrev pub net_in : Members → List NamedTree → NetModel
 net_in top trees = record {
   end = natural_at (codes "end") top;
@@ -58,7 +58,7 @@ net_in top trees = record {
   motes = map (mote_of_table (table_at (codes "queue") top) trees) (tables_at (codes "mote") top);
 }
 
--- a mote's program has to be among those read
+-- the fault of a mote whose program isn't among the programs that were read
 abbrev pub unread_fault : List NamedTree → Members → Option TableFault
 unread_fault trees mote =
     if is_none (find (λ t. bytes_eq t.name (text_at (codes "program") mote)) trees) then Some UnknownProgram else None

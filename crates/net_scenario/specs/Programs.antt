@@ -15,13 +15,14 @@ abbrev pub texts_of : Members → List ProgramText
 texts_of no_members = []
 texts_of (member k d ms) = record { name = k; text = unwrap_or (as_str d) [] } ∷ texts_of ms
 
--- each program's text is that of the tree next to it
+-- the text of each program is a text of the tree at the same place
 abbrev pub AllRead : List ProgramText → List NamedTree → Type 0
 AllRead [] [] = Unit {0}
 AllRead (p ∷ ps) (t ∷ ts) = (t.name ≡ p.name) × IsTreeOf p.text t.tree × AllRead ps ts
 AllRead _ _ = ⊥
 
--- the first program that isn't read: those before it are, and the error is the one reported for its text
+-- the first program that can't be read: the programs before it can be read, and this is the error that is reported for
+-- its text
 pub record FirstRefused (programs : List ProgramText) (name : List ℕ) (error : ReadError) : Type 0 where
   pub before : List ProgramText
   pub text : List ℕ

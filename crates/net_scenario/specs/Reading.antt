@@ -16,38 +16,38 @@ use Rattle.net_scenario.specs.Programs.{texts_of, AllRead, FirstRefused}
 use Rattle.mote_net.specs.Net.{NetModel}
 use Rattle.net_scenario.specs.Net.{net_in, radio_in}
 
--- a table without fault, or its first fault
+-- a table without a fault, or the first fault of a table
 abbrev pub faultless : Option Members → Result Members ScenarioError
 faultless None = Err Toml
 faultless (Some top) = option_map_or (λ f. Err (of_table f)) (document_fault top) (Ok top)
 
--- the document of a text, or the first fault that its tables show: the text is short enough, it is TOML, and its
--- tables keep their rules
+-- the document of a text, or the first fault of the text and its tables: the text is too long, it isn't TOML, or a
+-- table doesn't keep its rules
 abbrev pub document_of : List ℕ → Result Members ScenarioError
 document_of text = if nat_lt longest_text (length text) then Err OutOfRange else faultless (parse_document text)
 
--- a text that has a document without fault
+-- a text that has a document without a fault
 pub record Document (text : List ℕ) : Type 0 where
   pub top : Members
   pub is : document_of text ≡ Ok top
 
--- the texts of a document's programs are those of these trees
+-- trees whose texts are the texts of a document's programs
 pub record HasTrees (top : Members) : Type 0 where
   pub trees : List NamedTree
   pub read : AllRead (texts_of (table_at (codes "programs") top)) trees
 
--- the document's programs are all read and its medium has no fault: its net is this
+-- all programs of the document can be read, and its medium has no fault; this is its net
 pub record IsNetOf (top : Members) (net : NetModel) : Type 0 where
   pub programs : HasTrees top
   pub medium : medium_fault (radio_in top) ≡ None
   pub matches : net ≡ net_in top programs.trees
 
--- the document's programs are all read, and its medium has this fault
+-- all programs of the document can be read, and this is the fault of its medium
 pub record IsMediumFaultOf (top : Members) (error : MediumError) : Type 0 where
   pub programs : HasTrees top
   pub medium : medium_fault (radio_in top) ≡ Some error
 
--- the first program of the document that isn't read
+-- the first program of the document that can't be read
 abbrev pub IsRefusedProgramOf : Members → List ℕ → ReadError → Type 0
 IsRefusedProgramOf top name error = FirstRefused (texts_of (table_at (codes "programs") top)) name error
 

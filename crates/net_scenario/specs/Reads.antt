@@ -1,4 +1,4 @@
--- The reading of a scenario's parts, as functions promise it.
+-- The reading of the parts of a scenario, as functions promise it.
 use Rattle.std.specs.Prelude.{◌≡◌, ℕ, List, Some, None, Result, Ok, Err, String, map, Vec}
 use Rattle.std.specs.BTreeMap.{BTreeMap}
 use Rattle.std.specs.declared.alloc.Global.{Global}
@@ -27,14 +27,14 @@ Parses text (Err Toml) = parse_document text ≡ None
 Parses text (Err Memory) = Unit {0}
 Parses text (Err e) = ⊥
 
--- the medium of these, or its fault, unless memory ran out
+-- the medium with these data, or its fault, unless memory ran out
 abbrev pub MakesRadio : Radio → Result Radio ScenarioError → Type 0
 MakesRadio radio (Ok medium) = (medium ≡ radio) × (medium_fault radio ≡ None)
 MakesRadio radio (Err (Medium e)) = medium_fault radio ≡ Some e
 MakesRadio radio (Err Memory) = Unit {0}
 MakesRadio radio (Err e) = ⊥
 
--- the net of a document without fault, or the fault of its programs or its medium, unless memory ran out
+-- the net of a document without a fault, or the fault of its programs or its medium, unless memory ran out
 abbrev pub MakesNet : Members → Result Net ScenarioError → Type 0
 MakesNet top (Ok net) = IsNetOf top (net_of net)
 MakesNet top (Err (Program name e)) = IsRefusedProgramOf top name e
@@ -48,18 +48,18 @@ Answers text (Ok net) = TellsNet text (net_of net)
 Answers text (Err Memory) = Unit {0}
 Answers text (Err e) = TellsFault text e
 
--- programs in byte order of their names, each name once
+-- programs in byte order of their names; each name only once
 abbrev pub AreInOrder : List NamedProgram → Type 0
 AreInOrder ps = IsStrictlySortedBy (slice_cmp nat_cmp) (map (λ p. p.name) ps)
 
--- all programs are read, or the first that isn't is reported, unless an allocation failed
+-- all programs are read, or the first one that can't be read is reported, unless an allocation failed
 abbrev pub ReadsPrograms : List ProgramText → Result (Vec NamedProgram Global) ScenarioError → Type 0
 ReadsPrograms texts (Ok v) = AllRead texts (map named_tree v.items)
 ReadsPrograms texts (Err (Program name e)) = FirstRefused texts name e
 ReadsPrograms texts (Err Memory) = Unit {0}
 ReadsPrograms texts (Err e) = ⊥
 
--- one program is read, or its fault reported, unless an allocation failed
+-- one program is read, or its fault is reported, unless an allocation failed
 abbrev pub ReadsProgram : ProgramText → Result NamedProgram ScenarioError → Type 0
 ReadsProgram p (Ok q) = (q.name ≡ p.name) × IsTreeOf p.text (tree_of q.program)
 ReadsProgram p (Err (Program name e)) = (name ≡ p.name) × IsErrorOf p.text e.kind e.line

@@ -1,4 +1,4 @@
--- The keys of each table, and the first fault of a table against them.
+-- The keys of each table, and the first fault of a table by these keys.
 use Rattle.std.specs.Prelude.{◌+◌, ℕ, pos, neg_ℤ, Bool, true, false, not, ◌&&◌, ◌||◌, nat_le, List, [], ◌∷◌, codes}
 use Rattle.std.specs.Prelude.{Option, Some, None, is_none, is_some, if◌then◌else◌}
 use Rattle.std.specs.List.{filter, list_any}
@@ -16,7 +16,7 @@ use Rattle.net_scenario.specs.declared.error.TableFault.TheVariants.{MissingKey,
 use Rattle.mote_net.specs.Limits.{fewest_motes, most_motes, latest_end}
 use Rattle.net_scenario.specs.Limits.{most_losses, farthest, widest_range, largest_base_or_per, largest_in_loss}
 
--- one key of a table, and the version in which it came
+-- one key of a table, and the version that introduced it
 pub record Rule : Type 0 where
   pub since : Version
   pub name : List ℕ
@@ -29,13 +29,13 @@ needed since name kind = record { since = since; name = name; kind = kind; is_ne
 abbrev pub optional : Version → List ℕ → Kind → Rule
 optional since name kind = record { since = since; name = name; kind = kind; is_needed = false }
 
--- a key that came in a version is in it and in later ones
+-- version `now` has a key that version `since` introduced
 abbrev pub has_come : (since now : Version) → Bool
 has_come First now = true
 has_come Second First = false
 has_come Second Second = true
 
--- the rules of a version
+-- the rules that a version knows
 abbrev pub known_in : Version → List Rule → List Rule
 known_in now rules = filter (λ r. has_come r.since now) rules
 
@@ -76,7 +76,7 @@ mote_rules =
     ∷ needed First (codes "program") Text
     ∷ []
 
--- each item is a table
+-- the items are all tables
 abbrev pub are_tables : Items → Bool
 are_tables no_items = true
 are_tables (item d ds) = is_some (as_table d) && are_tables ds
@@ -92,7 +92,7 @@ has_kind Text d = is_some (as_str d)
 has_kind Table d = is_some (as_table d)
 has_kind (Tables low high) d = option_map_or are_tables (as_array d) false
 
--- a value without a range is in range
+-- a value is within its range; a value without a range is in range
 abbrev pub is_in_range : Kind → Data → Bool
 is_in_range (Number low high) d = option_map_or (λ z. le_z low z && le_z z high) (as_integer d) true
 is_in_range Boolean d = true
@@ -118,7 +118,7 @@ holds_other_kind ms r = option_map_or (λ d. not (has_kind r.kind d)) (get_membe
 abbrev pub holds_out_of_range : Members → Rule → Bool
 holds_out_of_range ms r = option_map_or (λ d. not (is_in_range r.kind d)) (get_member r.name ms) false
 
--- the first fault of a table whose keys are these
+-- the first fault of a table with these keys
 unfoldable pub keys_fault : List Rule → Members → Option TableFault
 keys_fault rules ms =
     if list_any (misses ms) rules then Some MissingKey

@@ -23,7 +23,7 @@ pub fn version_of(top: &Table) -> Version
     }
 }
 
-/// The first fault of the tables among the items.
+/// Checks each table among the items, and reports the first fault.
 #[tactic(auto, using(crate::proofs::Each::after_item))]
 fn check_each(version: Version, items: &[Value], keys: &[Key]) -> Result<(), TableFault>
     ensures checks { Checks result (first_some (keys_fault (known_in version (map rule_of keys.now)))
@@ -37,7 +37,7 @@ fn check_each(version: Version, items: &[Value], keys: &[Key]) -> Result<(), Tab
     Ok(())
 }
 
-/// A mote's program has to be among the programs.
+/// Checks that a mote's program is among the programs.
 fn check_program(programs: &Table, mote: &Table) -> Result<(), TableFault>
     ensures checks { Checks result (program_fault (table_view programs.now) (table_view mote.now)) }
 {
@@ -47,7 +47,7 @@ fn check_program(programs: &Table, mote: &Table) -> Result<(), TableFault>
     }
 }
 
-/// The first mote whose program isn't among the programs is a fault.
+/// Checks each mote, and reports the first one whose program isn't among the programs.
 #[tactic(auto, using(crate::proofs::Each::after_item))]
 fn check_programs(programs: &Table, motes: &[Value]) -> Result<(), TableFault>
     ensures checks { Checks result
@@ -61,7 +61,7 @@ fn check_programs(programs: &Table, motes: &[Value]) -> Result<(), TableFault>
     Ok(())
 }
 
-/// The first fault of a document, table by table, and then of names that no program has.
+/// Checks a document: first its tables, one after another, and then names that no program has.
 ///
 /// # Errors
 /// The first fault of the tables.

@@ -6,7 +6,7 @@ use program_tree::ReadError;
 use radio_medium::MediumError;
 use std::alloc::{AllocError, AllocFailed};
 
-/// A fault of a document's tables. It is reported as the scenario's fault of the same name.
+/// A fault of a document's tables. It is reported as the fault of the scenario with the same name.
 #[derive(Clone, Copy, Debug, PartialEq, Eq)]
 pub enum TableFault {
     MissingKey,
@@ -16,24 +16,25 @@ pub enum TableFault {
     UnknownProgram,
 }
 
-/// The reason why a text describes no net: its first fault, or an allocation that failed in any part of the reading.
+/// The reason for which a text describes no net: its first fault, or an allocation that failed in any part of the
+/// reading.
 #[derive(Debug, PartialEq, Eq, Drop)]
 pub enum ScenarioError {
     /// The text isn't TOML.
     Toml,
     /// A table lacks a key that it needs.
     MissingKey,
-    /// A table has a key that it doesn't know, or a program has a name of another form.
+    /// A table has a key that isn't allowed in it, or the name of a program has another form than a name.
     UnknownKey,
     /// A value isn't of the kind that its key needs.
     WrongKind,
     /// A number or a count is outside its limits, or the text is too long.
     OutOfRange,
-    /// The program of a mote, or of a queue's length, isn't among the programs.
+    /// The program of a mote, or of the length of a queue, isn't among the programs.
     UnknownProgram,
     /// The program with this name can't be read.
     Program(ProgramName, ReadError),
-    /// No medium can be made of these numbers and losses.
+    /// No medium can have these numbers and losses.
     Medium(MediumError),
     /// An allocation failed.
     Memory,

@@ -1,4 +1,5 @@
-//! Laws of what a text describes, each as the contract of a function that only cites the laws of programs' texts.
+//! Laws of the meaning of a text. Each is stated as the contract of a function, which only cites the laws of the texts
+//! of programs.
 ghost use Rattle.net_scenario.specs.Laws.{OneNet, OneFault, NeverBoth, NetOrFault};
 
 use program_reader::laws::{
@@ -23,7 +24,7 @@ pub fn at_most_one_fault()
     tree_or_fault();
 }
 
-/// No text describes a net and has a fault.
+/// No text both describes a net and has a fault.
 pub fn never_a_net_and_a_fault()
     ensures never_both { NeverBoth }
 {

@@ -1,24 +1,24 @@
 //! The limits of a scenario.
 
-/// The longest text, in bytes.
+/// The length of the longest text, in bytes.
 pub const LONGEST_TEXT: usize = 1_048_576;
 
-/// The most motes; there is at least one.
+/// The greatest number of motes. There is at least one mote.
 pub const MOST_MOTES: usize = 1_000;
 
-/// The most programs.
+/// The greatest number of programs.
 pub const MOST_PROGRAMS: usize = 100;
 
-/// The most losses.
+/// The greatest number of losses.
 pub const MOST_LOSSES: usize = 10_000;
 
-/// The longest name of a program, in bytes.
+/// The length of the longest name of a program, in bytes.
 pub const LONGEST_NAME: usize = 32;
 
 /// The latest `end`, in moments.
 pub const LATEST_END: i64 = 1_000_000;
 
-/// The farthest coordinate of a place from 0.
+/// The greatest distance of a coordinate from 0.
 pub const FARTHEST: i64 = 30_000;
 
 /// The widest `range` of the medium.
@@ -30,11 +30,11 @@ pub const LARGEST_BASE_OR_PER: i64 = 1_000_000;
 /// The largest number in a loss.
 pub const LARGEST_IN_LOSS: i64 = 1_000_000;
 
-/// The fewest events that the queue of a mote may hold.
+/// The fewest events for which the queue of a mote may have room.
 pub const SHORTEST_QUEUE: i64 = 1;
 
-/// The most events that the queue of a mote may hold.
+/// The most events for which the queue of a mote may have room.
 pub const LONGEST_QUEUE: i64 = 128;
 
-/// The number of events that the queue of a mote holds if the scenario doesn't say.
+/// The number of events for which the queue of a mote has room if the scenario doesn't name a length.
 pub const USUAL_QUEUE: u16 = 32;

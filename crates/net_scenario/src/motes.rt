@@ -1,4 +1,4 @@
-//! The motes of a document without fault.
+//! The motes of a document without a fault.
 ghost use Rattle.std.specs.Prelude.{◌≡◌, length, map, None, IfOk, IsTrue};
 ghost use Rattle.std.specs.List.{list_all, position_from};
 ghost use Rattle.std.specs.Str.{bytes_eq};
@@ -17,7 +17,7 @@ use mote_net::{MoteSetup, NamedProgram};
 use std::alloc::{AllocError, Global};
 use toml::{Table, Value};
 
-/// The index of the program with a name, among programs in byte order of their names.
+/// The index of the program with this name, among programs in byte order of their names.
 fn index_of(programs: &[NamedProgram], name: &str) -> Option<usize>
     requires are_in_order { AreInOrder programs.now }
     ensures position { result ≡ position_from (λ p. bytes_eq p.name name.now) 0 programs.now }
@@ -28,7 +28,7 @@ fn index_of(programs: &[NamedProgram], name: &str) -> Option<usize>
     }
 }
 
-/// The mote of a table, whose program is among those read.
+/// The mote that a table describes. Its program is among the programs that were read.
 fn mote_of_table(programs: &[NamedProgram], queue: Option<&Table>, table: &Table) -> MoteSetup
     requires in_order { AreInOrder programs.now }
     requires queue { lengths_fault (members_of queue) ≡ None }
@@ -44,7 +44,7 @@ fn mote_of_table(programs: &[NamedProgram], queue: Option<&Table>, table: &Table
     }
 }
 
-/// The motes of the tables among the items, in order.
+/// The motes that the tables among the items describe, in order.
 ///
 /// # Errors
 /// If an allocation failed.

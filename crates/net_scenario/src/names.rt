@@ -1,4 +1,4 @@
-//! The table of programs: any names, each with a text.
+//! The table of programs: each key is a name, and each value a text.
 ghost use Rattle.std.specs.Prelude.{◌≡◌, not, is_some, string_bytes};
 ghost use Rattle.std.specs.List.{list_any, list_all};
 ghost use Rattle.std.specs.Map.{keys_of, values_of};
@@ -44,7 +44,7 @@ fn any_no_text(table: &Table) -> bool
     table.values().any(|value| !value.is_str())
 }
 
-/// The first fault of the table of programs.
+/// Checks the table of programs.
 ///
 /// # Errors
 /// The first fault of the names.

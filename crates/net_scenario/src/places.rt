@@ -10,7 +10,7 @@ use radio_medium::{Loss, Place};
 use std::alloc::{AllocError, Global};
 use toml::{Table, Value};
 
-/// The place of a mote.
+/// The place of a mote, from its table.
 fn place_in(table: &Table) -> Place
     requires no_fault { keys_fault mote_rules (table_view table.now) ≡ None }
     ensures value { result ≡ place_in (table_view table.now) }
@@ -38,7 +38,7 @@ pub fn places_of(alloc: Global, items: &[Value]) -> Result<Vec<Place>, AllocErro
     Ok(places)
 }
 
-/// One loss.
+/// A loss, from its table.
 fn loss_of(table: &Table) -> Loss
     requires no_fault { keys_fault loss_rules (table_view table.now) ≡ None }
     ensures value { result ≡ loss_of (table_view table.now) }

@@ -12,7 +12,7 @@ use program_tree::ReadErrorKind;
 use std::alloc::Global;
 use toml::Table;
 
-/// The program of a text, or its reported error.
+/// Reads the program of a text, or returns the error that is reported.
 fn read_program(alloc: Global, name: &str, text: &str) -> Result<NamedProgram, ScenarioError>
     ensures reads_program { ReadsProgram (record { name = name.now; text = text.now }) result }
 {
@@ -26,7 +26,7 @@ fn read_program(alloc: Global, name: &str, text: &str) -> Result<NamedProgram, S
     }
 }
 
-/// The programs of a table, those too that no mote runs, or the first that can't be read.
+/// Reads the programs of a table, also those that no mote runs, or reports the first one that can't be read.
 ///
 /// # Errors
 /// `Program` with the first program that can't be read and its error; `Memory` if an allocation failed.

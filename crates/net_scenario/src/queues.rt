@@ -17,7 +17,7 @@ use crate::rules::{Kind, fits_kind, fits_range, value_at};
 use crate::values::natural_at;
 use toml::Table;
 
-/// The allowed lengths of a queue.
+/// The kind of value that is the length of a queue, with its limits.
 fn queue_length() -> Kind
     ensures value { result ≡ queue_length }
 {
@@ -40,7 +40,7 @@ fn any_out_of_range(table: &Table) -> bool
         .any(|value| !fits_range(value, queue_length()))
 }
 
-/// The first fault of the table of lengths, which is optional.
+/// Checks the table of lengths, if there is one.
 ///
 /// # Errors
 /// The first fault of the lengths.
@@ -68,7 +68,7 @@ fn any_without_program(programs: &Table, table: &Table) -> bool
         .any(|name| value_at(programs, name.as_str()).is_none())
 }
 
-/// Each length is for one of the programs.
+/// Checks that each length is for one of the programs.
 ///
 /// # Errors
 /// The fault of a queue for a program that the scenario doesn't have.
@@ -84,7 +84,7 @@ pub fn check_queue_names(programs: &Table, queue: Option<&Table>) -> Result<(), 
     Ok(())
 }
 
-/// The length at a name.
+/// The length at the name of a program.
 fn length_at(table: &Table, program: &str) -> u16
     requires no_fault { lengths_fault (table_view table.now) ≡ None }
     ensures value { result ≡ queue_of (table_view table.now) program.now }
@@ -97,7 +97,7 @@ fn length_at(table: &Table, program: &str) -> u16
     }
 }
 
-/// The number of events that the queue holds in motes of a program.
+/// The number of events for which the queue has room in motes with this program.
 pub fn queue_of(queue: Option<&Table>, program: &str) -> u16
     requires no_fault { lengths_fault (members_of queue) ≡ None }
     ensures value { result ≡ queue_of (members_of queue.entry) program.now }

@@ -1,4 +1,4 @@
-//! The net of a scenario's text.
+//! Reading the net of a scenario's text.
 ghost use Rattle.std.specs.Prelude.{◌≡◌, None};
 ghost use Rattle.toml.specs.View.{table_view};
 ghost use Rattle.net_scenario.specs.Document.{document_fault};
@@ -43,7 +43,7 @@ fn medium_of(alloc: Global, top: &Table) -> Result<Medium, ScenarioError>
     Ok(medium)
 }
 
-/// The net of a document without fault, if its programs can be read and there is a medium of its numbers and losses.
+/// The net of a document without a fault, if its programs can be read and a medium can have its numbers and losses.
 fn net_from(alloc: Global, top: &Table) -> Result<Net, ScenarioError>
     requires no_fault { document_fault (table_view top.now) ≡ None }
     ensures makes_net { MakesNet (table_view top.now) result }
@@ -60,9 +60,10 @@ fn net_from(alloc: Global, top: &Table) -> Result<Net, ScenarioError>
 /// Reads the net that a scenario's text describes.
 ///
 /// # Errors
-/// The first fault of the text, looked for in this order: its length; its TOML; its tables in order; the programs that
-/// `queue` and the motes name; the texts of all programs, in byte order of their names; the numbers and losses of the
-/// medium. If an allocation failed, and only then, `Memory` may be returned instead of any of these.
+/// The first fault of the text. Faults are looked for in this order: the text's length; its TOML; its tables, in
+/// order; the programs that `queue` and the motes name; the texts of all programs, in byte order of their names; the
+/// numbers and losses of the medium. If an allocation failed, and only then, `Memory` may be returned instead of any
+/// of these.
 pub fn read_scenario(alloc: Global, text: &str) -> Result<Net, ScenarioError>
     ensures answers { Answers text.now result }
 {

@@ -1,4 +1,4 @@
-//! The keys of each table, and the check of a table against them.
+//! The keys of each table, and the check of a table by its keys.
 ghost use Rattle.std.specs.Prelude.{◌≡◌, ◌&&◌, not, true, false, map, option_map, is_some, string_bytes};
 ghost use Rattle.std.specs.List.{list_any, list_all};
 ghost use Rattle.std.specs.Map.{keys_of};
@@ -19,15 +19,15 @@ use crate::limits::{
 use crate::version::Version::{self, First, Second};
 use toml::{Table, Value};
 
-/// The values that a key may hold.
+/// The kind of values that a key may have.
 #[derive(Clone, Copy)]
 pub enum Kind {
-    /// A whole number from the first to the second.
+    /// A whole number from the first number to the second.
     Number(i64, i64),
     Boolean,
     Text,
     Table,
-    /// An array of tables, whose number is from the first to the second.
+    /// An array of tables. The number of tables is from the first number to the second.
     Tables(usize, usize),
 }
 
@@ -124,7 +124,7 @@ fn are_tables(items: &[Value]) -> bool
     items.iter().all(|item| item.is_table())
 }
 
-/// Returns `true` if a value is of this kind, whatever its range.
+/// Returns `true` if a value is of this kind, whether or not it is within its range.
 #[tactic(auto, using(crate::proofs::Tables::are_tables_view))]
 pub fn fits_kind(value: &Value, kind: Kind) -> bool
     ensures value { result ≡ has_kind kind (view value.now) }
@@ -223,7 +223,7 @@ fn any_out_of_range(version: Version, table: &Table, keys: &[Key]) -> bool
     keys.iter().any(|key| version.has(key.since) && is_out_of_range(table, *key))
 }
 
-/// The first fault of a table against the keys that a version has.
+/// Checks a table by the keys that a version knows.
 ///
 /// # Errors
 /// The first fault of the table against these keys.

@@ -30,7 +30,7 @@ pub fn integer_at(table: &Table, name: &str) -> i32
     }
 }
 
-/// The flag at a key, false if there is none.
+/// The flag at a key; `false` if there is none.
 pub fn boolean_at(table: &Table, name: &str) -> bool
     ensures value { result ≡ boolean_at name.now (table_view table.now) }
 {
@@ -40,7 +40,7 @@ pub fn boolean_at(table: &Table, name: &str) -> bool
     }
 }
 
-/// A value's text, empty if it has none.
+/// The text of a value; empty if the value isn't a text.
 pub fn text_of(value: &Value) -> &str
     ensures value { result.now ≡ unwrap_or (as_str (view value.now)) [] }
 {
@@ -50,7 +50,7 @@ pub fn text_of(value: &Value) -> &str
     }
 }
 
-/// The text at a key, empty if there is none.
+/// The text at a key; empty if there is none.
 pub fn text_at<'a>(table: &'a Table, name: &str) -> &'a str
     ensures value { result.now ≡ text_at name.now (table_view table.now) }
 {
@@ -84,7 +84,7 @@ pub fn table_if_any<'a>(table: &'a Table, name: &str) -> Option<&'a Table>
     }
 }
 
-/// The items of the array at a key, or none if there is no array.
+/// The items of the array at a key; none if there is no array.
 pub fn items_at<'a>(table: &'a Table, name: &str) -> &'a [Value]
     ensures items { items_view result.now ≡ items_at name.now (table_view table.now) }
 {

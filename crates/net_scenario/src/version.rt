@@ -2,7 +2,7 @@
 ghost use Rattle.std.specs.Prelude.{◌≡◌};
 ghost use Rattle.net_scenario.specs.Rules.{has_come};
 
-/// A version of the format. The second has all of the first, and more.
+/// A version of the format. The second version has all keys of the first, and more.
 #[derive(Clone, Copy, Debug, PartialEq, Eq)]
 pub enum Version {
     First,
@@ -10,7 +10,7 @@ pub enum Version {
 }
 
 impl Version {
-    /// Returns `true` if this version has the keys that the other introduced.
+    /// Returns `true` if this version has the keys that version `since` introduced.
     pub fn has(self, since: Version) -> bool
         ensures value { result ≡ has_come since self }
     {

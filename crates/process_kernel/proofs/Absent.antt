@@ -34,7 +34,7 @@ module _ (code : Code) (part : Part) (none : whole_of code part ≡ []) where
   fresh : fresh_of code part ≡ at_end part
   fresh = ap (λ w. record { part = part; mark = AtRest; place = before false w }) none
 
-  -- a fresh thread of it ends at once
+  -- a fresh thread of this part ends at once
   goes_on : (e : Event) (looks : Looks) (vars : List ℕ) (units : ℕ)
       → continued code part e looks ended vars units
       ≡ record { step = step.Done Ended; remainder = fresh_of code part; variables = vars; units = units }
@@ -74,7 +74,7 @@ module _ (code : Code) (part : Part) (none : whole_of code part ≡ []) where
   runs calls s p e = ap (λ (m : Stepped). after_step calls code p e m.step m.remainder m.state)
       (steps s p e (slice_get s.variables p) refl)
 
-  -- its run changes nothing
+  -- a run of this part changes nothing
   pub nothing_runs : (k : ℕ) (s : State) (p : ℕ) (e : Event) → 0 < k → part_of (calls_of k) s code part p e ≡ Goes tt s
   nothing_runs k s p e more =
       ap (λ o. o >>= λ _ s1. Goes tt s1)

@@ -13,7 +13,7 @@ use Rattle.process_kernel.specs.Operation.{run_of}
 use Rattle.process_kernel.specs.Call.{calls_of, call_of}
 use Rattle.process_kernel.specs.Views.{StepMatches}
 
--- a step that follows the rule of a call follows the calls that nest one deeper
+-- a step that follows the rule of a call, over any deep enough calls, follows the calls that nest one deeper
 pub deeper_call : (r : Result (Unit {0}) Stop) (new s : State) (p : Proc) (e : Event) →
     ((k : ℕ) → s.units ≤ k → StepMatches r new (call_of (calls_of k) s p e)) → (k : ℕ) → s.units < k
     → StepMatches r new ((calls_of k).call s p e)
@@ -28,14 +28,14 @@ unfolding calls_of
 deeper_run r new s code t p e matches zero enough = absurd (omega arith)
 deeper_run r new s code t p e matches (suc k) enough = matches k (omega arith)
 
--- the calls that nest m deep run a thread by those that nest one less
+-- the calls that nest m deep run a thread with the calls that nest one less deep
 pub run_opens : (s : State) (code : Code) (t : Remainder) (p : ℕ) (e : Event) (m : ℕ) → 0 < m
     → (calls_of m).run s code t p e ≡ run_of (calls_of (m - 1)) s code t p e
 unfolding calls_of
 run_opens s code t p e zero h = absurd (omega arith)
 run_opens s code t p e (suc m) h = let one : suc m - 1 ≡ m = omega arith in rw one refl
 
--- a halt is an end; out of memory no claim is made
+-- a halt ends a step; if memory ran out, nothing is claimed
 pub halt_tells : (A : Type 0) (stop : Stop) (s new : State) → (stop ≡ Halted → new ≡ halted_of s)
     → StepMatches {A = A} (Err stop) new (Ends (halted_of s))
 halt_tells A Halted s new halts = ap Ends (sym (halts refl))

@@ -24,7 +24,7 @@ fresh_remainders (c ∷ cs) [] are enough = absurd (omega arith)
 fresh_remainders (c ∷ cs) (t ∷ ts) are enough =
     let rest = fresh_remainders cs ts are.1 (omega arith) in ap (λ r. r ∷ remainders_of cs ts) (are.0 c) ∙ ap (λ rs. fresh_of c Body ∷ rs) rest
 
--- the part of a list from one of its elements on
+-- the part of a list that begins with one of its elements
 pub drop_from : {A : Type 0} (xs : List A) (i : ℕ) (x : A) → slice_get xs i ≡ Some x → drop i xs ≡ x ∷ drop (i + 1) xs
 drop_from [] i x is = cc
 drop_from (y ∷ ys) zero x is = let same : y ≡ x = cc in ap (λ z. z ∷ ys) same
@@ -36,7 +36,7 @@ drop_past [] (suc i) past = refl
 drop_past (x ∷ xs) zero past = absurd (omega arith)
 drop_past (x ∷ xs) (suc i) past = drop_past xs i (omega arith)
 
--- the variables of one more process are added
+-- the variables of one more process
 pub one_more : (cs : List Code) (i : ℕ) (c : Code) (vs ws : List (List ℕ)) → slice_get cs i ≡ Some c → ws ≡ vs ++ c.starts ∷ [] → vs ++ map (λ x. x.starts) (drop i cs) ≡ map (λ x. x.starts) cs
     → ws ++ map (λ x. x.starts) (drop (i + 1) cs) ≡ map (λ x. x.starts) cs
 one_more cs i c vs ws is push before =

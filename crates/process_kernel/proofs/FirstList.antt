@@ -1,4 +1,4 @@
--- The process list of the beginning of a boot or a run.
+-- The process list at the beginning of a boot or a run.
 use Rattle.std.proofs.Common.{ℕ, zero, suc, ◌≡◌, ◌+◌, ◌∙◌, true, List, [], ◌∷◌, drop, Some, ap, sym, arith}
 use Rattle.std.specs.Prelude.{if◌then◌else◌, slice_get}
 use Rattle.process_kernel.specs.declared.machine.Machine.{Machine}
@@ -7,11 +7,11 @@ use Rattle.process_kernel.specs.Members.{holds_member}
 use Rattle.process_kernel.specs.Views.{first_list_of}
 use Rattle.process_kernel.proofs.First.{drop_from}
 
--- it is the current list while that is known to be numbered
+-- while the current list is known to be numbered, it is the list at the beginning
 first_is_current : (m : Machine) → m.is_numbered ≡ true → first_list_of m ≡ m.members.items
 first_is_current m numbered = ap (λ b. if b then m.members.items else m.first_list.items) numbered
 
--- after some turns of a walk over it, the rest begins with the incarnation at the next place
+-- after some turns of a walk over this list, the rest begins with the incarnation at the next place
 pub rest_begins : (old now : Machine) (place : ℕ) (m : Member) → old.is_numbered ≡ true
     → first_list_of now ≡ first_list_of old → slice_get (first_list_of now) place ≡ Some m
     → drop place old.members.items ≡ m ∷ drop (place + 1) old.members.items

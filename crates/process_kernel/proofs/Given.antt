@@ -20,7 +20,7 @@ use Rattle.process_kernel.specs.Views.{state_of, mote_of, Begins}
 use Rattle.process_kernel.specs.Public.{mote_in, BeginsWith, MatchesOutcome, FailsAs, Closes}
 use Rattle.process_kernel.specs.Given.{Given, given}
 
--- a kernel that ran out of memory in an earlier call
+-- a kernel that ran out of memory in an earlier call returns `Failed`
 pub failed : (t : Tree) (gives : Mote → List Line → List Sent → Given) (k : Kernel) (out : Out) → k.failed ≡ true
     → MatchesOutcome gives (mote_in t k) out (Err error.Failed) (mote_in t k) out
 unfolding mote_in
@@ -82,14 +82,14 @@ finished t gives k k1 k2 out out' s1 o (Err Halted) result going going1 running 
 finished t gives k k1 k2 out out' s1 o (Err Memory) result going going1 running gives_it matches rest ls ss begins closes =
     rw (going, closes.0, closes.1) (refl, refl, begins)
 
--- a run that ends leaves its machine as it is
+-- the end of a run leaves the machine of its kernel unchanged
 pub machine_kept : (k1 k2 : Kernel) (r : Result ℕ Stop) (result : Result Ran KernelError) → Closes k1 r result k2
     → k2.machine ≡ k1.machine
 machine_kept k1 k2 (Ok left) result closes = ap (λ (k : Kernel). k.machine) closes.1
 machine_kept k1 k2 (Err Halted) result closes = ap (λ (k : Kernel). k.machine) closes.1
 machine_kept k1 k2 (Err Memory) result closes = ap (λ (k : Kernel). k.machine) closes.1
 
--- the output by now begins with the output before
+-- the current output begins with the earlier output
 pub begins_with : (old new : Out)
     → ((lines : List Line) (sends : List Sent) → Begins lines sends old → Begins lines sends new) → BeginsWith old new
 unfolding Begins
@@ -118,7 +118,7 @@ begins_further a b c h g = record {
   );
 }
 
--- a mote that had not failed has not failed by now, and the output before is still there
+-- a mote that had not failed earlier has still not failed, and the current output begins with the earlier output
 abbrev pub GoesOnSoFar : Option Mote → Out → Option Mote → Out → Type 0
 GoesOnSoFar None out now out' = (now ≡ None) × (out' ≡ out)
 GoesOnSoFar (Some m) out now out' = ((m' : Mote) × (now ≡ Some m')) × BeginsWith out out'
@@ -138,7 +138,7 @@ so_far_next gives (Some m) out None out1 r new out2 so_far matches more = let so
 so_far_next gives (Some m) out (Some m1) out1 r new out2 so_far matches more =
     ((matches.0, matches.1), begins_further out out1 out2 so_far.1 more)
 
--- and one that returned an error
+-- one more call that returned an error
 pub so_far_fails : (gives : Mote → List Line → List Sent → Given) (old : Option Mote) (out : Out)
     (now : Option Mote) (out1 : Out) (e : KernelError) (new : Option Mote) (out2 : Out)
     → GoesOnSoFar old out now out1 → MatchesOutcome gives now out1 (Err e) new out2 → FailsAs old out e new out2

@@ -41,7 +41,7 @@ length-places : (ms : List Member) → length (places ms) ≡ length ms
 length-places [] = refl
 length-places (m ∷ ms) = ap suc (length-places ms)
 
--- no more processes are on the list than the mote has
+-- the list has at most as many processes as the mote
 pub length-le : (ms : List Member) (n : ℕ) → AreMembers ms n → length ms ≤ n
 length-le ms n are =
     let ks : All (λ k. k < n) (places ms) = All-from_recursion _ _ (below n ms (recursion_from_All _ ms are.within)) in
@@ -49,7 +49,7 @@ length-le ms n are =
     (λ q there. All-contains (λ j. j < n) (places ms) q ks (Contains-from_any eqb-true q (places ms) there)) in
     omega (arith, most, length-places ms)
 
--- a process of the mote that is not on the list is put there
+-- a process of the mote that is not on the list is put at its front
 pub AreMembers-cons : (m : Member) (ms : List Member) (n : ℕ) → AreMembers ms n → place_of m.process < n
     → is_found_in ms m.process ≡ false → AreMembers (m ∷ ms) n
 AreMembers-cons m ms n are within away = record {
@@ -57,7 +57,7 @@ AreMembers-cons m ms n are within away = record {
   within = All-cons (λ x. place_of x.process < n) m ms within are.within;
 }
 
--- and there is room for it
+-- there is room for this process
 pub length-lt : (m : Member) (ms : List Member) (n : ℕ) → AreMembers ms n → place_of m.process < n
     → is_found_in ms m.process ≡ false → length ms < n
 length-lt m ms n are within away =
@@ -123,7 +123,7 @@ take_all (w ∷ ws) rest = ap (λ l. w ∷ l) (take_all ws rest)
 pub refill_same : (xs ws : List Member) → length ws ≡ length xs → refill (length xs) xs ws ≡ ws
 refill_same xs ws same = ap (λ n. take n (ws ++ drop (length ws) xs)) (sym same) ∙ take_all ws (drop (length ws) xs)
 
--- one more has its new number
+-- one more member gets its new number
 pub number_more : (k p n : ℕ) (ms : List Member) (d : Member) → p < length ms → n ≡ k + p
     → slice_set (numbered_from k (take p ms) ++ drop p ms) p
     (record { process = (slice_index_or (numbered_from k (take p ms) ++ drop p ms) p d).process; incarnation = n })

@@ -17,14 +17,14 @@ or_false : (a : Bool) → (a || false) ≡ a
 or_false true = refl
 or_false false = refl
 
--- a lower number isn't on it
+-- an incarnation with a number below k isn't on the list
 lower_is_away : (k : ℕ) (ms : List Member) (m : Member) → m.incarnation < k → holds_member (numbered_from k ms) m ≡ false
 lower_is_away k [] m low = refl
 lower_is_away k (x ∷ ms) m low =
     let other : (m.incarnation == k) ≡ false = grind arith in
     rw (other, and_false (is_same m.process x.process)) (lower_is_away (k + 1) ms m (omega (arith, low)))
 
--- one with a number from k on is at its place, or nowhere
+-- an incarnation with a number from k on is at its place of the list, or not on the list
 held_from : (k i : ℕ) (ms : List Member) (m d : Member) → m.incarnation ≡ k + i → i < length ms
     → holds_member (numbered_from k ms) m ≡ is_same m.process (slice_index_or ms i d).process
 held_from k i [] m d is within = absurd (omega arith)

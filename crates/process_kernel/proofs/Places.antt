@@ -17,7 +17,7 @@ use Rattle.process_kernel.specs.declared.process.ProcessState.TheVariants.{Off}
 use Rattle.process_kernel.specs.Processes.{is_alive}
 use Rattle.process_kernel.specs.Looks.{places_from, is_unowned}
 
--- whether the test holds at a place of the list
+-- the result of the test at a place of the list, and false if there is no such place
 abbrev pub test_at : {A : Type 0} → (A → Bool) → Option A → Bool
 test_at test (Some x) = test x
 test_at test None = false
@@ -59,7 +59,7 @@ to_contains : (i : ℕ) (ks : List ℕ) (b : Bool) → list_any (eqb i) ks ≡ b
 to_contains i ks b is =
     (λ h. Contains-from_any eqb-true i ks (is ∙ h), λ h. sym is ∙ list_any-from_Contains nat_eq_equiv i ks h)
 
--- the places of a list are those at which the test holds
+-- a place is among the places found if and only if the test holds there
 pub places_hold : {A : Type 0} (test : A → Bool) (xs : List A) (i : ℕ) (b : Bool)
     → b ≡ test_at test (slice_get xs i) → IsTrue b ↔ Contains (places_from test 0 xs) i
 places_hold test xs i b is =
@@ -76,7 +76,7 @@ alive_at : (o : Option ProcessState) → is_alive (unwrap_or o Off) ≡ test_at 
 alive_at None = refl
 alive_at (Some x) = refl
 
--- a process is among those that are running or called
+-- the place of a process is found if and only if the process is running or called
 pub alive_hold : (xs : List ProcessState) (i : ℕ) (b : Bool) → b ≡ is_alive (unwrap_or (slice_get xs (i + 3)) Off)
     → IsTrue b ↔ Contains (places_from is_alive 0 (drop 3 xs)) i
 alive_hold xs i b is =
@@ -88,7 +88,7 @@ no_owner true (Some p) is = is.0 refl
 no_owner false None is = is.1 refl
 no_owner false (Some p) is = refl
 
--- a timer is among those that nobody owns
+-- a timer is found if and only if it has no owner
 pub unowned_hold : (ts : List Timer) (i : ℕ) (b : Bool) → i < length ts → IsTrue b ↔ IsNone (timer_at ts i).owner
     → IsTrue b ↔ Contains (places_from is_unowned 0 ts) i
 unowned_hold ts i b within is =

@@ -9,7 +9,7 @@ use Rattle.process_kernel.specs.ProcessList.{fresh_at}
 use Rattle.protothread.specs.declared.thread.Thread.{Thread}
 use Rattle.process_kernel.specs.Views.{body_of, remainders_of}
 
--- one thread is replaced
+-- the remainders after one thread is replaced
 pub remainders_set : (cs : List Code) (ts : List (Option (Box Thread))) (p : ℕ) (c : Code) (t : Option (Box Thread)) → slice_get cs p ≡ Some c
     → remainders_of cs (slice_set ts p t) ≡ slice_set (remainders_of cs ts) p (body_of c t)
 remainders_set [] ts p c t is = cc
@@ -17,7 +17,7 @@ remainders_set (d ∷ cs) [] p c t is = refl
 remainders_set (d ∷ cs) (u ∷ ts) zero c t is = let same : d ≡ c = cc in ap (λ x. body_of x t ∷ remainders_of cs ts) same
 remainders_set (d ∷ cs) (u ∷ ts) (suc p) c t is = ap (λ rs. body_of d u ∷ rs) (remainders_set cs ts p c t is)
 
--- nothing is written past the end
+-- setting an element past the end of a list changes nothing
 pub set_past : {A : Type 0} (xs : List A) (i : ℕ) (x : A) → length xs ≤ i → slice_set xs i x ≡ xs
 set_past [] i x past = refl
 set_past (y ∷ ys) zero x past = absurd (omega arith)
@@ -32,7 +32,7 @@ pub remainders_set_past : (cs : List Code) (ts : List (Option (Box Thread))) (p 
     → slice_set (remainders_of cs ts) p r ≡ remainders_of cs ts
 remainders_set_past cs ts p r past = let few = length_remainders cs ts in set_past (remainders_of cs ts) p r (omega (arith, few))
 
--- one thread is fresh again
+-- the remainders after one thread became fresh again
 pub remainders_fresh : (cs : List Code) (ts : List (Option (Box Thread))) (p : ℕ) (t : Option (Box Thread)) → ((code : Code) → body_of code t ≡ fresh_of code Body)
     → remainders_of cs (slice_set ts p t) ≡ fresh_at cs (remainders_of cs ts) p
 remainders_fresh [] ts p t fresh = refl
@@ -46,7 +46,7 @@ fresh_past (c ∷ cs) [] p past = refl
 fresh_past (c ∷ cs) (u ∷ ts) zero past = absurd (omega arith)
 fresh_past (c ∷ cs) (u ∷ ts) (suc p) past = ap (λ rs. body_of c u ∷ rs) (fresh_past cs ts p (omega arith))
 
--- one of them
+-- the remainder of one thread
 pub remainders_get : (cs : List Code) (ts : List (Option (Box Thread))) (p : ℕ) (c : Code) (d : Remainder) (t : Option (Box Thread)) → slice_get cs p ≡ Some c → p < length ts
     → unwrap_or (slice_get (remainders_of cs ts) p) d ≡ body_of c (slice_index_or ts p t)
 remainders_get [] ts p c d t is within = cc

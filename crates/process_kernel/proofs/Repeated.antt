@@ -11,7 +11,8 @@ use Rattle.process_kernel.specs.GoesOn.{underway_in}
 use Rattle.process_kernel.specs.Runs.{follow, runs_of}
 use Rattle.process_kernel.proofs.Steps.{kernel_step, kernel_ran}
 
--- a state between kernel runs, from which the remaining runs lead to the same state as all `most` runs from the first
+-- a state between kernel runs: the remaining runs lead from it to the state to which all `most` runs lead from the
+-- first state
 pub record RunSoFar (most left moment : ℕ) (first : Underway) (by_now : Option Underway) : Type 0 where
   pub u : Underway
   pub is : by_now ≡ Some u
@@ -38,7 +39,7 @@ pub follow-some : (n : ℕ) (others : Underway → Underway) (u : Underway) → 
 follow-some zero others u h = absurd (omega arith)
 follow-some (suc n) others u h = refl
 
--- a run that left something to do
+-- a run that leaves work
 pub run_next : (most before left moment : ℕ) (first : Underway) (old new : Option Mote) (out out' : Out) (n : ℕ)
     → before ≡ suc left → RunSoFar most before moment first (underway_in old out)
     → MatchesOutcome (run_given moment) old out (Ok (ran.Left n)) new out' → 0 < n
@@ -52,7 +53,7 @@ run_next most before left moment first old new out out' n e h matches some =
     ∙ (rw ran_is (follow-some n (runs_of left moment) (after (run_once moment h.u)) some)) in
     record { u = after (run_once moment h.u); is = goes.leads h.u h.is; rest = sym one ∙ h.rest }
 
--- the last run: the mote halted, or left nothing to do
+-- the last run: the mote halts, or no work is left
 pub run_last : (most before left moment : ℕ) (first : Underway) (old new : Option Mote) (out out' : Out) (r : Ran)
     → before ≡ suc left → RunSoFar most before moment first (underway_in old out)
     → MatchesOutcome (run_given moment) old out (Ok r) new out'

@@ -1,4 +1,4 @@
--- A process that is started is running, and so its call costs a unit of work.
+-- A process that is started is running, so its call costs a unit of work.
 use Rattle.std.proofs.Common.{ℕ, zero, suc, ◌≡◌, ◌<◌, List, [], ◌∷◌, length, Result, Ok, Err, OnOk, refl, ap, sym}
 use Rattle.std.proofs.Common.{◌∙◌, arith, IsTrue}
 use Rattle.std.specs.Prelude.{slice_get, slice_set, unwrap_or}

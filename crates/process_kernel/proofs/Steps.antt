@@ -1,4 +1,4 @@
--- Steps of a turn under way that continue by their definitions.
+-- Steps of a turn in progress that continue by their definitions.
 use Rattle.std.proofs.Common.{◌≡◌, List, Option, Some, None, Ok, refl, subst}
 use Rattle.process_kernel.specs.declared.kernel.Ran.{Ran}
 use Rattle.trace_lines.specs.declared.line.Line.{Line}
@@ -13,7 +13,7 @@ use Rattle.process_kernel.specs.GoesOn.{underway_in, GoesOn}
 abbrev pub underway : Mote → Out → Underway
 underway m out = record { mote = m; lines = out.lines.items; sends = out.sends.items }
 
--- trivially true of a mote whose kernel has failed
+-- any step, if the kernel has failed before it
 pub from_none : (step : Underway → Underway) (out : Out) (new : Option Mote) (out' : Out)
     → GoesOn step None out new out'
 from_none step out new out' = record { leads = λ u is. cc }
@@ -33,7 +33,7 @@ kernel_step gives None new out out' r h = from_none _ out new out'
 kernel_step gives (Some m) new out out' r (m', is, given) =
     from_some (λ u. after (gives u.mote u.lines u.sends)) m out new out' (rw (is, given) refl)
 
--- the kernel's answer
+-- the result that the kernel returns
 pub kernel_ran : (gives : Mote → List Line → List Sent → Given) (old new : Option Mote) (out out' : Out) (r : Ran)
     (u : Underway)
     → MatchesOutcome gives old out (Ok r) new out' → underway_in old out ≡ Some u → (gives u.mote u.lines u.sends).ran ≡ r

@@ -41,7 +41,7 @@ after_first-later a k ks away = after_first-cons a k ks ∙ ap (λ b. cond b ks 
 no_longer : (a : ℕ) (ks : List ℕ) → length (after_first (λ o. o == a) ks) ≤ length ks
 no_longer a ks = simp length-drop (omega arith)
 
--- a member after another comes after it, too, in the part of the list that is left
+-- if one member is after another in a list, it is also after it in the part of the list that is left
 module _ (x a : ℕ) where
   abbrev after : ℕ → List ℕ → List ℕ
   after y ks = after_first (λ o. o == y) ks
@@ -91,7 +91,7 @@ module _ (again : State → Went) (s : State) where
   abbrev due : ℕ → Bool
   due t = is_due s.moment (timer_at s.timers.timers t)
 
-  -- the walk comes to the first timer that is due
+  -- the walk reaches the first timer that is due
   pub walk_found : (ks : List ℕ) (x : ℕ) → find due ks ≡ Some x
       → walk_timers again ks s
       ≡ post_due again (walk_timers again (after_first (λ o. o == x) ks)) s x (timer_at s.timers.timers x).owner
@@ -117,7 +117,7 @@ module _ (again : State → Went) (s : State) where
       cond_both (due t) (Some t) (find due ts) (λ (o : Option ℕ). o ≡ None → walk_timers again (t ∷ ts) s ≡ Goes tt s)
       (λ holds here. cc) (λ fails there. rw fails (walk_none ts there)) found
 
--- the walks begin with one from the front of the list
+-- walks of which the first begins at the front of the list
 pub record Begun (n : ℕ) (s : State) : Type 0 where
   pub left : ℕ
   pub enough : length s.timers.listed ≤ left + 1
@@ -131,13 +131,13 @@ pub begin : (n : ℕ) (s : State) → length s.timers.listed ≤ n → Begun n s
 begin zero s h = record { left = zero; enough = omega arith; walks = rw (empty s.timers.listed h) refl }
 begin (suc n) s h = record { left = n; enough = omega arith; walks = refl }
 
--- after a halt no further step is taken
+-- after a halt no later step is taken
 pub halts_through : (A B : Type 0) (stop : Stop) (new : State) (o : Outcome A) (f : A → State → Outcome B)
     → StepMatches {A = A} (Err stop) new o → StepMatches {A = B} (Err stop) new (o >>= f)
 halts_through A B Halted new o f is = ap (λ x. x >>= f) is
 halts_through A B Memory new o f is = tt
 
--- the timer that is the first one found due, and its owner
+-- the first timer that was found due, and its owner
 pub record Found (s : State) (after : Option ℕ) (x : ℕ) (o : Proc) : Type 0 where
   pub first : Some x ≡ first_due s.timers s.moment after
   pub owner : (timer_at s.timers.timers x).owner ≡ Some o

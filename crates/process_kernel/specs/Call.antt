@@ -1,4 +1,4 @@
--- The call of a process, and the one recursion of the rules.
+-- The call of a process, and the only recursion of the rules.
 use Rattle.std.specs.Prelude.{ℕ, zero, suc, Bool, true, false, ◌||◌, if◌then◌else◌}
 use Rattle.program_tree.specs.declared.event.Proc.{Proc}
 use Rattle.program_tree.specs.declared.event.Event.{Event}
@@ -20,19 +20,20 @@ has_ended Yielded = false
 has_ended Exited = true
 has_ended Ended = true
 
--- a process that has answered is exited on its own behalf, or is running again
+-- after its answer, a process is exited on its own behalf, or is running again
 unfoldable pub answered : Calls → State → Proc → (ended : Bool) → Went
 answered calls s p ended = if ended then exit_of calls s p p else Goes tt (with_state s p Running)
 
--- A running process is called, which costs a unit of work. If it isn't running, nothing happens.
+-- A running process is called, which costs a unit of work. If the process isn't running, nothing happens.
 unfoldable pub call_of : Calls → State → Proc → Event → Went
 call_of calls s p e =
     if is_running s p then (spend_of s >>= λ _ s1. react_of calls (with_state s1 p Called) p e >>= λ answer s2.
     answered calls s2 p (has_ended answer || is_system_event Exit e))
     else Goes tt s
 
--- The calls nested at most this deep. Each call, and each run of a thread from one operation to the next, spends a
--- unit of work, so that more depth than units changes nothing; at depth 0 a mote halts as it does without work.
+-- The calls that nest at most this deep. Each call, and each run of a thread from one operation to the next, spends a
+-- unit of work. So a depth above the number of units changes nothing. At depth 0 a mote halts as if it had no unit
+-- left.
 unfoldable pub calls_of : ℕ → Calls
 calls_of zero = record { call = λ s p e. Ends (halted_of s); run = λ s code r p e. Ends (halted_of s) }
 calls_of (suc k) = record { call = call_of (calls_of k); run = run_of (calls_of k) }

@@ -1,4 +1,4 @@
--- The two calls that recurse, and the walk over the process list.
+-- The two calls that recur, and the walk over the process list.
 use Rattle.std.specs.Prelude.{ℕ, ◌==◌, Bool, not, ◌&&◌, List, [], ◌∷◌, if◌then◌else◌}
 use Rattle.program_tree.specs.declared.event.Proc.{Proc}
 use Rattle.program_tree.specs.declared.event.Event.{Event}
@@ -12,7 +12,7 @@ use Rattle.process_kernel.specs.Members.{is_same}
 use Rattle.process_kernel.specs.State.{State, Outcome, Went, Goes, ◌>>=◌}
 use Rattle.process_kernel.specs.Processes.{is_on_list}
 
--- an event of the kernel's own, with a word
+-- an event of the kernel itself, with a word
 abbrev pub own_event : SystemEvent → ℕ → Event
 own_event event word = record { number = system_number event; word = word; sender = 0 }
 
@@ -23,12 +23,13 @@ is_system_event event e = e.number == system_number event
 abbrev pub Answer : Type 0
 Answer = PtState × Remainder
 
--- The calls that a rule may make: of a process with an event, and of a thread of a process, which runs to its answer.
+-- The calls that a rule may make: the call of a process with an event, and the run of a thread of a process up to its
+-- answer.
 pub record Calls : Type 0 where
   pub call : State → Proc → Event → Went
   pub run : State → Code → Remainder → (process : ℕ) → Event → Outcome Answer
 
--- each of these incarnations that is on the process list at its turn is called, except those of one process
+-- calls each of these incarnations that is on the process list when its turn comes, except those of one process
 abbrev pub walk_of : Calls → Event → (skipped : Proc) → List Member → State → Went
 walk_of calls e skipped [] s = Goes tt s
 walk_of calls e skipped (m ∷ ms) s =

@@ -9,7 +9,7 @@ use Rattle.process_kernel.specs.State.{State, Went, Goes, ◌>>=◌}
 use Rattle.process_kernel.specs.TimerOperations.{has_timer}
 use Rattle.process_kernel.specs.Calls.{Calls, is_system_event}
 
--- the callback of this timer runs as the timer's process
+-- the callback of this timer runs on behalf of the timer's process
 unfoldable pub callback_of : Calls → State → Event → Went
 callback_of calls s e =
     elim (slice_get s.program.timers e.word) [
@@ -20,7 +20,7 @@ callback_of calls s e =
       ]
     ]
 
--- the callback of this timer waits for it
+-- the callback of this timer waits for the timer
 abbrev pub waits_for : State → (timer : ℕ) → Bool
 waits_for s timer = has_timer s timer && is_member timer s.callbacks
 

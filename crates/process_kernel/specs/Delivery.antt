@@ -18,11 +18,11 @@ give_of calls s x p is_there =
     if is_there then (write_of s (what.Take x.serial p) >>= λ _ s1. calls.call s1 p x.event)
     else write_of s (what.Drop x.serial p)
 
--- the turn of an incarnation in the walk of an event that goes to all: the polls come first, if one is requested
+-- the turn of an incarnation in the walk of an event for all processes: first the polls run, if a poll is requested
 unfoldable pub visit_of : Calls → State → Posted → Member → Went
 visit_of calls s x m = polls_due_of calls s >>= λ _ s1. give_of calls s1 x m.process (is_on_list s1 m)
 
--- the walk of an event that goes to all
+-- the walk of an event for all processes
 abbrev pub walk_broadcast : Calls → Posted → List Member → State → Went
 walk_broadcast calls x [] s = Goes tt s
 walk_broadcast calls x (m ∷ ms) s = visit_of calls s x m >>= λ _ s1. walk_broadcast calls x ms s1

@@ -11,12 +11,12 @@ use Rattle.process_kernel.specs.State.{State, Went, Goes, ◌>>=◌}
 use Rattle.process_kernel.specs.Posts.{post_of, poll_of}
 use Rattle.process_kernel.specs.Calls.{own_event, is_system_event}
 
--- the event of a timer was posted: it is removed from the timer list, and has no owner
+-- after the event of a timer was posted, the timer is removed from the timer list and has no owner
 unfoldable pub fired_of : State → (timer : ℕ) → State
 fired_of s timer = record s { timers = stop_timer s.timers timer }
 
 -- A timer that is due is posted to its owner. If the event is accepted, the timer is removed from the list, and the
--- walk begins again; if the queue is full, it stays, and etimer is to be polled once more.
+-- walk begins again. If the queue is full, the timer stays on the list, and etimer is to be polled once more.
 abbrev pub post_due : (again on : State → Went) → State → (timer : ℕ) → Option Proc → Went
 post_due again on s timer None = on s
 post_due again on s timer (Some owner) =
@@ -31,16 +31,16 @@ walk_timers again (t ∷ ts) s =
     then post_due again (walk_timers again ts) s t (timer_at s.timers.timers t).owner
     else walk_timers again ts s
 
--- walks along the timer list, each from its front, as long as timers leave the list: at most this many may leave it
+-- walks along the timer list, each from its front, until a walk removes no timer; at most this many timers are removed
 abbrev pub walks_of : ℕ → State → Went
 walks_of zero s = Goes tt s
 walks_of (suc k) s = walk_timers (walks_of k) s.timers.listed s
 
--- etimer when it is polled: each walk that begins again has one timer fewer on the list
+-- the pass of etimer when it is polled: each new walk has one timer fewer on the list
 unfoldable pub pass_of : State → Went
 pass_of s = walks_of (length s.timers.listed) s
 
--- the timers of a process that left are removed from the list, and keep their owner
+-- the timers of a process that left are removed from the list, but keep their owner
 unfoldable pub purge_of : State → (process : ℕ) → State
 purge_of s p = if nat_lt p 256 then record s { timers = purge_timers s.timers (Own p) } else s
 

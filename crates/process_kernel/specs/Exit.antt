@@ -11,19 +11,20 @@ use Rattle.process_kernel.specs.ProcessList.{exiting_of, leave_of}
 use Rattle.process_kernel.specs.Calls.{Calls, own_event, walk_of}
 use Rattle.process_kernel.specs.Reaction.{react_of}
 
--- the number by which EXITED names a process; the system processes, which never leave, come after those of any program
+-- the number by which EXITED names a process; the system processes, which never leave, have numbers above those of all
+-- programs' processes
 abbrev pub process_number : Proc → ℕ
 process_number (Own p) = p
 process_number Etimer = 256
 process_number Ctimer = 257
 process_number Radio = 258
 
--- The last run of a process that another one exits: it is run with EXIT as in a call, whatever it answers.
+-- The last run of a process that another process exits: it is run with EXIT, as in a call, and its answer is ignored.
 unfoldable pub last_run_of : Calls → State → Proc → Went
 last_run_of calls s p = spend_of s >>= λ _ s1. react_of calls s1 p (own_event Exit 0) >>= λ _ s2. Goes tt s2
 
--- A process on the list is exited on behalf of another, or of itself: the others are informed first, then it has its
--- last run, unless it asked for the exit itself, and then it leaves.
+-- A process on the list is exited on behalf of another process, or of itself. First the other processes are informed.
+-- Then the process has its last run, unless it asked for the exit itself. Then it leaves the list.
 unfoldable pub exit_of : Calls → State → Proc → (behalf : Proc) → Went
 exit_of calls s p behalf =
     if is_listed s p then (walk_of calls (own_event Exited (process_number p)) p s.members (exiting_of s p) >>= λ _ s1.

@@ -9,8 +9,8 @@ use Rattle.process_kernel.specs.Calls.{Calls}
 use Rattle.process_kernel.specs.Call.{calls_of}
 use Rattle.process_kernel.specs.Views.{state_of, StepMatches, Spends, Grows}
 
--- A step follows a rule: its answer and the state that it leaves are the outcome of the rule, whose calls nest deeper
--- than there are units of work; each start is paid for by a unit; and everything that was written before is still
+-- A step follows a rule. Its result and the state after it are the outcome of the rule, with calls that may nest
+-- deeper than there are units of work. Each start is paid for by a unit. Everything that was written before is still
 -- there.
 pub record Follows {A : Type 0} (program : Program) (old : Machine) (result : Result A Stop) (new : Machine)
     (rule : Calls → State → Outcome A) : Type 0 where

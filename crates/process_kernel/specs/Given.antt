@@ -10,7 +10,7 @@ use Rattle.process_kernel.specs.Call.{calls_of}
 use Rattle.process_kernel.specs.Run.{begun_of, kernel_of, most_units}
 use Rattle.process_kernel.specs.Boot.{boot_of}
 
--- the outcome of a boot or a run: its answer, the mote after it, and everything that is written by then
+-- the outcome of a boot or a run: its result, the mote after it, and everything that was written up to its end
 pub record Given : Type 0 where
   pub ran : Ran
   pub mote : Mote
@@ -31,7 +31,7 @@ given (Goes left s) = record {
   sends = s.sends;
 }
 
--- the state in which a boot or a run of a mote begins, after these lines and packets were written
+-- the state in which a boot or a run of a mote begins, if these lines and packets were written before
 abbrev pub begun : Mote → (moment : ℕ) → List Line → List Sent → State
 begun m moment lines sends = begun_of (record m.state { lines = lines; sends = sends }) moment
 

@@ -4,11 +4,11 @@ use Rattle.trace_lines.specs.declared.out.Out.{Out}
 use Rattle.process_kernel.specs.Mote.{Mote}
 use Rattle.process_kernel.specs.Underway.{Underway}
 
--- the turn that a mote is in, unless its kernel has failed
+-- the turn in progress of a mote, unless its kernel has failed
 abbrev pub underway_in : Option Mote → Out → Option Underway
 underway_in m out = option_map (λ x. record { mote = x; lines = out.lines.items; sends = out.sends.items }) m
 
--- a mote whose kernel has not failed continues by this step
+-- a mote whose kernel has not failed continues with this step
 pub record GoesOn (step : Underway → Underway) (old : Option Mote) (out : Out) (new : Option Mote) (out' : Out)
     : Type 0 where
   pub leads : (u : Underway) → underway_in old out ≡ Some u → underway_in new out' ≡ Some (step u)

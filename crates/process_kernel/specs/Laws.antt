@@ -7,18 +7,18 @@ use Rattle.process_kernel.specs.Mote.{Mote, is_pending}
 use Rattle.process_kernel.specs.Run.{left_of}
 use Rattle.process_kernel.specs.Given.{Given}
 
--- a boot or a run returns how much the mote has left to do
+-- a boot or a run returns how much work the mote has left
 abbrev pub TellsLeft : (ℕ → Mote → List Line → List Sent → Given) → Type 0
 TellsLeft gives =
     (moment : ℕ) (m : Mote) (lines : List Line) (sends : List Sent) (n : ℕ)
     → (gives moment m lines sends).ran ≡ Left n
     → n ≡ left_of (gives moment m lines sends).mote.state
 
--- a mote is pending exactly if something is left to do
+-- a mote is pending if and only if it has work left
 abbrev pub PendingIsLeft : Type 0
 PendingIsLeft = (m : Mote) → is_pending m ≡ nat_lt 0 (left_of m.state)
 
--- a mote that has halted never changes, and nothing is written
+-- a mote that has halted never changes, and writes nothing
 abbrev pub StaysHalted : (ℕ → Mote → List Line → List Sent → Given) → Type 0
 StaysHalted gives =
     (moment : ℕ) (m : Mote) (lines : List Line) (sends : List Sent)

@@ -9,13 +9,13 @@ use Rattle.process_kernel.specs.State.{State}
 abbrev pub is_unowned : Timer → Bool
 is_unowned t = elim t.owner [ Some p ↦ false | None ↦ true ]
 
--- the places, counted from k on, at which the test holds
+-- the places at which the test holds, counted from k on
 abbrev pub places_from : {A : Type 0} → (A → Bool) → (k : ℕ) → List A → List ℕ
 places_from test k [] = []
 places_from test k (x ∷ xs) = if test x then k ∷ places_from test (k + 1) xs else places_from test (k + 1) xs
 
--- the moment, the mote, the timers without an owner, the program's processes that are running or called, and the
--- semaphores
+-- the view: the moment, the mote, the timers without an owner, the program's processes that are running or called, and
+-- the semaphores
 abbrev pub looks_at : (moment mote : ℕ) → List Timer → List ProcessState → (semaphores : List ℕ) → Looks
 looks_at moment mote timers states semaphores = record {
   moment = moment;

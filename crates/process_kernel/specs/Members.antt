@@ -18,7 +18,7 @@ abbrev pub are_once : List Member → Bool
 are_once [] = true
 are_once (m ∷ ms) = not (is_found_in ms m.process) && are_once ms
 
--- each process on the list is one of the mote's, and is there once
+-- each process on the list is a process of the mote, and is on the list only once
 pub record AreMembers (ms : List Member) (processes : ℕ) : Type 0 where
   pub once : IsTrue (are_once ms)
   pub within : All (λ m. place_of m.process < processes) ms

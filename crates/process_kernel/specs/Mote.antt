@@ -11,7 +11,7 @@ use Rattle.radio_packet.specs.declared.arrival.Arrival.{Arrival}
 use Rattle.process_kernel.specs.State.{State}
 use Rattle.process_kernel.specs.Posts.{poll_of}
 
--- its state, with no work left and nothing written; whether it was booted, and whether it has halted
+-- a mote: its state, with no units of work and no output; whether it was booted; and whether it has halted
 pub record Mote : Type 0 where
   pub state : State
   pub booted : Bool
@@ -20,7 +20,7 @@ pub record Mote : Type 0 where
 abbrev pub at_rest : State → State
 at_rest s = record s { units = 0; lines = []; sends = [] }
 
--- a mote that was never booted: no process is on the list, and nothing was set, posted or sent
+-- a mote that was never booted: no process is on the list, and no timer was set, no event posted and no packet sent
 unfoldable pub unbooted : Tree → (mote queue : ℕ) → Mote
 unbooted t mote queue = record {
   state = record {
@@ -49,21 +49,21 @@ unbooted t mote queue = record {
   halted = false;
 }
 
--- a packet goes into the ring
+-- a packet is appended to the ring
 unfoldable pub with_packet : Mote → Arrival → Mote
 with_packet m a = record m { state = record m.state { ring = m.state.ring ++ a ∷ [] } }
 
 unfoldable pub with_poll : Mote → Proc → Mote
 with_poll m p = record m { state = poll_of m.state p }
 
--- something is left to do: an event is queued, or a poll is requested
+-- the mote has work left: an event is queued, or a poll is requested
 abbrev pub is_pending : Mote → Bool
 is_pending m = nat_lt 0 (length m.state.queue.events) || m.state.poll_requested
 
--- how many packets are in the ring
+-- the number of packets in the ring
 abbrev pub holds_packets : Mote → ℕ
 holds_packets m = length m.state.ring
 
--- the ring holds 8
+-- the ring has room for one more packet; it holds 8
 abbrev pub has_room : Mote → Bool
 has_room m = nat_lt (holds_packets m) 8

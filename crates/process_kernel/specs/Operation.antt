@@ -1,4 +1,4 @@
--- The operations of a protothread, and its run up to an answer.
+-- The operations of a protothread, and its run up to its answer.
 use Rattle.std.specs.Prelude.{ℕ, Bool, if◌then◌else◌, List, Option, Some, None, slice_get, slice_set, ◌+◌, ◌-◌, ◌%◌}
 use Rattle.std.specs.Prelude.{◌^◌, slice_index}
 use Rattle.program_tree.specs.declared.event.Proc.TheVariants.{Own}
@@ -30,8 +30,9 @@ signal_of s k = record s { semaphores = slice_set s.semaphores k ((slice_index s
 abbrev pub posted : ℕ → ℕ → Event
 posted number word = record { number = number; word = word; sender = 0 }
 
--- An operation that has no answer, for the current process: the one whose body, handler or callback is being executed.
--- A post, which has one, is left to `perform_of`; its line here is never reached, and makes the definition total.
+-- An operation without a result, for the current process: the process whose body, handler or callback is being
+-- executed. Only a post has a result, so `perform_of` performs it. Its line here is never used, and only makes the
+-- definition total.
 unfoldable pub act_of : Calls → State → (current : ℕ) → Op → Went
 act_of calls s current (op.Post t e w) = Goes tt s
 act_of calls s current (op.Synch p e w) = calls.call s p (posted e w)
@@ -47,7 +48,7 @@ act_of calls s current (op.Print v) = write_of s (what.Print (Own current) v)
 act_of calls s current (op.Take k) = Goes tt (take_of s k)
 act_of calls s current (op.Signal k) = Goes tt (signal_of s k)
 
--- a thread learns whether the queue was full
+-- a thread is informed whether the queue was full
 abbrev pub answered_with : Option (List ℕ) → State → Remainder → (process : ℕ) → (answer : ℕ) → Outcome Remainder
 answered_with (Some variables) s r p answer =
     let a = answered_of r variables answer in
@@ -57,17 +58,17 @@ answered_with None s r p answer = Goes r s
 unfoldable pub answer_of : State → Remainder → (process : ℕ) → Bool → Outcome Remainder
 answer_of s r p full = answered_with (slice_get s.variables p) s r p (if full then 1 else 0)
 
--- an operation is performed; the thread is unchanged, but for the answer to a post
+-- an operation is performed; the thread changes only if it gets the result of a post
 unfoldable pub perform_of : Calls → State → Remainder → (current : ℕ) → Op → Outcome Remainder
 perform_of calls s r current (op.Post t e w) = post_of s t (posted e w) >>= λ full s1. answer_of s1 r current full
 perform_of calls s r current o = act_of calls s current o >>= λ _ s1. Goes r s1
 
--- the consequence of a step of a thread
+-- the effect of a step of a thread
 abbrev pub after_step : Calls → Code → (process : ℕ) → Event → Step → Remainder → State → Outcome Answer
 after_step calls code p e (step.Op o) r s = perform_of calls s r p o >>= λ r1 s1. calls.run s1 code r1 p e
 after_step calls code p e (step.Done answer) r s = Goes (answer, r) s
 after_step calls code p e step.Runaway r s = Ends (halted_of s)
 
--- a thread runs up to its answer
+-- a thread runs up to its answer: it waits, yields, exits or ends
 unfoldable pub run_of : Calls → State → Code → Remainder → (process : ℕ) → Event → Outcome Answer
 run_of calls s code r p e = let m = stepped_of s code r p e in after_step calls code p e m.step m.remainder m.state

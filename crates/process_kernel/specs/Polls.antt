@@ -6,7 +6,8 @@ use Rattle.process_kernel.specs.State.{State, Went, Goes, ◌>>=◌}
 use Rattle.process_kernel.specs.Processes.{is_on_list, process_needs_poll, with_needs_poll}
 use Rattle.process_kernel.specs.Calls.{Calls, own_event}
 
--- the turn of an incarnation: if it is on the list and needs a poll, this is cleared and it is called with POLL
+-- the turn of an incarnation: if it is on the list and needs a poll, `needs_poll` is cleared and it is called with
+-- POLL
 unfoldable pub poll_turn_of : Calls → State → Member → Went
 poll_turn_of calls s m =
     if is_on_list s m && process_needs_poll s m.process

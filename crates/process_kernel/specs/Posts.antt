@@ -9,7 +9,8 @@ use Rattle.process_kernel.specs.State.{State, Outcome, Went, Ends, Goes, ◌>>=�
 use Rattle.process_kernel.specs.Processes.{process_state, is_alive, with_needs_poll}
 use Rattle.process_kernel.specs.Writes.{write_of, halted_of}
 
--- An event is posted; the answer is whether the queue was full. A mote that has accepted 2 to the 62 events halts.
+-- An event is posted. The result is whether the queue was full. A mote that has accepted 2 to the power of 62 events
+-- halts.
 unfoldable pub post_of : State → Target → Event → Outcome Bool
 post_of s t e =
     if nat_le (2 ^ 62) s.queue.accepted then Ends (halted_of s)
@@ -22,7 +23,7 @@ post_of s t e =
 unfoldable pub poll_of : State → Proc → State
 poll_of s p = if is_alive (process_state s p) then record (with_needs_poll s p true) { poll_requested = true } else s
 
--- a packet is sent; a mote that has sent 2 to the 62 halts
+-- a packet is sent; a mote that has sent 2 to the power of 62 packets halts
 unfoldable pub send_of : State → ℕ → Went
 send_of s value =
     if nat_le (2 ^ 62) s.sent then Ends (halted_of s)

@@ -17,7 +17,7 @@ use Rattle.process_kernel.specs.Writes.{write_of}
 unfoldable pub put_remainder : State → (process : ℕ) → Remainder → State
 put_remainder s p r = record s { remainders = slice_set s.remainders p r }
 
--- the process with this number has its whole body still to do
+-- the process with this number has its whole body before it again
 abbrev pub fresh_at : List Code → List Remainder → (process : ℕ) → List Remainder
 fresh_at [] rs p = rs
 fresh_at (c ∷ cs) [] p = []
@@ -33,7 +33,7 @@ with_fresh_process s Etimer = s
 with_fresh_process s Ctimer = s
 with_fresh_process s Radio = s
 
--- a new incarnation goes to the front of the list, running and with a fresh body
+-- a new incarnation is put at the front of the list; it is running, and its body is fresh
 unfoldable pub enlist_of : State → Proc → Went
 enlist_of s p =
     write_of (with_fresh_process (with_state (record s {
@@ -41,18 +41,18 @@ enlist_of s p =
       started = s.started + 1;
     }) p Running) p) (what.Start p)
 
--- the process is being exited
+-- the exit of the process has begun
 unfoldable pub exiting_of : State → Proc → State
 exiting_of s p = with_exiting (with_state s p Off) p true
 
 unfoldable pub unlisted_of : State → Proc → State
 unlisted_of s p = record s { members = filter (λ m. not (is_same m.process p)) s.members }
 
--- the process leaves the list, and is no longer being exited
+-- the process leaves the list, and its exit has ended
 unfoldable pub leave_of : State → Proc → Went
 leave_of s p = write_of (unlisted_of (with_exiting s p false) p) (what.Leave p)
 
--- the same list, its incarnations numbered from k on
+-- the same list, with its incarnations numbered from k on
 abbrev pub numbered_from : (k : ℕ) → List Member → List Member
 numbered_from k [] = []
 numbered_from k (m ∷ ms) = record { process = m.process; incarnation = k } ∷ numbered_from (k + 1) ms

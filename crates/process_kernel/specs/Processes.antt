@@ -7,11 +7,11 @@ use Rattle.process_kernel.specs.declared.process.Member.{Member}
 use Rattle.process_kernel.specs.Members.{place_of, holds_member, is_found_in}
 use Rattle.process_kernel.specs.State.{State}
 
--- a process that the mote doesn't have is off
+-- the state of a process; a process that the mote doesn't have is off
 abbrev pub state_at : List ProcessState → Proc → ProcessState
 state_at states p = unwrap_or (slice_get states (place_of p)) Off
 
--- the entry of the process in the list: false, if the mote has no such process
+-- the entry of the process in the list; false if the mote has no such process
 abbrev pub at_process : List Bool → Proc → Bool
 at_process xs p = unwrap_or (slice_get xs (place_of p)) false
 
@@ -25,7 +25,7 @@ is_called_state Off = false
 is_called_state Running = false
 is_called_state Called = true
 
--- running or called
+-- the process is running or called
 abbrev pub is_alive : ProcessState → Bool
 is_alive Off = false
 is_alive Running = true
@@ -37,7 +37,7 @@ process_state s p = state_at s.states p
 abbrev pub is_running : State → Proc → Bool
 is_running s p = is_running_state (state_at s.states p)
 
--- its body or a handler of it is being executed, or it is being exited
+-- the body of the process or one of its handlers is being executed, or the process is being exited
 abbrev pub is_busy : State → Proc → Bool
 is_busy s p = is_called_state (state_at s.states p) || at_process s.exiting p
 

@@ -16,12 +16,13 @@ use Rattle.process_kernel.specs.Mote.{Mote}
 use Rattle.process_kernel.specs.Given.{Given}
 use Rattle.process_kernel.specs.Views.{mote_of}
 
--- The mote that a kernel with this program represents; a kernel that ran out of memory represents none. The
--- remainders of its threads follow from the program.
+-- The mote that a kernel with this program represents. A kernel that ran out of memory represents none. The remainders
+-- of the kernel's threads depend on the program.
 unfoldable pub mote_in : Tree → Kernel → Option Mote
 mote_in program k = if k.failed then None else Some (mote_of program k.machine k.booted k.halted)
 
--- A boot or a run has the outcome of the definition, or it ran out of memory, and from then on there is no mote.
+-- A boot or a run has the outcome of the definition, or runs out of memory; in that case there is no mote from then
+-- on.
 abbrev pub MatchesOutcome : (Mote → List Line → List Sent → Given) → Option Mote → Out → Result Ran KernelError
     → Option Mote → Out → Type 0
 MatchesOutcome gives None out result new out' = (result ≡ Err error.Failed) × (new ≡ None) × (out' ≡ out)
@@ -30,13 +31,13 @@ MatchesOutcome gives (Some m) out (Ok r) new out' =
     ≡ record { ran = r; mote = m'; lines = out'.lines.items; sends = out'.sends.items })
 MatchesOutcome gives (Some m) out (Err e) new out' = (e ≡ error.Memory) × (new ≡ None) × BeginsWith out out'
 
--- After an error: a kernel that had failed before says so, and changes nothing; otherwise it ran out of memory, from
--- then on there is no mote, and everything that was written before is still there.
+-- After an error: if the kernel had failed before, the error is `Failed`, and nothing changes. Otherwise the kernel
+-- ran out of memory: there is no mote from then on, and everything that was written before is still there.
 abbrev pub FailsAs : Option Mote → Out → KernelError → Option Mote → Out → Type 0
 FailsAs None out e new out' = (e ≡ error.Failed) × (new ≡ None) × (out' ≡ out)
 FailsAs (Some m) out e new out' = (e ≡ error.Memory) × (new ≡ None) × BeginsWith out out'
 
--- how a kernel answers and changes when a run of its machine ends
+-- the result of a kernel, and its change, when a run of its machine ends
 abbrev pub Closes : Kernel → Result ℕ Stop → Result Ran KernelError → Kernel → Type 0
 Closes old (Ok left) result new = (result ≡ Ok (ran.Left left)) × (new ≡ record old { booted = true })
 Closes old (Err stop.Halted) result new = (result ≡ Ok ran.Halted) × (new ≡ record old { booted = true; halted = true })

@@ -16,12 +16,12 @@ use Rattle.process_kernel.specs.Calls.{is_system_event}
 abbrev pub packet_of : Arrival → Event
 packet_of a = record { number = system_number Packet; word = a.value; sender = a.sender }
 
--- a packet is posted to the program's receiver; without one nobody hears it
+-- a packet is posted to the program's receiver; if the program has none, nobody hears the packet
 unfoldable pub hand_to : (receiver : Option ℕ) → State → Arrival → Went
 hand_to (Some p) s a = post_of s (One (Own p)) (packet_of a) >>= λ _ s1. Goes tt s1
 hand_to None s a = write_of s (what.Deaf a.sender a.number)
 
--- the packets leave the ring, the oldest first
+-- the packets leave the ring, the oldest one first
 abbrev pub empty_ring : (receiver : Option ℕ) → List Arrival → State → Went
 empty_ring receiver [] s = Goes tt s
 empty_ring receiver (a ∷ later) s =

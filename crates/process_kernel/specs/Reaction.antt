@@ -28,12 +28,12 @@ handler_of calls s code p e =
 abbrev pub remainder_at : State → Code → (process : ℕ) → Remainder
 remainder_at s code p = unwrap_or (slice_get s.remainders p) (fresh_of code Body)
 
--- The body is resumed. While it runs, a fresh one is in its place.
+-- The body is resumed. While it runs, a fresh body is in the table instead.
 unfoldable pub resume_of : Calls → State → Code → (process : ℕ) → Event → Outcome PtState
 resume_of calls s code p e =
     calls.run (with_fresh_body s p) code (remainder_at s code p) p e >>= λ a s1. Goes a.0 (put_remainder s1 p a.1)
 
--- a process of the program: the event's handler first, and then its body
+-- the reaction of a process of the program: first the event's handler runs, and then the body
 unfoldable pub own_of : Calls → State → (process : ℕ) → Event → Outcome PtState
 own_of calls s p e =
     elim (slice_get s.program.codes p) [

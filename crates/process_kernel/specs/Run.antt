@@ -8,11 +8,12 @@ use Rattle.process_kernel.specs.Calls.{Calls}
 use Rattle.process_kernel.specs.Polls.{polls_due_of}
 use Rattle.process_kernel.specs.Delivery.{deliver_of}
 
--- the units of work of a boot, and of each kernel run
+-- the number of units of work of a boot, and of each kernel run
 abbrev pub most_units : ℕ
 most_units = 10000
 
--- the state in which a boot or a run begins: its work, the moment, and the incarnations numbered again
+-- the state in which a boot or a run begins: with all units of work, at this moment, and with the incarnations
+-- numbered again
 unfoldable pub begun_of : State → (moment : ℕ) → State
 begun_of s moment = record s {
   moment = moment;
@@ -21,7 +22,7 @@ begun_of s moment = record s {
   started = length s.members;
 }
 
--- how much is left: the queued events, and one more if a poll is requested
+-- the work that is left: the number of queued events, and one more if a poll is requested
 abbrev pub left_of : State → ℕ
 left_of s = length s.queue.events + (if s.poll_requested then 1 else 0)
 
@@ -30,8 +31,8 @@ abbrev pub deliver_front : Calls → List Posted → State → Went
 deliver_front calls [] s = Goes tt s
 deliver_front calls (x ∷ xs) s = deliver_of calls (record s { queue = without_front s.queue }) x
 
--- a kernel run: the polls, if one is requested, and then one event, if there is one; the result is the number of units
--- left
+-- a kernel run: the polls if a poll is requested, and then one event if there is one; the result is the number of
+-- units left
 unfoldable pub kernel_of : Calls → State → Outcome ℕ
 kernel_of calls s =
     polls_due_of calls s >>= λ _ s1. deliver_front calls s1.queue.events s1 >>= λ _ s2. Goes (left_of s2) s2

@@ -1,4 +1,4 @@
--- The state of a mote's kernel, and how a step of it ends.
+-- The state of a mote's kernel, and the end of a step of the kernel.
 use Rattle.std.specs.Prelude.{ℕ, Bool, List}
 use Rattle.program_tree.specs.Code.{Tree}
 use Rattle.protothread.specs.Remainder.{Remainder}
@@ -12,10 +12,10 @@ use Rattle.radio_packet.specs.declared.sent.Sent.{Sent}
 
 -- The program and the number of the mote. For each process, the system processes first: its state, whether it is being
 -- exited, and whether it needs a poll. For each process of the program: the remainder of its body, and its variables.
--- The process list, the newest first, and how many incarnations have a number. Whether a poll is requested; the event
--- queue; the counts of the semaphores; the timers with the timer list; the callback list; the packets in the receive
--- ring; how many packets were sent; the moment. And of the current run: the units of work that are left, and the lines
--- and packets so far.
+-- The process list, the newest process first, and the number of incarnations that were numbered. Whether a poll is
+-- requested; the event queue; the counts of the semaphores; the timers with the timer list; the callback list; the
+-- packets in the receive ring; the number of packets that were sent; the moment. For the current run: the number of
+-- units of work that are left, and the lines and packets so far.
 pub record State : Type 0 where
   pub program : Tree
   pub mote : ℕ
@@ -38,7 +38,7 @@ pub record State : Type 0 where
   pub lines : List Line
   pub sends : List Sent
 
--- the end of a step: the mote halts, or it continues with an answer
+-- the end of a step: the mote halts, or it continues with a result
 pub data Outcome (A : Type 0) : Type 0 where
   Ends : State → Outcome A
   Goes : A → State → Outcome A
@@ -49,6 +49,6 @@ abbrev pub ◌>>=◌ : {A B : Type 0} → Outcome A → (A → State → Outcome
 Ends s >>= f = Ends s
 Goes a s >>= f = f a s
 
--- a step that has no answer
+-- the outcome of a step that has no result
 abbrev pub Went : Type 0
 Went = Outcome (Unit {0})

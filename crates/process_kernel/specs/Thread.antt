@@ -10,7 +10,7 @@ use Rattle.protothread.specs.Step.{Advanced, advanced_of}
 use Rattle.process_kernel.specs.State.{State}
 use Rattle.process_kernel.specs.Looks.{looks_of}
 
--- a step of a thread, with its remainder and the state after it
+-- a step of a thread, with the thread's remainder and the state after the step
 pub record Stepped : Type 0 where
   pub step : Step
   pub remainder : Remainder
@@ -23,7 +23,7 @@ stepped s p a = record {
   state = record s { variables = slice_set s.variables p a.variables; units = a.units };
 }
 
--- with the variables of its process; one that the mote doesn't have has none, and nothing to do
+-- the step with the variables of the process; a process that the mote doesn't have has no variables and nothing to do
 abbrev pub stepped_with : Option (List ℕ) → State → Code → Remainder → (process : ℕ) → Event → Stepped
 stepped_with (Some variables) s code r p e = stepped s p (advanced_of code e (looks_of s) r variables s.units)
 stepped_with None s code r p e = record { step = step.Done Ended; remainder = r; state = s }

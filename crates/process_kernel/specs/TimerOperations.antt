@@ -8,7 +8,7 @@ use Rattle.mote_timers.specs.TimerLists.{set_timer, reset_timer, restart_timer, 
 use Rattle.process_kernel.specs.State.{State}
 use Rattle.process_kernel.specs.Posts.{poll_of}
 
--- whether it is a callback timer of the program
+-- the timer is a callback timer of the program
 abbrev pub is_callback : Tree → (timer : ℕ) → Bool
 is_callback program timer = elim (slice_get program.timers timer) [ Some t ↦ t.is_callback | None ↦ false ]
 
@@ -16,11 +16,12 @@ is_callback program timer = elim (slice_get program.timers timer) [ Some t ↦ t
 abbrev pub has_timer : State → (timer : ℕ) → Bool
 has_timer s timer = nat_lt timer (length s.timers.timers)
 
--- the process that is informed when the timer is due: the one that sets it, and for a callback timer the ctimer process
+-- the process that is informed when the timer is due: the process that sets the timer, or the ctimer process for a
+-- callback timer
 abbrev pub owner_of : Tree → (timer : ℕ) → (current : ℕ) → Proc
 owner_of program timer current = if is_callback program timer then Ctimer else Own current
 
--- a timer was set: the callback of a callback timer waits for it, and the etimer process is to be polled
+-- after a timer was set, its callback waits for it, if it has one, and the etimer process is to be polled
 unfoldable pub timer_is_set : State → (timer : ℕ) → State
 timer_is_set s timer =
     poll_of

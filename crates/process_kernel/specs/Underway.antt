@@ -1,4 +1,4 @@
--- A turn in progress: a mote, with its output so far.
+-- A turn in progress: a mote and its output so far.
 use Rattle.std.specs.Prelude.{List}
 use Rattle.trace_lines.specs.declared.line.Line.{Line}
 use Rattle.radio_packet.specs.declared.sent.Sent.{Sent}

@@ -1,4 +1,4 @@
--- The meaning of the types of `src/machine.rt` and `src/look.rt`, in a mote with this program.
+-- The meaning of the types of `src/machine.rt` and `src/look.rt` in a mote with this program.
 use Rattle.std.specs.Prelude.{ℕ, ◌≡◌, ◌+◌, ◌<◌, ◌≤◌, ◌++◌, ◌^◌, Bool, IsTrue, List, [], ◌∷◌, Result, Ok, Err}
 use Rattle.std.specs.Prelude.{Option, Some, None, if◌then◌else◌}
 use Rattle.std.specs.Global.{Box}
@@ -26,18 +26,18 @@ use Rattle.process_kernel.specs.State.{State, Outcome, Went, Ends, Goes, ◌>>=�
 use Rattle.process_kernel.specs.Mote.{Mote, at_rest}
 use Rattle.process_kernel.specs.Calls.{Calls, Answer}
 
--- what the body of a process with this code has still to do: all, while the body is taken out of the table
+-- the remainder of the body of a process with this code; the whole body, while the body is taken out of the table
 abbrev pub body_of : Code → Option (Box Thread) → Remainder
 body_of c None = fresh_of c Body
 body_of c (Some t) = remainder_of c t.value
 
--- the remainder of each body, by the code of its process
+-- the remainder of each body, found by the code of its process
 abbrev pub remainders_of : List Code → List (Option (Box Thread)) → List Remainder
 remainders_of [] ts = []
 remainders_of (c ∷ cs) [] = []
 remainders_of (c ∷ cs) (t ∷ ts) = body_of c t ∷ remainders_of cs ts
 
--- the process list when the boot or run began
+-- the process list at the beginning of the boot or run
 abbrev pub first_list_of : Machine → List Member
 first_list_of m = if m.is_numbered then m.members.items else m.first_list.items
 
@@ -68,13 +68,13 @@ state_of program m = record {
 abbrev pub looks_of_view : KernelView → Looks
 looks_of_view x = looks_at x.moment x.mote x.timers.timers x.states.items x.semaphores.items
 
--- the answer of a step and the state after it are this outcome; if memory ran out, nothing is claimed
+-- the result of a step and the state after it are this outcome; if memory ran out, nothing is claimed
 abbrev pub StepMatches : {A : Type 0} → Result A Stop → State → Outcome A → Type 0
 StepMatches (Ok a) s o = o ≡ Goes a s
 StepMatches (Err Halted) s o = o ≡ Ends s
 StepMatches (Err Memory) s o = Unit {0}
 
--- the same for a thread, with its remainder
+-- the result of a run of a thread, with the thread's remainder
 abbrev pub answer_model : Code → Thread → Result PtState Stop → Result Answer Stop
 answer_model code thread (Ok answer) = Ok (answer, remainder_of code thread)
 answer_model code thread (Err e) = Err e
@@ -88,11 +88,11 @@ unfoldable pub Begins : List Line → List Sent → Out → Type 0
 Begins lines sends out =
     ((more : List Line) × (out.lines.items ≡ lines ++ more)) × ((more : List Sent) × (out.sends.items ≡ sends ++ more))
 
--- everything that was written before is still there, however the step ended
+-- everything that was written before a step is still there, even if the step failed
 abbrev pub Grows : Out → Out → Type 0
 Grows old new = (lines : List Line) (sends : List Sent) → Begins lines sends old → Begins lines sends new
 
--- each start, except for this many, is paid for by a unit of work; the first process list stays known
+-- each start, except for this many, is paid for by a unit of work; the process list of the beginning stays known
 abbrev pub Spends : ℕ → Machine → Machine → Type 0
 Spends n old new = (new.fuel ≤ old.fuel) × (new.started + new.fuel ≤ old.started + old.fuel + n)
     × (first_list_of new ≡ first_list_of old)
@@ -102,12 +102,12 @@ abbrev pub Pays : Proc → Machine → Machine → Type 0
 Pays p old new =
     IsTrue (is_running_state (state_at old.shown.states.items p)) → new.started + new.fuel + 1 ≤ old.started + old.fuel
 
--- Incarnations are numbered below 2^32: a number is left for each process that can still be started, one per unit of
--- work, and for this many more.
+-- Incarnations are numbered below 2^32. There is a number for each process that can still be started (one per unit of
+-- work), and for this many more.
 abbrev pub HasRoom : ℕ → Machine → Type 0
 HasRoom n m = m.started + m.fuel + n < 2 ^ 32
 
--- neither work is spent nor a process started, and the first process list stays known
+-- no unit of work is spent, no process is started, and the process list of the beginning stays known
 abbrev pub KeepsCounts : Machine → Machine → Type 0
 KeepsCounts old new = (new.fuel ≡ old.fuel) × (new.started ≡ old.started) × (first_list_of new ≡ first_list_of old)
 

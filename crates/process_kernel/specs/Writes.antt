@@ -1,4 +1,4 @@
--- Lines of the trace, work, and the halt of a mote.
+-- Lines of the trace, units of work, and the halt of a mote.
 use Rattle.std.specs.Prelude.{◌==◌, ◌-◌, [], ◌∷◌, ◌++◌, if◌then◌else◌}
 use Rattle.trace_lines.specs.declared.line.What.{What}
 use Rattle.trace_lines.specs.declared.line.What.TheVariants.{Halt}
@@ -10,10 +10,10 @@ with_line s what = record s { lines = s.lines ++ record { at = s.moment; what = 
 unfoldable pub write_of : State → What → Went
 write_of s what = Goes tt (with_line s what)
 
--- the mote writes that it halts, and nothing more
+-- the mote writes a line about its halt, and nothing more
 unfoldable pub halted_of : State → State
 halted_of s = with_line s Halt
 
--- one unit of work is spent, and without one the mote halts
+-- one unit of work is spent; if none is left, the mote halts
 unfoldable pub spend_of : State → Went
 spend_of s = if s.units == 0 then Ends (halted_of s) else Goes tt (record s { units = s.units - 1 })

@@ -1,4 +1,4 @@
-//! Protothreads: their steps, and the answers to their posts.
+//! Protothreads: their steps, and the results of their posts.
 
 ghost use Rattle.std.specs.Prelude.{◌≡◌};
 ghost use Rattle.program_tree.specs.Code.{Code, Tree};
@@ -50,7 +50,7 @@ impl Machine {
         )
     }
 
-    /// Gives a thread the answer to its post: whether the queue was full.
+    /// Informs a thread of the result of its post: whether the queue was full.
     #[tactic(auto, unfolding(crate::specs::Operation::answer_of))]
     pub fn answer(&mut self, thread: &mut Thread, process: u8, is_full: bool)
         ensures exact { (t : Tree) (code : Code)

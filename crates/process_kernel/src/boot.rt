@@ -20,7 +20,7 @@ impl Machine {
         Ok(())
     }
 
-    /// Starts the system processes and then those that the program names; returns how much is left to do.
+    /// Starts the system processes and then the processes that the program names. Returns how much work is left.
     ///
     /// # Errors
     /// `Halted` if the mote halts meanwhile; `Memory` if an allocation fails.

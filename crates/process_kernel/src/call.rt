@@ -133,7 +133,7 @@ impl Machine {
         }
     }
 
-    /// Resumes the body of a process.
+    /// Resumes the body of a process of the program.
     #[cycle(kernel)]
     #[inline(always)]
     #[tactic(auto, unfolding(crate::specs::Reaction::resume_of))]
@@ -155,7 +155,8 @@ impl Machine {
         Ok(answer)
     }
 
-    /// The ctimer process: a callback that waits for this timer is removed from the callback list and runs.
+    /// Lets the ctimer process react to an event: a callback that waits for this timer is removed from the callback
+    /// list and runs.
     #[cycle(kernel)]
     #[tactic(auto, unfolding(crate::specs::Ctimer::ctimer_of))]
     fn react_as_ctimer(&mut self, program: &Program, event: &Event) -> Result<(), Stop>
@@ -172,7 +173,7 @@ impl Machine {
         self.call_back(program, event)
     }
 
-    /// Runs the callback of a timer, as the timer's process.
+    /// Runs the callback of a timer on behalf of the timer's process.
     #[cycle(kernel)]
     #[tactic(auto, unfolding(crate::specs::Ctimer::callback_of))]
     fn call_back(&mut self, program: &Program, event: &Event) -> Result<(), Stop>
@@ -210,7 +211,7 @@ impl Machine {
         self.run_fresh(program, text, part, process, event)
     }
 
-    /// Runs a fresh thread of a part. It is not inlined, since its frame has the thread.
+    /// Runs a fresh thread of a part. The function is not inlined, because its frame contains the thread.
     #[cycle(kernel)]
     #[inline(never)]
     fn run_fresh(
@@ -230,7 +231,7 @@ impl Machine {
         Ok(())
     }
 
-    /// Runs a thread of a process up to its answer.
+    /// Runs a thread of a process until it waits, yields, exits or ends.
     #[cycle(kernel)]
     #[tactic(auto, unfolding(crate::specs::Operation::run_of))]
     fn run(

@@ -28,7 +28,7 @@ impl Machine {
         }
     }
 
-    /// Delivers an event to the processes that it was posted to.
+    /// Delivers an event to the process or processes to which it was posted.
     #[tactic(auto, unfolding(crate::specs::Delivery::deliver_of))]
     fn deliver(&mut self, program: &Program, posted: &Posted) -> Result<(), Stop>
         requires room { HasRoom 0 self.old }
@@ -57,7 +57,7 @@ impl Machine {
         }
     }
 
-    /// The walk over a list that hasn't changed since the boot or run began.
+    /// Delivers an event to each member of a list that hasn't changed since the boot or run began.
     fn broadcast_to_first_list(&mut self, program: &Program, posted: &Posted) -> Result<(), Stop>
         requires units { HasRoom 0 self.old }
         requires numbered { self.old.is_numbered ≡ true }
@@ -71,7 +71,8 @@ impl Machine {
         Ok(())
     }
 
-    /// The walk over a list that has changed. It is not inlined, since its frame has a copy of the list.
+    /// Delivers an event to each member of a list that has changed. The function is not inlined, because its frame
+    /// contains a copy of the list.
     #[inline(never)]
     fn broadcast_to_snapshot(&mut self, program: &Program, posted: &Posted) -> Result<(), Stop>
         requires room { HasRoom 0 self.old }
@@ -82,7 +83,7 @@ impl Machine {
         self.walk_broadcast(program, posted, members.as_slice())
     }
 
-    /// The walk of an event that goes to all.
+    /// Delivers an event for all processes to each of these members.
     fn walk_broadcast(
         &mut self,
         program: &Program,
@@ -99,8 +100,9 @@ impl Machine {
         Ok(())
     }
 
-    /// The turn of an incarnation in the walk of an event that goes to all: first the polls run, if one is requested;
-    /// then the event is given to its process, or dropped if the incarnation is no longer on the list.
+    /// Takes the turn of an incarnation in the walk of an event for all processes. First the polls run, if a poll is
+    /// requested. Then the incarnation's process gets the event; if the incarnation is no longer on the list, the
+    /// event is dropped.
     #[inline(always)]
     #[tactic(auto, unfolding(crate::specs::Delivery::visit_of))]
     fn give_in_turn(

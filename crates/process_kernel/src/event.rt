@@ -1,11 +1,11 @@
-//! The kernel's own events.
+//! The events of the kernel itself.
 
 ghost use Rattle.std.specs.Prelude.{◌≡◌};
 ghost use Rattle.process_kernel.specs.Calls.{own_event, is_system_event as has_number_of};
 
 use program_tree::{Event, SystemEvent};
 
-/// An event of the kernel's own, with a word; its sender is 0.
+/// An event of the kernel itself, with a word. Its sender is 0.
 pub fn system_event(event: SystemEvent, word: u16) -> Event
     ensures value { result ≡ own_event event word }
 {
@@ -16,7 +16,7 @@ pub fn system_event(event: SystemEvent, word: u16) -> Event
     }
 }
 
-/// Returns whether it is this event of the kernel's own.
+/// Returns `true` if an event is this event of the kernel itself.
 pub fn is_event(which: SystemEvent, event: &Event) -> bool
     ensures value { result ≡ has_number_of which event.now }
 {

@@ -47,10 +47,10 @@ impl fmt::Display for KernelError {
 impl Error for KernelError {}
 
 /// The process kernel of a mote (`process.c`, `etimer.c` and `ctimer.c` of Contiki). It is booted once and then run,
-/// always with the same program. All its memory is allocated by `new`, except for the lines and packets of its runs,
-/// and for the thread of a process that is called for the first time since its start. If such an allocation fails,
-/// `out` keeps what it had, perhaps with more appended, and the kernel fails from then on: nothing is promised about
-/// the processes, events and timers that a failed kernel still has.
+/// always with the same program. `new` allocates all its memory, except for the lines and packets of its runs, and for
+/// the thread of a process that is called for the first time since its start. If such an allocation fails, `out` keeps
+/// its contents, perhaps with more appended, and all later calls of the kernel fail. Nothing is promised about the
+/// processes, events and timers that a failed kernel still has.
 pub struct Kernel {
     booted: bool,
     halted: bool,
@@ -58,7 +58,7 @@ pub struct Kernel {
     machine: Machine,
 }
 
-/// Implemented by hand: the check of a function that owns a kernel then sees only one call for its drop.
+/// Implemented by hand, so that the check of a function that owns a kernel sees only one call for its drop.
 impl Drop for Kernel {
     fn drop(self) {
         let Kernel {
@@ -77,7 +77,8 @@ impl Kernel {
     ghost use Rattle.process_kernel.specs.GoesOn.{GoesOn};
     ghost use Rattle.process_kernel.specs.Runs.{runs_of};
 
-    /// Makes the kernel of the mote with this number, not booted yet, whose queue has this capacity, 1 to 128 events.
+    /// Makes the kernel of the mote with this number. The kernel isn't booted, and its queue has room for this many
+    /// events, 1 to 128.
     ///
     /// # Errors
     ///
@@ -106,12 +107,12 @@ impl Kernel {
         }
     }
 
-    /// Boots the mote at this moment: the system processes are started, and then those that the program names. Lines
-    /// and packets are appended to `out`.
+    /// Boots the mote at this moment: starts the system processes, and then the processes that the program names.
+    /// Appends lines and packets to `out`.
     ///
     /// # Errors
     ///
-    /// `Memory`: out of memory, so the kernel fails from then on. `Failed`: it ran out of memory before.
+    /// `Memory`: out of memory, so the kernel fails from then on. `Failed`: the kernel ran out of memory before.
     pub fn boot(&mut self, program: &Program, now: u64, out: &mut Out) -> Result<Ran, KernelError>
         requires moment_bounded { now ≤ 2 ^ 40 }
         ensures tells { let t = tree_of program.now in
@@ -130,7 +131,7 @@ impl Kernel {
         self.close(ran)
     }
 
-    /// One kernel run at this moment, whose lines and packets are appended to those of the machine.
+    /// Makes one kernel run at this moment. Its lines and packets are appended to those of the machine.
     fn run_on(&mut self, program: &Program, now: u64) -> Result<Ran, KernelError>
         requires moment_bounded { now ≤ 2 ^ 40 }
         ensures matches { let t = tree_of program.now in
@@ -149,12 +150,12 @@ impl Kernel {
         self.close(ran)
     }
 
-    /// One kernel run at this moment: the polls, if one is requested, and the oldest event of the queue. Lines and
-    /// packets are appended to `out`.
+    /// Makes one kernel run at this moment: the polls if a poll is requested, and the oldest event of the queue.
+    /// Appends lines and packets to `out`.
     ///
     /// # Errors
     ///
-    /// `Memory`: out of memory, so the kernel fails from then on. `Failed`: it ran out of memory before.
+    /// `Memory`: out of memory, so the kernel fails from then on. `Failed`: the kernel ran out of memory before.
     pub fn run(&mut self, program: &Program, now: u64, out: &mut Out) -> Result<Ran, KernelError>
         requires moment_bounded { now ≤ 2 ^ 40 }
         ensures tells { let t = tree_of program.now in
@@ -166,7 +167,7 @@ impl Kernel {
         ran
     }
 
-    /// At most `most` kernel runs at this moment, until one leaves nothing to do or the mote halts. Their lines and
+    /// Makes at most `most` kernel runs at this moment, until a run leaves no work or the mote halts. Their lines and
     /// packets are appended to those of the machine.
     fn run_all_on(&mut self, program: &Program, now: u64, most: u8) -> Result<(), KernelError>
         requires moment_bounded { now ≤ 2 ^ 40 }
@@ -190,13 +191,14 @@ impl Kernel {
         Ok(())
     }
 
-    /// At most `most` kernel runs at this moment, until one leaves nothing to do or the mote halts: the same as that
-    /// many calls of `run`. Lines and packets are appended to `out`, even if one of the runs is out of memory.
+    /// Makes at most `most` kernel runs at this moment, until a run leaves no work or the mote halts. This has the
+    /// same effect as that many calls of `run`. Appends lines and packets to `out`, even if one of the runs is out of
+    /// memory.
     ///
     /// # Errors
     ///
-    /// `Memory`: one of the runs was out of memory, so the kernel fails from then on. `Failed`: it ran out of memory
-    /// before.
+    /// `Memory`: one of the runs was out of memory, so the kernel fails from then on. `Failed`: the kernel ran out of
+    /// memory before.
     pub fn run_all(
         &mut self,
         program: &Program,
@@ -216,7 +218,7 @@ impl Kernel {
         ran
     }
 
-    /// Asks for a poll of a process, if it is running or called.
+    /// Asks for a poll of a process if it is running or called.
     #[tactic(auto, unfolding(crate::specs::Public::mote_in, crate::specs::Mote::with_poll, crate::specs::Posts::poll_of, crate::specs::Processes::with_needs_poll))]
     pub fn poll(&mut self, process: Proc)
         ensures mote { (t : Tree) → mote_in t self.new ≡ option_map (λ m. with_poll m process) (mote_in t self.old) }
@@ -224,7 +226,7 @@ impl Kernel {
         self.machine.poll(process);
     }
 
-    /// Returns true if an event is queued or a poll is requested.
+    /// Returns `true` if an event is queued or a poll is requested.
     #[tactic(auto, unfolding(crate::specs::Public::mote_in))]
     pub fn pending(&self) -> bool
         ensures mote { (t : Tree) → IfSome (mote_in t self.now) (λ m. result ≡ is_pending m) }
@@ -232,7 +234,7 @@ impl Kernel {
         self.machine.queue.len() > 0 || self.machine.poll_requested
     }
 
-    /// The earliest moment at which a timer on the timer list is due; none for an empty list.
+    /// The earliest moment at which a timer on the timer list is due; `None` if the list is empty.
     #[tactic(auto, unfolding(crate::specs::Public::mote_in))]
     pub fn next_expiration(&self) -> Option<u64>
         ensures mote { (t : Tree) → IfSome (mote_in t self.now) (λ m. result ≡ next_expiration_of m.state.timers) }
@@ -240,7 +242,7 @@ impl Kernel {
         self.machine.shown.timers.next_expiration()
     }
 
-    /// Appends a packet to the receive ring, and returns whether it had room; a full ring is unchanged.
+    /// Appends a packet to the receive ring. Returns `true` if the ring had room; a full ring is unchanged.
     #[tactic(auto, unfolding(crate::specs::Public::mote_in, crate::specs::Mote::with_packet))]
     pub fn accept_packet(&mut self, packet: Arrival) -> bool
         ensures room { (t : Tree) → IfSome (mote_in t self.old) (λ m. result ≡ has_room m) }
@@ -258,7 +260,7 @@ impl Kernel {
         self.machine.shown.mote
     }
 
-    /// Returns whether the mote was booted.
+    /// Returns `true` if the mote was booted.
     #[tactic(auto, unfolding(crate::specs::Public::mote_in))]
     pub fn is_booted(&self) -> bool
         ensures mote { (t : Tree) → IfSome (mote_in t self.now) (λ m. result ≡ m.booted) }
@@ -266,7 +268,7 @@ impl Kernel {
         self.booted
     }
 
-    /// Returns whether the mote has halted. It runs no more then.
+    /// Returns `true` if the mote has halted. It doesn't run any more then.
     #[tactic(auto, unfolding(crate::specs::Public::mote_in))]
     pub fn is_halted(&self) -> bool
         ensures mote { (t : Tree) → IfSome (mote_in t self.now) (λ m. result ≡ m.halted) }
@@ -274,7 +276,7 @@ impl Kernel {
         self.halted
     }
 
-    /// Records how a boot or a run ended, and returns its result.
+    /// Records the end of a boot or a run, and returns its result.
     fn close(&mut self, ran: Result<u16, Stop>) -> Result<Ran, KernelError>
         ensures closes { Closes self.old ran result self.new }
     {

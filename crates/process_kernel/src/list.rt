@@ -1,4 +1,4 @@
-//! The process list, as it grows and shrinks, and the threads of its processes.
+//! The process list, its changes, and the threads of its processes.
 
 ghost use Rattle.std.specs.Prelude.{◌≡◌, ◌<◌, ◌+◌, ◌^◌, ◌∷◌, false, not, OnOk, IfOk, Some, filter, length, slice_get};
 ghost use Rattle.program_tree.specs.Code.{Tree, Code};
@@ -29,7 +29,7 @@ impl Machine {
         members
     }
 
-    /// The incarnation that had this place on the process list when the boot or run began.
+    /// The incarnation at this place of the process list when the boot or run began.
     #[inline(always)]
     pub fn first_member(&self, place: usize) -> Member
         requires in_range { place < length (first_list_of self.now) }
@@ -42,7 +42,7 @@ impl Machine {
         }
     }
 
-    /// Keeps the process list of the beginning of a boot or run, before the list changes for the first time.
+    /// Copies the process list of the beginning of a boot or run, before the list changes for the first time.
     fn keep_first_list(&mut self) -> Result<(), AllocError>
         ensures exact { (t : Tree) → state_of t self.new ≡ state_of t self.old }
         ensures unnumbered { OnOk result (self.new.is_numbered ≡ false) }
@@ -75,7 +75,7 @@ impl Machine {
         }
     }
 
-    /// Takes the body of a process, if it is in the table. One that isn't there is fresh.
+    /// Takes the body of a process out of the table, if it is there. A body that isn't in the table is fresh.
     #[inline(always)]
     #[tactic(auto, using(crate::proofs::Remainders::remainders_get, crate::proofs::Remainders::remainders_past, crate::proofs::Remainders::remainders_fresh, crate::proofs::Remainders::fresh_past))]
     fn lift_thread(&mut self, process: u8) -> Option<Box<Thread>>
@@ -93,11 +93,11 @@ impl Machine {
         }
     }
 
-    /// Takes the body of a process, and leaves a fresh one in its place.
+    /// Takes the body of a process, and leaves a fresh body instead.
     ///
     /// # Errors
     ///
-    /// Out of memory for a fresh body. One is allocated only if the earlier body is still taken out.
+    /// Out of memory for a fresh body. A fresh body is allocated only while the earlier one is taken out.
     #[inline(always)]
     pub fn take_thread(&mut self, process: u8) -> Result<Box<Thread>, AllocError>
         ensures exact { (t : Tree) (code : Code) → slice_get t.codes process ≡ Some code
@@ -165,10 +165,10 @@ impl Machine {
         Ok(())
     }
 
-    /// Puts a new incarnation at the front of the list, running and with a fresh body.
+    /// Adds a new incarnation at the front of the list. It is running, and its body is fresh.
     ///
     /// # Errors
-    /// `Memory` if an allocation for the list or for the line fails. It is never `Halted`.
+    /// `Memory` if an allocation for the list or for the line fails. The error is never `Halted`.
     #[tactic(auto, unfolding(crate::specs::ProcessList::enlist_of))]
     pub fn enlist(&mut self, process: Proc) -> Result<(), Stop>
         requires process_exists { place_of process < length self.old.shown.states.items }
@@ -210,10 +210,10 @@ impl Machine {
         Ok(())
     }
 
-    /// Ends the exit of a process, which leaves the list.
+    /// Ends the exit of a process: the process leaves the list.
     ///
     /// # Errors
-    /// `Memory` if an allocation for the list or for the line fails. It is never `Halted`.
+    /// `Memory` if an allocation for the list or for the line fails. The error is never `Halted`.
     #[tactic(auto, unfolding(crate::specs::ProcessList::leave_of))]
     pub fn leave(&mut self, process: Proc) -> Result<(), Stop>
         ensures exact { (t : Tree) → StepMatches result (state_of t self.new) (leave_of (state_of t self.old) process) }

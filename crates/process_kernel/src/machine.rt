@@ -14,7 +14,7 @@ use protothread::{Fuel, Thread, Vars};
 use std::alloc::{AllocError, AllocFailed};
 use trace_lines::Out;
 
-/// The most processes that a mote can have: 64 of its program, and the three system processes.
+/// The greatest number of processes that a mote can have: 64 of its program, and the three system processes.
 pub const MOST_PROCESSES: usize = 67;
 
 /// The reason for which a run stops.
@@ -46,12 +46,13 @@ impl<T: Drop> From<AllocFailed<T>> for Stop {
     }
 }
 
-/// The kernel of a mote. The tables have the system processes first, then those of the program in their order; threads
-/// and variables are only those of the program's processes. A thread that isn't in its table counts as fresh: a thread
-/// is taken out while it runs, and allocated at its process's first call. `is_numbered` says that the incarnations on
-/// the process list are known to be numbered from 0 on, so the list hasn't changed since the boot or run began. If it
-/// is false, `first_list` keeps the list as it was then. `needs_poll` has for each process whether it needs a poll
-/// (Contiki's `needspoll`). The fields that a run touches are next to each other, so that it needs few cache lines.
+/// The kernel of a mote. The tables have the system processes first, and then the processes of the program in their
+/// order; threads and variables are only those of the program's processes. A thread that isn't in its table counts as
+/// fresh: a thread is taken out while it runs, and is allocated at the first call of its process. If `is_numbered` is
+/// true, the incarnations on the process list are numbered from 0 on, so the list hasn't changed since the boot or run
+/// began. If it is false, `first_list` is the list at that time. `needs_poll` records for each process whether it
+/// needs a poll (Contiki's `needspoll`). The fields that a run uses are next to each other, so that a run needs few
+/// cache lines.
 #[derive(Drop)]
 pub struct Machine {
     pub(crate) shown: KernelView,

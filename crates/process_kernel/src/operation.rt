@@ -43,7 +43,7 @@ fn process_number(process: Proc) -> u16
 }
 
 impl Machine {
-    /// Performs an operation for the current process, and tells its thread the answer.
+    /// Performs an operation for the current process, and informs its thread of the result.
     ///
     /// # Errors
     /// `Halted` if the mote halts meanwhile; `Memory` if an allocation fails.
@@ -71,7 +71,7 @@ impl Machine {
         }
     }
 
-    /// Performs an operation that has no answer.
+    /// Performs an operation that has no result.
     #[cycle(kernel)]
     #[tactic(auto, unfolding(crate::specs::Operation::act_of))]
     fn act(&mut self, program: &Program, current: u8, op: &Op) -> Result<(), Stop>
@@ -99,7 +99,7 @@ impl Machine {
         Ok(())
     }
 
-    /// Starts a process: if it isn't on the process list, it is put at the list's front and called with INIT
+    /// Starts a process. If it isn't on the process list, it is put at the front of the list and called with INIT
     /// (`process_start` of `process.c`).
     ///
     /// # Errors
@@ -121,7 +121,7 @@ impl Machine {
         }
     }
 
-    /// Kills a process that isn't busy: it is exited on behalf of the current one.
+    /// Kills a process that isn't busy: it is exited on behalf of the current process.
     #[cycle(kernel)]
     #[tactic(auto, unfolding(crate::specs::Kill::kill_of))]
     fn kill(&mut self, program: &Program, process: Proc, current: u8) -> Result<(), Stop>
@@ -136,8 +136,8 @@ impl Machine {
         }
     }
 
-    /// Exits a process on behalf of another, or of itself: the others are informed first (`exit_process` of
-    /// `process.c`).
+    /// Exits a process on behalf of another process, or of itself. The other processes are informed first
+    /// (`exit_process` of `process.c`).
     ///
     /// # Errors
     /// `Halted` if the mote halts meanwhile; `Memory` if an allocation fails.
@@ -161,7 +161,7 @@ impl Machine {
         self.leave(process)
     }
 
-    /// The last run of a process that another one exits: it is run with EXIT.
+    /// Runs a process that another process exits for the last time, with EXIT.
     #[cycle(kernel)]
     #[tactic(auto, unfolding(crate::specs::Exit::last_run_of))]
     fn run_last(&mut self, program: &Program, process: Proc) -> Result<(), Stop>
@@ -174,7 +174,7 @@ impl Machine {
         Ok(())
     }
 
-    /// Calls each of these incarnations that is on the process list at its turn, except those of one process.
+    /// Calls each of these incarnations that is on the process list when its turn comes, except those of one process.
     #[cycle(kernel)]
     fn walk(
         &mut self,

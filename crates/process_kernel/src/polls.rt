@@ -12,7 +12,7 @@ use crate::process::Member;
 use program_tree::{Program, SystemEvent};
 
 impl Machine {
-    /// Polls each listed process that needs a poll, if a poll was requested.
+    /// If a poll was requested, polls each listed process that needs a poll.
     ///
     /// # Errors
     /// `Halted` if the mote halts meanwhile; `Memory` if an allocation fails.
@@ -29,7 +29,7 @@ impl Machine {
         self.poll_all(program)
     }
 
-    /// The polls: each member of the current process list has its turn.
+    /// Polls the members of the current process list, one after another.
     #[inline(never)]
     fn poll_all(&mut self, program: &Program) -> Result<(), Stop>
         requires room { HasRoom 0 self.old }
@@ -43,7 +43,7 @@ impl Machine {
         }
     }
 
-    /// The polls of a list that hasn't changed since the boot or run began.
+    /// Polls the members of a list that hasn't changed since the boot or run began.
     #[inline(always)]
     fn poll_first_list(&mut self, program: &Program) -> Result<(), Stop>
         requires units { HasRoom 0 self.old }
@@ -59,7 +59,8 @@ impl Machine {
         Ok(())
     }
 
-    /// The polls of a list that has changed. It is not inlined, since its frame has a copy of the list.
+    /// Polls the members of a list that has changed. The function is not inlined, because its frame contains a copy of
+    /// the list.
     #[inline(never)]
     fn poll_snapshot(&mut self, program: &Program) -> Result<(), Stop>
         requires room { HasRoom 0 self.old }
@@ -70,7 +71,7 @@ impl Machine {
         self.walk_polls(program, members.as_slice())
     }
 
-    /// Calls each of these incarnations that needs a poll at its turn.
+    /// Calls each of these incarnations that needs a poll when its turn comes.
     fn walk_polls(&mut self, program: &Program, members: &[Member]) -> Result<(), Stop>
         requires room { HasRoom 0 self.old }
         ensures follows { Follows program.now self.old result self.new (λ calls. walk_polls calls members.now) }
@@ -82,7 +83,7 @@ impl Machine {
         Ok(())
     }
 
-    /// The turn of an incarnation in the polls: if it is on the list, and needs a poll, it is called with POLL.
+    /// Takes the turn of an incarnation in the polls: if it is on the list and needs a poll, it is called with POLL.
     #[inline(always)]
     #[tactic(auto, unfolding(crate::specs::Polls::poll_turn_of))]
     fn poll_in_turn(

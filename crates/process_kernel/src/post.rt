@@ -1,4 +1,4 @@
-//! Lines, work, posts, polls and packets.
+//! Lines, units of work, posts, polls and packets.
 
 ghost use Rattle.std.specs.Prelude.{◌≡◌, ◌+◌, ◌^◌, ◌++◌, ◌∷◌, [], OnOk};
 ghost use Rattle.program_tree.specs.Code.{Tree};
@@ -15,14 +15,15 @@ use program_tree::{Event, Proc, Target};
 use radio_packet::Sent;
 use trace_lines::{Line, What};
 
-/// The number of events that a mote accepts, and of packets that it sends, before it halts.
+/// The number of events that a mote accepts before it halts, and also the number of packets that it sends before it
+/// halts.
 const LIMIT: u64 = 1 << 62;
 
 impl Machine {
-    /// Appends a line about an event of the current moment.
+    /// Appends a line about an event at the current moment.
     ///
     /// # Errors
-    /// `Memory` if the allocation for the line fails. It is never `Halted`.
+    /// `Memory` if the allocation for the line fails. The error is never `Halted`.
     #[tactic(auto, unfolding(crate::specs::Writes::write_of, crate::specs::Views::Begins))]
     pub fn write(&mut self, what: What) -> Result<(), Stop>
         ensures exact { (t : Tree) → StepMatches result (state_of t self.new) (write_of (state_of t self.old) what) }
@@ -34,7 +35,7 @@ impl Machine {
         Ok(())
     }
 
-    /// Writes that the mote halts.
+    /// Writes a line about the mote's halt.
     #[inline(never)]
     #[tactic(auto, unfolding(crate::specs::Writes::write_of, crate::specs::Writes::halted_of))]
     pub fn halt(&mut self) -> Stop
@@ -65,7 +66,7 @@ impl Machine {
         Ok(())
     }
 
-    /// Posts an event; returns whether the queue was full.
+    /// Posts an event. Returns `true` if the queue was full.
     ///
     /// # Errors
     /// `Halted` if the mote has accepted 2^62 events; `Memory` if the allocation for the line fails. A full queue
@@ -94,7 +95,7 @@ impl Machine {
         }
     }
 
-    /// Asks for a poll of a process, if it is running or called.
+    /// Asks for a poll of a process if it is running or called.
     #[tactic(auto, unfolding(crate::specs::Processes::with_needs_poll, crate::specs::Posts::poll_of))]
     pub fn poll(&mut self, process: Proc)
         ensures exact { (t : Tree) → state_of t self.new ≡ poll_of (state_of t self.old) process }

@@ -2,14 +2,14 @@
 
 use program_tree::Proc;
 
-/// The state of a process (`PROCESS_STATE_NONE` and the others of `process.c`).
+/// The state of a process (`PROCESS_STATE_NONE` and the other states of `process.c`).
 #[derive(Clone, Copy)]
 pub enum ProcessState {
-    /// It isn't running.
+    /// The process isn't running.
     Off,
-    /// It waits for an event.
+    /// The process waits for an event.
     Running,
-    /// It was called, and hasn't answered yet.
+    /// The process was called, and its call hasn't ended yet.
     Called,
 }
 

@@ -24,7 +24,7 @@ fn packet_event(packet: &Arrival) -> Event
 }
 
 impl Machine {
-    /// Appends a packet to the receive ring, and returns whether it had room; a full ring is unchanged.
+    /// Appends a packet to the receive ring. Returns `true` if the ring had room; a full ring is unchanged.
     pub fn accept_packet(&mut self, packet: Arrival) -> bool
         ensures room { result ≡ nat_lt (length self.old.ring.items) 8 }
         ensures after { (t : Tree) → state_of t self.new
@@ -49,7 +49,7 @@ impl Machine {
         self.ring.take()
     }
 
-    /// Posts a packet to the receiver; without one nobody hears it.
+    /// Posts a packet to the receiver. If there is no receiver, nobody hears the packet.
     #[tactic(auto, unfolding(crate::specs::Radio::hand_to))]
     fn hand_to(&mut self, receiver: Option<u8>, packet: &Arrival) -> Result<(), Stop>
         ensures exact { (t : Tree) → StepMatches result (state_of t self.new)
@@ -67,7 +67,7 @@ impl Machine {
         }
     }
 
-    /// Removes the packets from the ring, the oldest first, and posts each.
+    /// Removes the packets from the ring, the oldest first, and posts each of them.
     fn empty_ring(&mut self, receiver: Option<u8>) -> Result<(), Stop>
         ensures exact { (t : Tree) → StepMatches result (state_of t self.new)
             (empty_ring receiver self.old.ring.items (state_of t self.old)) }
@@ -80,7 +80,7 @@ impl Machine {
         Ok(())
     }
 
-    /// The reaction of the radio process to an event.
+    /// Lets the radio process react to an event.
     ///
     /// # Errors
     /// `Halted` if the mote halts meanwhile; `Memory` if an allocation fails.

@@ -11,8 +11,8 @@ use std::marker::Model;
 /// The number of packets for which the ring has room.
 const ROOM: usize = 8;
 
-/// The packets that a mote has received and its radio process hasn't handed on yet, the oldest first. All its memory
-/// is allocated by `new`.
+/// The packets that a mote has received and that its radio process hasn't handed on yet, the oldest first. `new`
+/// allocates all memory of the ring.
 #[derive(Drop)]
 pub struct Ring {
     packets: HeapCircularBuffer<Arrival>,
@@ -41,11 +41,11 @@ impl Ring {
         })
     }
 
-    /// Puts a packet at the back.
+    /// Appends a packet to the ring.
     ///
     /// # Errors
     ///
-    /// A full ring, which is unchanged, returns the packet.
+    /// If the ring is full, it is unchanged, and the packet is returned.
     pub fn try_put(&mut self, packet: Arrival) -> Result<(), Arrival>
         ensures variant { IsOk result ↔ (length self.old.items < self.old.capacity) }
         ensures ok { OnOk result (self.new ≡ buffer (self.old.items ++ packet ∷ []) self.old.capacity) }
@@ -54,8 +54,8 @@ impl Ring {
         self.packets.try_push_back(packet)
     }
 
-    /// Takes the oldest packet, if there is one. If it is the only one, it is taken from the back, so a ring that is
-    /// emptied each time stays at its first slots.
+    /// Removes the oldest packet, if there is one. The only packet of a ring is removed from the back, so a ring that
+    /// is emptied each time always uses its first slots.
     pub fn take(&mut self) -> Option<Arrival>
         ensures value { result ≡ slice_get self.old.items 0 }
         ensures after { self.new ≡ buffer (drop 1 self.old.items) self.old.capacity }

@@ -1,4 +1,4 @@
-//! The memory of a kernel, allocated when it is made.
+//! The memory of a kernel, allocated when the kernel is made.
 
 ghost use Rattle.std.specs.Prelude.{◌≡◌, ◌≤◌, ◌+◌, false, [], IfOk, OnOk, length, map, replicate};
 ghost use Rattle.mote_timers.specs.TimerLists.{new_timers};
@@ -19,7 +19,7 @@ use protothread::{Fuel, Semaphore, Thread, Vars};
 use std::alloc::{AllocError, Global};
 use trace_lines::Out;
 
-/// A fresh body for each process: none is allocated before its process is called.
+/// A fresh body for each process. No body is allocated before its process is called.
 fn fresh_bodies(alloc: Global, program: &Program) -> Result<Vec<Option<Box<Thread>>>, AllocError>
     ensures fresh { IfOk result (λ threads. remainders_of (tree_of program.now).codes threads.items
         ≡ map (λ c. fresh_of c Body) (tree_of program.now).codes) }
@@ -51,7 +51,7 @@ fn first_semaphores(alloc: Global, program: &Program) -> Result<Vec<Semaphore>, 
     Ok(semaphores)
 }
 
-/// The view that a protothread of a mote with this number would get before the boot.
+/// The view that a protothread of a mote with this number has before the boot.
 fn first_shown(alloc: Global, program: &Program, mote: u16) -> Result<KernelView, AllocError>
     ensures mote { IfOk result (λ shown. (shown.mote ≡ mote) × (shown.moment ≡ 0)) }
     ensures timers { let n = length (tree_of program.now).timers in
@@ -112,8 +112,9 @@ impl Machine {
         })
     }
 
-    /// Makes the tables of the processes, none of which is listed, and room for a list of all of them. The data that a
-    /// run touches are allocated in a row, right after the timers and the states, so that they are close together.
+    /// Makes the tables of the processes, none of which is listed, and room for a list of all processes. The data that
+    /// a run uses are allocated one after another, right after the timers and the states, so that they are close
+    /// together.
     fn make_tables(&mut self, alloc: Global, program: &Program) -> Result<(), AllocError>
         ensures tables { let t = tree_of program.now in let n = length t.processes + 3 in
             OnOk result (state_of t self.new

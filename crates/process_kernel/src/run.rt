@@ -12,11 +12,11 @@ use crate::process::Member;
 use program_tree::Program;
 use protothread::Fuel;
 
-/// The units of work of a boot, and of each kernel run.
+/// The number of units of work of a boot, and of each kernel run.
 pub const UNITS: u32 = 10_000;
 
 impl Machine {
-    /// One kernel run; returns how much is left to do.
+    /// Makes one kernel run. Returns how much work is left.
     ///
     /// # Errors
     /// `Halted` if the mote halts meanwhile; `Memory` if an allocation fails.
@@ -57,7 +57,7 @@ impl Machine {
         }
     }
 
-    /// Counts what is left to do: the queued events, and one more if a poll is requested.
+    /// Counts the work that is left: the queued events, and one more if a poll is requested.
     pub fn left(&self) -> u16
         ensures count { result ≡ length self.now.queue.events + (if self.now.poll_requested then 1 else 0) }
     {
@@ -65,7 +65,7 @@ impl Machine {
     }
 }
 
-/// Numbers the members again, from the first on.
+/// Numbers the members again, beginning with the first.
 fn number(members: &mut [Member])
     requires bounded { length members.old ≤ 67 }
     ensures numbered { members.new ≡ numbered_from 0 members.old }

@@ -26,21 +26,21 @@ pub fn place_of(process: Proc) -> usize
     }
 }
 
-/// Returns whether both are the same process.
+/// Returns `true` if both are the same process.
 pub fn is_same(left: Proc, right: Proc) -> bool
     ensures value { result ≡ are_same left right }
 {
     place_of(left) == place_of(right)
 }
 
-/// The state at a place of the table; past its end nothing is running.
+/// The state at a place of the table. Past the end of the table, it is `Off`.
 pub fn state_at(states: &[ProcessState], place: usize) -> ProcessState
     ensures value { result ≡ unwrap_or (slice_get states.now place) ProcessState.Off }
 {
     states.get(place).copied().unwrap_or(ProcessState::Off)
 }
 
-/// Returns whether a process in this state has started and not ended: it is running or called.
+/// Returns `true` if a process in this state has started and not ended: it is running or called.
 pub fn is_alive(state: ProcessState) -> bool
     ensures value { result ≡ lives state }
 {
@@ -59,7 +59,7 @@ impl Machine {
         state_at(&self.shown.states, place_of(process))
     }
 
-    /// Returns whether a process is running: it has started, and isn't being called.
+    /// Returns `true` if a process is running: it has started, and isn't being called.
     pub fn is_running(&self, process: Proc) -> bool
         ensures value { result ≡ is_running_state (state_of_process self.now.shown.states.items process) }
     {
@@ -70,7 +70,7 @@ impl Machine {
         }
     }
 
-    /// Returns whether a process is being exited; false if the mote has no such process.
+    /// Returns `true` if a process is being exited; `false` if the mote has no such process.
     pub fn is_exiting(&self, process: Proc) -> bool
         ensures value { result ≡ at_process self.now.exiting.items process }
     {
@@ -80,7 +80,8 @@ impl Machine {
             .unwrap_or(false)
     }
 
-    /// Returns whether its body or a handler of it is being executed, or it is being exited.
+    /// Returns `true` if the body of a process or one of its handlers is being executed, or the process is being
+    /// exited.
     pub fn is_busy(&self, process: Proc) -> bool
         ensures value { result ≡ (is_called_state
             (state_of_process self.now.shown.states.items process) || at_process self.now.exiting.items process) }
@@ -92,7 +93,7 @@ impl Machine {
         }
     }
 
-    /// Returns whether a process needs a poll; false if the mote has no such process.
+    /// Returns `true` if a process needs a poll; `false` if the mote has no such process.
     pub fn process_needs_poll(&self, process: Proc) -> bool
         ensures value { result ≡ at_process self.now.needs_poll.items process }
     {
@@ -102,14 +103,15 @@ impl Machine {
             .unwrap_or(false)
     }
 
-    /// Returns whether the mote has such a process.
+    /// Returns `true` if the mote has such a process.
     pub fn has_process(&self, process: Proc) -> bool
         ensures value { result ≡ nat_lt (place_of process) (length self.now.shown.states.items) }
     {
         place_of(process) < self.shown.states.len()
     }
 
-    /// Returns whether this incarnation is on the process list. If they are numbered, it is at its number or nowhere.
+    /// Returns `true` if this incarnation is on the process list. If the incarnations are numbered, it is at the place
+    /// with its number, or not on the list.
     #[inline(always)]
     #[tactic(auto, using(crate::proofs::Numbered::held_there, crate::proofs::Numbered::held_past))]
     pub fn is_on_list(&self, member: Member) -> bool
@@ -122,8 +124,8 @@ impl Machine {
         place < self.members.len() && is_same(member.process, self.members[place].process)
     }
 
-    /// Returns whether an incarnation that was on the process list when the boot or run began is still there. No list
-    /// that is numbered has changed since then.
+    /// Returns `true` if an incarnation that was on the process list when the boot or run began is still on it. A list
+    /// that is still numbered hasn't changed since then.
     #[inline(always)]
     pub fn is_still_on_list(&self, member: Member) -> bool
         requires was_listed { holds_member (first_list_of self.now) member ≡ true }
@@ -136,7 +138,7 @@ impl Machine {
         }
     }
 
-    /// Returns whether this incarnation is on the process list, by looking at each member.
+    /// Returns `true` if this incarnation is on the process list. The function looks at each member.
     #[inline(never)]
     fn is_among_all(&self, member: Member) -> bool
         ensures value { result ≡ holds_member self.now.members.items member }
@@ -145,7 +147,7 @@ impl Machine {
             && place_of(member.process) == place_of(x.process))
     }
 
-    /// Returns whether some incarnation of the process is on the process list.
+    /// Returns `true` if some incarnation of the process is on the process list.
     pub fn is_listed(&self, process: Proc) -> bool
         ensures value { result ≡ is_found_in self.now.members.items process }
     {

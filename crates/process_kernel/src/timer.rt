@@ -20,7 +20,8 @@ fn is_callback(program: &Program, timer: u16) -> bool
     timer < program.timers() && program.is_callback(timer)
 }
 
-/// The process that gets the event of a timer: the one that sets it, or for a callback timer the ctimer process.
+/// The process that gets the event of a timer: the process that sets the timer, or the ctimer process for a callback
+/// timer.
 fn owner(program: &Program, timer: u16, current: u8) -> Proc
     ensures value { result ≡ owner_of (tree_of program.now) timer current }
 {
@@ -32,7 +33,7 @@ fn owner(program: &Program, timer: u16, current: u8) -> Proc
 }
 
 impl Machine {
-    /// Puts the callback of a timer, if it has one, on the callback list.
+    /// Adds the callback of a timer to the callback list, if the timer has one.
     fn put_callback(&mut self, program: &Program, timer: u16)
         requires is_timer { timer < self.old.shown.timer_count }
         ensures exact { state_of (tree_of program.now) self.new
@@ -49,7 +50,8 @@ impl Machine {
         }
     }
 
-    /// A timer was set: its callback, if it has one, waits for it, and the etimer process is to be polled.
+    /// Records that a timer was set: its callback, if it has one, waits for it, and the etimer process is to be
+    /// polled.
     #[tactic(auto, unfolding(crate::specs::TimerOperations::timer_is_set))]
     fn timer_is_set(&mut self, program: &Program, timer: u16)
         requires is_timer { timer < self.old.shown.timer_count }
@@ -62,8 +64,9 @@ impl Machine {
         self.poll(Proc::Etimer);
     }
 
-    /// Sets a timer to an interval in moments, which begins now (`etimer_set` of `etimer.c`). The process `current`
-    /// becomes its owner, or for a callback timer the ctimer process. If the mote has no such timer, nothing changes.
+    /// Sets a timer to an interval in moments that begins now (`etimer_set` of `etimer.c`). The process `current`
+    /// becomes the timer's owner; for a callback timer, the ctimer process does. If the mote has no such timer,
+    /// nothing changes.
     #[tactic(auto, unfolding(crate::specs::TimerOperations::set_of))]
     pub fn set_timer(&mut self, program: &Program, timer: u16, interval: u16, current: u8)
         ensures exact { state_of (tree_of program.now) self.new
@@ -80,9 +83,9 @@ impl Machine {
         }
     }
 
-    /// Sets a timer again from the moment at which it was or is due (`etimer_reset` of `etimer.c`). The process
-    /// `current` becomes its owner, or for a callback timer the ctimer process. If the mote has no such timer, nothing
-    /// changes.
+    /// Sets a timer again. Its interval begins at the moment at which the timer was due or is due (`etimer_reset` of
+    /// `etimer.c`). The process `current` becomes the timer's owner; for a callback timer, the ctimer process does. If
+    /// the mote has no such timer, nothing changes.
     #[tactic(auto, unfolding(crate::specs::TimerOperations::reset_of))]
     pub fn reset_timer(&mut self, program: &Program, timer: u16, current: u8)
         ensures exact { state_of (tree_of program.now) self.new
@@ -98,9 +101,9 @@ impl Machine {
         }
     }
 
-    /// Sets a timer again from now, with the interval that it has (`etimer_restart` of `etimer.c`). The process
-    /// `current` becomes its owner, or for a callback timer the ctimer process. If the mote has no such timer, nothing
-    /// changes.
+    /// Sets a timer again. Its interval, which doesn't change, begins now (`etimer_restart` of `etimer.c`). The
+    /// process `current` becomes the timer's owner; for a callback timer, the ctimer process does. If the mote has no
+    /// such timer, nothing changes.
     #[tactic(auto, unfolding(crate::specs::TimerOperations::restart_of))]
     pub fn restart_timer(&mut self, program: &Program, timer: u16, current: u8)
         ensures exact { state_of (tree_of program.now) self.new
@@ -129,7 +132,7 @@ impl Machine {
         }
     }
 
-    /// Removes the callback of a timer from the callback list, and returns whether it was there.
+    /// Removes the callback of a timer from the callback list. Returns `true` if it was on the list.
     pub fn takes_callback(&mut self, timer: u16) -> bool
         ensures waited { (t : Tree) → result ≡ waits_for (state_of t self.old) timer }
         ensures after { (t : Tree) → state_of t self.new
@@ -145,8 +148,8 @@ impl Machine {
         }
     }
 
-    /// Posts the event of each timer that is due. After each event that is accepted the walk begins again at the front
-    /// of the list.
+    /// Posts the event of each timer that is due. After each event that is accepted, the walk begins again at the
+    /// front of the list.
     #[tactic(auto, unfolding(crate::specs::Etimer::pass_of))]
     fn post_due_timers(&mut self) -> Result<(), Stop>
         ensures exact { (t : Tree) → StepMatches result (state_of t self.new) (pass_of (state_of t self.old)) }
@@ -167,7 +170,7 @@ impl Machine {
         Ok(())
     }
 
-    /// Removes the timers of a process that left from the list.
+    /// Removes the timers of a process that has left from the timer list.
     #[tactic(auto, unfolding(crate::specs::Etimer::purge_of))]
     fn purge(&mut self, process: u16)
         ensures exact { (t : Tree) → state_of t self.new ≡ purge_of (state_of t self.old) process }
@@ -179,7 +182,7 @@ impl Machine {
         }
     }
 
-    /// The reaction of the etimer process to an event.
+    /// Lets the etimer process react to an event.
     ///
     /// # Errors
     /// `Halted` if the mote has accepted 2^62 events; `Memory` if the allocation for a line fails.

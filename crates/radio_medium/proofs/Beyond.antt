@@ -1,4 +1,4 @@
--- Groups of motes: who is farther than the range from the whole group.
+-- Groups of motes: the motes that are farther from a whole group than the range.
 use Rattle.std.proofs.Common.{◌≡◌, ℕ, zero, suc, ◌+◌, ◌-◌, ◌*◌, ◌<◌, ◌≤◌, false, List, [], refl, subst, arith}
 use Rattle.std.specs.Prelude.{Option, ℤ, unsigned_abs, ◌-ℤ◌, nat_le}
 use Rattle.std.proofs.Math.Nat.{mul-le-mul_left}
@@ -23,7 +23,7 @@ square_lt m n less =
     let high : n * (m + 1) ≤ n * n = mul-le-mul_left n (omega arith) in
     omega arith
 
--- one gap above the range is enough
+-- one coordinate that differs by more than the range is enough
 far_by : (range dx dy : ℕ) → range < dx → square range < square dx + square dy
 far_by range dx dy far = let less : square range < square dx = square_lt range dx far in omega arith
 
@@ -47,7 +47,7 @@ beyond_y group range from far place holds =
     let less : square range < square (unsigned_abs (from.y -ℤ place.y)) = square_lt range (unsigned_abs (from.y -ℤ place.y)) gap in
     lt-leb _ _ (omega arith)
 
--- motes none of which hears the sender have no links
+-- if none of these motes hears the sender, there are no links to them
 links_skip : (radio : Radio) (every : ℕ → ℕ → Option ℕ) (s first n : ℕ) (links : List Link) → links ≡ links_below radio every s first
     → ((k : ℕ) → first ≤ k → k < first + n → hears radio k s ≡ false) → links ≡ links_below radio every s (first + n)
 links_skip radio every s first zero links so_far none = let same : first + zero ≡ first = omega arith in rw same so_far
@@ -58,7 +58,7 @@ links_skip radio every s first (suc n) links so_far none =
     (links_skip radio every s first n links so_far (λ k low high. none k low (omega arith)))
     (rw (none (first + n) (omega arith) (omega arith)) refl))
 
--- nor have the motes of a group that is beyond the range
+-- if a group is beyond the range, there are no links to its motes
 pub links_beyond : (places : List Place) (reach : Reach) (every : ℕ → ℕ → Option ℕ) (s first after : ℕ) (group : Group) (links : List Link)
     → first ≤ after → HoldsMotes places first after group → IsBeyond group reach.range (place_at (radio_from places reach []) s)
     → links ≡ links_below (radio_from places reach []) every s first → links ≡ links_below (radio_from places reach []) every s after

@@ -42,7 +42,7 @@ pub copies_later : (radio : Radio) (sent : Sent) → AllByRecursion (IsCopyOf ra
 unfolding copies fates receivers
 copies_later radio sent = are_copies radio sent (motes radio)
 
--- the motes to which the copies go: those that hear and whose copy isn't lost
+-- the receivers of copies: the motes that hear the sender and whose copy isn't lost
 receivers_of_copies : (radio : Radio) (sent : Sent) (rs : List ℕ)
     → map (λ (copy : RadioCopy). copy.to) (filter_map (copy_of sent) (map (fate radio sent) rs)) ≡ filter (λ r. not (loses radio sent.sender r sent.number)) rs
 unfolding fate

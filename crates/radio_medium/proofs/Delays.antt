@@ -18,7 +18,7 @@ pub least_below : (xs : List ℕ) (d : ℕ) → AllByRecursion (λ x. unwrap_or 
 least_below [] d = tt
 least_below (x ∷ xs) d = least_of_all x xs
 
--- a least number is as large as a number below all of them
+-- a lower bound of all elements is a lower bound of the least element
 pub least_above : (low : ℕ) (xs : List ℕ) (d : ℕ) → AllByRecursion (λ x. low ≤ x) xs → low ≤ d → low ≤ unwrap_or (reduce min xs) d
 least_above low [] d h k = k
 least_above low (x ∷ xs) d h k = from x xs h.0 h.1
@@ -27,7 +27,7 @@ least_above low (x ∷ xs) d h k = from x xs h.0 h.1
     from a [] p q = p
     from a (y ∷ ys) p q = let first : low ≤ y = q.0 in from (min a y) ys (omega arith) q.1
 
--- no pair that hears has a delay below the lookahead
+-- if a mote hears another one, the delay between them isn't below the lookahead
 pub lookahead-le : (radio : Radio) (s r end : ℕ) → hears radio r s ≡ true → lookahead radio end ≤ delay radio s r
 unfolding lookahead delays receivers
 lookahead-le radio s r end heard =

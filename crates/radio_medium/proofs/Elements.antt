@@ -3,7 +3,7 @@ use Rattle.std.proofs.Common.{◌≡◌, ℕ, zero, suc, ◌+◌, ◌<◌, ◌�
 use Rattle.std.specs.List.{AllByRecursion, flat_map, range_with_len}
 use Rattle.std.proofs.lemmas.Bool.{cond_both, cases_eq}
 
--- a property of everything is one of each element
+-- a property of all values is a property of each element of a list
 pub each : {X : Type 0} (P : X → Type 0) → ((x : X) → P x) → (xs : List X) → AllByRecursion P xs
 each P h [] = tt
 each P h (x ∷ xs) = (h x, each P h xs)
@@ -44,7 +44,7 @@ pub before_flat_map : {X Y : Type 0} (P : Y → Type 0) (f : X → List Y) (xs :
 before_flat_map P f [] h = tt
 before_flat_map P f (x ∷ xs) h = (front_of P (f x) (flat_map f xs) h, before_flat_map P f xs (back_of P (f x) (flat_map f xs) h))
 
--- a property of each number of a range is one of a number within it
+-- a property of each number of a range is a property of any number within the range
 pub within_range : (P : ℕ → Type 0) (a n k : ℕ) → AllByRecursion P (range_with_len a n) → a ≤ k → k < a + n → P k
 within_range P a zero k h low high = absurd (omega arith)
 within_range P a (suc n) k h low high =

@@ -13,7 +13,7 @@ behind_per bad = cond bad (Some BadLoss) None
 abbrev behind_base : ℕ → Bool → Option MediumError
 behind_base per bad = cond (per == 0) (Some ZeroPer) (behind_per bad)
 
--- consequences of the absence of errors
+-- the properties of a medium without an error
 record IsFaultless (radio : Radio) : Type 0 where
   base : 0 < radio.base
   per : 0 < radio.per
@@ -60,7 +60,7 @@ pub no_fault : (radio : Radio) → (radio.base ≡ 0 → ⊥) → (radio.per ≡
 unfolding medium_fault
 no_fault radio base per losses = rw (ne_eqb radio.base 0 base, ne_eqb radio.per 0 per, losses) refl
 
--- an error of the losses is one of the medium
+-- an error of the losses is an error of the medium
 pub refused_medium : (radio : Radio) (e : MediumError) → (radio.base ≡ 0 → ⊥) → (radio.per ≡ 0 → ⊥) → GathersLosses (length radio.places) radio.losses (Err e) → MakesMedium radio (Err e)
 refused_medium radio Memory base per refused = tt
 refused_medium radio ZeroBase base per refused = absurd refused

@@ -24,13 +24,13 @@ range-more : (a n j : ℕ) → a + n ≡ j → range_with_len a (n + 1) ≡ rang
 range-more a zero j is = let same : a ≡ j = omega arith in rw same refl
 range-more a (suc n) j is = let shifted : suc n + 1 ≡ suc (n + 1) = omega arith in rw shifted (ap (λ ks. a ∷ ks) (range-more (a + 1) n j (omega arith)))
 
--- one receiver more
+-- one more receiver
 pub links_more : (f : ℕ → Link) (p : ℕ → Bool) (n : ℕ) → map f (filter p (range_with_len 0 (n + 1))) ≡ map f (filter p (range_with_len 0 n)) ++ cond (p n) (f n ∷ []) []
 links_more f p n =
     rw (range-more 0 n n (omega arith), filter-append p (range_with_len 0 n) (n ∷ []), map-append)
     (ap (λ ks. map f (filter p (range_with_len 0 n)) ++ ks) (elim (p n) as (λ b. map f (cond b (n ∷ []) []) ≡ cond b (f n ∷ []) []) [ true ↦ refl | false ↦ refl ]))
 
--- the least so far, by one number more
+-- the least number so far, after one more number
 pub with_least-is : (o : Option ℕ) (x : ℕ) → Some (option_map_or (λ best. min best x) o x) ≡ with_least o x
 with_least-is None x = refl
 with_least-is (Some best) x = refl
@@ -57,12 +57,12 @@ unfolding links_of
 delays_of_all radio every [] = refl
 delays_of_all radio every (s ∷ ss) = rw (delays_of_links radio every s (receivers radio s), delays_of_all radio every ss) refl
 
--- the delays of all links are those of all pairs that hear
+-- the delays of all links are the delays from each mote to the motes that hear it
 pub delays-links : (radio : Radio) (every : ℕ → ℕ → Option ℕ) → flat_map (λ links. map (λ (link : Link). link.delay) links) (map (links_of radio every) (motes radio)) ≡ delays radio
 unfolding delays
 delays-links radio every = delays_of_all radio every (motes radio)
 
--- who hears whom doesn't depend on the losses
+-- the links depend on the losses only by their table
 pub links-losses : (places : List Place) (reach : Reach) (losses : List Loss) (table : ℕ → ℕ → Option ℕ) → ((s r : ℕ) → table s r ≡ every_of losses s r)
     → links_of (radio_from places reach []) table ≡ links_of (radio_from places reach losses) (every_of losses)
 unfolding links_of receivers hears delay
@@ -112,11 +112,11 @@ links_fit radio limits sound s =
     let r : ℕ = get_or (receivers radio s) k d in
     record { delay = delay_bound radio limits s r; every = every_above_good (length radio.places) radio.losses s r (losses_good radio sound) })
 
--- one mote more whose links are known
+-- the links of one more mote are known
 pub ways_step : (f : ℕ → List Link) (n : ℕ) (all : List (List Link)) (links : List Link) → all ≡ map f (range_with_len 0 n) → links ≡ f n → all ++ links ∷ [] ≡ map f (range_with_len 0 (n + 1))
 ways_step f n all links so_far is = rw (map-range_with_len_more f 0 n n (omega arith), so_far, is) refl
 
--- one mote more that may hear
+-- one more mote that may hear the sender
 pub links_step_some : (radio : Radio) (every : ℕ → ℕ → Option ℕ) (s n : ℕ) (links : List Link) (link : Link)
     → links ≡ map (link_of radio every s) (filter (λ r. hears radio r s) (range_with_len 0 n)) → Some link ≡ (if hears radio n s then Some (link_of radio every s n) else None)
     → links ++ link ∷ [] ≡ map (link_of radio every s) (filter (λ r. hears radio r s) (range_with_len 0 (n + 1)))
@@ -158,7 +158,7 @@ pub fates-links : (radio : Radio) (sent : Sent) → map (fate_by sent) (links_of
 unfolding fates links_of
 fates-links radio sent = fates_of radio sent (receivers radio sent.sender)
 
--- all that a medium keeps
+-- all data of a medium
 pub made : (places : List Place) (reach : Reach) (losses : List Loss) (table : ℕ → ℕ → Option ℕ) (all : List (List Link)) (least : Option ℕ)
     → IsWithinLimits (radio_from places reach losses) → (reach.base ≡ 0 → ⊥) → (reach.per ≡ 0 → ⊥)
     → has_bad_loss (length places) losses ≡ false → ((s r : ℕ) → table s r ≡ every_of losses s r)

@@ -1,4 +1,4 @@
--- Losses taken one by one into a table by their pairs.
+-- Losses, added one by one to a table by their pairs.
 use Rattle.std.proofs.Common.{◌≡◌, ℕ, suc, ◌+◌, ◌<◌, ◌==◌, nat_lt, Bool, true, false, not, cond, ◌&&◌, ◌||◌, ⊎_elim, inl, inr, List, [], ◌∷◌, ◌++◌, length, get_or, take, drop, Option, Some, None, option_map, Ok, Err, refl, ap, sym, ◌∙◌, subst, arith, append_assoc, drop-cons}
 use Rattle.std.specs.List.{find, list_any}
 use Rattle.std.specs.Option.{ForSome, IsSome, option_or}
@@ -20,7 +20,7 @@ some_packets motes loss good =
     let some : loss.every ≡ 0 → ⊥ = eqb-false loss.every 0 (not-true (loss.every == 0) (and_parts (not (loss.sender == loss.to)) last k).1) in
     omega arith
 
--- a pair with a good loss loses one of at least one packet
+-- if all losses are good, the number `every` of a pair is above 0
 pub every_above : (motes : ℕ) (losses : List Loss) (s r : ℕ) → list_any (λ loss. not (is_good motes loss)) losses ≡ false → ForSome (every_of losses s r) (λ k. 0 < k)
 every_above motes [] s r good = λ k is. absurd (cc)
 every_above motes (loss ∷ losses) s r good =
@@ -51,7 +51,7 @@ twice-push (y ∷ ys) x =
     rw (list_any-append (is_for_pair y.sender y.to) ys (x ∷ []), twice-push ys x, pair_turned x y)
     (sorted_parts (list_any (is_for_pair y.sender y.to) ys) (is_for_pair x.sender x.to y) (has_pair_twice ys) (list_any (is_for_pair x.sender x.to) ys))
 
--- one loss more is bad if it is bad in itself, or its pair has one
+-- a list with one more loss is bad if this loss is bad by itself, or if its pair already has a loss
 bad-push : (motes : ℕ) (xs : List Loss) (x : Loss)
     → has_bad_loss motes (xs ++ x ∷ []) ≡ (has_bad_loss motes xs || (not (is_good motes x) || list_any (is_for_pair x.sender x.to) xs))
 unfolding has_bad_loss
@@ -65,7 +65,7 @@ bad-append motes xs (y ∷ ys) bad =
     let further : has_bad_loss motes ((xs ++ y ∷ []) ++ ys) ≡ true = bad-append motes (xs ++ y ∷ []) ys (bad-push motes xs y ∙ or_left _ _ bad) in
     rw append_assoc at further
 
--- a pair has a loss exactly if one is found
+-- a pair has a loss if and only if the search finds one
 found : (xs : List Loss) (s r : ℕ) → IsSome (every_of xs s r) → list_any (is_for_pair s r) xs ≡ true
 found [] s r some = some
 found (x ∷ xs) s r some =
@@ -123,7 +123,7 @@ HasLosses-push motes old new xs x u has adds = record {
     or_none None = refl
     or_none (Some k) = refl
 
--- a table that is empty, before the first loss
+-- an empty table, before the first loss
 pub HasLosses-none : (motes : ℕ) (every : EveryByPair) → every.entries ≡ [] → HasLosses motes every []
 unfolding has_bad_loss
 HasLosses-none motes every empty = record { good = refl; table = λ s r. rw empty refl }

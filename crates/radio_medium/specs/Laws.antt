@@ -6,7 +6,8 @@ use Rattle.radio_packet.specs.declared.sent.Sent.{Sent}
 use Rattle.radio_packet.specs.declared.copy.RadioCopy.{RadioCopy}
 use Rattle.radio_medium.specs.Medium.{Radio, hears, lookahead, copies, medium_fault}
 
--- a copy of this packet, to a mote of the net that hears the sender, which arrives no sooner than the lookahead
+-- a copy of this packet that goes to a mote of the net that hears the sender, and arrives no sooner than the lookahead
+-- after the packet was sent
 pub record IsCopyOf (radio : Radio) (sent : Sent) (copy : RadioCopy) : Type 0 where
   pub sender : copy.sender ≡ sent.sender
   pub number : copy.number ≡ sent.number
@@ -15,14 +16,14 @@ pub record IsCopyOf (radio : Radio) (sent : Sent) (copy : RadioCopy) : Type 0 wh
   pub heard : hears radio copy.to sent.sender ≡ true
   pub later : (end : ℕ) → sent.at + lookahead radio end ≤ copy.at
 
--- the lookahead is above 0, whatever the end
+-- the lookahead is above 0 for every end
 abbrev pub LooksAhead : Type 0
 LooksAhead = (radio : Radio) → medium_fault radio ≡ None → (end : ℕ) → 0 < lookahead radio end
 
--- each copy of a packet reaches a mote that hears the sender, no sooner than the lookahead
+-- each copy of a packet goes to a mote that hears the sender, and arrives no sooner than the lookahead
 abbrev pub CopiesComeLater : Type 0
 CopiesComeLater = (radio : Radio) (sent : Sent) → AllByRecursion (IsCopyOf radio sent) (copies radio sent)
 
--- the copies of a packet are sorted by receiver, each receiver once
+-- the copies of a packet are sorted by receiver, and each receiver has only one
 abbrev pub CopiesRise : Type 0
 CopiesRise = (radio : Radio) (sent : Sent) → IsStrictlyIncreasing (map (λ copy. copy.to) (copies radio sent))

@@ -1,4 +1,4 @@
--- The data that a medium keeps to find the copies of a packet: for each mote, those that hear it.
+-- The data by which a medium finds the copies of a packet: for each mote, the links to the motes that hear it.
 use Rattle.std.specs.Prelude.{◌≡◌, ℕ, ◌+◌, ◌<◌, ◌^◌, min, ◌==◌, ◌&&◌, true, false, if◌then◌else◌, cond, ◌⊎◌}
 use Rattle.std.specs.Prelude.{List, filter, map, Option, Some, None, IsSome, Result, Ok, Err}
 use Rattle.std.specs.List.{range_with_len, reduce}
@@ -17,7 +17,7 @@ use Rattle.radio_medium.specs.declared.reach.Reach.{Reach}
 use Rattle.radio_medium.specs.Medium.{Radio, IsWithinLimits, motes, hears, receivers, delay, delays, medium_fault}
 use Rattle.radio_medium.specs.Medium.{every_of, is_for_pair, is_good, is_lost, has_bad_loss}
 
--- the medium of these places and this reach, with these losses
+-- the medium with these places, this reach and these losses
 abbrev pub radio_from : List Place → Reach → List Loss → Radio
 radio_from places reach losses = record {
   places = places;
@@ -27,14 +27,14 @@ radio_from places reach losses = record {
   losses = losses;
 }
 
--- of how many packets one is lost, by sender and receiver
+-- for a sender and a receiver, the number of packets of which one is lost
 abbrev pub EveryByPair : Type 0
 EveryByPair = HashMap (ℕ × ℕ) ℕ (BuildHasherDefault FoldHasher)
 
 abbrev pub every_at : EveryByPair → (s r : ℕ) → Option ℕ
 every_at every s r = get (λ x y. (x.0 == y.0) && (x.1 == y.1)) every (s, r)
 
--- the losses by their pairs, or that one of them is bad
+-- all losses as a table by their pairs, or an error because one of them is bad
 abbrev pub GathersLosses : (motes : ℕ) → List Loss → Result EveryByPair MediumError → Type 0
 GathersLosses motes losses (Ok every) =
     (has_bad_loss motes losses ≡ false) × ((s r : ℕ) → every_at every s r ≡ every_of losses s r)
@@ -42,7 +42,7 @@ GathersLosses motes losses (Err Memory) = Unit {0}
 GathersLosses motes losses (Err BadLoss) = has_bad_loss motes losses ≡ true
 GathersLosses motes losses (Err _) = ⊥
 
--- one loss more: a good one, for a pair that had none
+-- one more loss: it is good, and its pair had no loss
 abbrev pub AddsLoss : (motes : ℕ) → Loss → (old new : EveryByPair) → Result (Unit {0}) MediumError → Type 0
 AddsLoss motes loss old new (Ok _) =
     (is_good motes loss ≡ true)
@@ -60,7 +60,7 @@ link_of radio every s r = record { to = r; delay = delay radio s r; every = ever
 unfoldable pub links_of : Radio → (every : ℕ → ℕ → Option ℕ) → (s : ℕ) → List Link
 links_of radio every s = map (link_of radio every s) (receivers radio s)
 
--- those of them to motes whose numbers are below this one
+-- the links from mote s to those of the motes with numbers below n that hear it
 abbrev pub links_below : Radio → (every : ℕ → ℕ → Option ℕ) → (s n : ℕ) → List Link
 links_below radio every s n = map (link_of radio every s) (filter (λ r. hears radio r s) (range_with_len 0 n))
 
@@ -76,7 +76,7 @@ pub record IsFit (link : Link) : Type 0 where
   pub delay : link.delay < 2 ^ 34
   pub every : ForSome link.every (λ k. 0 < k)
 
--- the lesser of a number and the best so far
+-- the lesser of a number and the least number so far
 abbrev pub with_least : Option ℕ → ℕ → Option ℕ
 with_least None x = Some x
 with_least (Some best) x = Some (min best x)

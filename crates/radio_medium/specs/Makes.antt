@@ -4,7 +4,7 @@ use Rattle.radio_medium.specs.declared.error.MediumError.{MediumError}
 use Rattle.radio_medium.specs.declared.error.MediumError.TheVariants.{Memory}
 use Rattle.radio_medium.specs.Medium.{Radio, medium_fault}
 
--- the medium of these, or their first fault; if an allocation failed, nothing is claimed
+-- the medium with these data, or their first error; if an allocation failed, nothing is claimed
 abbrev pub MakesMedium : Radio → Result Radio MediumError → Type 0
 MakesMedium radio (Ok medium) = (medium ≡ radio) × (medium_fault radio ≡ None)
 MakesMedium radio (Err Memory) = Unit {0}

@@ -1,4 +1,5 @@
--- The radio medium: who hears whom, how much later, and which copies are lost, determined only by places and losses.
+-- The radio medium: which motes hear a mote, after how long, and which copies are lost. Only places and losses decide
+-- this.
 use Rattle.std.specs.Prelude.{ℕ, ◌+◌, ◌*◌, ◌/◌, ◌%◌, ◌≤◌, ◌==◌, nat_le, nat_lt, min, pos, ◌-ℤ◌, unsigned_abs, Bool}
 use Rattle.std.specs.Prelude.{false, not, ◌&&◌, ◌||◌, if◌then◌else◌, Option, Some, None, unwrap_or, option_map, List}
 use Rattle.std.specs.Prelude.{[], ◌∷◌, length, map, filter, find, slice_index_or, All}
@@ -12,8 +13,8 @@ use Rattle.radio_packet.specs.declared.fate.Fate.{Fate}
 use Rattle.radio_medium.specs.declared.losses.Loss.{Loss}
 use Rattle.radio_medium.specs.declared.place.Place.{Place}
 
--- the place of each mote, the range of a packet, its delay, and the copies that are lost; a contract sees a `Medium` as
--- this record
+-- the place of each mote, the range of a packet, its delay, and the copies that are lost; in a contract, a `Medium` is
+-- seen as this record
 pub record Radio : Type 0 where
   pub places : List Place
   pub range : ℕ
@@ -52,7 +53,7 @@ hears radio r s =
     is_mote radio r && (is_mote radio s && (not (r == s)
     && nat_le (square_distance (place_at radio s) (place_at radio r)) (square radio.range)))
 
--- how long a packet of mote s needs to mote r
+-- the number of moments that a packet needs from mote s to mote r
 unfoldable pub delay : Radio → (s r : ℕ) → ℕ
 delay radio s r = radio.base + square_distance (place_at radio s) (place_at radio r) / radio.per
 
@@ -71,11 +72,11 @@ lookahead radio end = unwrap_or (reduce min (delays radio)) (end + 1)
 abbrev pub is_for_pair : (s r : ℕ) → Loss → Bool
 is_for_pair s r loss = (loss.sender == s) && (loss.to == r)
 
--- of how many packets from mote s to mote r one is lost, if there is a loss for them
+-- the number of packets from mote s to mote r of which one is lost, if there is a loss for this pair
 abbrev pub every_of : List Loss → (s r : ℕ) → Option ℕ
 every_of losses s r = option_map (λ (loss : Loss). loss.every) (find (is_for_pair s r) losses)
 
--- the last of every `every` packets is lost, and packets are numbered from 0
+-- packet n is lost: the last of every `every` packets is lost, and packets are numbered from 0
 abbrev pub is_lost : (n : ℕ) → Option ℕ → Bool
 is_lost n every = option_map_or (λ k. (n + 1) % k == 0) every false
 

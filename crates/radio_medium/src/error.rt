@@ -3,7 +3,7 @@ ghost use Rattle.std.specs.Prelude.{◌≡◌};
 
 use std::alloc::{AllocError, AllocFailed};
 
-/// The reason why no medium has these numbers and losses.
+/// The reason for which no medium can have these numbers and losses.
 #[derive(Clone, Copy, Debug, PartialEq, Eq)]
 pub enum MediumError {
     /// Out of memory: an allocation failed.
@@ -12,8 +12,8 @@ pub enum MediumError {
     ZeroBase = 2,
     /// The divisor of the square of the distance is 0.
     ZeroPer = 3,
-    /// A loss names a mote that doesn't exist, or one mote twice, or loses one of 0 packets; or two losses have the
-    /// same sender and receiver.
+    /// A loss names a mote that doesn't exist, names the same mote twice, or loses one of 0 packets; or two losses
+    /// have the same sender and receiver.
     BadLoss = 4,
 }
 

@@ -1,4 +1,4 @@
-//! Groups of motes by number: if a whole group is too far to hear a mote, none of its motes is looked at.
+//! Groups of motes by number. If a whole group is too far away to hear a mote, none of its motes is tested.
 
 ghost use Rattle.std.specs.Prelude.{◌≡◌, ◌*◌, ◌-◌, ◌-ℤ◌, ◌<◌, ◌≤◌, ℕ, false, nat_le, unsigned_abs, IfOk, length};
 ghost use Rattle.radio_medium.specs.Groups.{AreGroups, HoldsMotes, Holds, IsBeyond};
@@ -9,7 +9,8 @@ use std::alloc::{AllocError, Global};
 /// The number of motes in a group; the last one may have fewer.
 pub(crate) const GROUP_SIZE: usize = 32;
 
-/// A group: the place of its first mote (`centre`), and how far the others are from that at most, along each axis.
+/// A group: the place of its first mote (`centre`), and the greatest distance of the others from this place along each
+/// axis.
 #[derive(Clone, Copy)]
 pub(crate) struct Group {
     pub(crate) centre: Place,
@@ -18,7 +19,7 @@ pub(crate) struct Group {
 }
 
 impl Group {
-    /// The group with one mote more.
+    /// The group with one more mote.
     fn with(self, place: Place) -> Group
         ensures place { Holds result place }
         ensures others { (p : Place) → Holds self p → Holds result p }
@@ -63,7 +64,7 @@ fn reaches(range: u32, from: i32, centre: i32, farthest: u64) -> bool
     gap(from, centre).saturating_sub(u64::from(range)) <= farthest
 }
 
-/// The number of groups that this many motes make.
+/// The number of groups for this many motes.
 fn count_of(motes: usize) -> usize
     requires motes_bounded { motes ≤ 1000 }
     ensures enough { motes ≤ result * 32 }
@@ -72,7 +73,7 @@ fn count_of(motes: usize) -> usize
     (motes + (GROUP_SIZE - 1)) / GROUP_SIZE
 }
 
-/// All motes by groups, in the order of their numbers.
+/// The groups of all motes, in the order of their numbers.
 pub(crate) fn groups_of(alloc: Global, places: &[Place]) -> Result<Vec<Group>, AllocError>
     requires places_bounded { length places.now ≤ 1000 }
     ensures are_groups { IfOk result (λ groups. AreGroups places.now groups.items) }

@@ -1,4 +1,4 @@
-//! The radio medium: who hears whom, how much later, and the fates of a packet's copies.
+//! The radio medium: which motes hear a mote, after how long, and the fates of a packet's copies.
 #![tactic(auto)]
 
 mod error;

@@ -14,14 +14,14 @@ use crate::reach::Reach;
 use radio_packet::{Fate, RadioCopy, Sent};
 use std::alloc::{AllocError, Global};
 
-/// The link from a mote to one that hears it, as the medium keeps it for the sender.
+/// The link from a sender to a mote that hears it. The medium keeps it for the sender.
 #[derive(Clone, Copy)]
 pub(crate) struct Link {
     /// The receiver.
     pub(crate) to: u16,
     /// The number of moments that a packet needs.
     pub(crate) delay: u64,
-    /// If the medium loses packets on this link, it loses the last one in each group of this many.
+    /// The length of the groups of packets whose last one is lost on this link, if the medium loses any.
     pub(crate) every: Option<u32>,
 }
 
@@ -91,7 +91,7 @@ fn copy_with(fate: Fate, sent: &Sent) -> Option<RadioCopy>
     })
 }
 
-/// For each mote the links to those that hear it, by rising number.
+/// For each mote, the links to the motes that hear it, by rising number.
 pub(crate) fn all_links(
     alloc: Global,
     places: &[Place],
@@ -112,7 +112,7 @@ pub(crate) fn all_links(
     Ok(all)
 }
 
-/// The links from a mote to those that hear it, by rising number.
+/// The links from a mote to the motes that hear it, by rising number.
 fn links_from(
     alloc: Global,
     places: &[Place],
@@ -148,7 +148,7 @@ fn links_from(
     Ok(links)
 }
 
-/// Appends the links from a mote to those of these numbers that hear it.
+/// Appends the links from a mote to the motes with these numbers that hear it.
 fn put_links(
     links: &mut Vec<Link>,
     places: &[Place],
@@ -179,7 +179,7 @@ fn put_links(
     Ok(())
 }
 
-/// The link from one mote to another, if that one hears it.
+/// The link from one mote to another, if the other one hears it.
 #[tactic(auto, using(crate::proofs::Hearing::hears_between), unfolding(crate::specs::Medium::delay))]
 fn link_between(
     places: &[Place],
@@ -221,7 +221,7 @@ pub(crate) fn least_delay(all: &[Vec<Link>]) -> Option<u64>
     least
 }
 
-/// The least of these delays and of the least so far.
+/// The least of these delays and the least delay so far.
 fn lesser(least: Option<u64>, links: &[Link]) -> Option<u64>
     ensures value { result ≡ fold with_least least (map (λ link. link.delay) links.now) }
 {

@@ -1,4 +1,4 @@
-//! Losses: which copies from one mote to another the medium loses.
+//! Losses: the copies from one mote to another that the medium loses.
 
 ghost use Rattle.std.specs.Prelude.{◌≡◌, ◌<◌, ℕ, true, false, cond, Some, None, IsSome, Ok, Err, ◌⊎◌};
 ghost use Rattle.std.specs.Option.{ForSome};
@@ -9,8 +9,8 @@ use crate::error::MediumError;
 use std::alloc::Global;
 use std::collections::HashMap;
 
-/// The medium loses one of `every` copies from mote `sender` to mote `to`: those of the packets whose number plus one
-/// is a multiple of `every`.
+/// A loss: the medium loses one of `every` copies from mote `sender` to mote `to`. The lost copies are those of the
+/// packets whose number plus one is a multiple of `every`.
 #[derive(Clone, Copy, Debug, PartialEq, Eq)]
 pub struct Loss {
     pub sender: u32,
@@ -21,7 +21,7 @@ pub struct Loss {
 /// For each pair of a sender and a receiver with a loss, the length of the groups of packets whose last one is lost.
 pub(crate) type EveryByPair = HashMap<(u32, u32), u32>;
 
-/// All losses by their pairs; a bad one is an error.
+/// All losses as a table by their pairs. A bad loss is an error.
 pub(crate) fn gather_losses(
     alloc: Global,
     motes: usize,
@@ -49,7 +49,7 @@ fn add_loss(every: &mut EveryByPair, motes: usize, loss: Loss) -> Result<(), Med
     }
 }
 
-/// Returns `true` if a loss is between two different motes of the net, and loses the last of some packets.
+/// Returns `true` if a loss is between two different motes of the net, and its `every` isn't 0.
 fn is_good(motes: usize, loss: Loss) -> bool
     ensures value { result ≡ is_good motes loss }
 {
@@ -57,8 +57,8 @@ fn is_good(motes: usize, loss: Loss) -> bool
     is_there && loss.sender != loss.to && loss.every != 0
 }
 
-/// Returns `true` if packet `number` is lost, given that the last of each `every` packets is lost; without `every`
-/// none is.
+/// Returns `true` if packet `number` is lost. The last packet in each group of `every` packets is lost; without
+/// `every`, none is.
 pub(crate) fn is_lost(number: u64, every: Option<u32>) -> bool
     requires positive { ForSome every (λ k. 0 < k) }
     ensures value { result ≡ is_lost number every }

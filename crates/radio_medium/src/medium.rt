@@ -15,20 +15,20 @@ use radio_packet::{Fate, RadioCopy, Sent};
 use std::alloc::{AllocError, Global};
 use std::marker::Model;
 
-/// The radio medium between motes that don't move. The links of each mote are found once, so that a packet costs no
-/// more than its receivers.
+/// The radio medium between motes that don't move. It finds the links of each mote once. So the cost of a packet grows
+/// only with its number of receivers.
 pub struct Medium {
     alloc: Global,
     places: Vec<Place>,
     reach: Reach,
     losses: Vec<Loss>,
-    /// For each mote the links to those that hear it, by rising number.
+    /// For each mote, the links to the motes that hear it, by rising number.
     links: Vec<Vec<Link>>,
     /// The least delay of all links.
     least_delay: Option<u64>,
 }
 
-/// Implemented by hand: the check of a function that owns a medium then sees only one call for its drop.
+/// Implemented by hand, so that the check of a function that owns a medium sees only one call for its drop.
 impl Drop for Medium {
     fn drop(self) {
         let Medium {
@@ -114,7 +114,7 @@ impl Medium {
         self.reach.delay(self.square_distance(s, r))
     }
 
-    /// The least delay of all links; without links, the first moment after the end.
+    /// The least delay of all links. If there are no links, the first moment after the end.
     pub fn lookahead(&self, end: u64) -> u64
         requires end_bounded { end ≤ 2 ^ 40 }
         ensures value { result ≡ lookahead self.now end }
@@ -124,7 +124,7 @@ impl Medium {
         self.least_delay.unwrap_or(end + 1)
     }
 
-    /// The fates of the copies of a packet, one for each mote that hears the sender, by rising number.
+    /// The fates of the copies of a packet, one for each mote that hears the sender, by rising number of the receiver.
     ///
     /// # Errors
     /// If an allocation failed.
@@ -136,7 +136,7 @@ impl Medium {
         fates_along(self.alloc, self.links_of(sent.sender), sent)
     }
 
-    /// The copies of a packet that aren't lost, by rising number of the mote to which they go.
+    /// The copies of a packet that aren't lost, by rising number of the receiver.
     ///
     /// # Errors
     /// If an allocation failed.
@@ -148,7 +148,7 @@ impl Medium {
         copies_along(self.alloc, self.links_of(sent.sender), sent)
     }
 
-    /// The links from a mote to those that hear it.
+    /// The links from a mote to the motes that hear it.
     fn links_of(&self, s: u16) -> &[Link]
         requires sender { s < length self.now.places }
         ensures ways { result.now ≡ links_of self.now (every_of self.now.losses) s }

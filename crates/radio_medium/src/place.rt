@@ -3,7 +3,7 @@
 ghost use Rattle.std.specs.Prelude.{◌≡◌, ◌≤◌, ◌<◌, ◌^◌, ◌-ℤ◌, nat_le, unsigned_abs};
 ghost use Rattle.radio_medium.specs.Medium.{square_distance};
 
-/// The place of a mote. Places, distances and ranges have one unit.
+/// The place of a mote. Places, distances and ranges have the same unit.
 #[derive(Clone, Copy, Debug, PartialEq, Eq)]
 pub struct Place {
     pub x: i32,
@@ -34,7 +34,8 @@ impl Place {
         dx * dx + dy * dy
     }
 
-    /// Returns `true` if the square of the distance to another place is at most this. Most places are too far in x.
+    /// Returns `true` if the square of the distance to another place is at most `square`. Most places are already too
+    /// far away along the x axis.
     #[tactic(auto, unfolding(crate::specs::Medium::square_distance))]
     #[inline(always)]
     pub(crate) fn is_within(self, square: u64, other: Place) -> bool

@@ -5,8 +5,8 @@ ghost use Rattle.radio_medium.specs.Medium.{square, square_distance};
 
 use crate::place::Place;
 
-/// The range within which a packet is heard, its least delay, and the part of the square of the distance for which it
-/// needs one moment more.
+/// The range within which a packet is heard, its least delay `base`, and the number `per`: a packet needs one more
+/// moment for each whole `per` in the square of the distance.
 #[derive(Clone, Copy)]
 pub(crate) struct Reach {
     pub(crate) range: u32,

@@ -1,4 +1,4 @@
--- A net has a report, and the windows lead to that report.
+-- A net has a report, and its run by windows leads to the same report.
 use Rattle.std.proofs.Common.{◌≡◌, ℕ, ◌+◌, ◌<◌, ◌≤◌, Bool, true, eqb, List, [], ◌∷◌, length, map, refl, sym, ap, ◌∙◌}
 use Rattle.std.proofs.Common.{subst, inl, inr, arith}
 use Rattle.std.specs.List.{filter, AllByRecursion}
@@ -33,7 +33,7 @@ report_is_there n fault placed =
     let r = run_is_there (system_of n) (system_is n fault placed) n.end in
     (report_at n r.0, record { last = r.0; run = r.1; matches = refl })
 
--- packets that are numbered on: the first, and the rest
+-- numbered packets: the first one has number k
 number_first : (k : ℕ) (x : Sent) (xs : List Sent) → AreNumberedFrom k (x ∷ xs) → x.number ≡ k
 number_first k x xs h = cc
 
@@ -47,7 +47,7 @@ at_least k (x ∷ xs) h =
     let le : k ≤ x.number = omega arith in
     (le, every_weaker _ _ (λ y g. omega arith) xs (at_least (k + 1) xs (number_rest k x xs h)))
 
--- a property of all that pass is one of each that passes
+-- a property of all elements that pass a test is a property of each such element
 of_passed : (P : Sent → Type 0) (p : Sent → Bool) (xs : List Sent) → AllByRecursion P (filter p xs) → AllByRecursion (λ x. p x ≡ true → P x) xs
 of_passed P p [] h = tt
 of_passed P p (x ∷ xs) h =

@@ -1,4 +1,4 @@
--- The copies of the log that arrive after the end stay on the agenda to the end.
+-- The copies of the log that arrive after the end stay on the agenda until the end.
 use Rattle.std.proofs.Common.{◌≡◌, ℕ, suc, ◌+◌, ◌<◌, ◌≤◌, Bool, true, false, ◌&&◌, ltb, eqb, List, [], ◌∷◌, ◌++◌}
 use Rattle.std.proofs.Common.{length, map, refl, sym, ap, ◌∙◌, inl, inr, arith, Option, Some, None}
 use Rattle.std.specs.List.{filter, flat_map, filter_map, AllByRecursion}
@@ -33,7 +33,7 @@ not_after end t m at to h e = grind (arith, nat_tests)
 after : (end at : ℕ) → end < at → ltb end at ≡ true
 after end at h = grind (arith, nat_tests)
 
--- a turn leaves the copies that pass a test, if none of those that are due does
+-- a turn leaves the copies that pass a test, if none of the due copies passes it
 still_there : (p : RadioCopy → Bool) (t m : ℕ) → ((c : RadioCopy) → comes_at t m (Packet c) ≡ true → p c ≡ false) → (items : List Item) → filter p (packets (filter (is_left t m) items)) ≡ filter p (packets items)
 still_there p t m none [] = refl
 still_there p t m none (Wake u k ∷ items) =
@@ -52,7 +52,7 @@ all_late end (Wake u k ∷ items) h = all_late end items h.1
 all_late end (Packet c ∷ items) h = let f : is_after end c ≡ true = after end c.at h.0 in rw f (ap (λ l. c ∷ l) (all_late end items h.1))
 
 module _ {S L : Type 0} (system : System S L) where
-  -- of the copies that pass a test, the agenda has those of the log
+  -- of the copies that pass a test, the agenda has the same as the log
   abbrev pub HasAll : (RadioCopy → Bool) → NetState S L → Type 0
   HasAll p net = filter p (packets net.agenda) ≡ filter p (flat_map system.copies net.log)
 
@@ -92,7 +92,7 @@ left_is n r report = ap (λ t. t.left) report.matches ∙ ap length (late_copies
 pub left_is_counted : LeftIsCounted
 left_is_counted n r report = left_is n r report ∙ length-filter (is_after n.end) (flat_map (copies n.radio) report.last.log)
 
--- a packet has as many late copies as late fates
+-- a packet has the same number of late copies and late fates
 module _ (radio : Radio) (end : ℕ) where
   fates_tell : (sent : Sent) (fs : List Fate) → length (filter (is_after end) (filter_map (copy_of sent) fs)) ≡ length (filter (is_late end) fs)
   fates_tell sent [] = refl

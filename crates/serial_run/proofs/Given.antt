@@ -1,4 +1,4 @@
--- The copies of the log that arrive at or before the end are given in the turns of the run, each once, at its moment.
+-- The copies of the log that arrive at or before the end are given to the turns of the run, each once, at its moment.
 use Rattle.std.proofs.Common.{◌≡◌, ℕ, ◌<◌, ◌≤◌, true, false, not, ◌&&◌, ltb, eqb, List, [], ◌∷◌, ◌++◌, append_assoc}
 use Rattle.std.proofs.Common.{refl, sym, ap, ◌∙◌, subst, inl, inr, arith}
 use Rattle.std.specs.Prelude.{IsPermutation}
@@ -27,7 +27,7 @@ due_is_by end t m at to h e = grind (arith, nat_tests)
 late_is_not_by : (end at : ℕ) → end < at → not (ltb end at) ≡ false
 late_is_not_by end at h = grind (arith, nat_tests)
 
--- the due events, and the others
+-- the due events and the other events
 split : (end t m : ℕ) (items : List Item) → t ≤ end
     → IsPermutation (filter (is_by end) (packets items)) (packets (filter (comes_at t m) items) ++ filter (is_by end) (packets (filter (is_left t m) items)))
 split end t m [] h = IsPermutation-refl []
@@ -56,7 +56,7 @@ module _ {S L : Type 0} (system : System S L) (end : ℕ) where
   abbrev by : List RadioCopy → List RadioCopy
   by = filter (is_by end)
 
-  -- the copies of the log that arrive at or before the end are those given so far, and those still on the agenda
+  -- the copies of the log that arrive at or before the end are those given so far and those still on the agenda
   abbrev HasGiven : List RadioCopy → NetState S L → Type 0
   HasGiven given net = IsPermutation (by (flat_map system.copies net.log)) (given ++ by (packets net.agenda))
 

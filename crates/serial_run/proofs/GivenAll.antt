@@ -1,4 +1,4 @@
--- A turn is given all copies of the log for its mote at its moment.
+-- A turn gets all copies of the log for its mote and its moment.
 use Rattle.std.proofs.Common.{◌≡◌, ℕ, suc, true, false, not, ◌&&◌, ◌||◌, ltb, eqb, List, [], ◌∷◌, ◌++◌, map, append-nil, refl, sym, ap, ◌∙◌, arith}
 use Rattle.std.specs.List.{filter, flat_map, AllByRecursion}
 use Rattle.std.proofs.lemmas.Bool.Decides.{nat_tests}
@@ -33,7 +33,7 @@ pub second_none : {X : Type 0} (xs ys : List X) → xs ++ ys ≡ [] → ys ≡ [
 second_none [] ys e = e
 second_none (x ∷ xs) ys e = cc
 
--- nothing for this mote at this moment if all comes later
+-- if all events are later, none is for this mote at this moment
 none_for : (t m : ℕ) (items : List Item) → AllByRecursion (λ item. is_from t (suc m) item ≡ true) items → filter (is_for t m) (packets items) ≡ []
 none_for t m [] h = refl
 none_for t m (Wake u k ∷ items) h = none_for t m items h.1
@@ -47,7 +47,7 @@ boot_from [] = tt
 boot_from (k ∷ ks) = (all_from 0 k, boot_from ks)
 
 module _ {S L : Type 0} (system : System S L) (fine : RunsForward system) where
-  -- all pending events are at this moment and mote, or later
+  -- all pending events are for this moment and mote, or later
   abbrev IsFrom : (t m : ℕ) → NetState S L → Type 0
   IsFrom t m net = AllByRecursion (λ item. is_from t m item ≡ true) net.agenda
 

@@ -1,4 +1,4 @@
--- Each mote's trace goes with the mote, turn by turn.
+-- The trace of each mote belongs to the mote, turn by turn.
 use Rattle.std.proofs.Common.{ℕ, List, ◌++◌}
 use Rattle.trace_lines.specs.declared.line.Line.{Line}
 use Rattle.kernel_laws.specs.Going.{GoesWith}

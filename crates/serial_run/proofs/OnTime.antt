@@ -1,4 +1,4 @@
--- The run of a net gives each mote its turns at rising moments.
+-- In the run of a net the turns of each mote are at rising moments.
 use Rattle.std.proofs.Common.{◌≡◌, ℕ, suc, length, ◌<◌, ◌≤◌, true, false, not, ◌&&◌, ◌||◌, nat_le, ltb, eqb, List}
 use Rattle.std.proofs.Common.{[], ◌∷◌, get_or, Option, Some, None, refl, sym, ap, ◌∙◌, subst, arith}
 use Rattle.std.proofs.Common.{zero-le}
@@ -24,7 +24,7 @@ use Rattle.serial_run.specs.declared.engine.Engine.{Engine}
 use Rattle.serial_run.specs.OnTime.{CanTurn, IsNotAfter, IsOnTime}
 use Rattle.serial_run.specs.IsInState.{IsEngineAt}
 
--- tests over plain numbers
+-- comparisons of plain numbers
 then_later : (t m u k : ℕ) → k ≡ m → (ltb t u || (eqb u t && not (ltb k (suc m)))) ≡ true → nat_le u t ≡ false
 then_later t m u k e h = grind (arith, nat_tests)
 
@@ -63,7 +63,7 @@ module _ (n : NetModel) where
     reached : at ≤ t
     reached = due_has (λ u k. at ≤ u) t m net.agenda least.is_there on_time.coming
 
-    -- events for another mote than the one that turns
+    -- events for other motes than the one that takes the turn
     abbrev IsAheadElsewhere : Item → Type 0
     IsAheadElsewhere item = (mote_of item ≡ m → ⊥) → is_past (moment_of item) (net.states (mote_of item)).last ≡ false
 
@@ -91,7 +91,7 @@ module _ (n : NetModel) where
         ahead : AllByRecursion (λ item. is_from t (suc m) item ≡ true) (turn_at (system_of n) t m net).agenda
         ahead = turn_ahead (system_of n) fine t m net least.is_first
 
-  -- the mote whose turn is next can take it
+  -- the mote of the next turn can take it
   pub least_can_turn : (at t m : ℕ) (engine : Engine) (net : NetState Node Line) → IsEngineAt n engine net → IsOnTime at net → IsLeast t m net.agenda → m < length n.motes
       → (d : Mote) → CanTurn t (node_in (tree_at n m) (get_or engine.motes.items m d))
   least_can_turn at t m engine net in_state on_time least there d = subst (CanTurn t) (sym (in_state.nodes m there d)) now

@@ -16,7 +16,7 @@ at_most_one : (m : ℕ) (wake : Option ℕ) → length (wake_items m wake) ≤ 1
 at_most_one m None = omega arith
 at_most_one m (Some u) = omega arith
 
--- so at one moment
+-- so no mote has two wakes at one moment
 differ : (items : List Item) → OneWake items → WakesDiffer items
 differ items one t m =
     let same = ap length (filter_stronger (is_wake_at t m) (is_wake_of m) of_mote items) in

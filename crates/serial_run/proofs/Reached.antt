@@ -1,4 +1,4 @@
--- How far the engine has come.
+-- The state that the engine has reached.
 use Rattle.std.proofs.Common.{◌≡◌, ℕ, ◌<◌, ◌≤◌, [], length, sym, ap, ◌∙◌, subst}
 use Rattle.std.proofs.Common.{arith}
 use Rattle.std.specs.Prelude.{IfSome}

@@ -17,7 +17,7 @@ use Rattle.serial_run.specs.IsInState.{IsWhole}
 use Rattle.serial_run.specs.Ended.{HasEnded}
 use Rattle.serial_run.proofs.Handed.{traces_hand_on}
 
--- a list that is a family, place by place
+-- if a list has the values of a function at each place, it is the list of these values
 pub family : {X Y : Type 0} (g : X → Y) (f : ℕ → Y) (xs : List X) → ((k : ℕ) → k < length xs → (d : X) → g (get_or xs k d) ≡ f k) → map g xs ≡ map f (up_to (length xs))
 family {X} {Y} g f xs h = ap (map g) (sym (take-length xs)) ∙ upto xs h (length xs) (low (length xs))
   where

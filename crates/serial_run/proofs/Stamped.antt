@@ -1,4 +1,4 @@
--- In a net's run the packets of a turn are stamped with its moment and its mote already.
+-- In a net's run the packets of a turn already have the moment and the mote with which they are stamped.
 use Rattle.std.proofs.Common.{◌≡◌, ℕ, List, [], ◌∷◌, map, refl, ap₂, ◌∙◌, subst}
 use Rattle.std.proofs.lemmas.List.Elements.{All-head, All-tail}
 use Rattle.trace_lines.specs.declared.line.Line.{Line}

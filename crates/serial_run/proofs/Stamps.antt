@@ -30,7 +30,7 @@ use Rattle.window_laws.proofs.Ahead.{no_sooner, turn_every}
 use Rattle.window_laws.proofs.Lists.{every_filter, every_weaker}
 use Rattle.window_laws.proofs.Puts.{put_each, put_other, put_same}
 
--- no trace has a line beyond this moment, no event is pending before it, and the lines so far never go back
+-- no line of a trace is later than this moment, no event is pending before it, and the lines so far never go back
 record Rises (at : ℕ) (net : NetState Node Line) : Type 0 where
   agenda : AllByRecursion (λ item. at ≤ moment_of item) net.agenda
   lines : (k : ℕ) → All (λ l. l.at ≤ at) (net.traces k)
@@ -98,7 +98,7 @@ traces_never_go_back n r report =
     let last = report.last in
     rw (report.matches) (all_traces NeverGoBack last.traces (up_to (length n.motes)) (run_rises n report.run 0 (boot_rises n)))
 
--- packets
+-- the packets
 
 -- the packets of each mote so far are numbered in order, and the mote has counted them
 record Counts (net : NetState Node Line) (k : ℕ) : Type 0 where
@@ -175,7 +175,7 @@ pub sent_packets : (n : NetModel) (log : List Sent) → map (λ (p : OfReport). 
 sent_packets n [] = refl
 sent_packets n (s ∷ log) = ap (λ l. s ∷ l) (sent_packets n log)
 
--- the log of a run, by itself
+-- the log of a run, without its traces
 pub run_counts_up : (n : NetModel) {last : NetState Node Line} → Run (system_of n) n.end (boot (system_of n)) last → (mote : ℕ) → AreNumberedFrom 0 (sent_by mote last.log)
 run_counts_up n run mote = (run_counts n run (boot_counts n) mote).numbered
 

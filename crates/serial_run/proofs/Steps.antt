@@ -1,4 +1,4 @@
--- The engine's turn is the net's.
+-- A turn of the engine is the turn of the net.
 use Rattle.std.proofs.Common.{◌≡◌, ℕ, ◌<◌, Bool, true, false, not, ◌&&◌, ◌||◌, List, ◌++◌, length, map, get_or}
 use Rattle.std.proofs.Common.{refl, sym, ap, ◌∙◌, subst, arith, append_assoc, Option, Some, None, option_map}
 use Rattle.std.proofs.Common.{get_or-set_same, get_or-set_other}
@@ -53,7 +53,7 @@ tells (Some x) out t e =
       wake = ap (λ (u : node.TurnGiven). u.wake) f;
     }
 
--- a mote's packets have the moment of the turn, and its number
+-- a mote's packets have the moment of the turn and the mote's number
 pub turn_stamps : (t m : ℕ) (packets : List Arrival) (before after : Option Node) (out : TurnOut) → CanTurn t before → IfSome before (λ n. n.mote.state.mote ≡ m)
     → option_map (turn_given out) after ≡ option_map (turn_of t packets) before → PacketsBear t m out.sends.items
 turn_stamps t m packets None after out can number e = absurd can
@@ -69,7 +69,7 @@ module _ (n : NetModel) (t m : ℕ) (state : NetState Node Line) where
   abbrev turned : node.TurnGiven
   turned = turn_of t (arrivals_at t m state.agenda) (state.states m)
 
-  -- the agenda as the engine makes it
+  -- the agenda after a turn, in the order in which the engine builds it
   abbrev pub agenda_after : Option ℕ → List Sent → List Item
   agenda_after wake sends =
       (filter (λ item. not (is_wake_of m item)) (filter (λ item. not (comes_at t m item)) state.agenda) ++ wake_items m wake)
@@ -128,7 +128,7 @@ module _ (n : NetModel) (t m : ℕ) (state : NetState Node Line) where
           ∙ (ap (λ w. filter (is_left t m) state.agenda ++ (wake_items m w ++ map Packet (flat_map (copies n.radio) out.sends.items))) is.wake
           ∙ ap (λ l. filter (is_left t m) state.agenda ++ (wake_items m turned.wake ++ map Packet (flat_map (copies n.radio) l))) sent))
 
-  -- the mote's wake, if it isn't due with the turn
+  -- the mote's wake, if the turn doesn't remove it as a due event
   pub wake_to_drop : (wake other : Option ℕ) (engine : Engine) → m < length n.motes → IsEngineAt n engine state → KeepsWakes n state
       → ((x : Tree) (d : Mote) → wake ≡ wake_in (node_in x (get_or engine.motes.items m d))) → (d : Mote)
       → other ≡ wake_but_at t wake
@@ -139,6 +139,6 @@ module _ (n : NetModel) (t m : ℕ) (state : NetState Node Line) where
       ∙ (wake_later t m (wake_of (state.states m))
       ∙ ap (wake_items m) (ap (wake_but_at t) (sym (ap wake_in (at.nodes m there d)) ∙ sym (wakes (tree_at n m) d)) ∙ sym is)))
 
--- equals have the same properties
+-- equal values have the same properties
 pub sent_of : {R S : Type 0} (P : R → S → Type 0) {r r' : R} {s s' : S} → r ≡ r' → s ≡ s' → P r s → P r' s'
 sent_of P {r} {r'} {s} {s'} e f h = subst (λ x. P x s') e (subst (P r) f h)

@@ -1,4 +1,4 @@
--- A net has at most one report, since it has at most one run.
+-- A net has at most one report, because it has at most one run.
 use Rattle.std.proofs.Common.{sym, ap, ◌∙◌}
 use Rattle.window_laws.proofs.Unique.{run_is_one}
 use Rattle.serial_run.specs.NetRun.{report_at}

@@ -1,4 +1,4 @@
--- The fate of the copies that the medium doesn't lose: each is given in a turn at its moment, or left after the end.
+-- The fate of each copy that the medium doesn't lose: it is given to a turn at its moment, or left after the end.
 use Rattle.std.specs.Prelude.{◌≡◌, ℕ, nat_lt, ◌==◌, Bool, false, not, ◌&&◌, List}
 use Rattle.std.specs.Prelude.{[], ◌∷◌, length, count_by, None, IsPermutation}
 use Rattle.std.specs.List.{filter, flat_map, AllByRecursion}
@@ -17,16 +17,16 @@ use Rattle.serial_run.specs.NetRun.{IsReportOf}
 abbrev pub is_after : (end : ℕ) → RadioCopy → Bool
 is_after end copy = nat_lt end copy.at
 
--- at or before the end
+-- the copy arrives at or before the end
 abbrev pub is_by : (end : ℕ) → RadioCopy → Bool
 is_by end copy = not (is_after end copy)
 
--- the copies on the agenda at the end are those, of all packets of the log, that arrive after the end
+-- the copies on the agenda at the end are exactly the copies of the log's packets that arrive after the end
 abbrev pub LateCopiesStay : Type 0
 LateCopiesStay = (n : NetModel) (r : ReportModel) (report : IsReportOf n r) → packets report.last.agenda
     ≡ filter (is_after n.end) (flat_map (copies n.radio) report.last.log)
 
--- this many copies are left
+-- the number of copies left in a report is the number of copies of the log's packets that arrive after the end
 abbrev pub LeftIsCounted : Type 0
 LeftIsCounted = (n : NetModel) (r : ReportModel) (report : IsReportOf n r) → r.left
     ≡ count_by (is_after n.end) (flat_map (copies n.radio) report.last.log)
@@ -35,12 +35,12 @@ LeftIsCounted = (n : NetModel) (r : ReportModel) (report : IsReportOf n r) → r
 abbrev pub is_late : (end : ℕ) → Fate → Bool
 is_late end fate = option_map_or (nat_lt end) fate.at false
 
--- and this many fates in the report have an arrival after the end
+-- the number of copies left in a report is the number of fates in it with an arrival after the end
 abbrev pub FatesTellLeft : Type 0
 FatesTellLeft = (n : NetModel) (r : ReportModel) → IsReportOf n r → r.left
     ≡ count_by (is_late n.end) (flat_map (λ packet. packet.fates) r.log)
 
--- a turn of a run: its moment, its mote, and the copies it is given
+-- a turn of a run: its moment, its mote, and the copies that it gets
 pub record TurnTaken : Type 0 where
   pub moment : ℕ
   pub mote : ℕ
@@ -53,7 +53,7 @@ turns {net = net} (Turn moment mote least le rest) =
     record { moment = moment; mote = mote; given = in_order (packets (filter (comes_at moment mote) net.agenda)) }
     ∷ turns rest
 
--- the turns of the run are given the copies of the log that arrive at or before the end, each once
+-- the copies of the log that arrive at or before the end are given to the turns of the run, each exactly once
 abbrev pub CopiesAreGiven : Type 0
 CopiesAreGiven = (n : NetModel) (r : ReportModel) (report : IsReportOf n r)
     → IsPermutation (filter (is_by n.end) (flat_map (copies n.radio) report.last.log))
@@ -62,7 +62,7 @@ CopiesAreGiven = (n : NetModel) (r : ReportModel) (report : IsReportOf n r)
 abbrev pub IsGivenInTime : TurnTaken → Type 0
 IsGivenInTime turn = AllByRecursion (λ (copy : RadioCopy). (copy.at ≡ turn.moment) × (copy.to ≡ turn.mote)) turn.given
 
--- each in a turn of its receiver, at its moment
+-- each copy is given to a turn of its receiver at the moment of its arrival
 abbrev pub CopiesComeInTime : Type 0
 CopiesComeInTime = (n : NetModel) (r : ReportModel) (report : IsReportOf n r)
     → AllByRecursion IsGivenInTime (turns report.run)
@@ -74,8 +74,8 @@ is_for moment mote copy = (copy.at == moment) && (copy.to == mote)
 abbrev pub IsGivenAll : List RadioCopy → TurnTaken → Type 0
 IsGivenAll sent turn = turn.given ≡ in_order (filter (is_for turn.moment turn.mote) sent)
 
--- if the medium is without fault and has a place for each mote, a turn is given all copies of the log for its mote at
--- its moment
+-- if the medium has no error and has a place for each mote, a turn gets all copies of the log for its mote and its
+-- moment
 abbrev pub TurnsAreGivenAll : Type 0
 TurnsAreGivenAll = (n : NetModel) (r : ReportModel) (report : IsReportOf n r) → medium_fault n.radio ≡ None
     → length n.radio.places ≡ length n.motes

@@ -9,12 +9,12 @@ use Rattle.window_laws.specs.NetStep.{NetState, Run, boot}
 use Rattle.serial_run.specs.OnTime.{IsOnTime}
 use Rattle.serial_run.specs.IsInState.{IsEngineAt, KeepsWakes}
 
--- each mote has its number
+-- each mote has its own number
 abbrev pub AreNumbered : NetState Node Line → Type 0
 AreNumbered net = (k : ℕ) → (net.states k).mote.state.mote ≡ k
 
--- The engine's state is one to which a prefix of the run leads: each run that continues from there is the rest of a run
--- from boot.
+-- The engine's state is the state after a prefix of the run: each run that continues from this state is the rest of a
+-- run from the boot.
 pub record HasReached (n : NetModel) (engine : Engine) : Type 0 where
   pub state : NetState Node Line
   pub in_state : IsEngineAt n engine state
@@ -25,7 +25,7 @@ pub record HasReached (n : NetModel) (engine : Engine) : Type 0 where
   pub led : (last : NetState Node Line) → Run (system_of n) n.end state last
       → Run (system_of n) n.end (boot (system_of n)) last
 
--- the engine's state is the end of the run
+-- the engine's state is the last state of the run
 pub record HasEnded (n : NetModel) (engine : Engine) : Type 0 where
   pub last : NetState Node Line
   pub in_state : IsEngineAt n engine last

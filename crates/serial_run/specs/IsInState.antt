@@ -1,4 +1,4 @@
--- The state of a run of the engine.
+-- The state of the engine during a run.
 use Rattle.std.specs.Prelude.{ℕ, ◌≡◌, ◌<◌, ◌++◌, List, length, map, Vec, Option, Some, option_map}
 use Rattle.std.specs.Prelude.{slice_index_or, slice_set, IfSome}
 use Rattle.std.specs.List.{filter, AllByRecursion}
@@ -28,7 +28,7 @@ OneNode n motes net k = (d : Mote) → node_in (tree_at n k) (slice_index_or mot
 abbrev pub OneTrace : List (Vec Line Global) → NetState Node Line → (mote : ℕ) → Type 0
 OneTrace traces net k = (d : Vec Line Global) → (slice_index_or traces k d).items ≡ net.traces k
 
--- the engine's motes, traces, log and agenda are those of this net
+-- the engine's motes, traces, log and agenda represent this state of the net
 pub record IsEngineAt (n : NetModel) (engine : Engine) (net : NetState Node Line) : Type 0 where
   pub nodes : (k : ℕ) → k < length n.motes → OneNode n engine.motes.items net k
   pub traces : (k : ℕ) → k < length n.motes → OneTrace engine.traces.items net k
@@ -40,29 +40,29 @@ pub record IsWhole (n : NetModel) (engine : Engine) : Type 0 where
   pub motes : length engine.motes.items ≡ length n.motes
   pub traces : length engine.traces.items ≡ length n.motes
 
--- the agenda has each mote's own next wake, and no event for a mote that doesn't exist
+-- the agenda has the next wake of each mote, and no event for a mote that doesn't exist
 pub record KeepsWakes (n : NetModel) (net : NetState Node Line) : Type 0 where
   pub wakes : (k : ℕ) → k < length n.motes → filter (is_wake_of k) net.agenda ≡ wake_items k (wake_of (net.states k))
   pub inside : AllByRecursion (λ item. mote_of item < length n.motes) net.agenda
 
--- whatever the state of the net before, its next state is that after this turn
+-- if the engine represents a state of the net before the turn, it represents the state after the turn afterwards
 abbrev pub TurnLeads : NetModel → (moment mote : ℕ) → Engine → Engine → Type 0
 TurnLeads n moment mote old new = (state : NetState Node Line) → IsEngineAt n old state → KeepsWakes n state
     → IsEngineAt n new (turn_at (system_of n) moment mote state)
 
--- one of the motes has not failed, and its last turn was before this moment
+-- the mote at this index has not failed, and its last turn was before this moment
 abbrev pub CanTurnAt : code.Tree → (moment : ℕ) → List Mote → (mote : ℕ) → Type 0
 CanTurnAt tree moment motes k = (d : Mote) → CanTurn moment (node_in tree (slice_index_or motes k d))
 
--- one of the motes has its number
+-- the mote at this index has this index as its number
 abbrev pub HasNumberAt : code.Tree → List Mote → (mote : ℕ) → Type 0
 HasNumberAt tree motes k = (d : Mote) → IfSome (node_in tree (slice_index_or motes k d)) (λ n. n.mote.state.mote ≡ k)
 
--- when one of the motes wakes next
+-- the next wake of the mote at this index
 abbrev pub IsWakeAt : List Mote → (mote : ℕ) → Option ℕ → Type 0
 IsWakeAt motes k wake = (tree : code.Tree) (d : Mote) → wake ≡ wake_in (node_in tree (slice_index_or motes k d))
 
--- one mote took a turn, which gave this
+-- the mote at index k took a turn with this output
 pub record OneTakesTurn (tree : code.Tree) (moment : ℕ) (packets : List Arrival) (k : ℕ) (old new : List Mote)
     (out : TurnOut) : Type 0 where
   pub after : Mote

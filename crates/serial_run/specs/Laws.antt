@@ -25,13 +25,14 @@ use Rattle.serial_run.specs.NetRun.{packet_with_fates, IsReportOf}
 abbrev pub ReportIsOne : Type 0
 ReportIsOne = (n : NetModel) (a b : ReportModel) → IsReportOf n a → IsReportOf n b → b ≡ a
 
--- A net whose medium is without fault and has a place for each mote, as every `Net` has, runs forward: wakes come
--- later than the turn, and copies no sooner than the lookahead, which is above 0.
+-- A net whose medium has no error and has a place for each mote, as every `Net`, runs forward: each wake is later than
+-- the turn that sets it, and each copy arrives no sooner than the lookahead, which is above 0, after its packet was
+-- sent.
 abbrev pub NetsRunForward : Type 0
 NetsRunForward = (n : NetModel) → medium_fault n.radio ≡ None → length n.radio.places ≡ length n.motes
     → RunsForward (system_of n)
 
--- so it has a report
+-- a net that runs forward has a report
 abbrev pub ReportIsThere : Type 0
 ReportIsThere = (n : NetModel) → medium_fault n.radio ≡ None → length n.radio.places ≡ length n.motes
     → (r : ReportModel) × IsReportOf n r
@@ -43,7 +44,8 @@ pub record IsMediumLog (n : NetModel) (motes : (number : ℕ) → LoneMote Node 
   pub same : IsPermutation joined log
   pub sorted : IsSortedBy is_sooner log
 
--- the report if each mote ran by itself: its lines, the packets that all sent as a log, and how many copies are left
+-- the report if each mote ran by itself: the lines of each mote, the packets of all motes as a log, and the number of
+-- copies left
 abbrev pub report_by : (n : NetModel) → (motes : (number : ℕ) → LoneMote Node Line) → (log : List Sent)
     → (rest : List RadioCopy) → ReportModel
 report_by n motes log rest = record {
@@ -52,41 +54,41 @@ report_by n motes log rest = record {
   left = length rest;
 }
 
--- Windows commute. Cut 0 to end + 1 at any rising bounds whose steps are at most the lookahead, and run each mote by
--- itself through each window, the motes of a window in any order, on the copies that earlier windows sent to it: the
--- lines of each mote, the medium's log sorted by moment, sender and number, and the copies that arrive after the end
--- are those of the net's run.
+-- Windows commute. Divide the time from 0 to end + 1 at any rising bounds whose distances are at most the lookahead.
+-- Run each mote by itself through each window, on the copies that earlier windows sent to it; the order of the motes
+-- in a window is free. Then the lines of each mote, the medium's log sorted by moment, sender and number, and the
+-- copies that arrive after the end are those of the net's run.
 abbrev pub WindowsCommuteInNets : Type 0
 WindowsCommuteInNets = (n : NetModel) → medium_fault n.radio ≡ None → length n.radio.places ≡ length n.motes
     → (motes : (number : ℕ) → LoneMote Node Line) → Windows (system_of n) 0 (suc n.end) (first_mote (system_of n)) motes
     → (log : List Sent) → IsMediumLog n motes log → (rest : List RadioCopy) → IsLeft (system_of n) n.end motes rest
     → IsReportOf n (report_by n motes log rest)
 
--- in the lines of each mote, each accepted event is delivered in order, nothing follows a halt, and only a process
--- that is not listed starts
+-- in the lines of each mote, each accepted event is delivered in order, nothing follows a halt, and a process starts
+-- only if it isn't listed
 abbrev pub TracesHandOn : Type 0
 TracesHandOn = (n : NetModel) (r : ReportModel) (report : IsReportOf n r) (k : ℕ) → k < length n.motes
     → IsInOrder (report.last.traces k)
 
--- the items that are in the buckets of an agenda are those of the list that they hold
+-- the items in the buckets of an agenda are the items of the list that the buckets represent
 abbrev pub BucketsHoldItems : Buckets → Type 0
 BucketsHoldItems buckets = (items : List Item) → Holds buckets items → AreSameItems items (items_of buckets)
 
--- the pending events before each turn of a run, and at its end
+-- the lists of pending events before each turn of a run and at its end
 abbrev pub agendas : {S L : Type 0} {system : System S L} {end : ℕ} {net last : NetState S L} → Run system end net last
     → List (List Item)
 agendas {net = net} (Done late) = net.agenda ∷ []
 agendas {net = net} (Turn moment mote least le rest) = net.agenda ∷ agendas rest
 
--- at most one wake for each mote
+-- there is at most one wake for each mote
 abbrev pub OneWake : List Item → Type 0
 OneWake items = (mote : ℕ) → length (filter (is_wake_of mote) items) ≤ 1
 
--- each of them has at most one wake of a mote
+-- before each turn of a run and at its end, there is at most one wake for each mote
 abbrev pub AlwaysOneWake : Type 0
 AlwaysOneWake = (n : NetModel) (r : ReportModel) (report : IsReportOf n r) → AllByRecursion OneWake (agendas report.run)
 
--- so in none of them does a mote have two wakes at one moment
+-- so no mote has two wakes at one moment, before any turn or at the end
 abbrev pub WakesAlwaysDiffer : Type 0
 WakesAlwaysDiffer = (n : NetModel) (r : ReportModel) (report : IsReportOf n r)
     → AllByRecursion WakesDiffer (agendas report.run)

@@ -13,8 +13,8 @@ use Rattle.mote_net.specs.Report.{Packet, ReportModel}
 abbrev pub packet_with_fates : Radio → Sent → Packet
 packet_with_fates radio sent = record { sent = sent; fates = fates radio sent }
 
--- the report of a net whose run has ended: each mote's trace, each packet with the fates of its copies, and how many
--- copies are still on their way
+-- the report of a net whose run has ended: the trace of each mote, each packet with the fates of its copies, and the
+-- number of copies that are still on their way
 abbrev pub report_at : NetModel → NetState Node Line → ReportModel
 report_at n last = record {
   traces = map last.traces (up_to (length n.motes));
@@ -22,7 +22,7 @@ report_at n last = record {
   left = length (packets last.agenda);
 }
 
--- the run of the net, from before the motes' first turns, ends with this report
+-- the run of the net, from the state before the first turns, ends with this report
 pub record IsReportOf (n : NetModel) (r : ReportModel) : Type 0 where
   pub last : NetState Node Line
   pub run : Run (system_of n) n.end (boot (system_of n)) last

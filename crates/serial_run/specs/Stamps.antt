@@ -10,7 +10,7 @@ use Rattle.window_laws.specs.System.{System}
 use Rattle.window_laws.specs.NetStep.{NetState, Run, Done, Turn, sends_of, turned_at}
 use Rattle.serial_run.specs.NetRun.{IsReportOf}
 
--- no line of a trace is of an earlier moment than one before it
+-- no line of a trace is earlier than the line before it
 abbrev pub TracesNeverGoBack : Type 0
 TracesNeverGoBack = (n : NetModel) (r : ReportModel) → IsReportOf n r → All NeverGoBack r.traces
 
@@ -23,7 +23,7 @@ abbrev pub LogCountsUp : Type 0
 LogCountsUp = (n : NetModel) (r : ReportModel) → IsReportOf n r → (mote : ℕ)
     → AreNumberedFrom 0 (sent_by mote (map (λ p. p.sent) r.log))
 
--- in each turn of a run the packets have the moment and the mote before they are stamped
+-- in each turn of a run the packets already have the moment and the mote with which they are stamped
 abbrev pub AreStamped : {S L : Type 0} {system : System S L} {end : ℕ} {net last : NetState S L}
     → Run system end net last → Type 0
 AreStamped (Done late) = Unit {0}

@@ -1,4 +1,4 @@
-//! A net as it runs: its motes, their traces, the medium's log, and the pending events.
+//! A net during its run: its motes, their traces, the medium's log, and the pending events.
 
 ghost use Rattle.std.specs.Prelude.{◌≡◌, ◌<◌, ◌≤◌, ◌^◌, length, Some, OnOk, IfOk};
 ghost use Rattle.program_tree.specs.Program.{tree_of};
@@ -28,13 +28,13 @@ pub struct Engine {
     pub traces: Vec<Vec<Line>>,
     pub log: Vec<LogLine>,
     pub agenda: Agenda,
-    /// The packets of the last turn; the next turn reuses their memory.
+    /// The packets of the last turn. The next turn reuses their memory.
     pub arrivals: Vec<Arrival>,
-    /// The output of the last turn; the next turn reuses its memory.
+    /// The output of the last turn. The next turn reuses its memory.
     pub out: Out,
 }
 
-/// Returns `wake`, unless it is at this moment.
+/// Returns `wake`, or `None` if it is at this moment.
 fn wake_but_at(moment: u64, wake: Option<u64>) -> Option<u64>
     ensures value { result ≡ wake_but_at moment wake }
 {
@@ -50,7 +50,7 @@ fn wake_but_at(moment: u64, wake: Option<u64>) -> Option<u64>
 }
 
 /// Takes the turn of a mote that has not failed, and whose last turn was before this moment. Returns the mote's next
-/// wake. The packets that it sends have the moment and the number of the mote.
+/// wake. The packets that the mote sends have this moment and the mote's number.
 fn turn_mote(
     motes: &mut Vec<Mote>,
     program: &Program,
@@ -108,10 +108,11 @@ impl Engine {
         Ok(engine)
     }
 
-    /// Takes a mote's turn, on all that is due. The mote has not failed, and its last turn was before this moment.
+    /// Takes a mote's turn with all events that are due. The mote has not failed, and its last turn was before this
+    /// moment.
     ///
     /// # Errors
-    /// `AllocError` if an allocation fails. The engine may have changed in part then.
+    /// `AllocError` if an allocation fails. In that case some parts of the engine may have changed.
     pub fn turn(&mut self, net: &Net, moment: u64, number: u16) -> Result<(), AllocError>
         requires mote_exists { number < length (net_of net.now).motes }
         requires moment_bounded { moment ≤ 2 ^ 40 }

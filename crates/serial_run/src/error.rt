@@ -1,4 +1,4 @@
-//! The reason why there is no report.
+//! The reasons for which a run has no report.
 
 ghost use Rattle.std.specs.Prelude.{◌≡◌, Some};
 ghost use Rattle.serial_run.specs.declared.error.RunError.TheVariants.{Memory};
@@ -7,20 +7,21 @@ use std::alloc::AllocError;
 use std::error::Error;
 use std::fmt;
 
-/// The reason why a run has no report.
+/// The reason for which a run has no report.
 #[derive(Clone, Copy, Debug, PartialEq, Eq)]
 pub enum RunError {
     /// The number of workers isn't from 1 to 16.
     Workers = 1,
-    /// The cut has too few or too many entries: it must name one worker for each mote of the net.
+    /// The partition has too few or too many entries: it must name one worker for each mote of the net.
     CutLength = 2,
-    /// The cut gives a mote to a worker that doesn't exist.
+    /// The partition assigns a mote to a worker that doesn't exist.
     CutWorker = 3,
     /// Out of memory: an allocation failed.
     Memory = 4,
     /// A thread couldn't be started, the gate refused a start, or the executor in a thread returned an error.
     Thread = 5,
-    /// With marks: a worker stopped because another worker failed, and none reported `Memory` or `Thread`.
+    /// With null messages: a worker stopped because another worker failed, and no worker reported `Memory` or
+    /// `Thread`.
     Stopped = 6,
 }
 

@@ -1,5 +1,5 @@
-//! Laws of the run of a net. Each is a theorem, stated as the contract of an empty function, or of one that asks for a
-//! length and no more.
+//! Laws of the run of a net. Each is a theorem, stated as the contract of a function. The function is empty, or only
+//! asks for a length.
 
 ghost use Rattle.serial_run.specs.Counted.{CopiesAreGiven, CopiesComeInTime, FatesTellLeft};
 ghost use Rattle.serial_run.specs.Counted.{LateCopiesStay, LeftIsCounted, TurnsAreGivenAll};
@@ -14,17 +14,17 @@ pub fn report_is_one()
     ensures report_is_one { ReportIsOne }
 {}
 
-/// A net whose medium is without fault and has a place for each mote, as in every `Net`, has a report: its wakes and
-/// copies come later than the turns that make them.
+/// A net whose medium has no error and has a place for each mote, as every `Net`, has a report: its wakes and copies
+/// are later than the turns that make them.
 pub fn report_is_there()
     ensures forward { NetsRunForward }
     ensures report_is_there { ReportIsThere }
 {}
 
-/// Windows commute. Cut the time from 0 to end + 1 at any rising bounds whose steps are at most the lookahead. Run
-/// each mote by itself through each window, on the copies that earlier windows sent to it; the order of the motes in a
-/// window is free. Then the lines of each mote, the medium's log sorted by moment, sender and number, and the copies
-/// left are those of the net's run.
+/// Windows commute. Divide the time from 0 to end + 1 at any rising bounds whose distances are at most the lookahead.
+/// Run each mote by itself through each window, on the copies that earlier windows sent to it; the order of the motes
+/// in a window is free. Then the lines of each mote, the medium's log sorted by moment, sender and number, and the
+/// copies left are those of the net's run.
 pub fn windows_commute()
     ensures windows_commute_in_nets { WindowsCommuteInNets }
 {}
@@ -36,8 +36,8 @@ pub fn traces_hand_on()
 {}
 
 /// The buckets of an agenda, read one after another, have the items of the net's one list: each packet as often as in
-/// the list, and a wake of a mote at a moment if the list has one. So they are a permutation of the list, if no mote
-/// has two wakes at one moment. The function asks the map for its length because the contract of that call says that
+/// the list, and a wake of a mote at a moment if the list has one. So they are a permutation of the list if no mote
+/// has two wakes at one moment. The function asks the map for its length because the contract of that call states that
 /// the keys rise: no two buckets have the same moment.
 pub fn buckets_hold_items(agenda: &Agenda)
     ensures buckets_hold_items { BucketsHoldItems agenda.now.buckets }
@@ -45,41 +45,42 @@ pub fn buckets_hold_items(agenda: &Agenda)
     let _length = agenda.buckets.len();
 }
 
-/// Before each turn of a net's run, and at its end, each mote has at most one wake; so none has two at one moment.
+/// Before each turn of a net's run, and at its end, each mote has at most one wake. So no mote has two wakes at one
+/// moment.
 pub fn at_most_one_wake()
     ensures one { AlwaysOneWake }
     ensures differ { WakesAlwaysDiffer }
 {}
 
-/// At the end the agenda has exactly the copies that arrive after the end, for all packets of the log, in the order of
-/// the log. So a copy that the medium didn't lose arrives at or before the end, or is on its way when the run
-/// ends.
+/// At the end the agenda has exactly the copies of the log's packets that arrive after the end, in the order of the
+/// log. So a copy that the medium didn't lose arrives at or before the end, or is on its way when the run ends.
 pub fn late_copies_stay()
     ensures late_copies_stay { LateCopiesStay }
 {}
 
-/// The number of copies left in a report is that of the copies, for all packets of its log, that arrive after the end.
+/// The number of copies left in a report is the number of copies of the log's packets that arrive after the end.
 pub fn left_is_counted()
     ensures left_is_counted { LeftIsCounted }
 {}
 
-/// The number of copies left in a report is that of the fates in its log with an arrival after the end.
+/// The number of copies left in a report is the number of fates in its log with an arrival after the end.
 pub fn fates_tell_left()
     ensures fates_tell_left { FatesTellLeft }
 {}
 
-/// Each copy, of all packets of the log, that arrives at or before the end is given to a turn of the run exactly once.
+/// Each copy of the log's packets that arrives at or before the end is given to exactly one turn of the run, exactly
+/// once.
 pub fn copies_are_given()
     ensures copies_are_given { CopiesAreGiven }
 {}
 
-/// A turn is given copies for its mote that arrive at its moment.
+/// The copies that a turn gets are for its mote, and arrive at its moment.
 pub fn copies_come_in_time()
     ensures copies_come_in_time { CopiesComeInTime }
 {}
 
-/// If the medium is without fault and has a place for each mote, as in every `Net`, a turn is given all copies of the
-/// log for its mote at its moment, in the order of sender, then number.
+/// If the medium has no error and has a place for each mote, as in every `Net`, a turn gets all copies of the log for
+/// its mote and its moment, in the order of sender, then number.
 pub fn turns_are_given_all()
     ensures turns_are_given_all { TurnsAreGivenAll }
 {}
@@ -91,7 +92,7 @@ pub fn moments_and_numbers_rise()
     ensures log { LogCountsUp }
 {}
 
-/// The packets that a mote sends in a turn of a net's run are stamped with the turn's moment and the mote already:
+/// The packets that a mote sends in a turn of a net's run already have the turn's moment and the mote's number:
 /// stamping them changes nothing.
 pub fn sends_are_stamped()
     ensures sends_are_stamped { SendsAreStamped }

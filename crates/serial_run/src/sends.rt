@@ -1,4 +1,4 @@
-//! Packets that are sent: their copies are on their way, and the medium logs their fates.
+//! Packets that are sent: their copies go on the agenda, and the medium logs their fates.
 
 ghost use Rattle.std.specs.Prelude.{◌≡◌, ◌<◌, ◌≤◌, ◌^◌, ◌++◌, length, map, OnOk};
 ghost use Rattle.std.specs.List.{flat_map, AllByRecursion};
@@ -17,7 +17,7 @@ use std::alloc::AllocError;
 /// Sends the packets of a mote's turn.
 ///
 /// # Errors
-/// `AllocError` if an allocation fails. Some of the packets may have been sent then.
+/// `AllocError` if an allocation fails. In that case some of the packets may have been sent.
 pub fn send_all(
     medium: &Medium,
     sends: &[Sent],

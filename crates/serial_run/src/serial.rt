@@ -1,4 +1,4 @@
-//! The run of a net in one thread: all turns, in the order of moment, then mote number.
+//! The run of a net on one thread: all turns, in the order of moment, then mote number.
 
 ghost use Rattle.std.specs.Prelude.{◌≡◌, ◌<◌, length, vec_len, All, IfOk, OnOk, IfErr};
 ghost use Rattle.kernel_laws.specs.Going.{IsInOrder};
@@ -34,8 +34,8 @@ fn run_to_end(engine: &mut Engine, net: &Net) -> Result<(), AllocError>
     Ok(())
 }
 
-/// The report of a net, by one thread that takes all turns in the order of moment, then mote number, with the packets
-/// of a turn in the order of sender and number.
+/// Runs a net on one thread, and returns its report. The thread takes all turns in the order of moment, then mote
+/// number. In each turn the packets are in the order of sender and number.
 ///
 /// # Errors
 /// Only `Memory`.

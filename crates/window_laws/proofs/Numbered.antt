@@ -1,4 +1,4 @@
--- The packets of a log, sorted by moment, sender and number, are the log, whatever order they were in.
+-- The packets of a log, in any order, are the log again after they are sorted by moment, sender and number.
 use Rattle.std.proofs.Common.{◌≡◌, ℕ, ◌+◌, ◌<◌, Bool, true, false, cond, List, [], ◌∷◌, refl, sym, ap, ap₂, ◌∙◌, inl, inr, arith}
 use Rattle.std.specs.List.{AllByRecursion, sum_by}
 use Rattle.std.specs.List.Sorted.{IsPermutation, IsSortedBy}
@@ -29,7 +29,7 @@ same_sent x y a b c d =
     ∙ (ap (λ k. record { at = y.at; sender = y.sender; number = k; value = x.value }) c
     ∙ ap (λ k. record { at = y.at; sender = y.sender; number = y.number; value = k }) d))
 
--- each sooner than those after it
+-- each packet is sooner than all packets after it
 abbrev IsStrict : List Sent → Type 0
 IsStrict [] = Unit {0}
 IsStrict (x ∷ xs) = AllByRecursion (λ y. is_sooner x y ≡ true) xs × IsStrict xs

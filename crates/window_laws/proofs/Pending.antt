@@ -1,4 +1,4 @@
--- The copies that all workers and inboxes hold together at the start of a window, in any mixture of the senders.
+-- All copies of all workers and inboxes together at the start of a window. The senders may be mixed in any way.
 use Rattle.std.proofs.Common.{◌+◌, zero, false, ◌<◌, ◌≡◌, ℕ, suc, ◌≤◌, true, not, ◌&&◌, ltb, eqb, List, ◌++◌, refl, sym, ap, ap₂, ◌∙◌, subst, arith}
 use Rattle.std.specs.List.{filter, AllByRecursion}
 use Rattle.std.proofs.lemmas.Bool.{le-ltb}
@@ -30,7 +30,7 @@ module _ {S L : Type 0} (system : System S L) (motes : ℕ → LoneMote S L) (re
   pub pending_left : (end : ℕ) → IsPending system (suc end) motes rest → IsLeft system end motes rest
   pending_left end h s = h s ∙ filter_agree (comes_from (suc end)) (λ copy. ltb end copy.at) (λ c. beyond_comes end c.at) (copies_by system motes s)
 
-  -- the window's sends are added, each sender's in order
+  -- the packets that were sent in the window are added, those of each sender in order
   pub pending_more : (from bound : ℕ) (next : ℕ → LoneMote S L) (new : List RadioCopy) → from ≤ bound → IsPending system from motes rest
       → ((s : ℕ) → copies_by system next s ≡ copies_by system motes s ++ filter (is_from_sender s) new)
       → ((s : ℕ) → AllByRecursion (λ copy. bound ≤ copy.at) (filter (is_from_sender s) new))
@@ -45,7 +45,7 @@ module _ {S L : Type 0} (system : System S L) (motes : ℕ → LoneMote S L) (re
 not_for : (number t a c : ℕ) → suc t ≤ c → (eqb a number && (not (ltb c t) && ltb c (suc t))) ≡ false
 not_for number t a c h = grind (arith, nat_tests)
 
--- a stretch of any length in which no mote has a turn is covered by windows, too
+-- a time of any length in which no mote has a turn can also be divided into windows
 pub gap : {S L : Type 0} (system : System S L) → 0 < system.lookahead → (end to i from : ℕ) → from + i ≡ to → (motes last : ℕ → LoneMote S L) (rest : List RadioCopy)
     → IsPending system from motes rest → ((k : ℕ) → k < system.motes → NoneBefore to (motes k).wake) → AllByRecursion (λ copy. to ≤ copy.at) rest
     → Windows system to end motes last → Windows system from end motes last

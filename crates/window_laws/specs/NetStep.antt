@@ -1,4 +1,4 @@
--- A net that runs one turn at a time, in the order of moment, then mote number.
+-- A net that takes one turn at a time, in the order of moment, then mote number.
 use Rattle.std.specs.Prelude.{ℕ, ◌≤◌, ◌<◌, if◌then◌else◌, ◌==◌, List, [], ◌++◌, map}
 use Rattle.std.specs.List.{filter, flat_map, AllByRecursion}
 use Rattle.radio_packet.specs.declared.sent.Sent.{Sent}
@@ -14,7 +14,7 @@ pub record NetState (S L : Type 0) : Type 0 where
   pub agenda : List Item
   pub log : List Sent
 
--- before its first turn each mote wakes at 0
+-- the net before its first turn: each mote wakes at 0
 abbrev pub boot : {S L : Type 0} → System S L → NetState S L
 boot system = record {
   states = system.first;
@@ -23,7 +23,7 @@ boot system = record {
   log = [];
 }
 
--- one member of a family replaced
+-- a family in which one member is replaced
 abbrev pub put : {X : Type 0} → (ℕ → X) → ℕ → X → ℕ → X
 put parts mote part other = if other == mote then part else parts other
 
@@ -44,16 +44,16 @@ after_turn system moment mote net turned = record {
   log = net.log ++ sends_of moment mote turned;
 }
 
--- the turn of a mote on the copies that are due
+-- the outcome of the turn of a mote with the copies that are due
 abbrev pub turned_at : {S L : Type 0} → System S L → (moment mote : ℕ) → NetState S L → Turned S L
 turned_at system moment mote net =
     system.turn mote (net.states mote) moment (in_order (packets (filter (comes_at moment mote) net.agenda)))
 
--- the net after that turn
+-- the net after this turn
 abbrev pub turn_at : {S L : Type 0} → System S L → (moment mote : ℕ) → NetState S L → NetState S L
 turn_at system moment mote net = after_turn system moment mote net (turned_at system moment mote net)
 
--- the mote of the least item takes its turn, until no item is at or before the end
+-- the mote of the least item takes its turn, again and again, until no item is at or before the end
 pub data Run {S L : Type 0} (system : System S L) (end : ℕ) : NetState S L → NetState S L → Type 0 where
   Done : {net : NetState S L} → AllByRecursion (λ item. end < moment_of item) net.agenda → Run system end net net
   Turn : {net last : NetState S L} (moment mote : ℕ)

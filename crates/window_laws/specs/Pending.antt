@@ -8,8 +8,8 @@ use Rattle.window_laws.specs.Windows.{LoneMote, copies_by, is_from_sender}
 abbrev pub comes_from : (from : ℕ) → RadioCopy → Bool
 comes_from from copy = not (nat_lt copy.at from)
 
--- all copies sent so far that arrive at this moment or later, those of each sender in the order of sending, otherwise
--- mixed in any way
+-- all copies sent so far that arrive at this moment or later: the copies of each sender are in the order of sending,
+-- and the senders are mixed in any way
 abbrev pub IsPending : {S L : Type 0} → System S L → (from : ℕ) → (motes : (number : ℕ) → LoneMote S L)
     → (rest : List RadioCopy) → Type 0
 IsPending system from motes rest =

@@ -1,4 +1,4 @@
--- Motes and the medium between them, whatever a mote is.
+-- Motes and the medium between them, for any kind of mote.
 use Rattle.std.specs.Prelude.{ℕ, ◌≡◌, ◌+◌, ◌<◌, ◌≤◌, List, Option}
 use Rattle.radio_packet.specs.declared.sent.Sent.{Sent}
 use Rattle.radio_packet.specs.declared.copy.RadioCopy.{RadioCopy}
@@ -10,7 +10,7 @@ pub record Turned (S L : Type 0) : Type 0 where
   pub sends : List Sent
   pub wake : Option ℕ
 
--- how many motes there are, the first state of each, its turn on copies in order, the copies of a packet, and the
+-- the number of motes, the first state of each mote, its turn with copies in order, the copies of a packet, and the
 -- lookahead
 pub record System (S L : Type 0) : Type 0 where
   pub motes : ℕ
@@ -19,7 +19,7 @@ pub record System (S L : Type 0) : Type 0 where
   pub copies : Sent → List RadioCopy
   pub lookahead : ℕ
 
--- a copy of this packet for a mote of the net, which arrives no sooner than the lookahead after the packet's moment
+-- a copy of this packet for a mote of the net; it arrives no sooner than the lookahead after the moment of the packet
 pub record IsCopyOf {S L : Type 0} (system : System S L) (sent : Sent) (copy : RadioCopy) : Type 0 where
   pub sender : copy.sender ≡ sent.sender
   pub to : copy.to < system.motes

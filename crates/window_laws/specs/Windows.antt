@@ -1,4 +1,4 @@
--- The same net, run window by window, each mote by itself in a window.
+-- The same net, run window by window. In each window each mote runs by itself.
 use Rattle.std.specs.Prelude.{◌≡◌, ℕ, suc, ◌+◌, ◌<◌, ◌≤◌, Bool, true, false, if◌then◌else◌, not, ◌&&◌, ◌||◌, ◌==◌}
 use Rattle.std.specs.Prelude.{nat_lt, List, [], ◌++◌, length, map, Option, Some, None}
 use Rattle.std.specs.List.{filter, flat_map, list_any, AllByRecursion}
@@ -18,7 +18,7 @@ pub record LoneMote (S L : Type 0) : Type 0 where
   pub lines : List L
   pub sends : List Sent
 
--- before its first turn each mote of the net wakes at 0
+-- the mote before its first turn: it wakes at 0
 abbrev pub first_mote : {S L : Type 0} → System S L → (number : ℕ) → LoneMote S L
 first_mote system number = record {
   state = system.first number;
@@ -47,18 +47,18 @@ abbrev pub wakes_at : (moment : ℕ) → Option ℕ → Bool
 wakes_at moment None = false
 wakes_at moment (Some wake) = wake == moment
 
--- not before this moment, or never
+-- the wake isn't before this moment, or there is no wake
 abbrev pub NoneBefore : (moment : ℕ) → Option ℕ → Type 0
 NoneBefore moment None = Unit {0}
 NoneBefore moment (Some wake) = moment ≤ wake
 
--- nothing comes to the mote before this moment
+-- the mote has no wake and no copy before this moment
 pub record IsQuiet (moment : ℕ) (wake : Option ℕ) (given : List RadioCopy) : Type 0 where
   pub no_wake : NoneBefore moment wake
   pub no_copies : AllByRecursion (λ copy. moment ≤ copy.at) given
 
--- A mote by itself, up to a bound: while the lesser of its wake and the least moment of a copy is below the bound, it
--- takes its turn at that moment on all copies of the moment, in order.
+-- A mote that runs by itself, up to a bound. While its next wake or the least moment of a copy is below the bound, it
+-- takes its turn at the lesser of both moments, with all copies of this moment, in order.
 pub data Alone {S L : Type 0} (system : System S L) (number bound : ℕ) : (given : List RadioCopy)
     → (mote last : LoneMote S L) → Type 0 where
   Rests : {given : List RadioCopy} {mote : LoneMote S L} → IsQuiet bound mote.wake given
@@ -85,22 +85,23 @@ is_from_sender sender copy = copy.sender == sender
 abbrev pub is_within : (number from bound : ℕ) → RadioCopy → Bool
 is_within number from bound copy = (copy.to == number) && (not (nat_lt copy.at from) && nat_lt copy.at bound)
 
--- The copies that a mote is given for a window: at each moment of the window, of each sender, the copies for it that
--- earlier windows sent, in the order of sending, otherwise mixed in any way; and nothing at other moments.
+-- The copies that a mote gets for a window. At each moment of the window, these are the copies for the mote that
+-- earlier windows sent. The copies of each sender are in the order of sending, and the senders are mixed in any way.
+-- There are no copies at other moments.
 abbrev pub IsGiven : {S L : Type 0} → System S L → (from bound : ℕ) → (motes : (number : ℕ) → LoneMote S L)
     → (number : ℕ) → List RadioCopy → Type 0
 IsGiven system from bound motes number given = (moment sender : ℕ)
     → filter (is_from_sender sender) (filter (is_at moment) given)
     ≡ filter (is_at moment) (filter (is_within number from bound) (copies_by system motes sender))
 
--- the effect of a window on one mote: it runs by itself, on copies that it may be given
+-- the effect of a window on one mote: the mote runs by itself, with copies that it may get
 pub record RunsAlone {S L : Type 0} (system : System S L) (from bound : ℕ) (motes next : (number : ℕ) → LoneMote S L)
     (number : ℕ) : Type 0 where
   pub given : List RadioCopy
   pub is_given : IsGiven system from bound motes number given
   pub alone : Alone system number bound given (motes number) (next number)
 
--- windows one after another from one moment up to another, none empty and none longer than the lookahead
+-- windows one after another from one moment to another; none is empty, and none is longer than the lookahead
 pub data Windows {S L : Type 0} (system : System S L) : (from until : ℕ) → (motes last : (number : ℕ) → LoneMote S L)
     → Type 0 where
   Last : {until : ℕ} {motes : (number : ℕ) → LoneMote S L} → Windows system until until motes motes
@@ -112,19 +113,19 @@ pub data Windows {S L : Type 0} (system : System S L) : (from until : ℕ) → (
 abbrev pub is_sent_by : (sender : ℕ) → Sent → Bool
 is_sent_by sender sent = sent.sender == sender
 
--- the packets of all motes joined in any way, those of each in the order in which it sent them
+-- the packets of all motes, joined in any way; the packets of each mote are in the order in which it sent them
 abbrev pub IsJoined : {S L : Type 0} → System S L → (motes : (number : ℕ) → LoneMote S L) → (joined : List Sent)
     → Type 0
 IsJoined system motes joined = (sender : ℕ) → filter (is_sent_by sender) joined ≡ sends_by system motes sender
 
--- the copies that arrive after the end joined in any way, those of each sender in the order of sending
+-- the copies that arrive after the end, joined in any way; the copies of each sender are in the order of sending
 abbrev pub IsLeft : {S L : Type 0} → System S L → (end : ℕ) → (motes : (number : ℕ) → LoneMote S L)
     → (rest : List RadioCopy) → Type 0
 IsLeft system end motes rest =
     (sender : ℕ) → filter (is_from_sender sender) rest
     ≡ filter (λ copy. nat_lt end copy.at) (copies_by system motes sender)
 
--- packets sorted by moment, then sender; those of one mote at one moment keep their order
+-- packets sorted by moment, then sender; packets of one mote at one moment keep their order
 abbrev pub as_log : List Sent → List Sent
 as_log sends = sorted_by (λ sent. sent.at) (λ sent. sent.sender) sends
 
@@ -136,13 +137,13 @@ pub record IsSame {S L : Type 0} (system : System S L) (end : ℕ) (net : NetSta
   pub log : (joined : List Sent) → IsJoined system motes joined → net.log ≡ as_log joined
   pub left : (rest : List RadioCopy) → IsLeft system end motes rest → length (packets net.agenda) ≡ length rest
 
--- Windows commute: whatever windows lead from 0 past the end, the net has a run, and its end is the same.
+-- Windows commute: the net has a run, and its end is the same for all windows that lead from 0 past the end.
 abbrev pub WindowsCommute : {S L : Type 0} → System S L → Type 0
 WindowsCommute {S} {L} system = RunsForward system → (end : ℕ) (motes : (number : ℕ) → LoneMote S L)
     → Windows system 0 (suc end) (first_mote system) motes
     → (net : NetState S L) × Run system end (boot system) net × IsSame system end net motes
 
--- so the windows give the report of the run, in whatever way their packets and copies are joined
+-- the windows lead to the report of the run, in whatever way their packets and copies are joined
 abbrev pub WindowsReport : {S L : Type 0} → System S L → Type 0
 WindowsReport {S} {L} system = RunsForward system → (end : ℕ) (motes : (number : ℕ) → LoneMote S L)
     → Windows system 0 (suc end) (first_mote system) motes

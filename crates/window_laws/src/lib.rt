@@ -1,4 +1,5 @@
-//! The law that windows commute: a net has one run, however time is cut into windows in which each mote runs by itself.
+//! The law that windows commute: a net has one run, however time is divided into windows in which each mote runs by
+//! itself.
 #![tactic(auto)]
 
 pub mod laws;

@@ -8,7 +8,7 @@ use Rattle.mote_net.specs.Meaning.{setup_of}
 use Rattle.net_scenario.specs.Net.{mote_of_table, unread_fault}
 use Rattle.net_scenario.proofs.motes.motes_of.Given as goal
 
--- the items still to be read have no fault, and the motes so far and theirs are all of them
+-- the items that are still to be read have no fault; the motes so far and the motes of these items are all motes
 abbrev pub invariant-loop-item : goal.invariant-loop-item
 invariant-loop-item l = record {
   read : first_some (unread_fault (map named_tree l.programs)) (tables_in (items_view (drop l.item-index l.items)))

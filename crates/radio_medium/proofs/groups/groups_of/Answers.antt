@@ -5,7 +5,7 @@ use Rattle.std.proofs.lemmas.List.{get_or_append_left, get_or_push, length_push}
 use Rattle.radio_medium.specs.Groups.{HoldsMotes}
 use Rattle.radio_medium.proofs.groups.groups_of.Goals as goal
 
--- a property of each element and its index, and of one more
+-- a property of each element with its index is also a property of the list with one more element
 each_push : {X : Type 0} (P : ℕ → X → Type 0) (xs after : List X) (x : X) (n : ℕ) → length xs ≡ n
     → after ≡ xs ++ (x ∷ []) → ((i : ℕ) (d : X) → i < n → P i (get_or xs i d)) → P n x
     → (i : ℕ) (d : X) → i < n + 1 → P i (get_or after i d)

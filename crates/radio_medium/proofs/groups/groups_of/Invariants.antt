@@ -3,7 +3,7 @@ use Rattle.radio_medium.specs.declared.groups.Group.{Group}
 use Rattle.radio_medium.specs.Groups.{HoldsMotes}
 use Rattle.radio_medium.proofs.groups.groups_of.Given as goal
 
--- the groups so far
+-- the groups of the motes so far
 abbrev pub invariant-loop-index : goal.invariant-loop-index
 invariant-loop-index l = record {
   count : length l.groups.items ≡ l.index;

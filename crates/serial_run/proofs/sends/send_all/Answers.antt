@@ -16,7 +16,7 @@ use Rattle.serial_run.proofs.sends.send_all.Goals as goal
 abbrev none : Sent
 none = record { at = 0; sender = 0; number = 0; value = 0 }
 
--- one packet more
+-- one more packet
 sends_more : (made : Sent → List RadioCopy) (items : List Item) (sends : List Sent) (i : ℕ) (d : Sent) → i < length sends
     → (items ++ map Packet (flat_map made (take i sends))) ++ map Packet (made (get_or sends i d)) ≡ items ++ map Packet (flat_map made (take (i + 1) sends))
 sends_more made items sends i d h = let more = take_more sends i d h in rw more (simp (flat_map-append, map-append, append-nil, append_assoc))

@@ -6,8 +6,8 @@ use Rattle.process_kernel.specs.Call.{calls_of}
 use Rattle.process_kernel.specs.Views.{state_of, Spends, Grows}
 use Rattle.process_kernel.proofs.machine.Machine.+kernel.Given as goal
 
--- Each call of a running process and each step of a thread spends a unit of work. A function that calls one of these
--- at once, and spends nothing before, ranks higher.
+-- Each call of a running process and each step of a thread spends a unit of work. A function has a higher rank than
+-- another one that it calls before it spends a unit.
 abbrev pub decreases-call : goal.decreases-call
 decreases-call l = 7 * l.self.now.fuel + 0
 
@@ -59,8 +59,7 @@ decreases-run_last l = 7 * l.self.now.fuel + 0
 abbrev pub decreases-walk : goal.decreases-walk
 decreases-walk l = 7 * l.self.now.fuel + 1
 
--- the run of the whole thread from the state at the start has the same result as the run of its rest from the current
--- state
+-- running the whole thread from the first state has the same result as running its remainder from the current state
 abbrev pub invariant-run-loop-op : goal.invariant-run-loop-op
 invariant-run-loop-op l =
     Spends 0 l.fn.self l.self

@@ -7,7 +7,7 @@ use Rattle.process_kernel.specs.ProcessList.{numbered_from}
 use Rattle.process_kernel.proofs.Lists.{AreMembers-numbered, length-numbered, numbered_again, refill_same}
 use Rattle.process_kernel.proofs.machine.Machine.number_members.Goals as goal
 
--- the list becomes the numbered one
+-- the list becomes the list that is numbered from 0
 are : (old lent new : List Member) (len : ℕ) → len ≡ length old → lent ≡ old → new ≡ numbered_from 0 lent
     → refill len old new ≡ numbered_from 0 old
 are old lent new len long same numbered =

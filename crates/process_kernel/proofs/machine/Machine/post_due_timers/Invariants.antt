@@ -16,7 +16,7 @@ invariant-loop-timer l =
     × (pass_of (state_of t l.fn.self)
     ≡ walk_timers (walks_of left) (behind l.after l.self.shown.timers.listed) (state_of t l.self)))
 
--- each walk has one timer fewer on the list, and each step of it is nearer to the end
+-- each new walk has one timer fewer on the list, and each step of a walk is nearer to the end of the list
 abbrev pub decreases-loop-timer : goal.decreases-loop-timer
 decreases-loop-timer l =
     length l.self.shown.timers.listed * length l.self.shown.timers.listed + length
