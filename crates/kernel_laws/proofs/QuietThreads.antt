@@ -197,7 +197,7 @@ advances_from RunAway code event looks r vars units all m p = record { step = tt
 pub advances_quietly : (code : Code) (event : Event) (looks : Looks) (r : Remainder) (vars : List ℕ) (units : ℕ) → IsQuietRest code r → AdvancesQuietly code vars (advanced_of code event looks r vars units)
 advances_quietly code event looks r vars units h = advances_from r.mark code event looks r vars units h.whole h.mark h.place
 
--- an answer that no variable gets
+-- a result that is stored in no variable
 abbrev AnsweredQuietly : Code → (vars : List ℕ) → (answer : ℕ) → Remainder → Type 0
 AnsweredQuietly code vars answer r = IsQuietRest code (answered_of r vars answer).remainder × ((answered_of r vars answer).variables ≡ vars)
 

@@ -12,7 +12,7 @@ Adds old new more = (items : List Item) → Holds old items → Holds new (items
 abbrev pub without_wakes : (mote : ℕ) → List Item → List Item
 without_wakes mote items = filter (λ item. not (is_wake_of mote item)) items
 
--- the wake of this mote was taken out, if it is the mote's only wake, or if the mote has none
+-- the mote's wake was taken out; `wake` is its only wake, or `None` if it has none
 abbrev pub DropsWake : (mote : ℕ) → (wake : Option ℕ) → (old new : Buckets) → Type 0
 DropsWake mote wake old new = (items : List Item) → Holds old items → filter (is_wake_of mote) items
     ≡ wake_items mote wake

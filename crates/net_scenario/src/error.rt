@@ -24,7 +24,7 @@ pub enum ScenarioError {
     Toml,
     /// A table lacks a key that it needs.
     MissingKey,
-    /// A table has a key that isn't allowed in it, or the name of a program has another form than a name.
+    /// A table has a key that isn't allowed in it, or the name of a program has a form that isn't allowed.
     UnknownKey,
     /// A value isn't of the kind that its key needs.
     WrongKind,

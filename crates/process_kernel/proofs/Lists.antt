@@ -64,7 +64,7 @@ length-lt m ms n are within away =
     let most : length (m ∷ ms) ≤ n = length-le (m ∷ ms) n (AreMembers-cons m ms n are within away) in
     omega (arith, most)
 
--- the members that stay on the list
+-- the members that are left on the list
 is_found_in-filter : (f : Member → Bool) (ms : List Member) (p : Proc) → is_found_in ms p ≡ false
     → is_found_in (filter f ms) p ≡ false
 is_found_in-filter f [] p h = refl

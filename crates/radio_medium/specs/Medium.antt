@@ -1,5 +1,5 @@
--- The radio medium: which motes hear a mote, after how long, and which copies are lost. Only places and losses decide
--- this.
+-- The radio medium: the motes that hear a mote, the delay of a packet, and the copies that are lost. They depend only
+-- on places and losses.
 use Rattle.std.specs.Prelude.{ℕ, ◌+◌, ◌*◌, ◌/◌, ◌%◌, ◌≤◌, ◌==◌, nat_le, nat_lt, min, pos, ◌-ℤ◌, unsigned_abs, Bool}
 use Rattle.std.specs.Prelude.{false, not, ◌&&◌, ◌||◌, if◌then◌else◌, Option, Some, None, unwrap_or, option_map, List}
 use Rattle.std.specs.Prelude.{[], ◌∷◌, length, map, filter, find, slice_index_or, All}

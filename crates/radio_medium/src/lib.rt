@@ -1,4 +1,4 @@
-//! The radio medium: which motes hear a mote, after how long, and the fates of a packet's copies.
+//! The radio medium: the motes that hear a mote, the delay of a packet, and the fates of its copies.
 #![tactic(auto)]
 
 mod error;

@@ -106,7 +106,7 @@ fn is_pushed(item: Item, position: u64) -> bool {
 }
 
 // Takes the items that two senders push in so many windows each, and yields the processor while the inbox is empty.
-// Returns whether all items arrived, and the items of each sender in order.
+// Returns `true` if all items arrived, those of each sender in order.
 fn take_windows<R: Wait>(rt: &R, inbox: &Inbox, mut taker: Taker, windows: u64) -> bool
     requires inbox { taker.inbox ≡ inbox.now }
 {

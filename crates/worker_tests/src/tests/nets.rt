@@ -48,7 +48,7 @@ fn write_motes(text: &mut String, net: &Net) -> Result<(), AllocError> {
     Ok(())
 }
 
-/// Writes down the motes that hear a mote, and how long its packets are on their way to them.
+/// Writes down the motes that hear a mote, and the delay of its packets to each of them.
 fn write_hearers(text: &mut String, net: &Net, sender: u16) -> Result<(), AllocError>
     requires mote_exists { sender < length (net_of net.now).motes }
 {

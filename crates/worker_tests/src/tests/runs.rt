@@ -76,7 +76,7 @@ const LENGTHS: [Case<'static>; 5] = [
 /// A run of 16 workers, three of which have a mote, in windows of one moment.
 const SPARSE: Case<'static> = (STARTS, 16, &[0, 5, 10], 1);
 
-/// Runs with various partitions, and what is observed in them.
+/// Runs with various partitions, and the observations in them.
 static RUNS: [Trials<'static>; 11] = [
     // Each of these partitions leads to the same report as one thread: blocks, stripes, workers without a mote, and
     // motes in reverse order. With fork-join each worker is started in each of two windows, and with null messages
