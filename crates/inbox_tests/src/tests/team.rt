@@ -77,8 +77,7 @@ struct Team<'a, R> {
     alloc: Global,
     inbox: &'a Inbox,
     scene: Scene,
-    /// The number of windows for which worker 2 has begun to wait. When worker 2 ends, it is the greatest number of
-    /// its type.
+    /// The number of windows for which worker 2 has begun to wait; `u64::MAX` once worker 2 doesn't wait any more.
     begun: AtomicU64,
     /// The text that worker 2 writes.
     text: &'a Mutex<String>,

@@ -22,7 +22,7 @@ use test_helpers::same_text;
 pub(crate) enum Scene {
     /// Worker 1 fails at once. All marks of each window are in the inbox.
     Windows,
-    /// Worker 1 fails at once. Its mark isn't in the inbox.
+    /// Worker 1 fails at once. The mark of worker 1 isn't in the inbox.
     Stopped,
     /// Worker 1 fails while worker 2 waits for a mark of worker 1.
     Woken,
