@@ -3,7 +3,7 @@
     python3 -m pytest tests                                   # all of them
     python3 -m pytest tests/test_cases.py --name nets         # some of one module
 
-The program is the one that MOTESIM names, or the built one. The last line is `N passed, M failed, K skipped`.
+The program is the binary that MOTESIM names, or the built one. The last line is `N passed, M failed, K skipped`.
 """
 from __future__ import annotations
 

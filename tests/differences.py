@@ -1,4 +1,4 @@
-"""Runs of the built program, and how the results of two runs differ."""
+"""Runs of the built program, and the differences between the results of two runs."""
 from __future__ import annotations
 
 import difflib

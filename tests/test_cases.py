@@ -1,8 +1,8 @@
-"""Runs the built program on the cases of tests/cases and compares what it writes: tools/dev/run_cases [NAME ..]
+"""Runs the built program on the cases of tests/cases and compares its output: tools/dev/run_cases [NAME ..]
 
 NAME is a case, `nets/two_senders`, or a folder of cases, `nets`; without a name all are run. tests/cases/README.md
-describes the files of a case. For each case that fails it shows the first run that fails, with the lines that differ.
-A case without an expected output fails too, and so does a file that belongs to no case.
+describes the files of a case. For each failing case, the command shows the first run that fails, with the lines that
+differ. A case without an expected output fails too, and so does a file that belongs to no case.
 """
 from __future__ import annotations
 
@@ -43,7 +43,7 @@ class Case:
         return runpy.run_path(str(self.files['.make'])) if '.make' in self.files else {}
 
     def check_files(self) -> None:
-        """Fails unless there is something to run and something to expect of it, each once."""
+        """Fails unless there is exactly one input to run, and exactly one expectation."""
         kinds = self.files.keys()
         has_expectation = bool(kinds & set(EXPECTED))
         faults = {
@@ -73,7 +73,7 @@ class Case:
             yield '', scenario, Answer(int(self.read('.status') or 0), output, self.read('.stderr'))
 
     def answer(self, program: Path, scenario: bytes, *arguments: str) -> Answer:
-        """The answer of a run, which has the stack that the case asks for."""
+        """The answer of a run with the size of stack that the case asks for."""
         stack = self.read('.stack').decode().strip()
         # (a binary without a proof has checks that need more stack)
         if stack and not is_compiled(program):

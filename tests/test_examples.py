@@ -1,8 +1,8 @@
-"""Checks the statements on each example: tools/dev/check_examples
+"""Checks the statements about each example: tools/dev/check_examples
 
-For each scenario of examples/ the sentences of NAME.expect.toml have to hold, as tools/expect finds; the lines that
-README.md and the pages of docs/ quote of an example must be in it or in its report. For each task of examples/lesson
-the solution has to meet the expectations, and the scenario that students begin with must not.
+For each scenario of examples/ the sentences of NAME.expect.toml have to hold, as tools/expect checks. The lines of an
+example that README.md and the pages of docs/ quote must be in the example or in its report. For each task of
+examples/lesson the solution has to meet the expectations, and the scenario that students begin with must not.
 """
 from __future__ import annotations
 
@@ -24,8 +24,8 @@ EXAMPLES = [it for it in sorted(TOP.glob('examples/*.toml')) if not it.name.ends
 
 
 def check_readings(run: Run) -> None:
-    """Fails unless each mote sends its own reading from 300 on, and one for each mote below it. No sentence can say
-    so."""
+    """Fails unless each mote sends its own reading from 300 on, and one for each mote below it. No form of sentence
+    expresses this."""
     assert run.scenario
     judge = Judge(run.report, run.scenario)
     below = {mote.number: 1 for mote in run.report.motes}
@@ -37,7 +37,8 @@ def check_readings(run: Run) -> None:
 
 
 def quotes_of(page: str) -> list[tuple[str, str]]:
-    """The lines of a page's code blocks, each with the example, NAME.toml, that the page names last before it."""
+    """The lines of a page's code blocks, each with the example, NAME.toml, whose name is the last one above the
+    line."""
     quotes: list[tuple[str, str]] = []
     name = block = None
     for line in page.split('\n'):

@@ -1,19 +1,20 @@
 """Refuses each request for memory of a run, one in each run: tools/dev/refuse_memory [FILE [-- WORD ..]]
 
-The program simulates a scenario, and is refused its first request, in the next run its second, and so on until a run
-needs no more of them. The start of a thread is a request too, for its stack. Each run has to end in one of three ways:
-with the whole report and status 0; with `motesim: out of memory`, status 1 and a beginning of the report, unless a
-start was refused; or, with workers, with `motesim: run fault 5`, status 1 and no report. If the threads of workers are
-refused memory, some of these runs end as out of memory: only an executor reports it as a failed thread. If a report
-has so many lines that threads format it, a refused start of one of them leads to the whole report.
+`motesim` simulates a scenario. In the first run its first request is refused, in the second run its second, and so on,
+until a run makes fewer requests. The start of a thread is a request too, for its stack. Each run has to end in one of
+three ways: with the whole report and status 0; with `motesim: out of memory`, status 1 and a beginning of the report,
+unless a start was refused; or, with workers, with `motesim: run fault 5`, status 1 and no report. If the threads of
+workers are refused memory, some of these runs end as out of memory, because only an executor reports such a refusal as
+a failed thread. If a report has so many lines that threads format it, a refused start of one of them leads to the
+whole report.
 
-The words after FILE are the arguments of motesim, as in `-- --workers 2 --sync marks`. Without FILE small scenarios
+The words after FILE are the arguments of motesim, as in `-- --workers 2 --sync marks`. Without FILE, small scenarios
 are tried, on one thread and with two and three workers of both kinds: packets that meet and are heard, a full ring, a
 full queue, a refused timer, and a scenario with a fault; and two motes with many lines, by two workers of both kinds.
-A test of crates/part_tests, as `rt ci` builds it, is tried in the same way. It calls kernels and motes once they are
-out of memory, and has to pass, or to end with an error of its own if it has no kernel or mote to call.
+A test of crates/part_tests, as `rt ci` builds it, is tried in the same way. It calls kernels and motes after they have
+run out of memory. It has to pass, or to end with its own error if it has no kernel or mote to call.
 
-The requests are refused by a library in C, which `cc` compiles, and which is loaded before the C library.
+A library in C refuses the requests. `cc` compiles it, and it is loaded before the C library.
 """
 from __future__ import annotations
 
@@ -35,8 +36,8 @@ WAYS = ['', *('--workers %s --sync %s' % (workers, sync) for sync in ('joins', '
 # A report that is formatted by threads.
 MANY_LINES = 'tests/cases/nets/many_lines.make'
 CALLS = ['crates/part_tests/out/part_tests_tests', 'tests::refused::once_out_of_memory']
-# Each run: a scenario and the program's arguments, or a program of tests and the name of one. (The last file has a
-# fault, which is found before there are workers.)
+# For each run, a scenario and the arguments of `motesim`, or a program of tests and the name of one test. (The last
+# file has a fault, which is found before there are workers.)
 RUNS: list[list[str]] = [
     *([file, *way.split()] for way in WAYS for file in (FILES if way in WAYS[:2] else FILES[:-1])),
     *([MANY_LINES, *way.split()] for way in WAYS if way.startswith('--workers 2')), CALLS]
@@ -57,7 +58,8 @@ def scenario_in(file: Path) -> bytes:
 
 
 def may_be(found: Answer, whole: Answer, words: list[str], refused: str) -> bool:
-    """Returns whether a run may answer so that was refused this; `whole` is the answer if nothing is refused."""
+    """Returns whether this answer is allowed for a run in which this request was refused; `whole` is the answer if no
+    request is refused."""
     if words == CALLS:
         return whole.status == 0 and (found.status == RETURNED_ERROR or found == whole)
     if (found.status, found.fault) == (1, OUT_OF_MEMORY):
@@ -66,7 +68,7 @@ def may_be(found: Answer, whole: Answer, words: list[str], refused: str) -> bool
 
 
 def lacks(faults: Counter[tuple[str, bytes]], words: list[str]) -> str | None:
-    """Names a result that none of the refused requests had; `faults` counts the kinds of requests with the lines."""
+    """The name of a result that no refused request had; `faults` counts the pairs of a kind of request and a line."""
     if faults[OF_WORKER, NO_THREAD] and not faults[OF_WORKER, OUT_OF_MEMORY]:
         return 'all memory that was refused to workers is reported as a failed thread'
     if words[0] == MANY_LINES and not faults[START, b'']:
@@ -76,7 +78,7 @@ def lacks(faults: Counter[tuple[str, bytes]], words: list[str]) -> str | None:
 
 @pytest.fixture(scope='session')
 def refuses(tmp_path_factory: pytest.TempPathFactory) -> Path:
-    """The library that refuses."""
+    """The library that refuses requests."""
     if not shutil.which('cc'):
         pytest.fail('nothing is tried: there is no C compiler `cc` here', pytrace=False)
     library = tmp_path_factory.mktemp('refuses') / 'refuses.so'

@@ -1,10 +1,10 @@
 """Checks that the commands of the pages print what the pages show: tools/dev/check_tutorial [PAGE ..]
 
-The pages are those of docs/use/. Their blocks of commands begin with ```sh, and the output of these is in the block
-right after, which begins with ```. If there is no such block, they print nothing. A block that begins with ```console
-has commands that open a window, and is not run. A block that begins with ```toml NAME, ```mote NAME or ```python NAME
-is a file that the reader saves under that name. The commands of a page are run in a folder of their own, in which
-./run, tools/ and examples/ are found.
+The pages are those of docs/use/. Blocks of commands begin with ```sh, and the next block, which begins with ```, has
+the output of the commands. If there is no such block, they must print nothing. A block that begins with ```console has
+commands that open a window, and is not run. A block that begins with ```toml NAME, ```mote NAME or ```python NAME is a
+file that the reader saves under that name. The commands of a page are run in a separate folder, in which ./run, tools/
+and examples/ exist.
 
 Shows the difference of each block that fails.
 """
@@ -21,7 +21,7 @@ import pytest
 from differences import check_lines
 from motesim.runner.programs import TOP
 
-# A block, and the one that shows the output of its commands: only empty lines are between the two.
+# A block of commands, and the block with their output: only empty lines are between the two.
 BLOCK = re.compile(r'^```(?P<info>.*)\n(?P<text>(?:.*\n)*?)```$(?:\n+```\n(?P<shown>(?:.*\n)*?)```$)?', re.M)
 SAVED = re.compile(r'(?:toml|mote|python) ([a-z_.]+[.](?:toml|mote|py))')
 RUN = '#!/bin/sh\nexec "$MOTESIM" "$@"\n'

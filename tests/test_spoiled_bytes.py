@@ -1,10 +1,11 @@
-"""Runs motesim on a scenario with one byte spoiled, for each byte, and on its prefixes: tools/dev/spoil_bytes
+"""Runs motesim on a scenario in which one byte is spoiled, for each byte, and on the prefixes of the scenario:
+tools/dev/spoil_bytes
 
 The scenario is tests/cases/motes/print_then_yield.toml. Each of its bytes is replaced by each byte of a short list
 (SPOILED in tests/test_spoiled_bytes.py). For such a text motesim writes a report and ends with status 0, or writes
-only the line of a fault and ends with status 1. Another simulator of the same rules counted how many texts have which
-result, and how long their reports are together. A prefix of the scenario is not TOML (fault 1) or lacks a key (fault
-2), except the one that lacks only the last line feed.
+only the line of a fault and ends with status 1. Another simulator with the same rules counted the texts with each
+result, and the total length of their reports. A prefix of the scenario is not TOML (fault 1) or lacks a key (fault 2),
+except the one that lacks only the last line feed.
 """
 from __future__ import annotations
 
@@ -17,7 +18,8 @@ from differences import answer
 CASE = Path(__file__).parent / 'cases/motes/print_then_yield'
 SCENARIO = CASE.with_suffix('.toml').read_bytes()
 REPORT = CASE.with_suffix('.expected').read_bytes()
-# For each byte how many texts are answered which fault, or a report, and how many bytes these reports have together.
+# For each byte, the number of texts with each fault and with a report, and the number of bytes of these reports in
+# all.
 SPOILED: list[tuple[bytes, dict[str, int], int]] = [
     (b'\0', {'scenario fault 1': 180}, 0),
     (b'\xff', {'scenario is not UTF-8': 180}, 0),

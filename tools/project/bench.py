@@ -1,10 +1,10 @@
-"""Measures the program: tools/dev/bench [NAME ..] [--against PROGRAM] [--rounds N]
+"""Measures motesim: tools/dev/bench [NAME ..] [--against PROGRAM] [--rounds N]
 
-Runs the program on the scenarios of bench/, on one thread and with workers of both kinds, each alternating with an
-earlier program if --against names one, and prints for each way to run: the seconds of the processor (user time, the
-best round), the seconds of the clock, and the most memory. Each round has a ratio of this program to the earlier one:
-the median of these ratios is printed, with the least and the greatest. Each report is compared with the first one of
-its scenario: the status is 1 if one differs. docs/dev/SPEED.md says how to count instructions.
+Runs motesim on the scenarios of bench/, on one thread and with workers of both kinds. If --against names an earlier
+binary, the two run alternately. For each way to run, the tool prints the seconds of processor time (user time, the
+best round), the seconds of the clock, and the most memory. Each round has a ratio of this binary to the earlier one:
+the tool prints the median of these ratios, the least and the greatest. Each report is compared with the first one of
+its scenario; the status is 1 if one differs. docs/dev/SPEED.md says how to count instructions.
 """
 from __future__ import annotations
 
@@ -26,7 +26,7 @@ from motesim.runner.programs import TOP, program_path
 SCENARIOS = {'beacons': [31, 2000, 10], 'polls': [500, 200], 'broadcasts': [8, 20000], 'timers': [64, 200000],
              'steps': [10, 1000]}
 WAYS = ['', *('--workers %s --sync %s' % (workers, sync) for sync in ('joins', 'marks') for workers in '24')]
-# How each measure is shown: its form, and its unit.
+# The form and the unit in which each measure is shown.
 SHOWN = {'user': ('%.3f s', 1), 'clock': ('%.3f s', 1), 'memory': ('%.1f MB', 1e6)}
 
 
@@ -58,8 +58,8 @@ def cost_of(words: Sequence[str | Path]) -> Cost:
 
 
 def cell(name: str, ours: Sequence[float], others: Sequence[float]) -> str:
-    """A measure of this program; with that of the earlier one, and the middle, the least and the greatest of the
-    ratios of runs that alternated."""
+    """A measure of this binary; and the measure of the earlier one, with the middle, the least and the greatest of the
+    ratios of alternating runs."""
     form, unit = SHOWN[name]
     best = ', '.join(form % (min(it) / unit) for it in (ours, others) if it)
     ratios = [one / other for one, other in zip(ours, others) if other]
@@ -68,7 +68,7 @@ def cell(name: str, ours: Sequence[float], others: Sequence[float]) -> str:
 
 
 def measure(title: str, programs: Sequence[str], words: Sequence[str | Path], rounds: int) -> set[str]:
-    """Runs programs alternately, prints the costs in a line, and returns the digests of the reports."""
+    """Runs binaries alternately, prints the costs in a line, and returns the digests of the reports."""
     turns = [[cost_of([program, *words]) for program in programs] for _ in range(rounds)]
     cells = [cell(name, *([getattr(turn[at], name) for turn in turns if at < len(turn)] for at in (0, 1)))
              for name in SHOWN]

@@ -1,6 +1,6 @@
-"""Compiles `motesim` without proving it, if none of these sources is built: ./run and tools/pack do so.
+"""Compiles `motesim` without proving it, if no binary of these sources is built. ./run and tools/pack use this module.
 
-It is kept in out/programs by a digest of the sources (motesim.runner.programs).
+The binary is kept in out/programs by a digest of the sources (motesim.runner.programs).
 """
 from __future__ import annotations
 
@@ -21,9 +21,9 @@ WAITING = 'another run is compiling the program; this one waits for it'
 
 
 def make(kept: Path) -> None:
-    """Makes the program, and keeps it once it is whole."""
+    """Makes the binary, and keeps it once it is complete."""
     for left in PROGRAMS.glob('room-*'):
-        # (a killed process has left it)
+        # (a killed process may have left it)
         shutil.rmtree(left, ignore_errors=True)
     began = time.time()
     with tempfile.TemporaryDirectory(prefix='room-', dir=PROGRAMS) as room:
@@ -31,14 +31,14 @@ def make(kept: Path) -> None:
         said = kit.compiled(kept.name, TOP, Path(room), made)
         if said is not None:
             raise Fault('the program was not compiled, as these lines say:\n%s' % said.rstrip())
-        # (a source that is edited meanwhile is newer than the program)
+        # (a source that is edited meanwhile is newer than the binary)
         os.utime(made, (began, began))
         kept.parent.mkdir(exist_ok=True)
         os.replace(made, kept)
 
 
 def compile_program() -> Path:
-    """Compiles the program of these sources, unless that is done, and returns it."""
+    """Compiles the binary of these sources, unless it is compiled already, and returns its path."""
     end_on_signals()
     kept = compiled_kept()
     with locked(PROGRAMS / 'compiling.lock', 'motesim: ' + WAITING):

@@ -40,9 +40,9 @@ from project import kit
 from project.compile import compile_program
 from project.tree import commit, git
 
-# The contents of the archive besides the program: files, and folders with all files in them that git knows.
+# The contents of the archive besides the binary: files, and folders with all files in them that git knows.
 PARTS = ('CHANGES.md', 'CITATION.cff', 'LICENSE', 'docs/use', 'examples', 'tools/contiki_host', 'tools/motesim')
-# The page for teachers, the folders of the tools and pages, and files that tools and editors make for themselves.
+# The page for teachers; the folders of the tools and pages; and files that tools and editors make for their own use.
 PAGE_FOR_TEACHERS, OURS = 'docs/use/TEACH.md', ('docs', 'tools')
 RUBBISH = re.compile(r'(.*/)?(\.|__pycache__/|[^/]*~(/|\Z))', re.S)
 # A link of a page, with its words and its target. (The words may be on two lines.)
@@ -55,12 +55,13 @@ def template(name: str) -> str:
 
 
 def program() -> Path:
-    """The program that MOTESIM names, or the proved one of these sources, or one that is compiled without a proof."""
+    """The binary that MOTESIM names, or the proved binary of these sources, or one that is compiled without a
+    proof."""
     return program_path() if os.environ.get('MOTESIM') else program_of_sources() or compile_program()
 
 
 def licenses() -> dict[str, bytes]:
-    """The terms of the kit's libraries in the program: a page, and the texts."""
+    """The terms of the kit's libraries in the binary: a page, and the texts."""
     found, rows = dict[str, bytes](), []
     for library, texts in kit.licenses('motesim', TOP).items():
         names = {'licenses/%s/%s' % (library, it.name): it.read_bytes() for it in texts}
@@ -70,7 +71,7 @@ def licenses() -> dict[str, bytes]:
 
 
 def kit_at_hand() -> str:
-    """The kit with which the program was built here; without one, that of the last proved tree."""
+    """The kit with which the binary was built here; without one, the kit of the last proved tree."""
     try:
         return kit.version()
     except Fault:
@@ -78,7 +79,7 @@ def kit_at_hand() -> str:
 
 
 def user_commands() -> dict[str, str]:
-    """The commands in tools/ that are for users, which call a module of the users' package, with what each is for."""
+    """The commands in tools/ for users, with the purpose of each; they call a module of the package motesim."""
     found = {}
     for path in sorted(it for it in (TOP / 'tools').iterdir() if it.is_file()):
         module = re.search(r'^from (motesim\.\S+) import main$', path.read_text('utf-8'), re.M)
@@ -89,12 +90,12 @@ def user_commands() -> dict[str, str]:
 
 
 class Sorted(NamedTuple):
-    """Files by what happens to them: those of the repository, those that are added, and those that are left out.
+    """The files of the repository, the added files, and the files that are left out.
 
     packed    the place of each file of the archive, by its name there
-    added     the names of those that the maker has named
-    changed   the names of those that differ from the commit
-    left_out  the others, each with the reason
+    added     the names of the files that the maker has named
+    changed   the names of the files that differ from the commit
+    left_out  the files that aren't packed, each with the reason
     is_clone  whether git lists the files of the repository
     """
     packed: dict[str, Path]
@@ -104,7 +105,7 @@ class Sorted(NamedTuple):
     is_clone: bool
 
     def notes(self) -> list[str]:
-        """The lines on files that aren't the repository's own, and on those that are left out."""
+        """The lines about files that aren't the repository's own, and about files that are left out."""
         lines = [] if self.is_clone else ['Git lists no files of this tree, so all files of its folders are packed.']
         lines += ['Added: %s' % one_line(it) for it in self.added]
         lines += ['Not as in the commit: %s' % one_line(it) for it in self.changed]
@@ -117,7 +118,7 @@ def files_of(path: Path) -> Iterator[Path]:
 
 
 def own_files(named: Iterable[Path], top: Path) -> Iterator[tuple[str, Path]]:
-    """The files that the maker has named, or that are in folders which the maker has named, by their names."""
+    """The files that the maker has named, and the files in folders that the maker has named, by their names."""
     for path in named:
         there = path.resolve()
         if not there.exists():
@@ -136,9 +137,9 @@ def is_for_teachers(path: str) -> bool:
 
 
 def sorted_files(parts: Iterable[str], named: Iterable[Path] = (), top: Path = TOP, has_all: bool = False) -> Sorted:
-    """The files of the archive besides the program, from the repository's parts and what the maker has named.
+    """The files of the archive besides the binary: the repository's parts, and the files that the maker has named.
 
-    has_all  whether those for teachers are among them
+    has_all  whether files for teachers are packed, too
     """
     listed, changed = (set(filter(None, git(top, *words, '-z').split('\0')))
                        for words in (['ls-files'], ['diff', '--name-only', '--relative', 'HEAD']))
@@ -146,7 +147,7 @@ def sorted_files(parts: Iterable[str], named: Iterable[Path] = (), top: Path = T
     its = {str(file.relative_to(top)): file for part in parts for file in files_of(top / part)}
     known = listed or set(its)
     for name, file in {**its, **own}.items():
-        # (a link is judged by the file that it leads to, too)
+        # (the file to which a link leads counts, too)
         paths = [name, '/'.join(file.resolve().parts[-2:])] if file.is_symlink() else [name]
         if RUBBISH.match(name):
             continue
@@ -166,7 +167,7 @@ def sorted_files(parts: Iterable[str], named: Iterable[Path] = (), top: Path = T
 
 
 def about_proof(program: Path) -> str:
-    """A sentence on the proof of a program."""
+    """A sentence about the proof of the binary."""
     if is_proved(program):
         return 'PROVED.md says what was proved of the program.'
     if os.environ.get('MOTESIM'):
@@ -199,7 +200,7 @@ def files(program: Path, its: Sorted | None = None) -> dict[str, tuple[bytes, in
 
 
 def without_dead_links(name: str, data: bytes, names: Collection[str]) -> bytes:
-    """A page whose links to what isn't in the archive are plain words."""
+    """A page in which links to files outside the archive are plain words."""
     folders = {str(parent) for it in names for parent in PurePosixPath(it).parents}
 
     def kept(link: re.Match[str]) -> str:
@@ -210,7 +211,7 @@ def without_dead_links(name: str, data: bytes, names: Collection[str]) -> bytes:
 
 
 def archive(folder: str, program: Path, its: Sorted | None = None) -> bytes:
-    """The archive, with all in one folder."""
+    """The archive, with all files in one folder."""
     plain = io.BytesIO()
     with tarfile.open(fileobj=plain, mode='w', format=tarfile.PAX_FORMAT) as tar:
         for name, (data, mode) in sorted(files(program, its).items()):

@@ -1,11 +1,11 @@
-"""Proves everything on this machine, and builds the proved program: ./prove
+"""Proves everything on this machine, and builds the proved binary: ./prove
 
-After that ./run and all tools run the proved program; until then they run the one that is built already. A proof needs
-about 20 to 40 minutes on four cores, at a low priority. `rt ci` does the work, on a copy of the program's crates in
-out/proof. A kit that can do so, such as rattle-kit-13f, keeps the results of each proved crate for all clones on this
-machine. So interrupt ./prove at any time: the next one, or ./test, continues with the crates that are left. It prints
-a line for each crate. The prover's output is in out/proof.log, and is shown for a crate that isn't proved. ./test is the
-gate, which also proves and runs all tests.
+After that, ./run and all tools run the proved binary; until then they run the one that is already built. A proof needs
+about 20 to 40 minutes on four cores, at a low priority. `rt ci` does the work, on a copy of the crates in out/proof.
+Some kits, such as rattle-kit-13f, keep the results of each proved crate for all clones on this machine. So you can
+interrupt ./prove at any time: the next ./prove, or ./test, continues with the remaining crates. It prints a line for
+each crate. The prover's output is in out/proof.log, and is shown for a crate that isn't proved. ./test is the gate,
+which also proves and runs all tests.
 """
 from __future__ import annotations
 
@@ -24,7 +24,7 @@ from project import kit
 from project.running import end_on_signals, locked, started
 
 COPY, LOG, LOCK = TOP / 'out/proof', TOP / 'out/proof.log', TOP / 'out/proof.lock'
-# The folders of a crate that the proof of the program doesn't need.
+# The folders of a crate that the proof doesn't need.
 LEFT_OUT = shutil.ignore_patterns('out', 'must-fail', '*-bodies')
 RESULT = re.compile(r'rt: (\w+) (proved|is kept|NOT PROVED)')
 
@@ -48,7 +48,8 @@ def copy_crates(top: Path, crates: Sequence[str], copy: Path) -> None:
 
 
 def prove_copy(number: int) -> bool:
-    """Proves the crates of the copy, so many, and builds the program there. Returns whether all are proved."""
+    """Proves the crates of the copy, with their number for the progress, and builds the binary there. Returns whether
+    all are proved."""
     proved, said, began = 0, '', time.monotonic()
     with open(LOG, 'w', buffering=1, encoding='utf-8') as log, started(['rt', 'ci'], cwd=COPY) as (running, lines):
         for line in lines:
@@ -65,7 +66,7 @@ def prove_copy(number: int) -> bool:
 
 
 def prove() -> None:
-    """Proves the program of these sources, and moves it to its place."""
+    """Proves these sources, and moves the built binary to its place."""
     crates, began = crates_of_program(TOP), time.time()
     say('proving %d crate%s: 20 to 40 minutes from nothing, on four processors; interrupt it at any time, ./prove '
         'resumes' % (len(crates), 's' * (len(crates) > 1)))

@@ -1,9 +1,9 @@
-"""Runs the program, and compiles it before if none is built: tools/run_program [arguments], which is ./run
+"""Runs motesim, and compiles it first if it isn't built: tools/run_program [arguments], which is ./run
 
-The proved binary of these sources runs if it has been built. Otherwise one is compiled without proving it, once, and
-is kept; a line on standard error says so. Arguments that the program doesn't know, and a file that can't be read, are
-refused before that. The environment variable MOTESIM names another program. On a terminal a line more says how to
-learn why there is no report. With --help the options of ./run come below the program's.
+The proved binary of these sources runs if it has been built. Otherwise a binary is compiled without a proof, once, and
+is kept; a line on standard error says so. Before that, arguments that motesim doesn't know, and a file that can't be
+read, are refused. The environment variable MOTESIM names another binary. On a terminal, a further line says how to
+find out why there is no report. With --help the options of ./run are below those of motesim.
 """
 from __future__ import annotations
 
@@ -24,7 +24,7 @@ from project.compile import compile_program
 from project.running import ends_with_parent
 
 NAME = 'motesim'
-# (the program's own text, for which it needn't be built)
+# (the help text of motesim, for which it needn't be built)
 HELP = Path(__file__).with_name('help.txt')
 HELP_OF_RUN = """
 Options of ./run itself, which compiles the program if none is built:
@@ -34,7 +34,8 @@ FAILED, MISUSED = 1, 2
 
 
 class Request(NamedTuple):
-    """The program's arguments and its file; the options of ./run; and the program's refusal of its arguments."""
+    """The arguments of motesim and its file; the options of ./run; and the error by which motesim would refuse its
+    arguments."""
     words: list[str]
     file: str | None
     wants_help: bool
@@ -67,7 +68,7 @@ def request_of(given: Sequence[str]) -> Request:
 
 
 def say(line: str) -> None:
-    # (a file's name has its own bytes)
+    # (the name of a file may have any bytes)
     sys.stderr.buffer.write(os.fsencode(line + '\n'))
     sys.stderr.flush()
 
@@ -78,7 +79,7 @@ def can_be_read(file: str) -> bool:
 
 def has_error(file: str) -> bool:
     """Returns whether a scenario has an error."""
-    # (it is needed only after an error)
+    # (this module is needed only after an error)
     from motesim.scenario.faults import find_fault
     with contextlib.suppress(OSError):
         return find_fault(Path(file).read_bytes()) is not None
@@ -94,7 +95,7 @@ def is_plan(file: str) -> bool:
 
 
 def say_more(file: str | None) -> None:
-    """Says on a terminal how to learn why there is no report, if the scenario is the reason."""
+    """Prints, on a terminal, how to find out why there is no report, if the scenario is the reason."""
     if file and os.isatty(2):
         if not can_be_read(file):
             say('%s: there is no file %s that can be read' % (NAME, file))
@@ -134,7 +135,7 @@ def program_for(request: Request) -> Path:
 
 
 def run(program: Path, request: Request) -> NoReturn:
-    """Runs the program, with the further lines for a terminal."""
+    """Runs motesim, with the further lines for a terminal."""
     words = [NAME, *request.words]
     if request.file is None and not request.wants_help and os.isatty(0):
         say('%s: waiting for a scenario on standard input, which ends with Ctrl-D (./run FILE reads a file)' % NAME)
@@ -145,7 +146,7 @@ def run(program: Path, request: Request) -> NoReturn:
     except OSError as fault:
         raise Fault('%s: %s' % (program, fault.strerror)) from None
     if status == 0 and request.wants_help:
-        # (on standard error: standard output is the program's)
+        # (on standard error: standard output is for the report)
         say(HELP_OF_RUN)
     if status == FAILED:
         say_more(request.file)
@@ -153,7 +154,7 @@ def run(program: Path, request: Request) -> NoReturn:
 
 
 def main() -> NoReturn:
-    # (Python ignores signals that the program should not ignore, and has a traceback for an interrupt)
+    # (Python ignores some signals that motesim must not ignore, and would print a traceback after Ctrl-C)
     for number in signal.SIGPIPE, signal.SIGXFSZ:
         signal.signal(number, signal.SIG_DFL)
     if signal.getsignal(signal.SIGINT) == signal.default_int_handler:

@@ -13,21 +13,23 @@ from pathlib import Path
 from typing import IO, Any, NoReturn
 
 LIBC = ctypes.CDLL(None)
-# The call of Linux that has a process get a signal when the one that started it ends (prctl(2)).
+# The call of Linux by which a process gets a signal when its parent ends (prctl(2)).
 PR_SET_PDEATHSIG = 1
 ENDING = signal.SIGTERM, signal.SIGHUP, signal.SIGINT
 
 
 def ends_with_parent(number: int) -> Callable[[], object]:
-    """Returns what a new process does before its command, so that it gets this signal when its parent ends."""
+    """Returns a function that a new process calls before its command, so that it gets this signal when its parent
+    ends."""
     return lambda: LIBC.prctl(PR_SET_PDEATHSIG, number)
 
 
 @contextlib.contextmanager
 def started(words: Sequence[str], as_group: bool = False,
             **how: Any) -> Iterator[tuple[subprocess.Popen[str], IO[str]]]:
-    """Starts a command and yields it, with its messages on both streams. It ends with this block or this process: as a
-    group, with all that it has started; otherwise the keys of the terminal reach it too."""
+    """Starts a command and yields it, with its messages on both streams. It ends when this block or this process ends.
+    With `as_group` it has its own group, and its child processes end with it; without, the keys of the terminal reach
+    it, too."""
     with subprocess.Popen(words, stdin=subprocess.DEVNULL, stdout=subprocess.PIPE, stderr=subprocess.STDOUT,
                           encoding='utf-8', errors='replace', start_new_session=as_group,
                           preexec_fn=ends_with_parent(signal.SIGKILL), **how) as running:
@@ -40,23 +42,23 @@ def started(words: Sequence[str], as_group: bool = False,
 
 
 def stop(number: int, _: object) -> NoReturn:
-    """Ends this process, with the status of one that the signal ended, after what its blocks do at their end."""
+    """Ends this process, after the ends of its blocks, with the status of a process that the signal ended."""
     for it in ENDING:
         signal.signal(it, signal.SIG_IGN)
     sys.exit(128 + number)
 
 
 def end_on_signals() -> None:
-    """Has the signals that end this process end its blocks first."""
+    """Makes the signals that end this process end its blocks first."""
     for number in ENDING:
-        # (nohup has one of them ignored)
+        # (nohup makes a process ignore one of them)
         if signal.getsignal(number) != signal.SIG_IGN:
             signal.signal(number, stop)
 
 
 @contextlib.contextmanager
 def locked(file: Path, waiting: str) -> Iterator[None]:
-    """Does the work of a block while no other process does it; says that it waits if one does."""
+    """Does the work of a block while no other process does it; if one does, prints a line and waits."""
     file.parent.mkdir(parents=True, exist_ok=True)
     with open(file, 'w', encoding='ascii') as lock:
         try:

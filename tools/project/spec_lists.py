@@ -1,10 +1,10 @@
 """Writes the lists of definitions into their pages: tools/dev/spec_lists
 
-docs/dev/SPECS.md lists all files of specs/, in the order of crates.txt. docs/proof/HEADLINE.md lists those on which
-the theorem rests: the contract of `simulate`, in crates/simulation/specs/Simulation*.antt, each file of specs/ that
-this file imports, each that those import, and so on. That list goes from the top down:
-the crates from the last of crates.txt to the first, and within a crate a file before those that it imports. Each file
-is listed with the first sentence of its own first comment. `./test` checks that both pages are up to date.
+docs/dev/SPECS.md lists all files of specs/, in the order of crates.txt. docs/proof/HEADLINE.md lists the files on
+which the theorem rests: the contract of `simulate`, in crates/simulation/specs/Simulation*.antt, each file of specs/
+that this file imports, each file that those import, and so on. This list is in order from the top down: the crates
+from the last of crates.txt to the first, and within a crate a file before the files that it imports. Each file is
+listed with the first sentence of its own first comment. `./test` checks that both pages are up to date.
 """
 from __future__ import annotations
 
@@ -20,7 +20,7 @@ from motesim.runner.programs import TOP
 
 HEADLINE = 'crates/simulation/specs/Simulation*.antt'
 CONSTANTS = 'TheConstants'
-# An import, with its name if that is of a form that is known.
+# An import, with its name if the name has a known form.
 IMPORT = re.compile(r'^(?:pub )?use (?:([\w.]+?)(?:\.\{| as |\.?$))?', re.M)
 # The part of a page that this tool writes, between two marks.
 BETWEEN = re.compile(r'(?<=<!-- written by tools/dev/spec_lists -->\n).*(?=<!-- end -->)', re.S)
@@ -79,7 +79,8 @@ def modules_of(top: Path) -> dict[str, Path]:
 
 
 class Rests:
-    """The files on which the headline rests, each with those that it imports; libraries; the types of each source."""
+    """The files on which the headline rests, each with the files that it imports; libraries; the types of each
+    source."""
 
     def __init__(self, top: Path):
         self.crates, self.modules = crates_of(top), modules_of(top)
@@ -98,7 +99,7 @@ class Rests:
                 left += self.files[path]
 
     def note_import(self, path: Path, name: str) -> None:
-        """Notes what a file imports: another one of specs/, a type of a source, or a library."""
+        """Notes an import of a file: another file of specs/, a type of a source, or a library."""
         if not name:
             raise Fault('%s has an import of a form that is not known' % path)
         library, *words = name.split('.')
@@ -118,7 +119,7 @@ class Rests:
 
 
 def from_the_top(files: dict[Path, list[Path]]) -> list[Path]:
-    """The files of one crate, each before those that it imports."""
+    """The files of one crate, each before the files that it imports."""
     importers = {path: [it for it in sorted(files) if path in files[it]] for path in sorted(files)}
     return [*TopologicalSorter(importers).static_order()]
 

@@ -1,4 +1,4 @@
-"""The commands of tools/dev that call pytest, and become its process."""
+"""The commands of tools/dev that call pytest; pytest replaces their process."""
 from __future__ import annotations
 
 import ast
@@ -16,13 +16,13 @@ TESTS = TOP / 'tools/tests'
 MINUTES = 30
 NO_PYTEST = ('the tests need pytest: on Debian `apt-get install python3-pytest python3-pytest-xdist` installs it '
              'for %s (.ci/run installs all that the tests need)' % SYSTEM)
-# No file is written into the tree; each line says which test failed, and why.
+# Pytest writes no file into the tree; each of its lines says which test failed, and why.
 FLAGS = ['-qq', '--no-header', '--tb=short', '-rN', '-p', 'no:cacheprovider', '-W',
          'ignore::pytest.PytestUnhandledThreadExceptionWarning']
 
 
 def pytest(together: str) -> list[str]:
-    """The words that call pytest. The tests of a class, or of another `scope` or `group`, run in one process."""
+    """The arguments that call pytest. The tests of a class, or of another `scope` or `group`, run in one process."""
     python = next((it for it in (sys.executable, SYSTEM) if has('pytest', it)), None)
     if python is None:
         raise Fault(NO_PYTEST)
@@ -31,12 +31,13 @@ def pytest(together: str) -> list[str]:
 
 
 def become(called: list[str], **environment: str) -> NoReturn:
-    """Becomes another process."""
+    """Replaces this process by another command."""
     os.execvpe(called[0], called, {**os.environ, 'PYTHONDONTWRITEBYTECODE': '1', **environment})
 
 
 def asked_of(module: Path, named: str) -> tuple[list[str], list[str]]:
-    """The names that a command gets, and the options that it passes on; its help begins with the module's text."""
+    """The names that a command gets, and the options that it passes on to pytest; its help begins with the module's
+    text."""
     words = words_of(ast.get_docstring(ast.parse(module.read_text('utf-8'))))
     words.add_argument('names', nargs='*', metavar='NAME', help=named + '; without a name, all')
     words.epilog = 'Other options are passed on to pytest, each in one word: -x, -kWORD.'
@@ -45,7 +46,7 @@ def asked_of(module: Path, named: str) -> tuple[list[str], list[str]]:
 
 
 def check(module: Path) -> NoReturn:
-    """Tests the program with a module of tests/."""
+    """Tests the built motesim with a module of tests/."""
     names, others = asked_of(module, 'a part of the tests, as described above')
     become([*pytest('group'), str(module), *others, *('--name=' + it for it in names)],
            MOTESIM=str(program_path().resolve()))

@@ -52,7 +52,7 @@ def named(edits: Sequence[Edit], names: Sequence[str]) -> list[Edit]:
 
 
 def tenth(edits: Sequence[Edit], seed: str) -> list[Edit]:
-    """A tenth of the mutants, chosen by a seed: whole batches, so that few crates are loaded."""
+    """A tenth of the mutants, chosen by a seed: complete batches, so that few crates are loaded."""
     found: list[Edit] = []
     for group in sorted(groups(edits), key=lambda it: hashlib.sha256((seed + it[0].name).encode()).digest()):
         if len(found) * 10 < len(edits):

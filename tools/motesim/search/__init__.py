@@ -1,20 +1,20 @@
 """Searches for the faults that break a protocol, and makes scenarios small: docs/use/SEARCH.md.
 
     command.py         tools/search
-    asking.py          the request for a search, made ready
+    asking.py          the request for a search, and its preparation
     search.py          the search itself: what it covered, and what it found
-    sets.py            sets of faults, the smaller ones first, without those that are decided already
+    sets.py            sets of faults, the smaller ones first, without sets that are decided already
     faults.py          the faults of each kind that a scenario can have
-    change.py          what faults change of a scenario, and the scenario's text with that
+    change.py          the changes that faults make to a scenario, and the changed text
     added.py           the process that makes a mote fail, or start late
     prepare.py         the checks before a search
     work.py            one run of a set of faults
-    one_program.py     runs of the program one after the other, at little cost
-    quick_judge.py     which sentences hold for a report, as motesim.judge finds, in a fraction of its time
+    one_program.py     runs of `motesim`, one after the other, at little cost
+    quick_judge.py     which sentences hold for a report: the results of motesim.judge in a fraction of its time
     runner.py          many runs by several processes; by_dask.py by a cluster
-    kept.py            what was tried, for --resume
-    found.py           the files and tables of what was found
-    study.py           searches with the outcome that is expected of them
+    kept.py            the sets that were tried, for --resume
+    found.py           the files and tables of the sets that were found
+    study.py           searches with their expected results
 
     shrink_command.py  tools/shrink
     shrink.py          delta debugging

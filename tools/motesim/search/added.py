@@ -1,9 +1,9 @@
 """The process that makes a mote fail at a moment, or start late.
 
-A program gets one more process, which waits for the moment. In a mote that fails it then kills the others; in one
-that starts late it is the only one that starts at boot, and starts the others then. A program whose processes could
-continue after a kill, by callback timers, by a block `onexit`, or by starting one another, is stopped by work
-without end instead of kills: the mote then halts.
+A program gets one more process, which waits for the moment. In a mote that fails, this process then kills the others.
+In a mote that starts late, it is the only process that starts at boot, and it then starts the others. If processes of
+the program could continue after a kill, by callback timers, by a block `onexit`, or by starting one another, an
+endless loop stops the program instead of kills: it halts the mote.
 """
 from __future__ import annotations
 
@@ -16,7 +16,7 @@ DIES, LATE = 'fails', 'starts late'
 NAMES = {DIES: 'failing', LATE: 'starting'}
 # The longest wait of one timer, in moments.
 LONGEST_WAIT = 60_000
-# The words by which a program can do something after its processes were killed.
+# The words with which a program can do something after its processes were killed.
 GOES_ON = frozenset(('ctimer', 'onexit', 'start', 'gone', 'exited', 'exit'))
 
 
@@ -61,7 +61,7 @@ def added_code(name: str, kind: str, moment: int, processes: list[str], by_halti
 
 
 def _free_name(tokens: list[Token], kind: str) -> str:
-    """A name for the process that nothing in the program has."""
+    """A name for the process that isn't in use in the program."""
     used = {token.text for token in tokens}
     names = [NAMES[kind]] + ['%s%d' % (NAMES[kind], number) for number in range(2, len(used) + 3)]
     return next(name for name in names if name not in used and len(name) <= LONGEST_NAME)
@@ -85,7 +85,7 @@ def _inner_names(tokens: list[Token]) -> set[str]:
 
 
 def changed_program(program: str, kind: str, moment: int) -> str:
-    """The text of a program with the process added: its own text stays, but for two lines."""
+    """The text of a program with the process added: its own text stays, except for two lines."""
     tokens, offsets = tokens_of(program), offsets_of(program)
     name = _free_name(tokens, kind)
     processes = processes_of(tokens)
@@ -97,7 +97,7 @@ def changed_program(program: str, kind: str, moment: int) -> str:
     is_halted = kind == DIES and halts(program)
     acts_on = starts if kind == LATE else processes
     code = added_code(name, kind, moment, acts_on, is_halted)
-    # (a name of its own may be one that the program shares among all its processes)
+    # (a name in one process may be a name that all processes of the program share)
     for inner in ('wait', 'rounds'):
         while re.search(r'\b%s\b' % inner, code) and inner in _inner_names(tokens):
             code = re.sub(r'\b%s\b' % inner, inner + '_', code)

@@ -1,4 +1,4 @@
-"""The request for a search, read and made ready, and how it is carried out."""
+"""The request for a search: prepares it, and runs the search."""
 from __future__ import annotations
 
 import hashlib
@@ -27,8 +27,8 @@ def runner_of(work: Work, processes: int, address: str | None) -> Runner:
 
 
 class Asking:
-    """A scenario with sentences, the faults to search with, and the bounds. What has to be known of it without a fault
-    is found out at once."""
+    """A scenario with sentences, the faults for the search, and the bounds. The run without a fault is made at
+    once."""
 
     def __init__(self, base: Base, texts: list[str], sentences: list[Sentence], asked: Asked, bounds: Bounds,
                  limits: Limits = Limits()):
@@ -58,7 +58,7 @@ class Asking:
         return rows
 
     def digest(self) -> str:
-        """The identity of a search, in which it differs from others."""
+        """The identity of a search, by which it differs from others."""
         plan = self.base.plan and (self.base.plan.text, self.base.plan.digest({}))
         parts = (self.base.source, plan, self.texts, self.prepared.faults, self.limits, program_digest(self.path))
         return hashlib.sha256(repr(parts).encode()).hexdigest()[:16]
@@ -68,8 +68,8 @@ class Asking:
 
     def search(self, processes: int, kept: Kept, shown: Callable[[Search, int, bool], None] | None = None,
                asks_end: Callable[[], bool] = lambda: False, address: str | None = None) -> Search:
-        """Searches, until all is tried, a limit is reached, or the user ends it; by a Dask cluster if there is an
-        address."""
+        """Searches until all sets are tried, a limit is reached, or the user ends the search; on a Dask cluster if
+        there is an address."""
         held = [number for number in range(len(self.texts)) if number not in self.plain.broken]
         known = Known(self.prepared.faults, mask_of(held))
         search = Search(known, self.bounds, kept, self.prepared.blind_of(), shown)

@@ -17,10 +17,10 @@ from motesim.runner.programs import ProgramFault
 from motesim.search.runner import IsOver
 from motesim.search.work import Bench, Outcome, Task, Work
 
-# A batch for a cluster goes over the network, so it has more tasks than one on this machine. How many batches each
-# worker of the cluster has at a time.
+# A batch for a cluster goes over the network, so it has more tasks than one on this machine. The second number is that
+# of the batches that each worker of the cluster has at a time.
 BATCH, AHEAD = 64, 3
-# For each thread of a worker, its bench, and the search that the bench is for.
+# For each thread of a worker, its bench, and the search for which the bench is.
 _here = threading.local()
 
 
@@ -51,7 +51,7 @@ class ByDask:
         try:
             with tempfile.TemporaryDirectory() as folder:
                 self.client.upload_file(str(packed(Path(folder))))
-            # (in a list: a tuple by itself would be taken apart)
+            # (in a list, because Dask would treat the members of a tuple as arguments)
             self.work, = self.client.scatter([work], broadcast=True)
         except Exception as fault:
             raise self.fault(fault) from None
@@ -82,7 +82,7 @@ class ByDask:
             raise self.fault(fault) from None
 
     def kill(self) -> None:
-        """Forgets what has begun."""
+        """Forgets the batches that have begun."""
 
     def close(self) -> None:
         self.client.close()

@@ -1,8 +1,8 @@
 """The changes that faults make to a scenario, and the scenario's text with them.
 
-`Base.read(text, name)` is a scenario that faults are put into. A `Change` has the differences from it; faults add
-to it. `Base.text(change)` is the text with just that changed, its comments and its layout kept, and
-`Base.scenario(change)` is the scenario that this text holds, without reading it again.
+`Base.read(text, name)` is a scenario to which faults are added. A `Change` has the differences from this scenario;
+faults add to the change. `Base.text(change)` is the text with only these differences: its comments and its layout
+stay. `Base.scenario(change)` is the scenario that this text describes, without reading it again.
 """
 from __future__ import annotations
 
@@ -27,7 +27,7 @@ NOT_SO = '%s is written in a form that the tool can\'t change in the text'
 
 
 class CannotChange(Fault):
-    """A text that is written in a way that can't be changed in place."""
+    """A text in a form in which the tool can't make the change."""
 
 
 @dataclass
@@ -39,7 +39,7 @@ class Change:
     numbers     `range`, `base`, `per`
     queue       lengths of event queues, by program
     places      other places of motes
-    added       motes that fail at a moment, or start late: which of these, and the moment
+    added       motes that fail at a moment or start late: which of the two, and the moment
     """
     parameters: dict[str, Value] = field(default_factory=dict)
     losses: dict[tuple[int, int], int] = field(default_factory=dict)
@@ -56,14 +56,14 @@ class Change:
 
 
 def shown(tables: Any, path: tuple[str | int, ...]) -> str:
-    """The value of a key, as authors mostly write it."""
+    """A key and its value, in the form that most authors use."""
     for name in path:
         tables = tables[name]
     return str(tables).lower() if type(tables) is bool else str(tables)
 
 
 class Base:
-    """A scenario into which faults are put."""
+    """A scenario to which faults are added."""
 
     def __init__(self, source: str, name: str, is_checked: bool = False, plan: Plan | None = None):
         self.plan, self.others = plan, dict[tuple[tuple[str, Value], ...], Base]()
@@ -97,12 +97,12 @@ class Base:
     # The scenario that a change makes.
 
     def scenario(self, change: Change) -> Scenario:
-        """The scenario with a change, as far as sentences on its report look at it."""
+        """The scenario with a change, with the parts that sentences about its report need."""
         if change.parameters:
             return self.with_parameters(change.parameters).scenario(replace(change, parameters={}))
         base = self.scenario_itself
         if not change.places and 'range' not in change.numbers:
-            # (so that each mote's neighbours are looked for once, and not in each run)
+            # (so that each mote's neighbours are looked for once, rather than in each run)
             base.hearers(0)
         found = copy.copy(base)
         if change.places or 'range' in change.numbers:
@@ -131,7 +131,7 @@ class Base:
             raise CannotChange(NOT_SO % self.name) from None
 
     def edits(self, change: Change) -> list[Edit]:
-        """The stretches of the text that a change replaces."""
+        """The pieces of the text that a change replaces."""
         found = self.of_losses(change)
         for name, number in change.numbers.items():
             found.append(self.value(('medium', name), str(number)))
@@ -174,7 +174,7 @@ class Base:
         return found
 
     def stretch(self, path: tuple[str | int, ...]) -> tuple[int, int]:
-        """The place of a key's value in the text, as far as it can be seen."""
+        """The place of a key's value in the text, if it can be found."""
         if path not in self.stretches:
             value = value_of(self.source, place_of(self.source, path))
             begin = self.lines.offset(value)
@@ -233,7 +233,7 @@ class Base:
         return after - 1
 
     def of_added(self, change: Change, queue: dict[str, int]) -> list[Edit]:
-        """Programs of their own for motes that fail or start late."""
+        """Separate programs for motes that fail or start late."""
         found, texts = [], ''
         names = set(self.tables['programs'])
         for mote, (kind, moment) in sorted(change.added.items()):

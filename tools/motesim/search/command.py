@@ -56,7 +56,7 @@ def values_asked(words: list[str]) -> tuple[dict[str, tuple[int, ...]], dict[str
 
 
 def asked_of(words: argparse.Namespace) -> Asked:
-    """Which faults the command line asks for: those of --set if it names no others."""
+    """The kinds of faults that the command line names: if it names none, those of --set."""
     numbers, given = values_asked(words.set)
     implied = ','.join(kind for kind, names in (('values', numbers), ('parameters', given)) if names)
     faults = words.faults or implied or USUAL
@@ -139,7 +139,8 @@ def show(words: argparse.Namespace, asking: Asking, search: Search, folder: Path
 
 
 def shrink_each(asking: Asking, found: list[Found], folder: Path, is_quiet: bool) -> None:
-    """Makes the first counter-example of each expectation small: it holds without the faults, and not with them."""
+    """Makes the first counter-example of each expectation as small as possible: without the faults the expectation
+    holds, but with them it doesn't."""
     program = OneProgram(str(asking.path), asking.limits)
     for number, sentence in enumerate(asking.texts, 1):
         first = next((it for it in found if sentence in it.sentences), None)

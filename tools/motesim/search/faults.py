@@ -1,7 +1,7 @@
 """The faults that a scenario can have, each a change of its text.
 
-`faults_of(base, asked)` returns those of the wanted kinds, in their order. Faults with the same `slot` are
-other ways to change one thing, such as two ranges, and are never put together.
+`faults_of(base, asked)` returns those of the wanted kinds, in their order. Faults with the same `slot` are alternative
+changes of one thing, such as two ranges, and are never combined.
 """
 from __future__ import annotations
 
@@ -14,7 +14,7 @@ from motesim.plan.tables import Value, text_of_value
 from motesim.search.added import DIES, LATE
 from motesim.search.change import Base, CannotChange, Change
 
-# For each kind, its names in the help and in the line about what was covered: in the singular, and in the plural.
+# For each kind, its names in the help and in the lines about the coverage: in the singular, and in the plural.
 KINDS: dict[str, tuple[str, str]] = {
     'links': ('link that loses everything, in one direction', 'links that lose everything, in one direction'),
     'both-ways': ('link that loses everything, in both directions', 'links that lose everything, in both directions'),
@@ -32,10 +32,10 @@ KINDS: dict[str, tuple[str, str]] = {
 
 
 class FaultyPart(NamedTuple):
-    """A fault: its kind, the words on it, what it changes, and how.
+    """A fault: its kind, its description, and its change.
 
-    slot    what it changes; other faults with it are alternatives
-    effect  the change: its first word says which, and numbers and names follow
+    slot    the thing that it changes; other faults with the same slot are alternatives
+    effect  the change: its kind in the first word, then numbers and names
     """
     kind: str
     words: str
@@ -129,11 +129,11 @@ def effect_of(words: str, motes: int) -> tuple[str | int, ...]:
 
 @dataclass
 class Asked:
-    """Which faults are wanted.
+    """The faults that are wanted.
 
     every    the k of links that lose each k-th packet
     sent     how many packets each mote sends in the run without a fault
-    moments  when motes fail or start; none for a quarter, a half and three quarters of the time
+    moments  the moments at which motes fail or start; none for a quarter, a half and three quarters of the time
     queues   the lengths of event queues
     values   other values of `range`, `base` and `per`
     step     how far motes are moved, in x or y
@@ -176,7 +176,7 @@ def _every(base: Base, asked: Asked) -> Iterator[FaultyPart]:
     losses = base.scenario_itself.losses
     for sender, receiver in _directed(base):
         for every in asked.every:
-            # (a link that loses as much already, or more, wouldn't lose more)
+            # (the fault changes nothing on a link that loses as much already, or more)
             if every < losses.get((sender, receiver), every + 1):
                 yield FaultyPart('every', 'link %d to %d loses 1 packet in %d' % (sender, receiver, every),
                                  ('link', sender, receiver), ('lose', sender, receiver, every))
@@ -286,12 +286,13 @@ def faults_of(base: Base, asked: Asked) -> list[FaultyPart]:
     return [fault for fault in found if by_effect[fault.effect] is fault]
 
 
-# For each effect, the parts of it that are numbers of motes.
+# For each effect, the places of those parts that are numbers of motes.
 MOTES_OF = {'lose': (1, 2), 'apart': (1, 2), 'silent': (1,), 'fails': (1,), 'late': (1,), 'move': (1,)}
 
 
 def change_of(faults: Sequence[FaultyPart], base: Base) -> Change:
-    """The changes that faults make together: parameters first, since the others change their scenario."""
+    """The changes that faults make together: parameters first, because the other faults change the scenario that they
+    make."""
     change = Change()
     for fault in faults:
         if fault.kind == 'parameters':

@@ -1,13 +1,13 @@
-"""Sentences that follow a scenario whose motes get new numbers."""
+"""Adapts sentences to a scenario whose motes have new numbers."""
 from __future__ import annotations
 
 from motesim.judge.sentences import Names, motes_named
 
 
 def follow(sentence: str, names: Names, removed: frozenset[int]) -> str | None:
-    """The sentence with the numbers that motes have once others are removed, or None if it names one of these.
+    """The sentence with the numbers that motes have after others are removed, or None if it names a removed mote.
 
-    Of a range, as `motes 3 to 7`, its ends may be removed as long as one mote of it stays.
+    The ends of a range, such as `motes 3 to 7`, may be removed as long as one mote of the range stays.
     """
     named = motes_named(sentence, names)
     new: dict[int, int] = {}

@@ -1,4 +1,4 @@
-"""The results of a search: the lines on them, the counter-examples as files, and tables for other programs."""
+"""The results of a search: the lines about them, the counter-examples as files, and tables for other programs."""
 from __future__ import annotations
 
 import csv
@@ -24,7 +24,7 @@ LONGEST_FILE_NAME = 120
 
 @dataclass
 class Found:
-    """A minimal set of faults, with the sentences that it breaks, and the file that has it."""
+    """A minimal set of faults, the sentences that it breaks, and the file with its scenario."""
     faults: list[FaultyPart]
     sentences: list[str]
     file: str = ''
@@ -54,7 +54,7 @@ def toml_text(text: str) -> str:
 
 
 def write_whole(path: Path, text: str) -> None:
-    """Writes a file whole, or not at all."""
+    """Writes a file completely or not at all."""
     beside = path.with_name('.%s.new' % path.name)
     try:
         beside.write_text(text, 'utf-8', newline='')
@@ -87,7 +87,7 @@ def counted(number: int, one: str, many: str) -> str:
 
 
 def covered_lines(search: Search) -> list[str]:
-    """The coverage, size after size. Nothing is claimed of sets that weren't run."""
+    """The coverage, one size after another. Nothing is claimed about sets that weren't run."""
     kinds = [counted(sum(fault.kind == kind for fault in search.known.faults), *words)
              for kind, words in KINDS.items() if any(fault.kind == kind for fault in search.known.faults)]
     rows = ['faults: ' + '; '.join(kinds)] if kinds else ['there is no such fault in this scenario']
@@ -130,7 +130,7 @@ def is_whole(search: Search) -> bool:
 
 
 def verdict_lines(search: Search, found: list[Found], sentences: list[str], shows_all: bool) -> list[str]:
-    """Which expectations hold, and which sets break the others."""
+    """The expectations that hold, and the sets that break the others."""
     rows = []
     wanted = [sentences[number] for number in numbers_of(search.known.wanted)]
     broken = {sentence: [it for it in found if sentence in it.sentences] for sentence in wanted}
@@ -165,7 +165,7 @@ def as_csv(found: list[Found]) -> str:
 
 
 def as_json(search: Search, found: list[Found], sentences: list[str], name: str, notes: list[str]) -> str:
-    """All that a search says, for another program."""
+    """All results of a search, for another program."""
     def tally(it: Tally) -> dict[str, Any]:
         return {**it.__dict__, 'all': it.is_whole}
     broken = {sentence for it in found for sentence in it.sentences}

@@ -1,4 +1,4 @@
-"""The sets that a search has tried, kept in a file, so that it can continue after it was stopped."""
+"""The sets that a search has tried, kept in a file, so that the search can continue after it was stopped."""
 from __future__ import annotations
 
 from pathlib import Path
@@ -13,14 +13,14 @@ NAMES = {letter: name for name, letter in LETTERS.items()}
 
 
 class Kept:
-    """Outcomes by their sets. Without a file they are kept nowhere."""
+    """Outcomes by their sets. Without a file they aren't saved."""
 
     def __init__(self) -> None:
         self.known: dict[Set, Outcome] = {}
         self.file: IO[str] | None = None
 
     def open(self, path: Path, digest: str, is_resumed: bool) -> None:
-        """Continues the file, or begins a new one. A file that another search has left there is an error."""
+        """Continues the file, or begins a new one. A file of another search is an error."""
         try:
             if is_resumed:
                 self.read(path, digest)

@@ -1,4 +1,4 @@
-"""Scenarios as values that never change, and the steps that make them smaller."""
+"""Scenarios as immutable values, and the steps that make them smaller."""
 from __future__ import annotations
 
 from collections.abc import Iterator
@@ -70,14 +70,14 @@ def without_motes(net: Net, removed: frozenset[int]) -> Net:
 
 
 class NetStep(NamedTuple):
-    """A step in words, the net that it leads to, and the motes that it removes."""
+    """A step in words, the net to which it leads, and the motes that it removes."""
     words: str
     net: Net
     removed: frozenset[int] = frozenset()
 
 
 def parts(count: int) -> Iterator[tuple[int, int]]:
-    """Stretches of so many members: all, then halves, quarters, .. down to single ones."""
+    """Ranges among this many members: all of them, then halves, quarters, .. down to single ones."""
     size = count
     while size:
         for begin in range(0, count, size):
@@ -116,7 +116,7 @@ def program_steps(net: Net) -> Iterator[NetStep]:
 
 
 def number_steps(net: Net) -> Iterator[NetStep]:
-    """The end, the medium, lengths of queues, losses and places made smaller."""
+    """Steps that make the end, the medium, lengths of queues, losses and places smaller."""
     least = {'end': 0, 'range': 0, 'base': 1, 'per': 1}
     for name in least:
         number: int = getattr(net, name)

@@ -1,7 +1,6 @@
-"""Runs the program many times, one after the other, each time within limits and at little cost.
+"""Runs `motesim` many times, one after the other, each time within limits and at little cost.
 
-The scenario is given and the report is taken in memory that the runs share, so that a run costs no more than starting
-the program.
+The scenario and the report are in memory that the runs share, so a run costs no more than the start of its process.
 """
 from __future__ import annotations
 
@@ -33,19 +32,19 @@ class Answer(NamedTuple):
 
 
 class _Late(Exception):
-    """The time of a run is over."""
+    """The time limit of a run is reached."""
 
 
 def _ring(number: int, frame: FrameType | None) -> None:
     raise _Late
 
 
-# The shortest and the longest pause between two looks at a run, in seconds, if no alarm can be set.
+# The shortest and the longest pause between two checks of a run, in seconds, if no alarm can be set.
 PAUSE, LONGEST_PAUSE = 0.0005, 0.02
 
 
 class OneProgram:
-    """A program to run again and again, by one thread."""
+    """A binary that one thread runs again and again."""
 
     def __init__(self, path: str, limits: Limits):
         self.path, self.limits = path, limits

@@ -1,8 +1,8 @@
-"""The checks before a search: the run without a fault, and motes that are to fail or to start late.
+"""The checks before a search: the run without a fault, and motes that should fail or start late.
 
-A mote fails, or starts late, by a process that its program gets. Whether that process itself changes anything is found
-out by a run: with a moment past the end, or for a late start with the moment 0, the report has to be the one without
-it, except for the lines that name it.
+A process that is added to its program makes a mote fail or start late. A run shows whether this process itself changes
+anything: with a moment after the end, or for a late start with the moment 0, the report must be the same as without
+the process, except for the lines that name it.
 """
 from __future__ import annotations
 
@@ -41,7 +41,8 @@ def plain_run(base: Base, program: OneProgram, sentences: list[Sentence]) -> Pla
 
 
 def without_process(report: bytes, mote: int, process: str) -> list[bytes]:
-    """The lines of a report but for those of one mote that name a process; and without the name of its program."""
+    """The lines of a report without those lines of one mote that name a process, and without the name of the mote's
+    program."""
     rows, here = [], False
     named = re.compile(rb'\d+ (?:start|leave|take \d+|post \d+|drop \d+|full|busy) %s\b' % process.encode())
     for row in report.split(b'\n'):
@@ -56,7 +57,8 @@ def without_process(report: bytes, mote: int, process: str) -> list[bytes]:
 
 
 def difference(base: Base, plain: Plain, program: OneProgram, mote: int, kind: str) -> tuple[str, bytes]:
-    """The difference in the report of a scenario with the added process, or nothing; and that report."""
+    """The difference that the added process makes to the report of a scenario, or nothing; and the report with the
+    process."""
     change = Change()
     change.added[mote] = kind, base.scenario_itself.end + 1 if kind == DIES else 0
     answer = program.run(base.text(change).encode())
@@ -72,16 +74,17 @@ def difference(base: Base, plain: Plain, program: OneProgram, mote: int, kind: s
 
 
 class Prepared(NamedTuple):
-    """The faults to search with, those that can't be made with the reasons, and the blind ones.
+    """The faults for the search; those that can't be made, with the reasons; and the blind ones.
 
-    blind  of each fault the expectations that the added process breaks by itself, so that the search can't judge them
+    blind  for each fault, the expectations that the added process breaks by itself, so that the search can't judge
+    them
     """
     faults: list[FaultyPart]
     left_out: list[str]
     blind: dict[int, int]
 
     def blind_of(self) -> Callable[[Set], int]:
-        """A function from a set to the expectations that can't be judged with it."""
+        """A function that returns the expectations that can't be judged with a set."""
         blind = self.blind
 
         def found(faults: Set) -> int:
@@ -94,7 +97,7 @@ class Prepared(NamedTuple):
 
 def prepare(base: Base, plain: Plain, program: OneProgram, sentences: list[Sentence],
             faults: list[FaultyPart]) -> Prepared:
-    """Leaves out the faults that can't be made, and says why."""
+    """Leaves out the faults that can't be made, and notes the reasons."""
     judge, seen = QuickJudge(sentences), dict[tuple[int, str], tuple[str, int]]()
     kept: list[FaultyPart] = []
     left_out, blind = dict[str, None](), dict[int, int]()

@@ -17,7 +17,7 @@ ON_TERMINAL, ELSEWHERE = 0.2, 30.0
 
 
 class Progress:
-    """The sets that are done, the rate, and how long the others of this size will last."""
+    """The number of finished sets, the rate, and the time that the other sets of this size will need."""
 
     def __init__(self, as_json: bool = False) -> None:
         self.as_json = as_json
@@ -51,7 +51,7 @@ class Progress:
         print(json.dumps(told), file=sys.stderr, flush=True)
 
     def end(self, search: Search) -> None:
-        """Removes the line; on a terminal it then says how long the search lasted."""
+        """Removes the line; on a terminal, a line with the duration of the search replaces it."""
         if self.is_terminal:
             write_over('%.1f seconds, %d runs per second\n' % (
                 search.seconds, search.runs / max(search.seconds, 0.001)))

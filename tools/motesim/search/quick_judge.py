@@ -1,8 +1,8 @@
 """Finds which sentences hold for a report, from the report's bytes.
 
-`QuickJudge(sentences).broken(report, scenario, wanted)` returns the numbers of the sentences that are broken, as
-`motesim.judge` finds them. Only the lines that the sentences speak of are read. It doesn't say why a sentence is
-broken; forms of sentences that it doesn't know are left to `motesim.judge`.
+`QuickJudge(sentences).broken(report, scenario, wanted)` returns the numbers of the broken sentences, the same as those
+of `motesim.judge`. It reads only the lines that the sentences are about. It doesn't find the reason why a sentence is
+broken, and leaves forms of sentences that it doesn't know to `motesim.judge`.
 """
 from __future__ import annotations
 
@@ -19,14 +19,14 @@ from motesim.judge.sentences import (
 )
 
 OUTCOMES = {'collided': 'collide', 'received': 'recv', 'full': 'lost'}
-# A line of a trace, in its own form: its moment, and the words behind its kind.
+# A line of a trace, in the form of this module: its moment, and the words after its kind.
 Row = tuple[str, str]
 # The moments of a window: the first and the last one, or None for no last one.
 Span = tuple[int, int | None]
 
 
 class NotReached(Exception):
-    """There are no hops to a mote, because no links lead there."""
+    """There are no hops to a mote, because no path of links leads to it."""
 
 
 class Hops:
@@ -83,7 +83,7 @@ class Hops:
         return [(begin + later, None if end is None else end + later)]
 
 
-# (for so many motes their lines are looked for mote by mote)
+# (for at most this many motes, lines are looked for mote by mote)
 FEW = 3
 # Kinds that are reserved words: they are in no other line, and a line has more after them.
 COUNTED = frozenset(('send', 'print', 'start', 'post'))
@@ -96,7 +96,7 @@ def form_of(kind: str) -> re.Pattern[str]:
 
 
 class Seen:
-    """A report, as far as it is read: of all motes, or of one, the lines of a kind."""
+    """The parts of a report that are read: the lines of a kind, of all motes or of one mote."""
 
     def __init__(self, data: bytes, scenario: Scenario):
         self.data, self.scenario, self.links = data, scenario, Hops(scenario)
@@ -148,7 +148,7 @@ class Seen:
         return [(int(row[0]), int(row[1])) for row in rows]
 
 
-# Whether a report shows what a sentence says.
+# A function that returns whether a sentence holds for a report.
 Check = Callable[[Seen], bool]
 
 
@@ -164,8 +164,8 @@ class _Unknown(Exception):
     """A form of sentence that is left to `motesim.judge`."""
 
 
-# For each class of sentences, the parts that the checks here look at. If another part has a value, the sentence is
-# left to `motesim.judge`.
+# For each class of sentences, the parts that the checks here handle. If another part has a value, the sentence is left
+# to `motesim.judge`.
 LOOKED_AT: dict[type, frozenset[str]] = {kind: frozenset(names.split()) for kind, names in {
     Does: 'motes deed count window is_counted', Motes: 'kind numbers but count', Deed: 'patterns way value values',
     Count: 'compare number', Window: 'begin end hop root every', Value: 'kind number but',
@@ -173,7 +173,7 @@ LOOKED_AT: dict[type, frozenset[str]] = {kind: frozenset(names.split()) for kind
 
 
 def _check_parts(it: object) -> None:
-    """Checks that all of a sentence is in parts that are looked at."""
+    """Checks that a sentence has only parts that are handled here."""
     if isinstance(it, tuple):
         for member in it:
             _check_parts(member)
@@ -207,7 +207,7 @@ def _lines_of(pattern: Pattern) -> LinesOf:
 
 
 def _lines_with(kind: str, fields: Pattern, seen: Seen, mote: int) -> list[Row]:
-    """The lines of a mote whose words are these, of which None is any, and a value is looked up."""
+    """The lines of a mote with these words; None means any word, and a value depends on the mote."""
     allowed = [(index, set(map(str, seen.links.values(it, mote))) if isinstance(it, Value) else {it})
                for index, it in enumerate(fields) if it is not None]
     found = []
@@ -226,7 +226,7 @@ Holds = Callable[[Seen, list[Row], int], bool]
 
 
 def _holds(deed: Deed, count: Count) -> Holds:
-    """A function that says whether the lines of a deed are those that are wanted."""
+    """A function that returns whether the lines of an action are those that are wanted."""
     if deed.way == 'any':
         compare, number = COMPARES[count.compare], count.number
         return lambda seen, rows, mote: bool(compare(len(rows), number))
@@ -253,7 +253,7 @@ def _is_count(it: Does) -> bool:
 
 
 def _unit(it: Does) -> Unit:
-    """A function that says whether a mote does what a sentence says."""
+    """A function that returns whether a mote does what a sentence says."""
     pattern, count, window = it.deed.patterns[0], it.count, it.window
     lines, holds = _lines_of(pattern), _holds(it.deed, count)
     if window == Window():
@@ -298,7 +298,8 @@ def _does(it: Does) -> Check:
 
 
 def _judged(motes: Motes, unit: Unit, kind: str, seen: Seen) -> bool:
-    """Returns whether the wanted number of motes do something, by lines of one kind, or by their mere count."""
+    """Returns whether the wanted number of motes do something, from the lines of one kind, or only from their
+    number."""
     chosen = _chosen(motes, seen)
     if kind and len(chosen) > FEW:
         seen.take_all(kind)
@@ -313,7 +314,8 @@ def _judged(motes: Motes, unit: Unit, kind: str, seen: Seen) -> bool:
 
 
 def _counted(seen: Seen, rows: Iterable[tuple[int, int]], count: Count, window: Window) -> bool:
-    """Returns whether so many of the rows, each a moment and its mote, are in a window, or in each of its parts."""
+    """Returns whether the wanted number of rows, each a moment and its mote, are in a window, or in each of its
+    parts."""
     try:
         counts = [0] * len(seen.links.spans(window, window.root or 0))
         for at, mote in rows:
@@ -375,7 +377,7 @@ def _by_judge(it: Sentence, seen: Seen) -> bool:
 
 
 class QuickJudge:
-    """Sentences, made ready for many reports."""
+    """Sentences, prepared for many reports."""
 
     def __init__(self, sentences: list[Sentence]):
         self.checks: list[Check] = []
@@ -386,7 +388,7 @@ class QuickJudge:
                 self.checks.append(partial(_by_judge, it))
 
     def broken(self, report: bytes, scenario: Scenario, wanted: list[int] | None = None) -> list[int]:
-        """The numbers of the sentences that a report breaks, of those that are wanted."""
+        """The numbers of those wanted sentences that a report breaks."""
         seen = Seen(report, scenario)
         numbers = range(len(self.checks)) if wanted is None else wanted
         return [number for number in numbers if not self.checks[number](seen)]

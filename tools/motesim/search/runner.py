@@ -14,13 +14,13 @@ from motesim.faults import Fault
 from motesim.search.work import Bench, Outcome, Task, Work
 
 BATCH = 16
-# After so many seconds a batch returns the runs that it has not begun, so that slow runs delay nothing.
+# After this many seconds a batch returns the runs that it has not begun, so that slow runs don't delay others.
 LONGEST_BATCH = 1.0
 _bench: Bench | None = None
 
 
 def _begin(work: Work) -> None:
-    """Makes a process ready. Ctrl-C is for the search, which lets begun batches end."""
+    """Prepares a process. It ignores Ctrl-C: the search handles that, and lets begun batches end."""
     global _bench
     signal.signal(signal.SIGINT, signal.SIG_IGN)
     signal.signal(signal.SIGTERM, signal.SIG_DFL)
@@ -28,7 +28,7 @@ def _begin(work: Work) -> None:
 
 
 def _run(tasks: list[Task]) -> list[Outcome]:
-    """The outcomes of a batch, or of its beginning, if its time is over before its end."""
+    """The outcomes of a batch; if its time is over before its end, only those of its beginning."""
     assert _bench
     begun, found = time.monotonic(), []
     for task in tasks:
@@ -42,7 +42,8 @@ class Runner(Protocol):
     """Runs tasks, a batch at a time."""
 
     def outcomes(self, tasks: Iterator[Task], is_over: IsOver) -> Iterator[Outcome]:
-        """Yields the results of the tasks, in the order of their arrival. Once `is_over()` is true, none is begun."""
+        """Yields the results of the tasks, in the order of their arrival. Once `is_over()` is true, no task is
+        begun."""
 
     def close(self) -> None:
         """Ends the processes that were begun for the runs."""
@@ -52,13 +53,14 @@ class Runner(Protocol):
 
 
 class IsOver(Protocol):
-    """Says whether no more runs are to be begun."""
+    """Returns whether no more runs should begin."""
 
     def __call__(self) -> bool: ...
 
 
 class Here:
-    """Several processes of this machine. Tasks may be produced one by one: only those that soon run are fetched."""
+    """Several processes of this machine. Tasks may be produced one by one: a task is fetched only shortly before its
+    run."""
 
     def __init__(self, work: Work, processes: int):
         self.processes = processes

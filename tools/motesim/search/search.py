@@ -1,7 +1,7 @@
 """The search: all sets of faults up to a size, the smaller ones first, and then a sample of larger ones.
 
-`Search.run(...)` continues until all is tried, or a limit or Ctrl-C ends it. The coverage is in `tallies` by size and
-in `sample`; what was found is in `known.minimal`.
+`Search.run(...)` continues until all sets are tried, or a limit or Ctrl-C ends it. The coverage is in `tallies`, by
+size, and in `sample`; the minimal sets are in `known.minimal`.
 """
 from __future__ import annotations
 
@@ -15,13 +15,13 @@ from motesim.search.runner import Runner
 from motesim.search.sets import Known, Set, Tally, count_of, draws
 from motesim.search.work import RUN, SAME, STOPPED, UNMADE, Outcome, Task
 
-# How much larger than the exhaustive bound a random set may be.
+# The most faults of a random set in addition to the exhaustive bound.
 LARGER = 3
 
 
 @dataclass
 class Bounds:
-    """The bounds of a search: sets of at most so many faults, then a sample; and limits on runs and seconds."""
+    """The bounds of a search: sets of at most this many faults, then a sample; and limits on runs and seconds."""
     at_most: int = 1
     sample: int = 0
     seed: int = 1
@@ -55,7 +55,7 @@ class Search:
 
     @property
     def holding(self) -> int:
-        """The expectations that no set breaks, and that were looked at with each of the faults."""
+        """The expectations that no set breaks, and that were judged with each of the faults."""
         broken = 0
         for mask in self.known.minimal.values():
             broken |= mask
@@ -76,7 +76,7 @@ class Search:
         return bool(self.ended_by)
 
     def run(self, runner: Runner) -> None:
-        """Tries the sets, size after size."""
+        """Tries the sets, one size after another."""
         for size in range(1, self.bounds.at_most + 1):
             tally = self.tallies[size] = Tally(count_of(self.known.faults, size))
             if tally.sets and not self.ended_by:
@@ -94,7 +94,8 @@ class Search:
             self.reduce(outcome, runner)
 
     def reduce(self, outcome: Outcome, runner: Runner) -> None:
-        """Removes faults from a set of the sample as long as it breaks the same, and notes the rest."""
+        """Removes faults from a set of the sample as long as it breaks the same expectations, and notes the remaining
+        set."""
         for number in range(outcome.broken.bit_length()):
             bit = 1 << number
             faults = outcome.faults
@@ -112,7 +113,7 @@ class Search:
 
     def try_sets(self, sets: Iterator[Set], tally: Tally, runner: Runner, size: int,
                  hold: Callable[[Outcome], None] | None = None) -> None:
-        """Tries the sets of one size, which are decided by themselves and by smaller ones."""
+        """Tries the sets of one size; each is decided by its own run or by smaller sets."""
         # (which sets of one size are minimal depends only on the smaller ones)
         found: list[Outcome] = []
         for outcome in runner.outcomes(self.tasks(sets, tally, found), self.is_over):
@@ -127,7 +128,7 @@ class Search:
                 self.known.add(outcome.faults, outcome.broken)
 
     def tasks(self, sets: Iterator[Set], tally: Tally, found: list[Outcome]) -> Iterator[Task]:
-        """The sets that are to be run. Those that are decided or known already are noted at once."""
+        """The sets that have to be run. Sets that are decided or known already are noted at once."""
         for it in sets:
             left = self.known.left(it)
             wanted = left & ~self.blind(it)

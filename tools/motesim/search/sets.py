@@ -1,8 +1,8 @@
-"""Sets of faults: how many there are, which are still to be tried, and the known results.
+"""Sets of faults: counts them, finds those that still have to be tried, and keeps the known results.
 
-Faults have numbers, and sets are tuples of these, in rising order. Which of the expectations a set breaks
-is a number with the bit e for expectation e. A set is *minimal* for an expectation that it breaks if no smaller set
-in it does.
+Faults have numbers, and sets are tuples of these, in rising order. The expectations that a set breaks are a number,
+with bit e for expectation e. A set is *minimal* for an expectation that it breaks if no smaller set in it breaks the
+expectation.
 """
 from __future__ import annotations
 
@@ -19,13 +19,13 @@ Set = tuple[int, ...]
 
 @dataclass
 class Tally:
-    """The results of the sets of one size: how many there are, and how many of them
+    """The results of the sets of one size: the number of sets, and how many of them
 
     run       were run
-    decided   weren't, since smaller sets in them break all that is expected
-    same      weren't, since they make the same scenario as a smaller set in them
-    stopped   ran into a limit, so that nothing is known of them
-    unmade    can't be made in the text, or are refused by the program
+    decided   weren't run, because smaller sets in them break all expectations
+    same      weren't run, because they make the same scenario as a smaller set in them
+    stopped   reached a limit, so nothing is known about them
+    unmade    can't be made in the text, or are refused by `motesim`
     unjudged  have a fault with which the undecided expectations can't be judged
     """
     sets: int = 0
@@ -57,7 +57,7 @@ def count_of(faults: Sequence[FaultyPart], size: int) -> int:
 
 @dataclass
 class Known:
-    """Which sets were found to be minimal, and for which expectations."""
+    """The sets that were found to be minimal, with the expectations for which they are minimal."""
     faults: Sequence[FaultyPart]
     wanted: int
     minimal: dict[Set, int] = field(default_factory=dict)
@@ -67,7 +67,7 @@ class Known:
         return len({self.faults[number].slot for number in found}) == len(found)
 
     def broken_within(self, found: Set) -> int:
-        """Which expectations smaller sets in this one break."""
+        """The expectations that smaller sets in this one break."""
         broken = 0
         for size in range(len(found)):
             for part in itertools.combinations(found, size):
@@ -75,7 +75,7 @@ class Known:
         return broken
 
     def left(self, found: Set) -> int:
-        """Which expectations aren't decided for a set by smaller sets in it."""
+        """The expectations that smaller sets in a set don't decide for it."""
         return self.wanted & ~self.broken_within(found)
 
     def of_size(self, size: int) -> Iterator[Set]:
@@ -90,7 +90,7 @@ class Known:
 
 
 def draws(known: Known, least: int, most: int, count: int, seed: int) -> Iterator[Set]:
-    """So many sets, drawn at random, of different sizes."""
+    """This many sets, drawn at random, of different sizes."""
     chance = random.Random(seed)
     most = min(most, len({fault.slot for fault in known.faults}))
     drawn = tried = 0

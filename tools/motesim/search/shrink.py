@@ -1,7 +1,7 @@
 """Makes a scenario that fails an expectation as small as possible, by delta debugging.
 
-One step after another is tried, and each is checked by a run: the expectation still has to be broken, in the same way,
-by a report that is no longer than the first one. It ends when no step is left, so the result is one-minimal.
+One step after another is tried, and each is checked by a run: the report must still break the expectation in the same
+way, and must not be longer than the first one. The search ends when no step is left, so the result is one-minimal.
 """
 from __future__ import annotations
 
@@ -30,8 +30,8 @@ STEPS: dict[str, Callable[[Net], Iterator[NetStep]]] = {
 
 
 class Case(NamedTuple):
-    """A net, the sentence that it breaks, faults that are put into it, without which the sentence has to hold, and
-    sentences that have to hold with them."""
+    """A net, the sentence that it breaks, faults that are added to it (without them the sentence has to hold), and
+    sentences that have to hold even with the faults."""
     net: Net
     sentence: str
     effects: tuple[Effect, ...] = ()
@@ -41,14 +41,14 @@ class Case(NamedTuple):
 def way_of(broken: Broken) -> str:
     """The way in which a sentence is broken: the explanation without the numbers, except a 0.
 
-    A line too many, or a wrong line, is a different way from a missing line.
+    An extra line, or a wrong line, is a different way from a missing line.
     """
     why = re.sub(r'\d+', lambda found: '0' if found[0] == '0' else 'N', broken.why)
     return why if broken.row is None else why + ' (a line shows it)'
 
 
 def moved(effect: Effect, removed: frozenset[int]) -> Effect | None:
-    """The effect of a fault once motes are removed, or None if it is on one of these."""
+    """The effect of a fault after motes are removed, or None if it concerns one of these."""
     found = list(effect)
     for at in MOTES_OF.get(str(effect[0]), ()):
         mote = int(effect[at])
@@ -74,7 +74,7 @@ class Seen(NamedTuple):
     scenario: Scenario
 
     def read(self, sentence: str) -> Sentence | None:
-        """A sentence, if it can be read of this scenario."""
+        """A sentence, if it can be read with the names of this scenario."""
         try:
             return read_sentence(sentence, names_of(self.scenario))
         except SentenceFault:
@@ -95,7 +95,7 @@ class Seen(NamedTuple):
 
 @dataclass
 class Shrinking:
-    """A case on its way to a smaller one, with the steps that were taken and the runs that it took."""
+    """A case on its way to a smaller one, with its steps so far and the number of runs."""
     program: OneProgram
     case: Case
     is_over: Callable[[], bool] = lambda: False
@@ -104,7 +104,7 @@ class Shrinking:
     is_whole: bool = True
     last: int = 0
     longest: int | None = None
-    # The explanations of the first report, of the present one, and of the one that was seen last.
+    # The explanations for the first report, for the present one, and for the last one that was judged.
     first: str = ''
     now: str = ''
     tried: str = ''
@@ -119,7 +119,7 @@ class Shrinking:
             raise Fault('the scenario does not break `%s`%s' % (self.case.sentence, more))
 
     def seen(self, text: str) -> Seen | None:
-        """The report of a text, or None if there is none that is short enough."""
+        """The report of a text, or None if there is no report, or if it is too long."""
         self.runs += 1
         answer = self.program.run(text.encode())
         self.last = max(self.last, len(answer.report))
@@ -128,7 +128,8 @@ class Shrinking:
         return Seen(answer.report, Scenario.parse(text))
 
     def way_now(self, case: Case) -> str | None:
-        """The way in which a case breaks its sentence, or None if it doesn't, or does without its faults too."""
+        """The way in which a case breaks its sentence, or None if it doesn't, or if it breaks it even without its
+        faults."""
         if case.effects:
             without = self.seen(case.net.text)
             if without is None or without.broken(case.sentence):

@@ -1,7 +1,7 @@
-"""Smaller programs: each way to take one step from a program to a smaller one.
+"""Smaller programs: all single steps from a program to a smaller one.
 
-Each step leaves fewer words, or a number for a name, or a smaller number, so that steps come to an end. Some
-results aren't programs, for instance if a variable is removed that is still used; callers have to check that.
+Each step leaves fewer words, or a number instead of a name, or a smaller number, so a sequence of steps is finite.
+Some results aren't programs, for instance if a removed variable is still used; callers have to check this.
 """
 from __future__ import annotations
 
@@ -16,13 +16,13 @@ T = TypeVar('T')
 
 
 class Step(NamedTuple):
-    """A step in words, and the program that it leads to."""
+    """A step in words, and the program to which it leads."""
     words: str
     program: Program
 
 
 def smaller_numbers(number: int) -> Iterator[int]:
-    """Smaller numbers: 0, then ever nearer ones."""
+    """Smaller numbers: 0, then numbers that are nearer and nearer to this one."""
     half, seen = number, set[int]()
     while half:
         found = number - half
@@ -65,7 +65,7 @@ Changed = Iterator[tuple[str, Block]]
 
 
 def blocks(block: Block) -> Changed:
-    """Smaller blocks, each with what was done, the large steps first."""
+    """Smaller blocks, each with the step in words, the large steps first."""
     for at, it in enumerate(block):
         yield 'removes `%s`' % shown(it), without(block, at)
     for at, it in enumerate(block):
@@ -150,7 +150,7 @@ def _mapped(it: Expression, change: Callable[[Test], Expression]) -> Expression:
 
 
 def _block_without(block: Block, process: str) -> Block:
-    """A block without the statements that name a process; tests of it are 0."""
+    """A block without the statements that name a process; tests of the process become 0."""
     def change(it: Test) -> Expression:
         return '0' if it.word in ('gone', 'running') and it.of == process else it
     found: list[Statement] = []
@@ -166,7 +166,7 @@ def _block_without(block: Block, process: str) -> Block:
 
 
 def without_process(program: Program, process: str) -> Program:
-    """A program without a process and all that names it."""
+    """A program without a process and without the statements that name it."""
     left = tuple(code._replace(parts=tuple(Part(part.words, _block_without(part.block, process))
                                            for part in code.parts))
                  for code in program.codes if code.process != process)

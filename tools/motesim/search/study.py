@@ -1,4 +1,4 @@
-"""Fault studies: searches with the outcome that is expected of them, in a file.
+"""Fault studies: files of searches with their expected results.
 
     scenario = "../flooding.toml"
 
@@ -10,8 +10,8 @@
     expect = ["every mote but 0 prints flood 1"]
     breaks = []
 
-`breaks` has all minimal sets of faults that break any of the sentences, each in the words of tools/search. If they
-are many, `counts` has instead how many there are of each size.
+`breaks` has all minimal sets of faults that break any of the sentences, each in the words of tools/search. If there
+are many sets, `counts` has the number of sets of each size instead.
 """
 from __future__ import annotations
 
@@ -83,7 +83,8 @@ def wrong_with(study: dict[str, Any], asking: Asking, processes: int) -> list[st
 
 
 def check_studies(path: Path, processes: int) -> tuple[int, int]:
-    """Checks the studies of a file, prints their results, and counts those that are as expected, and the others."""
+    """Checks the studies of a file, prints their results, and counts the studies with the expected results, and the
+    others."""
     scenario, studies = studies_of(path)
     passed = failed = 0
     for study in studies:

@@ -1,7 +1,7 @@
-"""Programs as trees that never change, so that smaller ones can be made of them.
+"""Programs as immutable trees, from which smaller programs can be made.
 
 `read_program(text)` returns the tree of a text that is a program; `program_text(program)` writes it in the canonical
-layout of docs/use/NOTATION.md. An expression is a word, a test as `fired(t)`, a negation or an operation.
+layout of docs/use/NOTATION.md. An expression is a word, a test such as `fired(t)`, a negation or an operation.
 """
 from __future__ import annotations
 
@@ -10,13 +10,13 @@ from typing import NamedTuple, TypeAlias
 from motesim.notation.faults import tokens_of
 
 TESTS = ('is', 'fired', 'expired', 'gone', 'running', 'count')
-# The statements whose last part is an expression, with the count of words between.
+# The statements whose last part is an expression, with the number of words between their keyword and the expression.
 BEFORE_EXPRESSION = {'print': 0, 'send': 0, 'yield_until': 0, 'wait_until': 0, 'wait_while': 0, 'set': 1, 'post': 2,
                      'synch': 2, 'broadcast': 1}
 
 
 class Test(NamedTuple):
-    """A test of something by its name, as `fired(t)`."""
+    """A test of something by its name, such as `fired(t)`."""
     word: str
     of: str
 
@@ -37,7 +37,8 @@ Expression: TypeAlias = 'str | Test | Not | Operation'
 
 
 class Plain(NamedTuple):
-    """A statement of one line: its words up to the expression, the expression if it has one, and the words behind."""
+    """A statement of one line: its words up to the expression, the expression if it has one, and the words after
+    it."""
     words: tuple[str, ...]
     value: Expression | None = None
     behind: tuple[str, ...] = ()
@@ -61,7 +62,7 @@ Block: TypeAlias = 'tuple[Statement, ...]'
 
 
 class Part(NamedTuple):
-    """A block of a code, and what it is: `ctimer c`, `thread t`, `onpoll`, `onexit` or `body`."""
+    """A block of a code, and its head: `ctimer c`, `thread t`, `onpoll`, `onexit` or `body`."""
     words: tuple[str, ...]
     block: Block
 
@@ -103,7 +104,7 @@ class _Reader:
         return is_here
 
     def names(self) -> tuple[str, ...]:
-        """Names with commas between, up to the semicolon."""
+        """Names with commas between them, up to the semicolon."""
         found = [self.step()]
         while self.step() == ',':
             found.append(self.step())
@@ -209,7 +210,7 @@ def expression_text(it: Expression) -> str:
 
 
 def statement_head(it: Statement) -> str:
-    """A statement as its first line has it."""
+    """A statement in the form of its first line."""
     if isinstance(it, Plain):
         value = () if it.value is None else (expression_text(it.value),)
         return ' '.join((*it.words, *value, *it.behind)) + ';'

@@ -1,4 +1,4 @@
-"""One run of a set of faults: the text is made, the program runs on it, and the sentences are tried."""
+"""One run with a set of faults: makes the text, runs `motesim` on it, and judges the sentences."""
 from __future__ import annotations
 
 from typing import NamedTuple
@@ -16,14 +16,14 @@ RUN, SAME, STOPPED, UNMADE = 'run', 'same', 'stopped', 'unmade'
 
 
 class Task(NamedTuple):
-    """A set of faults, and the expectations that are to be tried."""
+    """A set of faults, and the expectations to be tried."""
     faults: Set
     wanted: int
 
 
 class Outcome(NamedTuple):
-    """The result of a set: how it ended (run, same, stopped or unmade), which expectations it breaks, and why it
-    wasn't run."""
+    """The result of a set: how it ended (run, same, stopped or unmade), which expectations it breaks, and the reason
+    if it wasn't run."""
     faults: Set
     became: str
     broken: int = 0
@@ -40,7 +40,7 @@ class Work(NamedTuple):
 
 
 def numbers_of(mask: int) -> list[int]:
-    """The expectations in a number with a bit for each."""
+    """The expectations in a number that has a bit for each."""
     return [number for number in range(mask.bit_length()) if mask >> number & 1]
 
 
@@ -49,7 +49,7 @@ def mask_of(numbers: list[int]) -> int:
 
 
 class Bench:
-    """The things that a run needs, kept from one run to the next."""
+    """The objects that a run needs; they are kept from one run to the next."""
 
     def __init__(self, work: Work):
         self.base, self.faults = work.base, work.faults
@@ -64,7 +64,8 @@ class Bench:
         return len(found) > 1 and any(self.change(found[:at] + found[at + 1:]) == change for at in range(len(found)))
 
     def text(self, found: Set) -> str:
-        """The scenario with these faults; each single one is read back, so that the text has exactly these faults."""
+        """The scenario with these faults. For a single fault the text is read back, to check that it has exactly this
+        fault."""
         change = self.change(found)
         text = self.base.text(change)
         if len(found) == 1:

@@ -1,1 +1,1 @@
-"""The timeline: an HTML page of one run, or of two above one another."""
+"""The timeline: an HTML page of one run, or of two runs, one above the other."""

@@ -1,16 +1,17 @@
-"""Joins the modules of a page into one script, since browsers refuse modules of a page that is opened from a file.
+"""Joins the modules of a page into one script, because browsers refuse modules of a page that is opened from a file.
 
     bundle(Path('page/open.js'))
 
-Each module becomes a function that returns its exports. It is called once, after the modules that it imports. So the
-names of a module are unknown in the others, as in a browser that loads them. A module may use these forms, each at the
-beginning of a line:
+Each module becomes a function that returns its exports. The function is called once, after the modules that it
+imports. So other modules can't see the names of a module, as in a browser that loads them. A module may use these
+forms, each at the beginning of a line:
 
     import {name, other as mine} from './file.js';
     export const NAME = ..      export const [NAME, NAME] = ..
     export function name ..     export async function name ..     export class Name ..
 
-Modules may not import one another in a circle, nor export a `let`, since importers would keep its first value.
+Modules must not import one another in a circle, and must not export a `let`, because importers would keep its first
+value.
 """
 from __future__ import annotations
 
@@ -28,7 +29,7 @@ class BundleFault(Exception):
 
 
 def imports_of(text: str) -> list[tuple[list[tuple[str, str]], str]]:
-    """The imports of a module: pairs of a name and the name that it gets, with the file that they come from."""
+    """The imports of a module: pairs of a name and its new name, with the file from which they come."""
     found = []
     for names, file in IMPORT.findall(text):
         pairs = [re.split(r'\s+as\s+', name.strip()) for name in names.split(',') if name.strip()]
@@ -43,7 +44,7 @@ def exports_of(text: str) -> list[str]:
 
 
 def modules_of(entry: Path) -> dict[Path, str]:
-    """A module and all that it imports, each after its imports, with their texts."""
+    """A module and all modules that it imports, each after its imports, with their texts."""
     found: dict[Path, str] = {}
     going: list[Path] = []
 
@@ -69,7 +70,7 @@ def modules_of(entry: Path) -> dict[Path, str]:
 
 
 def bundle(entry: Path) -> str:
-    """One script that does what the module does when a browser loads it."""
+    """One script that does the same as the module in a browser."""
     modules = modules_of(entry)
     exports = {path: exports_of(text) for path, text in modules.items()}
     parts = [_function(path, text, list(modules), exports) for path, text in modules.items()]

@@ -1,4 +1,4 @@
-"""The columns of a run, as a page has them: numbers, compressed by zlib. `page/data.js` reads them.
+"""The columns of a run in the form that a page needs: numbers, compressed by zlib. `page/data.js` reads them.
 
     table, packed = data_of(run)
 """
@@ -21,16 +21,17 @@ from motesim.scenario import Scenario
 
 ALL = 0xFFFF
 LEVEL = 6
-# The column that a field of a line belongs to.
+# The column to which a field of a line belongs.
 OF_FIELDS = {'process': 'p', 'sender': 'p', 'serial': 'x', 'number': 'x', 'event': 'e', 'word': 'w', 'value': 'w'}
 ARRAYS = {'u8': 'B', 'u16': 'H', 'u32': 'I'}
 TOO_LARGE = 'the report has a number that is too large for a page'
-# From this number of lines on, several processes make the columns, each for this many motes at a time.
+# The number of lines from which several processes make the columns, and the number of motes for which each works at a
+# time.
 MANY, MOTES_AT_ONCE = 300_000, 16
 
 
 def _zigzag(numbers: Sequence[int]) -> list[int]:
-    """Each number as its difference from the expected one: small if it is near, and never negative."""
+    """Each number as its difference from the expected number: small if the two are near, and never negative."""
     steps = map(sub, numbers, chain((-1,), numbers))
     return [2 * step - 2 if step > 0 else 1 - 2 * step for step in steps]
 
@@ -45,7 +46,7 @@ def _differences(numbers: Sequence[int]) -> Iterator[int]:
 
 
 class Columns:
-    """The columns of a run. `names` has them in their order, each with its kind of number."""
+    """The columns of a run. `names` has the columns in their order, each with its kind of number."""
     names = {'traceStart': 'u32', 'at': 'u32', 'x': 'u32', 'packetAt': 'u32', 'copyAfter': 'u32', 'w': 'u16',
              'p': 'u16', 'e': 'u16', 'begins': 'u16', 'packetSender': 'u16', 'packetValue': 'u16', 'copyCount': 'u16',
              'copyTo': 'u16', 'kind': 'u8'}
@@ -137,7 +138,7 @@ class Columns:
             yield bytes(-len(column) * column.itemsize % 4)
 
     def joined(self) -> bytes:
-        """All columns as one."""
+        """All columns, joined to one."""
         return b''.join(self.parts())
 
     def packed(self) -> bytes:

@@ -1,4 +1,5 @@
-"""Makes an HTML page of one run, or of two above one another: a map of the motes, and a lane for each over time.
+"""Makes an HTML page of one run, or of two runs, one above the other: a map of the motes, and a lane over time for
+each.
 
     from motesim.runner.run import read_run
     from motesim.timeline.html import write_page
@@ -6,8 +7,9 @@
     write_page('flooding.html', 'Flooding', [read_run('examples/flooding.toml')])
     write_page('both.html', 'With slots and without', [read_run(one), read_run(other)], start=17, mote=4)
 
-docs/use/TIMELINE.md says what readers see. The page is one file that fetches nothing: `columns.py` packs its runs, and
-`bundle.py` joins the modules of `page/` into its script, which computes everything else from the lines of the runs.
+docs/use/TIMELINE.md describes the page for its readers. The page is one file, and needs no network: `columns.py` packs
+its runs, and `bundle.py` joins the modules of `page/` into its script, which computes everything else from the lines
+of the runs.
 """
 from __future__ import annotations
 
@@ -28,7 +30,7 @@ from motesim.why.pages import causes_of
 
 Writer = Callable[[str | Path, Iterable[bytes]], None]
 PAGE = Path(__file__).resolve().parent / 'page'
-# A place of the template that is filled.
+# A place in the template to be filled.
 MARK = re.compile('@([A-Z]+)@')
 
 
@@ -44,8 +46,8 @@ def _escaped(text: str) -> str:
 
 def page_of(title: str, runs: Sequence[Run], start: int | None = None, mote: int | None = None,
             note: Note | None = None) -> Iterable[str]:
-    """The parts of the page's text. It opens on the whole run, or around the moment `start` with `mote` in view, or at
-    the line of its note."""
+    """The parts of the page's text. The page opens on the whole run, or around the moment `start` with `mote` in view,
+    or at the line of its note."""
     table: list[dict[str, Any]] = []
     packed: list[str] = []
     for run in runs:
@@ -69,9 +71,9 @@ def page_of(title: str, runs: Sequence[Run], start: int | None = None, mote: int
 
 def write_page(path: str | Path, title: str, runs: Sequence[Run], start: int | None = None,
                mote: int | None = None, note: Note | None = None, write: Writer = write_whole) -> None:
-    """Writes the page of one run or of several above one another, which share their time axis.
+    """Writes the page of one run, or of several runs, one above the other, with one time axis.
 
-    With `start` the page opens around that moment, which is marked, and with `mote` that mote's lane is in view. With
+    With `start` the page opens around this moment, and marks it; with `mote` the lane of this mote is in view. With
     `note` it shows a sentence that doesn't hold, and opens at the line that the note is about.
     """
     # (if a name isn't UTF-8, its other bytes are escaped)

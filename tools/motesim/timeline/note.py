@@ -1,4 +1,5 @@
-"""The note of a page that shows why a sentence doesn't hold: the line that breaks it, or those that came near.
+"""The note of a page that shows why a sentence doesn't hold: the line that breaks it, or the lines that are nearly the
+wanted one.
 
     write_page('ben.html', 'ben', [run], note=note_of(run, 'mote 6 prints wave 3', broken))
 """
@@ -24,8 +25,8 @@ class Line(NamedTuple):
 
 
 class Note(NamedTuple):
-    """A sentence that doesn't hold, why, and its lines. The page opens at the first line that has a row, or at
-    the last line of a mote up to the moment `at`."""
+    """A sentence that doesn't hold, the reason, and the lines about it. The page opens at the first line that has a
+    row, or at the last line of a mote up to the moment `at`."""
     title: str
     why: str
     lines: tuple[Line, ...] = ()
@@ -37,7 +38,7 @@ class Note(NamedTuple):
 
 
 def note_of(run: Run, sentence: str, broken: Broken | None, more: tuple[str, ...] = ()) -> Note:
-    """The note for a sentence. `more` says why it doesn't hold if no `broken` does."""
+    """The note for a sentence. `more` is the reason why it doesn't hold, if `broken` has none."""
     if broken is None:
         return Note(sentence, '', tuple(map(Line, more)))
     source = source_of(run)
@@ -57,8 +58,8 @@ def note_of(run: Run, sentence: str, broken: Broken | None, more: tuple[str, ...
 
 
 def _near(asker: Asker, missing: Missing) -> tuple[Line, ...]:
-    """The lines that came near a missing one, first those on the very packet that is wanted. In a report that no
-    kernel writes there are none."""
+    """The near misses of a missing line, first those about the wanted packet itself. A report that no kernel writes
+    has none."""
     try:
         lines = [Line('mote %d: %s' % (mote, it.words), it.row) for mote, its in misses(asker, missing)
                  for it in sorted(its, key=lambda it: not it.is_wanted)]

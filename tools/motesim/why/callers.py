@@ -1,7 +1,7 @@
 """The reason for which a statement wasn't reached: a condition that was false, or a caller that wasn't reached.
 
-A process that nobody calls says nothing about its reason. That is in the caller: a `post`, `synch`, `poll` or `start`
-that names the process, a `spawn` of the thread, a `set` of the timer. Each of these may be in an `if` that was false.
+If nothing calls a process, the reason is in its callers: a `post`, `synch`, `poll` or `start` that names the process,
+a `spawn` of the thread, a `set` of the timer. Each of these may be in an `if` whose condition was false.
 """
 from __future__ import annotations
 
@@ -15,11 +15,11 @@ from motesim.why.translate import Program, Statement
 MOST_CALLERS, DEEPEST = 3, 3
 SENDS, SETS = ('post', 'synch', 'poll'), ('set', 'reset', 'restart_timer')
 OF_EVENT, OF_TIMER, OF_SEMAPHORE = (re.compile(form % r'\(\s*(\w+)\s*\)') for form in ('is%s', 'fired%s', 'count%s'))
-# What a statement does to the process, its thread or its timer, if it isn't a call.
+# The effect of a statement on the process, its thread or its timer, if the statement isn't a call.
 DOES = {'start': 'starts it', 'spawn': 'runs it', 'restart': 'runs it', **dict.fromkeys(SETS, 'sets the timer')}
 NEVER, LAST = 'was never %s, the last time at %d', 'was not %s the last time, at %d'
 ELSEWHERE = '; timer %s was due at %d: its event was taken while %s waited at %s'
-# Events that only the kernel makes, not a statement.
+# Events that only the kernel makes, never a statement.
 OF_KERNEL = ('packet', 'timer', 'exited', 'exit', 'init', 'continue')
 
 
@@ -37,7 +37,7 @@ class Callers:
     """The reasons in one run of a mote, up to a moment."""
 
     def __init__(self, program: Program, replay: Replay, end: int, known: str = ''):
-        """`known` is a process of which the start is explained already."""
+        """`known` is a process whose start is explained already."""
         self.program, self.end, self.known = program, end, known
         self.of: dict[int, list[Reached]] = {}
         for it in replay.reached:
@@ -47,7 +47,7 @@ class Callers:
         self.calls_of = [it for it in replay.calls if it.at <= end and it.frame.how != 'callback']
 
     def numbered(self, kinds: Iterable[str], name: str, process: int | None = None) -> list[int]:
-        """The statements of these kinds that name this, by their numbers."""
+        """The numbers of the statements of these kinds that have this name."""
         return [number for number, it in enumerate(self.program.statements, 1)
                 if it.kind in kinds and second(it) == name and process in (None, it.process)]
 
@@ -59,7 +59,7 @@ class Callers:
         it = self.program.statement(number)
         tests = {around: [one for one in self.of.get(around.number, []) if one.holds is not None]
                  for around in it.around}
-        # (a condition that was never true says more than one that was true before)
+        # (a condition that was never true is a better reason than one that was true before)
         for way, is_it in (NEVER, all), (LAST, lambda wrong: list(wrong)[-1]):
             for around, its in tests.items():
                 if its and is_it(one.holds == around.is_else for one in its):
@@ -117,7 +117,8 @@ class Callers:
             here.at > since for here in self.reached(one))], 0)
 
     def of_timer(self, process: int, name: str, waits: int, since: int) -> str:
-        """The event of the timer for which a process waits went elsewhere: to its block, or to another wait."""
+        """The event of the timer for which a process waits went to another place: to the timer's block, or to another
+        wait."""
         number = next((number for number, it in enumerate(self.program.timers)
                        if it.process == process and it.name == name), None)
         if number is None:
@@ -135,11 +136,11 @@ class Callers:
             elif (it.frame.event, it.frame.word) == ('timer', number) and before and it.at <= since:
                 said = '' if before == waits else ELSEWHERE % (
                     name, it.at, self.program.processes[process].name, in_words(self.program, before))
-        # (a timer that was set again since that event is another matter)
+        # (a timer that was set again after that event needs another explanation)
         return said
 
     def waiting(self, process: int) -> str:
-        """The place at which a process waits, as the reason for which it reached nothing behind it."""
+        """The place at which a process waits, as the reason why it reached no statement after that place."""
         ends = [it for it in self.ends if it.frame.process == process]
         if not ends or not ends[-1].waits or not ends[-1].waits[-1]:
             return ''
@@ -149,7 +150,8 @@ class Callers:
             self.program.processes[process].name, in_words(self.program, waits), here[-1].at if here else 0)
 
     def sentence(self, numbers: Sequence[int], depth: int) -> str:
-        """Statements that call it, when each was last reached, and what kept the mote from it."""
+        """The statements that call it, with the moments at which they were last reached, and the reasons why not
+        later."""
         found = []
         for number in numbers[:MOST_CALLERS]:
             here = self.reached(number)

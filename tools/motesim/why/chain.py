@@ -1,4 +1,4 @@
-"""The chain of causes of a line, back to the start of a mote: docs/use/WHY.md says what the cause of a line is."""
+"""The chain of causes of a line, back to the start of a mote: docs/use/WHY.md defines the cause of a line."""
 from __future__ import annotations
 
 from collections.abc import Iterator
@@ -14,19 +14,19 @@ WAITS = ('timer', 'full', 'medium', 'queue')
 WIDEST = 60
 # The reason for a collision with more packets names only their number.
 MOST_MET = 3
-# Calls that have a line of their own; of those that have none, a reason names so many.
+# The calls that have their own line; and the most calls without a line that a reason names.
 HAVE_LINES, MOST_CALLS = ('take', 'init', 'boot'), 8
 
 
 class Hop(NamedTuple):
-    """A line of a chain, and why it is there.
+    """A line of a chain, and the reason for it.
 
-    words    what follows the moment in the line
-    because  why, in a sentence without its end
+    words    the text after the moment in the line
+    because  the reason, in a sentence without a full stop
     how      as in a `Link`; `start` at the head of a mote
-    waited   for how many moments since its cause, and `wait` for what: timer, full (a timer that was due, and found
-             the queue full), medium or queue
-    program, program_row   the program's line that wrote it or, of a timer's event, set the timer
+    waited   the moments since its cause, and `wait` the thing for which it waited: timer, full (a timer that was due,
+             and found the queue full), medium or queue
+    program, program_row   the program's line that wrote it or, for a timer's event, set the timer
     """
     where: At
     row: int
@@ -60,7 +60,7 @@ def cause_of(source: Source, where: At) -> At | None:
 
 
 def places(source: Source, where: At) -> list[At]:
-    """The line, its cause, the cause of that, .. back to the head of a mote."""
+    """The line, its cause, the cause of its cause, and so on, back to the head of a mote."""
     found: list[At] = []
     at: At | None = where
     while at is not None:
@@ -97,7 +97,7 @@ def led_by(program: Program, number: int) -> str:
 
 
 class Explainer:
-    """Says why the lines of one mote are there."""
+    """Finds the reasons for the lines of one mote."""
 
     def __init__(self, source: Source, mote: int):
         self.source, self.mote = source, mote
@@ -124,7 +124,8 @@ class Explainer:
         return '%s %d' % (frame.event, frame.word)
 
     def calls(self, frame: Frame | None) -> Iterator[str]:
-        """The calls that have no line, from the inner one out: if a process polls itself, only the last few of them."""
+        """The calls that have no line, beginning with the innermost: if a process polls itself, only the last few
+        calls."""
         for _ in range(MOST_CALLS):
             if not frame or frame.how in HAVE_LINES:
                 return
@@ -198,7 +199,7 @@ class Explainer:
         return self.of_call(kind, link)
 
     def of_copy(self, at: int, words: list[str]) -> str:
-        """The reason why a packet came, and its fate."""
+        """The reason why a packet arrived, and its fate."""
         sent = self.source.traces.send_of(int(words[2]), int(words[3]))
         later = int(words[0]) - (self.source.traces.moment(sent) if sent else 0)
         reason = 'packet %s of mote %s arrived after %s on the way' % (words[3], words[2], count(later, 'moment'))
@@ -210,7 +211,7 @@ class Explainer:
 
 
 def wait_of(link: Link, at: int, before: int) -> str:
-    """The reason for the time between a line and its cause, which is at an earlier moment or the same."""
+    """The reason for the time between a line and its cause, which is at an earlier moment or at the same one."""
     if link.how == 'timer':
         return 'full' if at > max(link.since + link.interval, link.since) else 'timer'
     if link.how == 'medium':
@@ -238,7 +239,7 @@ def chain(source: Source, where: At) -> list[Hop]:
 
 
 class Path(NamedTuple):
-    """The uses of a chain's time: moments and how often, by what was waited for."""
+    """The uses of a chain's time: for each thing for which a hop waited, the moments and the number of hops."""
     moments: int
     waits: dict[str, tuple[int, int]]
 
@@ -254,7 +255,7 @@ class Path(NamedTuple):
 
 
 def path_of(hops: list[Hop]) -> Path:
-    """Sums what each hop of a chain waited for."""
+    """Sums the moments for which the hops of a chain waited."""
     waits = {kind: (0, 0) for kind in WAITS}
     for hop in hops:
         if hop.wait:

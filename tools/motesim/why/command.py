@@ -1,4 +1,4 @@
-"""Says why a line of a report is there, or why it isn't: docs/use/WHY.md."""
+"""Explains why a line is in a report, or why it isn't: docs/use/WHY.md."""
 from __future__ import annotations
 
 import argparse
@@ -25,7 +25,7 @@ from motesim.why.watch import rows as value_rows
 
 
 def short(hops: list[Hop]) -> list[Hop]:
-    """The hops at which something was waited for, the first and the last."""
+    """The hops that waited for something, the first and the last."""
     return [hop for place, hop in enumerate(hops) if hop.waited or place in (0, len(hops) - 1)]
 
 
@@ -43,7 +43,7 @@ def show_chain(source: Source, asked: Asked, is_short: bool) -> None:
 
 
 def show_watch(source: Source, asked: argparse.Namespace) -> int:
-    """Shows the values of variables; if prints can't be added, the values of the replay, and why."""
+    """Shows the values of variables; if prints can't be added, the values of the replay, and the reason."""
     motes, watched = read_watch(source, ' '.join(asked.watch))
     values = replayed(source, motes, watched)
     said = ''

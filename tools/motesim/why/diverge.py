@@ -17,8 +17,8 @@ COUNTERS = ('serial', 'number')
 class Diverged(NamedTuple):
     """The first hop of a chain, from its start, that another run doesn't have.
 
-    common   how many hops both have, and `last` the last of these, with its place in the other run
-    hop      the hop that only the first run has, and `words` what the other run has there
+    common   the number of hops that both have, and `last` the last of these, with its place in the other run
+    hop      the hop that only the first run has, and `words` the text about the other run at this place
     """
     common: int
     last: Hop
@@ -73,7 +73,7 @@ def number_of(source: Source, send: At) -> int:
 
 
 def diverged(one: Source, other: Source, where: At) -> Diverged | None:
-    """The point at which a chain of one run leaves the other; None if the other has all of it."""
+    """The point at which a chain of one run leaves the other run; None if the other run has the whole chain."""
     hops = chain(one, where)[::-1]
     last, there = hops[0], At(hops[0].where.mote, -1)
     for common, hop in enumerate(hops):

@@ -1,4 +1,4 @@
-"""The fate of a copy of a packet, from its send to the process that takes it: docs/use/REPORT.md."""
+"""The fate of a copy of a packet, from its sending to the process that takes it: docs/use/REPORT.md."""
 from __future__ import annotations
 
 from typing import NamedTuple
@@ -12,10 +12,10 @@ class Fate(NamedTuple):
     """The fate of a copy.
 
     how    taken, dropped, waiting (in the queue at the end), full, deaf, ring, collided, lost, halted, late, unheard
-    words  the same in words
-    at     the moment at which that was decided
+    words  the fate in words
+    at     the moment at which the fate was decided
     where  the line that shows it; None if none does
-    row    the line of the report that says so, also of the medium; 0 if none does
+    row    the number of the line in the report that shows it, also one of the medium; 0 if none does
     """
     how: str
     words: str

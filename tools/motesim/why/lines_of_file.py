@@ -1,4 +1,4 @@
-"""The lines of a file on which the lines of a scenario's programs are."""
+"""Finds the lines of a file that have the lines of a scenario's programs."""
 from __future__ import annotations
 
 from dataclasses import dataclass
@@ -10,7 +10,7 @@ from motesim.why.translate import ProgramPlace
 
 @dataclass(frozen=True)
 class ScenarioFile:
-    """A file that has programs, a scenario or `NAME.mote`: its name, without folders, and its text."""
+    """A file that has programs (a scenario or `NAME.mote`): its name, without folders, and its text."""
     name: str
     text: str
 
@@ -29,7 +29,7 @@ class ScenarioFile:
         return None
 
     def named(self, name: str, program: str) -> str:
-        """The name that the file has for a program, which a net may call by another one."""
+        """The name of a program in the file; the net may have another name for it."""
         try:
             programs = read_toml(self.text).get('programs', {})
         except NoToml:

@@ -17,12 +17,12 @@ from motesim.report import FIELDS, MOST_MOMENT
 from motesim.why.question import Asker, within
 from motesim.why.source import At, Found, Source, Traces, read_traces, traces_of
 
-# How many bytes are written at a time.
+# The number of bytes that are written at a time.
 PIECE = 1 << 20
 
 
 class Filter(NamedTuple):
-    """Which lines are left."""
+    """The conditions for lines to be shown."""
     motes: frozenset[int] | None
     kinds: tuple[str, ...]
     process: str | None
@@ -31,9 +31,11 @@ class Filter(NamedTuple):
 
 
 class Log:
-    """Lines of traces. `all` is how many lines there are without a filter, and `kinds` counts those that are left.
+    """Lines of traces. `all` is the number of lines without a filter, and `kinds` counts the lines that the filter
+    leaves.
 
-    The columns have the moment, the line of the report, the mote, and the bounds of the words after the moment.
+    The columns have the moment, the number of the line in the report, the mote, and the bounds of the text after the
+    moment.
     """
 
     def __init__(self, traces: Traces):
@@ -52,7 +54,8 @@ class Log:
 
     @property
     def order(self) -> array[int]:
-        """The places of the lines by moment: they were added mote after mote, and each mote's in order."""
+        """The places of the lines in the order of moments: they were added mote after mote, the lines of each mote in
+        their order."""
         starts = array('I', bytes(4 * (max(self.moments, default=0) + 2)))
         for at in self.moments:
             starts[at + 1] += 1
@@ -73,7 +76,7 @@ class Log:
 
 
 def pattern_of(it: Filter) -> str:
-    """The lines of these kinds, with this process and this value, behind the moment."""
+    """The pattern of lines of these kinds, with this process and this value, after the moment."""
     forms = []
     for kind in it.kinds:
         fields = FIELDS[kind].split()
@@ -123,7 +126,8 @@ def add_fitting(log: Log, mote: int, regex: re.Pattern[str], span: tuple[int, in
 
 
 def add_all(log: Log, mote: int, _: re.Pattern[str], span: tuple[int, int]) -> Iterator[str]:
-    """Adds all lines of a mote, and yields their kinds. (There may be millions, so each step counts.)"""
+    """Adds all lines of a mote, and yields their kinds. (There may be millions of lines, so the loop has to be
+    fast.)"""
     begin, row = log.traces.begins[mote], log.traces.head_rows[mote]
     moments, rows, owners = log.moments.append, log.rows.append, log.owners.append
     begins, ends = log.begins.append, log.ends.append
@@ -149,7 +153,7 @@ def is_inside(line: Found, asker: Asker, it: Copies | Packets) -> bool:
 
 
 def of_sentence(source: Source, sentence: str, it: Filter) -> Log:
-    """The lines that a sentence is about, of those that a filter leaves."""
+    """Those lines of a filter's result that a sentence is about."""
     asker, asked = Asker(source), None
     asked = asker.read(sentence)
     if isinstance(asked, Does):
@@ -244,7 +248,7 @@ def write(lines: Iterator[str]) -> None:
 
 
 def numbers_of(text: str, most: int, what: str) -> frozenset[int]:
-    """The numbers of a list as 3,5-7."""
+    """The numbers of a list such as 3,5-7."""
     found: set[int] = set()
     for part in text.split(','):
         it = re.fullmatch(r'(\d{1,9})(?:-(\d{1,9}))?', part.strip())

@@ -1,7 +1,7 @@
-"""The near misses of a line that a sentence wants and that isn't there.
+"""The near misses of a line that a sentence wants but that doesn't exist.
 
-They are found in the trace, in the log of the medium, or in the replay of the mote: a line that came too late or
-has another value, a copy that was lost, a process that wasn't running, a condition that wasn't true, a neighbour that
+They are found in the trace, in the log of the medium, or in the replay of the mote: a line that is too late or has
+another value, a copy that was lost, a process that wasn't running, a condition that wasn't true, a neighbour that
 didn't send.
 """
 from __future__ import annotations
@@ -23,9 +23,9 @@ MOST_COPIES, MOST_OTHERS = 8, 3
 
 
 class Miss(NamedTuple):
-    """Something that came near: its kind, a sentence on it, and the line that shows it, if one does.
+    """A near miss: its kind, a sentence about it, and the line that shows it, if one does.
 
-    is_wanted  whether it is about the very line, packet or event that the sentence wants
+    is_wanted  whether it is about exactly the line, packet or event that the sentence wants
     """
     kind: str
     words: str
@@ -149,7 +149,8 @@ class _Misses:
         return self.asker.judge.values(wanted, self.mote)
 
     def copies(self) -> Iterator[Miss]:
-        """Copies for this mote that it didn't get up to the last moment: those with the value, and how many in all."""
+        """Copies for this mote that it didn't get up to the last moment: those with the value, and the number of
+        all."""
         values = self.values()
         lost: dict[bool, list[tuple[int, list[str], Fate]]] = {True: [], False: []}
         for row, words in self.sent_to():
@@ -169,7 +170,7 @@ class _Misses:
                                                words[0], fate.words), fate.row or row)
 
     def silent(self) -> Iterator[Miss]:
-        """Neighbours from which nothing came, since they sent nothing."""
+        """Neighbours from which nothing arrived, because they sent nothing."""
         if self.kind not in ('recv', 'print', 'send'):
             return
         near = self.source.scenario.hearers(self.mote)
@@ -206,7 +207,7 @@ class _Misses:
         return [it.number for it in program.processes]
 
     def process(self) -> Iterator[Miss]:
-        """A process that wasn't there."""
+        """A process that wasn't running."""
         if self.kind not in ('print', 'take') or len(self.pattern) < 2:
             return
         name, there, row, at = self.pattern[1], False, 0, 0
@@ -226,7 +227,7 @@ class _Misses:
             yield Miss('process', '%s had left at %d' % (name, at), row)
 
     def statements(self) -> Iterator[Miss]:
-        """The statements that could write the line: how often they were reached, and what kept them from it."""
+        """The statements that could write the line: how often they were reached, and the reason if they weren't."""
         if self.kind not in ('print', 'send'):
             return
         program, replay = self.program(), self.replayed()
@@ -269,7 +270,8 @@ class _Misses:
         return shown if len(reached) <= MOST_OTHERS else '.., ' + shown
 
     def waits(self, program: Program, replay: Replay, process: int) -> Iterator[Miss]:
-        """Reports where a process waits at the last moment, and how often its condition was tested since."""
+        """Reports the statement at which a process waits at the last moment, and how often its condition has been
+        tested since it began to wait."""
         ends = [it for it in replay.calls if it.is_end and it.frame.process == process and it.at <= self.end
                 and it.frame.how != 'callback']
         if not ends or not ends[-1].waits or not ends[-1].waits[-1]:
@@ -289,7 +291,8 @@ class _Misses:
 
 
 def misses(asker: Asker, missing: Missing) -> list[tuple[int, list[Miss]]]:
-    """Returns the near misses, of each mote that a sentence is about: of several together, of the first few."""
+    """Returns the near misses of each mote that a sentence is about; if it is about several motes together, those of
+    the first few."""
     return [(mote, list(_Misses(asker, missing, mote).found())) for mote in missing.motes[:MOST_OTHERS]]
 
 

@@ -13,7 +13,8 @@ from motesim.why.chain import Explainer, cause_of, wait_of
 from motesim.why.lines_of_file import ScenarioFile
 from motesim.why.source import At, Source
 
-# A page with more lines than this doesn't have their causes: finding them all would last longer than making the page.
+# A page with more lines than this doesn't have their causes: the search for them would last longer than making the
+# page.
 MOST_LINES = 100_000
 MOST_REASONS = 65_535
 
@@ -34,13 +35,14 @@ def source_of(run: Run) -> Source:
 
 
 class Causes:
-    """The cause of each line of all traces, which are counted one after another."""
+    """The cause of each line of all traces; the lines are numbered from the first trace to the last."""
 
     def __init__(self, source: Source):
         self.source, self.begins = source, [0]
         for mote in range(source.traces.motes):
             self.begins.append(self.begins[-1] + len(source.traces.lines(mote)))
-        # (for each line, how many lines back its cause is, since that is a small number; 0 for the head of the trace)
+        # (for each line, the number of lines between it and its cause, because that number is small; 0 for the head of
+        # the trace)
         self.causes, self.reasons = array('I'), array('H')
         self.texts: dict[tuple[str, str], int] = {('', ''): 0}
         for mote in range(source.traces.motes):

@@ -1,7 +1,8 @@
-"""Which line of a report a question is about: a sentence as in docs/use/EXPECTATIONS.md, or a line by its number.
+"""Finds the line of a report that a question is about: a sentence as in docs/use/EXPECTATIONS.md, or a line by its
+number.
 
-A sentence that holds is shown by a line, and one that is broken by one line too many; then there is a line to ask
-about. A sentence that wants a line which isn't there has none: it is a `Missing`, and `why not` says more.
+If a sentence holds, a line shows it. If an extra line breaks it, the question is about this line. A sentence that
+wants a line that doesn't exist has no line: the answer is a `Missing`, for which motesim.why.miss finds the reasons.
 """
 from __future__ import annotations
 
@@ -27,7 +28,7 @@ ENDLESS = 1_000_000
 
 @dataclass(frozen=True)
 class Asked:
-    """The line of a question, and its role there: `holds` says whether the sentence holds."""
+    """The line of a question, and its role in it: `holds` says whether the sentence holds."""
     where: At
     holds: bool
     remark: str = ''
@@ -37,9 +38,9 @@ class Asked:
 class Missing:
     """A line that a sentence wants and the report doesn't have.
 
-    motes     those that have too few of them, `patterns` the lines and `span` the moments
-    found     the lines that are there, of all moments
-    wanted    how many were wanted
+    motes     the motes that have too few such lines; `patterns` has the lines, and `span` the moments
+    found     the existing lines, of all moments
+    wanted    the number of wanted lines
     """
     sentence: Does
     motes: tuple[int, ...]
@@ -50,7 +51,7 @@ class Missing:
 
 @dataclass(frozen=True)
 class Lineless:
-    """A sentence that no line shows: whether it holds, and why."""
+    """A sentence that no line shows: whether it holds, and the reason."""
     holds: bool
     why: str
 
@@ -75,12 +76,12 @@ def does(answer: Answer) -> bool:
 
 
 def first_with_line(answers: Sequence[Answer]) -> Answer | None:
-    """The first of these that a line shows, or, if no line shows any, the first."""
+    """The first of these that has a line, or, if none has a line, the first one."""
     return next((it for it in answers if not isinstance(it, Lineless)), answers[0] if answers else None)
 
 
 def line_asked(traces: Traces, question: str) -> At | None:
-    """The line that is named by its number, as 24:977 or 977, or by its text, as 24:64 print flood 1."""
+    """The line with this number, such as 24:977 or 977, or with this text, such as 24:64 print flood 1."""
     number, text = LINE.fullmatch(question), TEXT.fullmatch(question)
     if number:
         row = int(number[2])
@@ -121,7 +122,7 @@ class Asker:
         return read_sentence(question, names_of(self.source.scenario))
 
     def pattern(self, pattern: Pattern, mote: int) -> bytes | None:
-        """A pattern of words as one of bytes; None if no line can have it."""
+        """A pattern of words as a pattern of bytes; None if no line can have it."""
         fields = FIELDS[str(pattern[0])].split()
         if len(pattern) > 1 + len(fields):
             return None
@@ -138,7 +139,7 @@ class Asker:
         return b' '.join(words)
 
     def lines(self, it: Does, motes: tuple[int, ...]) -> list[Found]:
-        """The lines of these motes that show what a sentence says they do, whenever they were written."""
+        """The lines of these motes that show the action of a sentence, at all moments."""
         found: set[Found] = set()
         for mote in motes:
             for pattern in it.deed.patterns:
@@ -194,7 +195,7 @@ class Asker:
         return sorted(line for mote in range(self.traces.motes) for line in self.traces.matching(mote, rb'send .*'))
 
     def of_losses(self, it: Copies) -> list[Found]:
-        """The lines that send what the medium loses, once for each copy."""
+        """The lines that send the packets that the medium loses, once for each lost copy."""
         found = []
         for _, text in self.traces.packets(rb'\d+ \d+ .*@lost.*'):
             words = text.split(' ')
@@ -212,7 +213,7 @@ class Asker:
                    for to, _, at in copies)
 
     def counted(self, found: list[Found], it: Copies | Packets) -> Answer:
-        """The line by which so many lines are there, or one too many, in each part of the sentence's time."""
+        """The line that completes the wanted number of lines, or exceeds it, in each part of the sentence's time."""
         what = 'packets' if isinstance(it, Packets) else 'such copies'
         if isinstance(it, Copies) and it.count.is_part:
             return self.of_number(found, it.count, self.due(it), what)
@@ -232,7 +233,7 @@ class Asker:
 
     @staticmethod
     def of_number(inside: list[Found], count: Count, whole: int, what: str) -> Answer:
-        """The line by which so many lines are there, or one too many. A part is one of the `whole`."""
+        """The line that completes the wanted number of lines, or exceeds it. A share is a share of the `whole`."""
         number = len(inside)
         there = 'there are %d %s of %d' % (number, what, whole) if count.is_part else there_are(number, what)
         why = '%s; wanted: %s' % (there, count)
@@ -246,7 +247,7 @@ class Asker:
         return Lineless(False, why)
 
     def of_motes(self, it: Does) -> Answer:
-        """The line of a sentence on motes."""
+        """The line of a sentence about motes."""
         if it.than or it.relation:
             return self.of_two(it)
         chosen = self.judge.chosen(it.motes)
@@ -292,7 +293,7 @@ class Asker:
         return [line for line in self.lines(it, (mote,)) if any(within([line], span) for span in spans)]
 
     def of_kept(self, it: Does, inside: dict[int, list[Found]]) -> Answer:
-        """The line by which a sentence on two events holds: for each mote, the line that fulfils it."""
+        """The line by which a sentence about two events holds: for each mote, the line that fulfils it."""
         wanted = 1 if it.than else max(it.count.least, 1)
         shown = sorted(its[min(wanted, len(its)) - 1] for its in inside.values() if its)
         if not shown:
@@ -302,12 +303,13 @@ class Asker:
                      and it.motes.kind == 'each' else '')
 
     def by_time(self, answers: list[Answer]) -> list[Asked]:
-        """Those that a line shows, in the order of the lines' moments."""
+        """Those of them that have a line, in the order of the lines' moments."""
         shown = [it for it in answers if isinstance(it, Asked)]
         return sorted(shown, key=lambda one: self.traces.moment(one.where))
 
     def of_each(self, asked: list[Answer]) -> Answer:
-        """The line of a sentence on each of several motes: the first that breaks it, or otherwise the last of all."""
+        """The line of a sentence about each of several motes: the first line that breaks it, or otherwise the last of
+        all."""
         broken = next((one for one in asked if not does(one)), None)
         if broken:
             return broken
@@ -319,10 +321,10 @@ class Asker:
                      last[-1].where.mote if len(last) > 1 else '')
 
     def of_many(self, asked: list[Answer], count: Count) -> Answer:
-        """The line of a sentence on so many motes."""
+        """The line of a sentence about a number of motes."""
         doing = [one for one in asked if does(one)]
         shown = self.by_time(doing)
-        # (a mote that no line shows does it from the start)
+        # (a mote without a line has met the sentence from the start)
         unshown = len(doing) - len(shown)
         whole = len(asked) if count.is_part else 1
         admitted = [number for number in range(len(doing) + 1) if count.admits(number, whole)]
@@ -342,7 +344,7 @@ class Asker:
         return first_with_line([one for one in asked if not does(one)]) or Lineless(False, why)
 
     def of_unit(self, it: Does, motes: tuple[int, ...]) -> Answer:
-        """The line of a sentence on one mote, or on several together."""
+        """The line of a sentence about one mote, or about several motes together."""
         try:
             spans = self.judge.spans(it.window, motes)
             lines = self.lines(it, motes)
@@ -378,7 +380,7 @@ class Asker:
 
     def of_list(self, it: Does, motes: tuple[int, ...], inside: list[Found], span: Span, name: str
                 ) -> Asked | Missing:
-        """The line of a sentence with a list of values: the first that differs, or the last.
+        """The line of a sentence with a list of values: the first line that differs, or the last one.
 
         The values of several motes together are in the order of the report.
         """

@@ -1,8 +1,8 @@
-"""Runs the program of one mote again along its trace, and notes what caused each line: docs/use/KERNEL.md.
+"""Runs the program of one mote again along its trace, and notes the cause of each line: docs/use/KERNEL.md.
 
-The replay reads the mote's arrivals from its trace; everything else follows from its program. Each line that the replay
-writes has to be the next line of the trace, so that what it notes is about this very run. A trace that continues
-differently is a `Parted`: then it isn't the trace of this program.
+The replay reads the mote's arrivals from its trace; everything else follows from its program. Each line that the
+replay writes has to be the next line of the trace, so its notes are about exactly this run. If the trace continues
+differently, the replay raises a `Parted`: then it isn't the trace of this program.
 """
 from __future__ import annotations
 
@@ -29,18 +29,18 @@ class Halted(Exception):
 
 
 class Stopped(Exception):
-    """The mote has written as many lines as were wanted."""
+    """The mote has written the wanted number of lines."""
 
 
 class Frame(NamedTuple):
     """A call of a process, or of a handler.
 
     process  its number
-    event    what it was called with, its word and its sender
-    how      init, take, poll, synch, exited, exit or callback; boot for what the kernel does at first
-    line     the last line of the trace that led to the call: its `start` or `take`, or, of a call that writes none,
-             that of the call which made it
-    made_by  the call that made this one, if it isn't the kernel's own
+    event    the event of the call, its word and its sender
+    how      init, take, poll, synch, exited, exit or callback; boot for the first steps of the kernel
+    line     the last line of the trace that led to the call: its `start` or `take`, or, if the call writes none, the
+             line of the call that made it
+    made_by  the call that made this one; None if the kernel made it
     row      the statement of the program that made it, by its number from 1; 0 if none did
     """
     process: int
@@ -58,11 +58,12 @@ class Link(NamedTuple):
 
     how    boot      the mote boots
            call      its process wrote it in a call (`frame`)
-           posted    the event was posted by the line `line`
+           posted    the line `line` posted the event
            timer     a timer was due, which was set in a call (`frame`) at the moment `since`, for `interval` moments
-           packet    the radio process passes on the packet of the line `line`
-           medium    a packet came
-    line   the line of this mote that is the cause, or BOOT; for `medium` BOOT, since the cause is another mote's
+           packet    the radio process hands the packet of the line `line` to the receiver
+           medium    a packet arrived
+    line   the line of this mote that is the cause, or BOOT; BOOT for `medium`, because the cause is a line of another
+           mote
     """
     how: str
     line: int
@@ -74,7 +75,7 @@ class Link(NamedTuple):
 
 
 class Change(NamedTuple):
-    """A variable got a value after so many lines of the trace."""
+    """A variable got a value after this many lines of the trace."""
     lines: int
     at: int
     process: int
@@ -84,10 +85,10 @@ class Change(NamedTuple):
 
 
 class Called(NamedTuple):
-    """A call of a process began, or ended, after so many lines of the trace.
+    """A call of a process began, or ended, after this many lines of the trace.
 
-    waits   at the end: the statements of the program at which it waits, from its body into its threads, by number;
-            none if it has ended, and of a process of the system
+    waits   at the end: the numbers of the statements at which it waits, from its body into its threads; none if it has
+            ended, or if it is a process of the system
     """
     lines: int
     at: int
@@ -97,7 +98,8 @@ class Called(NamedTuple):
 
 
 class Reached(NamedTuple):
-    """A statement was reached after so many lines of the trace; or its condition was tested, and was `holds`."""
+    """A statement was reached after this many lines of the trace; or its condition was tested, with the result
+    `holds`."""
     lines: int
     at: int
     statement: int
@@ -106,7 +108,7 @@ class Reached(NamedTuple):
 
 @dataclass
 class Timer:
-    """A timer of the mote; and in which call it was set last."""
+    """A timer of the mote, and the call in which it was set last."""
     start: int = 0
     interval: int = 0
     owner: int | None = None
@@ -130,7 +132,7 @@ class Event(NamedTuple):
     line: int
 
 
-# The kinds of lines with more text after the kind that the replay reads.
+# The kinds of lines that have more text after the kind which the replay reads.
 ARRIVALS = {'recv', 'lost', 'collide'}
 Body = Generator[None, tuple[str, int, int], tuple[str, int, int]]
 
@@ -142,7 +144,7 @@ class Replay:
         self.program, self.mote, self.room, self.trace = program, mote, queue, trace
         self.count = len(trace)
         self.lines = 0
-        # (how many lines are wanted, or none to stop at)
+        # (the number of wanted lines, or None to run to the end)
         self.last = -1
         self.links: list[Link] = []
         self.changes: list[Change] = []
@@ -155,7 +157,7 @@ class Replay:
         own = len(program.processes)
         self.state = {number: 0 for number in range(-3, own)}
         self.is_busy = dict.fromkeys(self.state, False)
-        # (for each process that is to be polled, the call that asked first, and the line of the program)
+        # (for each process with a pending poll, the call that polled it first, and the line of the program)
         self.needs_poll: dict[int, tuple[Frame | None, int]] = {}
         self.is_poll_requested = False
         self.born = dict.fromkeys(self.state, 0)
@@ -164,7 +166,7 @@ class Replay:
         self.spawned: list[list[tuple[str, int]]] = [[] for _ in range(own)]
         self.current = 0
         self.events: list[Event] = []
-        # (the event that is taken next, whose place in the queue is free already)
+        # (the event that is taken next; its place in the queue is already free)
         self.taken: Event | None = None
         self.serial = self.sent = 0
         self.ring: list[tuple[int, int, int]] = []
@@ -183,7 +185,7 @@ class Replay:
         return SYSTEM[process] if process < 0 else self.program.processes[process].name
 
     def write(self, words: str, link: Link) -> int:
-        """The next line of the trace has to say this."""
+        """Checks that the next line of the trace has this text."""
         at = self.lines
         if at == self.last:
             raise Stopped
@@ -217,7 +219,8 @@ class Replay:
         raise Halted
 
     def resume(self, process: int) -> None:
-        """Continues a protothread at its wait: a unit for each spawn on the way there, and one for the wait."""
+        """Continues a protothread at its wait: costs a unit for each spawn on the way to the wait, and one for the
+        wait."""
         for _ in range(len(self.spawned[process]) + 1):
             if not self.units:
                 self.halt()
@@ -225,7 +228,7 @@ class Replay:
         self.waits[process] = 0
 
     def begin_again(self, process: int) -> None:
-        """A protothread is called after `restart`: a unit for each spawn on the way there."""
+        """Calls a protothread after `restart`: costs a unit for each spawn on the way to it."""
         for _ in self.spawned[process]:
             self.unit()
         self.waits[process] = 0
@@ -251,7 +254,7 @@ class Replay:
 
     def call(self, process: int, event: str, word: int, sender: int, how: str, row: int, line: int | None = None
              ) -> None:
-        """Calls a process that is running; `line` is the cause if it isn't that of the call which is made here."""
+        """Calls a running process. `line` is the cause, if that isn't the line of the present call."""
         if self.state[process] != 1:
             return
         before, current = self.frame, self.current
@@ -283,7 +286,7 @@ class Replay:
         return process in self.list and self.born[process] == born
 
     def exit(self, process: int, by: int, row: int) -> None:
-        """A process is exited, on behalf of another or of itself."""
+        """Makes a process exit, on behalf of another process or of itself."""
         self.state[process] = 0
         for other, born in self.walk():
             if other != process and self.is_there(other, born):
@@ -424,7 +427,7 @@ class Replay:
                 place = 0
 
     def call_back(self, number: int, frame: Frame) -> None:
-        """ctimer runs the block of a callback timer, as its process."""
+        """ctimer runs the block of a callback timer in the name of the timer's process."""
         if number >= len(self.timers) or number not in self.callbacks:
             return
         self.callbacks.remove(number)
@@ -458,7 +461,7 @@ class Replay:
             self.start(process, 0)
 
     def arrivals(self) -> None:
-        """Delivers the packets that arrive at this moment, by the trace."""
+        """Delivers the packets that arrive at this moment, according to the trace."""
         head = '%d ' % self.now
         while self.lines < self.count and self.trace[self.lines].startswith(head):
             words = self.trace[self.lines].split(' ')
@@ -517,7 +520,7 @@ class Replay:
         return min((self.timers[it].due for it in self.timer_list), default=None)
 
     def wakes(self) -> int | None:
-        """When the mote has its next turn by itself."""
+        """The moment of the mote's next turn without a packet."""
         if self.events or self.is_poll_requested:
             return self.now + 1
         due = self.next_due()
@@ -536,7 +539,7 @@ class Replay:
                 break
 
     def arrives(self) -> int | None:
-        """The moment of the next line of the trace, if it is one of a packet that came."""
+        """The moment of the next line of the trace, if that is the line of a packet that arrived."""
         if self.lines >= self.count:
             return None
         at, kind, *_ = self.trace[self.lines].split(' ')
@@ -551,7 +554,7 @@ class Replay:
         return self
 
     def to_line(self, lines: int, end: int) -> Replay:
-        """Runs the mote until it has written so many lines, or to a moment."""
+        """Runs the mote until it has written this many lines, or up to a moment."""
         self.last = lines
         try:
             self.up_to(end)
@@ -560,7 +563,7 @@ class Replay:
         return self
 
     def up_to(self, end: int) -> Replay:
-        """Runs the mote up to a moment, with all that it does then."""
+        """Runs the mote up to the end of a moment."""
         at: int | None = 0
         try:
             while at is not None and at <= end:

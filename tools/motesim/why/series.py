@@ -9,7 +9,7 @@ from motesim.faults import Fault
 from motesim.report import MOST_MOMENT
 from motesim.why.source import Traces
 
-# A row by its columns; None for a mean of nothing.
+# A row, by the names of its columns; None for a mean of no values.
 Row = dict[str, int | float | None]
 NAMES = ['from', 'to', 'sent', 'received', 'lost', 'ring', 'collided', 'halted', 'late', 'ratio', 'delay', 'posted',
          'refused', 'queue', 'waited', 'prints']
@@ -18,7 +18,8 @@ COUNTED = {'send': 'sent', 'recv': 'received', 'lost': 'ring', 'collide': 'colli
 
 
 class Copy(NamedTuple):
-    """A copy in the log of the medium: its receiver, and when it was sent and would arrive; 0 if it is lost."""
+    """A copy in the log of the medium: its receiver, the moment at which it was sent, and that at which it would
+    arrive; 0 if it is lost."""
     to: int
     sender: int
     number: int
@@ -62,7 +63,7 @@ class Series:
             if kind == 'post':
                 posted.append(at)
             elif kind in ('take', 'drop') and int(words[2]) > last_taken:
-                # (an event for all is taken by each process, and leaves the queue once)
+                # (each process takes an event for all, but the event leaves the queue only once)
                 last_taken = int(words[2])
                 self.waits[part] += at - posted[last_taken]
                 self.taken[part] += 1
@@ -84,7 +85,8 @@ class Series:
                 self.peaks[part] = depth
 
     def add_medium(self, packets: list[str]) -> None:
-        """Counts what the medium lost, the delay of what was received, and copies that no trace has."""
+        """Counts the copies that the medium lost, the delays of received copies, and copies without a line in a
+        trace."""
         halted = {mote for mote in range(self.traces.motes) if self.traces.halts(mote)}
         silent: list[Copy] = []
         came = {mote: self.traces.arrivals(mote) for mote in halted}

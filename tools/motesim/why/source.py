@@ -16,7 +16,8 @@ from motesim.why.lines_of_file import ScenarioFile
 from motesim.why.replay import QUEUE, Replay
 from motesim.why.translate import Program, translated
 
-# Up to so many bytes a report is compared with its scenario copy by copy; of a longer one, only the motes are.
+# Up to this many bytes a report is compared with its scenario copy by copy; for a longer one, only the motes are
+# compared.
 MOST_CHECKED = 10_000_000
 HEAD = re.compile(rb'mote (\d+) ([A-Za-z0-9_-]{1,32})')
 
@@ -28,7 +29,7 @@ class At(NamedTuple):
 
 
 class Found(NamedTuple):
-    """A line that was looked for: its moment and its place."""
+    """A line that a search found: its moment and its place."""
     at: int
     where: At
 
@@ -107,7 +108,7 @@ class Traces:
         return self.data[begin:self.data.find(b'\n', begin)].decode('ascii', 'replace')
 
     def text_at(self, where: At) -> str:
-        """The text of a line whose trace isn't kept."""
+        """The text of a line, without keeping its trace in memory."""
         if where.mote in self.kept:
             return self.text(where)
         begin = self.begins[where.mote]
@@ -131,7 +132,7 @@ class Traces:
         return int(self.data[self.medium_end:].split(b' ')[1])
 
     def at_row(self, row: int) -> At | None:
-        """The place of a line of the report; None for a line of the medium, or none at all."""
+        """The place of a line of the report; None for a line of the medium, or if there is no such line."""
         for mote in range(self.motes):
             last = self.head_rows[mote + 1] if mote + 1 < self.motes else self.medium_row
             if self.head_rows[mote] <= row < last:
@@ -148,7 +149,7 @@ class Traces:
         return At(sender, sends[number]) if number < len(sends) else None
 
     def arrivals(self, mote: int) -> dict[tuple[int, int], int]:
-        """The places of the lines on packets that came, by the packets' senders and numbers."""
+        """The places of the lines about packets that arrived, by the packets' senders and numbers."""
         if mote not in self.came:
             found = self.came[mote] = {}
             for place, line in enumerate(self.lines(mote)):
@@ -158,7 +159,8 @@ class Traces:
         return self.came[mote]
 
     def collisions(self, mote: int, at: str) -> list[int]:
-        """The places of the packets that collide at a mote at a moment. (A million are looked up one after another.)"""
+        """The places of the packets that collide at a mote at a moment. (A million packets are looked up one after
+        another.)"""
         if mote not in self.collided:
             found = self.collided[mote] = {}
             for place, line in enumerate(self.lines(mote)):
@@ -168,7 +170,7 @@ class Traces:
         return self.collided[mote].get(at, [])
 
     def matching(self, mote: int, pattern: bytes) -> list[Found]:
-        """The lines of a mote that have this pattern behind the moment."""
+        """The lines of a mote that have this pattern after the moment."""
         found, begin = [], self.begins[mote]
         row, counted = 0, begin
         for it in re.compile(rb'^(\d+) ' + pattern + rb'$', re.M).finditer(self.data, begin, self.ends[mote]):
@@ -178,7 +180,7 @@ class Traces:
         return found
 
     def packets(self, pattern: bytes = rb'\d+ \d+ \d+.*') -> Iterator[tuple[int, str]]:
-        """The lines of the medium that have this pattern behind the moment, each with its line of the report."""
+        """The lines of the medium that have this pattern after the moment, each with its number in the report."""
         row, counted = self.medium_row + 1, self.medium_begin
         for it in re.compile(rb'^\d+ ' + pattern + rb'$', re.M).finditer(self.data, counted, self.medium_end):
             row += self.data.count(b'\n', counted, it.start())
@@ -200,7 +202,7 @@ class Traces:
 
     @cached_property
     def bare(self) -> Report:
-        """The report's motes without their lines, for what only asks how many there are."""
+        """The report's motes without their lines, for code that needs only their number."""
         trace = Trace([])
         for _ in self.programs:
             trace.add([])
@@ -229,7 +231,7 @@ class Source:
         return program
 
     def replay(self, mote: int) -> Replay:
-        """A mote that has run again."""
+        """The replay of a mote."""
         if mote not in self.replays:
             room = self.scenario.queue.get(self.traces.programs[mote], QUEUE)
             made = Replay(self.program(mote), mote, room, self.traces.lines(mote))

@@ -1,4 +1,5 @@
-"""The studio's questions about a run: the reason for a line, a mote's state, values over time, a sentence's lines."""
+"""The replies to the studio's questions about a run: the reason for a line, a mote's state, values over time, and the
+lines of a sentence."""
 from __future__ import annotations
 
 import threading
@@ -32,7 +33,7 @@ def _whole(asked: Said, name: str) -> int:
 
 
 class Causes:
-    """The runs that were asked about last."""
+    """The runs about which the last questions were."""
 
     def __init__(self) -> None:
         self.kept: OrderedDict[int, Source] = OrderedDict()
@@ -68,7 +69,8 @@ class Causes:
         return misses_as_json(found, misses(asker, found))
 
     def state(self, source: Source, asked: Said) -> Said:
-        """The state of a mote after a line, or at the end of a moment, and which variables the line's step changed."""
+        """The state of a mote after a line, or at the end of a moment, and the variables that the step of the line
+        changed."""
         mote = _whole(asked, 'mote')
         if not 0 <= mote < source.traces.motes:
             raise Fault('there is no mote %d' % mote)
@@ -83,7 +85,7 @@ class Causes:
 
     @staticmethod
     def changed(source: Source, where: At) -> list[str]:
-        """The variables that got a value between this line and the next one, or before its moment's end."""
+        """The variables that got a value between this line and the next one, or up to the end of the line's moment."""
         replay, program = source.replay(where.mote), source.program(where.mote)
         names = [{place: name for name, place in it.variables.items()} for it in program.processes]
         at = source.traces.moment(where)

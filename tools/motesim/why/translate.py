@@ -1,4 +1,4 @@
-"""Translates a mote's program into Python, for the replay: docs/use/NOTATION.md says what each statement does.
+"""Translates a mote's program into Python, for the replay: docs/use/NOTATION.md describes each statement.
 
 Each body and each thread becomes a generator, which yields when its protothread waits; `onpoll`, `onexit` and the
 blocks of callback timers become functions. In their code `k` is the replay, `e`, `d` and `f` are the event, its word
@@ -21,7 +21,7 @@ class Restart(Exception):
 
 
 class TooDeep(Fault):
-    """A program that can't be translated: Python allows 20 loops in one another, two of them its own."""
+    """A program that can't be translated: Python allows 20 nested loops, of which the translation needs two."""
 
 
 @dataclass
@@ -45,7 +45,8 @@ class Timer:
 
 
 class Around(NamedTuple):
-    """A statement around another, by its number: an `if` or a `while`; `is_else` if the other is behind its `else`."""
+    """A statement around another, by its number: an `if` or a `while`; `is_else` is true if the other is in its
+    `else`."""
     number: int
     is_else: bool
 
@@ -55,10 +56,10 @@ class Statement(NamedTuple):
 
     line     the line on which it begins
     text     its text, without the statements in its blocks
-    kind     its first word; `=` of one that assigns to a variable
-    process  in whose code it is, by its number
+    kind     its first word; `=` if it assigns to a variable
+    process  the number of the process in whose code it is
     around   the statements around it, the outer ones first
-    inside   the block that it is in: body_0, thread_0_listen, onpoll_0, onexit_0 or callback_0
+    inside   the block in which it is: body_0, thread_0_listen, onpoll_0, onexit_0 or callback_0
     """
     line: int
     text: str
@@ -69,7 +70,7 @@ class Statement(NamedTuple):
 
 
 class ProgramPlace(NamedTuple):
-    """The place of a program's text in a file: the file's name, and how many of its lines are above the text."""
+    """The place of a program's text in a file: the file's name, and the number of its lines above the text."""
     file: str
     above: int
 
@@ -120,7 +121,7 @@ class _Translator:
         self.process = Process('', -1)
         self.timers: dict[str, int] = {}
         self.numbers: dict[str, int] = {}
-        # (for each function: what keeps it, and under which name)
+        # (for each function: the object that keeps it, and its name there)
         self.functions: list[tuple[str, object, str]] = []
 
     # Tokens
@@ -178,7 +179,7 @@ class _Translator:
         while self.accept('ctimer'):
             name = self.word()
             timer = Timer(name, process.number)
-            # (its name is known after its block, and in it)
+            # (its name is known in its block and after it)
             self.timers[name] = len(program.timers)
             program.timers.append(timer)
             self.function('callback_%d' % self.timers[name], timer, 'callback')
@@ -248,12 +249,12 @@ class _Translator:
             self.statement()
 
     def unit(self) -> None:
-        """A unit of work is spent, or the mote halts."""
+        """Spends a unit of work, or halts the mote."""
         self.emit('if not k.units: k.halt()')
         self.emit('k.units -= 1')
 
     def wait(self, here: int, goes_on: str) -> None:
-        """Waits here until a condition holds; at each later call it is looked at again."""
+        """Waits here until a condition holds; each later call tests it again."""
         number = self.process.number
         self.emit('while not %s:' % self.tested(here, goes_on))
         self.emit(' k.waits[%d] = %d' % (number, here))
@@ -323,7 +324,7 @@ class _Translator:
     def tested(self, number: int, condition: str) -> str:
         return 'k.test(%d, %s)' % (number, condition) if self.is_detailed else condition
 
-    # Statements, each behind its first word
+    # Statements, each after its first word
 
     def do_print(self, here: int) -> None:
         self.emit('k.write_print(%d, %s, %d)' % (self.process.number, self.expression(), here))
@@ -462,5 +463,5 @@ class _Translator:
 
 
 def translated(text: str, is_detailed: bool = False) -> Program:
-    """A program that motesim accepts, in Python. With details it notes each statement that is reached, and each test."""
+    """A program that motesim accepts, in Python. With details, the code notes each reached statement and each test."""
     return _Translator(text, is_detailed).translate()

@@ -1,8 +1,8 @@
 """The values of variables over time, by prints that are added to a program: docs/use/WATCH.md.
 
-After each assignment to a watched variable, two prints are added: a mark, which the process never
-prints by itself, and the value. The changed scenario is run. Without the added lines its report has to be that of the
-scenario, byte for byte; then the values are those of the run.
+After each assignment to a watched variable, two prints are added: a mark, which the process never prints by itself,
+and the value. The changed scenario is run. Without the added lines, its report must be the same as that of the
+scenario, byte for byte. Then the values are those of the run.
 """
 from __future__ import annotations
 
@@ -23,7 +23,7 @@ MOST_VALUE = 65_535
 
 
 class Watched(NamedTuple):
-    """A variable of a process that is watched, by their numbers, and the mark of its lines."""
+    """A watched variable of a process, both by their numbers, and the mark of its lines."""
     program: str
     process: int
     variable: int
@@ -59,7 +59,7 @@ def motes_of(words: str | None, count: int) -> list[int]:
 
 
 def variables_of(program: Program, name: str, words: str) -> list[Watched]:
-    """The variables of a program that are named, as newest or flood.newest; none if it has none of the name."""
+    """The variables of a program with a name such as newest or flood.newest; none if it has none with the name."""
     found = []
     process, _, variable = words.rpartition('.')
     for it in program.processes:
@@ -69,7 +69,7 @@ def variables_of(program: Program, name: str, words: str) -> list[Watched]:
 
 
 def read_watch(source: Source, text: str) -> tuple[list[int], list[Watched]]:
-    """The motes and the variables that are watched, as `mote 3 newest, distance`."""
+    """The motes and the variables to watch, from a text such as `mote 3 newest, distance`."""
     asked = ASKED.fullmatch(text)
     if not asked:
         raise Unwatched("'%s' is not known; write it as: mote 3 newest, distance" % text)
@@ -166,7 +166,7 @@ class _Stripped:
             self.marks[it.program, 'print %s %d' % (process, it.mark)] = it
 
     def values(self, mote: int) -> list[Given]:
-        """The values of a mote's variables, in order; its other lines have to be those of the run without prints."""
+        """The values of a mote's variables, in order; the other lines must be those of the run without prints."""
         wanted, lines = self.source.traces.lines(mote), self.changed.lines(mote)
         program = self.source.traces.programs[mote]
         found: list[Given] = []
@@ -193,7 +193,7 @@ class _Stripped:
 
     @staticmethod
     def differ(mote: int, found: str, wanted: str) -> None:
-        """The run with added prints is another one."""
+        """The run with added prints differs from the run without them."""
         if found.endswith(' halt') or wanted.endswith(' halt'):
             raise Unwatched("the added prints use up the work of mote %d at %s, so that it halts: this run can't be "
                             'watched by prints' % (mote, found.split(' ')[0]))
@@ -224,7 +224,7 @@ def watch(source: Source, scenario: str, motes: list[int], watched: list[Watched
     found = {mote: stripped.values(mote) for mote in range(source.traces.motes)}
     stripped.check_medium()
     for mote in motes:
-        # (a trace that ends by `halt` would end so with the prints too, and its last event would be missing)
+        # (a trace that ends with `halt` would also do so with the prints, and its last event would be missing)
         if source.traces.halts(mote):
             raise Unwatched('mote %d uses up its work, and with added prints it would do so earlier: this run can\'t '
                             'be watched by prints' % mote)

@@ -1,1 +1,1 @@
-"""Mutants of the crates' functions: their edits, the checks that judge them, and the log of what was found."""
+"""Mutants of the crates' functions: their edits, the checks that judge them, and the log of the verdicts."""

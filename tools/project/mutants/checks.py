@@ -1,8 +1,8 @@
-"""Judges mutants of one crate: many in one check, and what that leaves undecided one by one.
+"""Judges mutants of one crate: many in one check, and those that remain undecided one by one.
 
-First a control: a check without any edit of the functions that are changed and of what they call, or of the whole
-crate, which has to prove them. Each group of mutants is checked over what the control has kept, so that only the
-changed functions are proved again.
+A control comes first: it checks, without any edit, the functions that are changed and those that they call, or the
+whole crate, and has to prove them. Each group of mutants is checked with the results that the control has kept, so
+that only the changed functions are proved again.
 """
 from __future__ import annotations
 
@@ -17,19 +17,20 @@ from project.kit import checked, kept_by_check, linked, says_nothing
 from project.mutants.edits import Edit, together
 
 # The verdicts on a mutant, the best first. The prover refuses it for a goal of a contract; only for a loop's invariant;
-# only at a limit of its own, or because a proof by hand no longer fits: both leave open what the contract says. Or it
-# is proved, or nothing is known.
+# only at one of the prover's limits, or because a proof by hand no longer fits: both leave open whether the contract
+# refuses it. Or it is proved, or nothing is known.
 KINDS = CONTRACT, INVARIANT, LIMIT, ANSWER, NOT_REFUSED, UNKNOWN = (
     'contract', 'invariant', 'limit', 'answer', 'not refused', 'unknown')
 REFUSED, OPEN = (CONTRACT, INVARIANT), (ANSWER, LIMIT)
 # The notes of a check about a goal that `search` did not prove, with the words for them in the log.
 NOTES = {'allow values at which this goal is false': 'false', 'gave up at one of its limits': 'search gave up'}
-# The prover's words for a limit of its own, which it reaches each time it checks the same text.
+# The prover's words for one of its limits that it reaches each time it checks the same text.
 LIMITS = re.compile(r'ran out of (stack|the (steps|memory))|outgrew the memory limit|stopped at the step limit')
 COULD_NOT_TELL = 'could not tell'
-# How the last line of a check begins that has got as far as a verdict.
+# The beginning of the last line of a check that has reached a verdict.
 VERDICTS = 'logic=', 'only=', 'rattle: no verdict'
-# Why a function isn't proved, if that isn't its own fault; and errors about names that an edit took away.
+# The reasons why a function isn't proved, if the reason is in another function; and errors about names that an edit
+# removed.
 NOT_OWN = re.compile(r'it calls|it passes|a call of|in `\S+`, of this cycle')
 OF_NAMES = re.compile(r'has no field|is not in scope|has no `|was not admitted')
 
@@ -42,7 +43,7 @@ class Verdict(NamedTuple):
 
 
 def function_of(name: str) -> str:
-    """The function of a name that a check prints: f of c::m::S::f, and of the closure c::m::fn::S::f::closure in it."""
+    """The function in a name that a check prints: f in c::m::S::f, and in the closure c::m::fn::S::f::closure."""
     _, is_closure, path = name.partition('::fn::')
     return next(it for it in path.split('::') if it[0].islower()) if is_closure else name.split('::')[-1]
 
@@ -56,14 +57,14 @@ def proof_errors(lines: Sequence[str], name: str) -> list[str]:
 
 
 def noted(goal: str, notes: Sequence[str]) -> str:
-    """A goal with what the notes say of it."""
+    """A goal with the remarks about it in the notes."""
     note = next((it for it in notes if '(`%s`)' % goal in it), '')
     return goal + ''.join(' (%s)' % it for said, it in NOTES.items() if said in note)
 
 
 def verdict_of(name: str, said: str, notes: Sequence[str], lines: Sequence[str]) -> Verdict | None:
     """The verdict on a function, by the end of its line in a check, the notes above that line, and all lines; None if
-    it is proved, or is refused only for what it calls."""
+    it is proved, or is refused only because of functions that it calls."""
     if not said.startswith(('not proved', 'no proof', COULD_NOT_TELL)):
         return None
     reasons = re.sub(r'^(not proved|no proof)[:;]? ?', '', said).split('; ')
@@ -81,7 +82,7 @@ def verdict_of(name: str, said: str, notes: Sequence[str], lines: Sequence[str])
 
 
 def refused_in(lines: Sequence[str]) -> dict[str, Verdict]:
-    """The verdict on each function that a check refuses for more than what the function calls."""
+    """The verdict on each function that a check refuses for a reason in the function itself."""
     found: dict[str, Verdict] = {}
     notes: list[str] = []
     for line in lines:
@@ -95,13 +96,14 @@ def refused_in(lines: Sequence[str]) -> dict[str, Verdict]:
 
 
 def best(edit: Edit, refused: dict[str, Verdict]) -> Verdict:
-    """The verdict on a mutant: that on its function, or the best one if any function may be refused."""
+    """The verdict on a mutant: the verdict on its function, or the best one if any function may be refused."""
     found = [it for name, it in refused.items() if edit.function in (None, function_of(name))]
     return min(found, key=lambda it: KINDS.index(it.kind), default=Verdict(NOT_REFUSED))
 
 
 def only(edits: Sequence[Edit]) -> list[str]:
-    """The words for a check of the changed functions and of what they call; none for a check of the whole crate."""
+    """The arguments for a check of the changed functions and of those that they call; none for a check of the whole
+    crate."""
     if not all(it.may_share for it in edits):
         return []
     return [word for name in dict.fromkeys(str(it.function) for it in edits) for word in ('--only', name)]
@@ -116,7 +118,7 @@ class Trial:
         self.kept: Path | None = None
 
     def control(self, jobs: int) -> None:
-        """Checks the crate without an edit; if that isn't proved, nothing is known of any mutant."""
+        """Checks the crate without an edit; if that isn't proved, nothing is known about any mutant."""
         self.kept = kept_by_check(self.crate, ['--jobs', str(jobs), *self.only])
         if self.kept is None and self.only:
             # (a name may fit several functions)
@@ -124,7 +126,7 @@ class Trial:
             self.kept = kept_by_check(self.crate, ['--jobs', str(jobs)])
 
     def forget(self, _jobs: int) -> None:
-        """Deletes what the control has kept."""
+        """Deletes the results that the control has kept."""
         if self.kept:
             shutil.rmtree(self.kept)
 
@@ -136,8 +138,8 @@ class Trial:
         return {it: found.get(it) or self.verdict_alone(it, self.kept) for it in group}
 
     def check(self, edits: Sequence[Edit], kept: Path) -> tuple[list[str], int, bool]:
-        """The lines and the status of a check with these edits, over a copy of what the control has kept; and whether
-        it ended before the proofs."""
+        """The lines and the status of a check with these edits, with a copy of the results that the control has kept;
+        and whether the check ended before the proofs."""
         texts, words = together(edits), only(edits) if self.only else []
         with tempfile.TemporaryDirectory(prefix='mutants-') as room:
             ran = checked(self.crate, texts, ['--jobs', '1', *words], linked(kept, Path(room, 'kept')))
@@ -146,8 +148,8 @@ class Trial:
 
     def verdicts_together(self, group: Sequence[Edit], kept: Path) -> dict[Edit, Verdict]:
         """The verdicts on those mutants of a group that one check with all their edits refuses for their meaning. If
-        only an answer no longer fits, it may be that of another mutant's function: of one in the same cycle of calls,
-        or of one that is called."""
+        only a proof by hand no longer fits, it may be that of another mutant's function, in the same cycle of calls or
+        called by this one."""
         lines, _, is_void = self.check(group, kept)
         if is_void or not lines[-1].startswith(VERDICTS):
             return {}
@@ -156,7 +158,7 @@ class Trial:
         return {edit: verdict for edit, verdict in found.items() if verdict.kind in REFUSED}
 
     def verdict_alone(self, edit: Edit, kept: Path) -> Verdict:
-        """The verdict on a mutant by a check with its edit only."""
+        """The verdict on a mutant by a check with only its edit."""
         lines, status, is_void = self.check([edit], kept)
         found = best(edit, refused_in(lines))
         if found.kind != NOT_REFUSED or status == 0:

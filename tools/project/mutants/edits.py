@@ -11,7 +11,7 @@ from pathlib import Path
 from project.kit import Crate, edited
 
 FOLDERS = ('must-fail', 'gate-bodies', 'wrong-bodies')
-# How many mutants one check judges at most.
+# The most mutants that one check judges.
 MOST = 12
 HEAD = re.compile(r'( *)(?:pub(?:\([\w ]+\))? |const |unsafe |extern "C" )*fn (\w+)')
 
@@ -19,7 +19,7 @@ HEAD = re.compile(r'( *)(?:pub(?:\([\w ]+\))? |const |unsafe |extern "C" )*fn (\
 @dataclass(frozen=True, eq=False)
 class Edit:
     """A mutant: its crate and its file; the name of the function that has to be refused, None if any may be; whether a
-    check may judge it with others; and why it can't be applied."""
+    check may judge it together with others; and the reason if it can't be applied."""
     crate: Crate
     file: Path
     function: str | None
@@ -38,14 +38,14 @@ class Edit:
 
 
 def body_of(lines: Sequence[str], at: int, indent: str) -> range:
-    """The lines of the body of a function whose head begins at a line, in the layout of `rt fmt`."""
+    """The lines of a function's body, if the function's head begins at this line, in the layout of `rt fmt`."""
     opening = next((it for it in range(at, len(lines)) if lines[it].endswith('{') and lines[it].startswith(indent)
                     and not lines[it].startswith(indent + ' ')), len(lines))
     return range(opening + 1, next((it for it in range(opening, len(lines)) if lines[it] == indent + '}'), opening))
 
 
 def function_around(old: str, new: str) -> str | None:
-    """The name of the function in whose body all differences of two texts are."""
+    """The name of the function whose body contains all differences of two texts."""
     lines = old.split('\n')
     first = os.path.commonprefix([old, new]).count('\n')
     last = max(first, old.count('\n') - os.path.commonprefix([old[::-1], new[::-1]]).count('\n'))
@@ -59,8 +59,8 @@ def function_around(old: str, new: str) -> str | None:
 
 def read(file: Path, crate: Crate, functions: Counter[str], modules: set[str]) -> Edit:
     """Reads the edit of a mutant. A line `refused: FUNCTION` names the function if more than its body changes. A check
-    may judge it with others if it changes one body only, of a function whose name no other one has, and no module in
-    another file (a check of functions by name would check those of that module)."""
+    may judge it with others if it changes only one body, no other function has the same name, and it changes no module
+    in another file (a check of functions by name would also check those of that module)."""
     text = file.read_text('utf-8')
     texts, trouble = edited(text, crate.folder)
     around = [function_around(Path(crate.folder, path).read_text('utf-8'), new) for path, new in texts.items()]

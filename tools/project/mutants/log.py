@@ -1,8 +1,8 @@
-"""The verdict on each mutant when it was last tried, and the texts: log/wrong_bodies.tsv.
+"""The last verdict on each mutant, with a digest of the texts: log/wrong_bodies.tsv.
 
-A line has the mutant, the day, the verdict, the function that was refused, the goals or the error for which it was,
-and a digest of all that this depends on: the mutant, its crate, the crates below with their proofs, crates.txt, the
-code that judges, and the kit. Lines that are comments only don't count.
+A line has the mutant, the day, the verdict, the refused function, the goals or the error for which it was refused, and
+a digest of everything on which the verdict depends: the mutant, its crate, the crates below with their proofs,
+crates.txt, the code that judges, and the kit. Lines that have only a comment don't count.
 """
 from __future__ import annotations
 
@@ -20,13 +20,13 @@ from motesim.runner.programs import ALL_PARTS, TOP
 
 KEPT = TOP / 'log/wrong_bodies.tsv'
 HEAD = '# written by tools/dev/wrong_bodies: mutant, day, what it came to, function, goals or error, digest\n'
-# How a line begins that is a comment only.
+# The beginnings of lines that have only a comment.
 COMMENTS = {'.rt': b'//', '.antt': b'--', '.txt': b'#'}
 MOST_LETTERS = 100
 
 
 class Tried(NamedTuple):
-    """When a mutant was tried, what it came to, and the digest of what it was tried over."""
+    """The day on which a mutant was tried, the verdict, and the digest of everything on which it depends."""
     day: str
     verdict: Verdict
     digest: str
@@ -50,7 +50,7 @@ def sum_of(folder: Path, parts: Iterable[str]) -> bytes:
 
 @cache
 def digest(edit: Edit, top: Path = TOP) -> str:
-    """A digest of a mutant and of all that its verdict depends on."""
+    """A digest of a mutant and of everything on which its verdict depends."""
     found = hashlib.sha256(edit.file.read_bytes() + version().encode())
     for it in [edit.crate, *sorted(edit.crate.below(), key=lambda it: it.name)]:
         found.update(it.name.encode() + sum_of(Path(it.folder), ALL_PARTS))
@@ -66,14 +66,14 @@ def noted() -> dict[str, Tried]:
 
 
 def changed(edits: Iterable[Edit]) -> list[Edit]:
-    """The mutants whose verdict over the texts of now isn't known, or is that they weren't refused."""
+    """The mutants whose verdict for the present texts isn't known, or is that they weren't refused."""
     kept = noted()
     return [it for it in edits if it.name not in kept or kept[it.name].verdict.kind not in REFUSED + OPEN
             or kept[it.name].digest != digest(it)]
 
 
 def note(found: Mapping[Edit, Verdict], edits: Iterable[Edit]) -> None:
-    """Notes what mutants came to today. Mutants that aren't among all edits are forgotten."""
+    """Notes today's verdicts on mutants. Mutants that aren't among all edits are forgotten."""
     today, names = time.strftime('%Y-%m-%d'), {it.name for it in edits}
     kept = {name: it for name, it in noted().items() if name in names}
     kept |= {it.name: Tried(today, verdict, digest(it)) for it, verdict in found.items()}
