@@ -389,6 +389,8 @@ class Pages(unittest.TestCase):
         said = self.value('document.getElementById("note").innerText')
         for words in 'Broken: mote 1 sends 41', 'mote 1 has 0 such lines', 'nothing', 'line 38':
             self.assertIn(words, said)
+        self.assertTrue(self.value('[...document.querySelectorAll("button.line .where")]'
+                                   '.every(it => it.scrollWidth <= it.clientWidth)'))
         self.key('Escape', number=27)
         self.value('document.querySelector("#note button").click()')
         self.assertEqual(self.selected(), '19 send 1 40')
