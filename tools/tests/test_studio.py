@@ -442,7 +442,10 @@ class Guides(unittest.TestCase):
         found = guides.guide('flooding.toml', (TOP / 'examples/flooding.toml').read_text())
         self.assertTrue(any(it['kind'] == 'task' and 'broadcast storm' in it['text'] for it in found))
         self.assertTrue(any(it['kind'] == 'look' for it in found))
-        self.assertIn('reaches all', guides.title('flooding.toml'))
+        self.assertEqual(guides.title('flooding.toml'), 'a message that reaches all, and what that costs')
+        self.assertEqual(guides.title('tdma.toml'), 'collisions, and none')
+        for path in sorted((TOP / 'examples').glob('*.toml')):
+            self.assertNotIn('|', guides.title(path.name))
 
 
 class Command(unittest.TestCase):

@@ -101,5 +101,6 @@ def title(name: str, page: Path = PAGE) -> str:
     except OSError:
         return ''
     stem = name.removesuffix('.toml')
-    found = re.search(r'^\| \[[^]]*\b%s\b[^]]*\]\([^)]*\) \| [0-9]+ \| (.*?) \|$' % re.escape(stem), source, re.M)
+    row = r'^\| \[[^]]*\b%s\b[^]]*\]\([^)]*\)(?: \| [0-9, to]+)+ \| (.*?) \|$'
+    found = re.search(row % re.escape(stem), source, re.M)
     return found[1] if found else shows(source, name)
