@@ -133,6 +133,13 @@ class PlotTest(unittest.TestCase):
             self.assertEqual((done.returncode, done.stdout), (2, ''))
             self.assertIn(seen, done.stderr)
 
+    def test_a_parameter_without_its_column_is_named(self) -> None:
+        path = self.folder / 'net.csv'
+        path.write_text(''.join(line.partition(',')[2] for line in path.read_text().splitlines(True)))
+        done = self.plot('--measure', 'sent', '--against', 'density')
+        self.assertEqual((done.returncode, done.stdout), (2, ''))
+        self.assertIn('net.csv has no column for a parameter of its sweep, period: keep all', done.stderr)
+
     def test_texts_are_no_measure(self) -> None:
         rows: list[Row] = [{'a': 1, 'said': 'so', 'fault': None, 'parameters': 'a'}]
         with self.assertRaisesRegex(Fault, 'has texts'):

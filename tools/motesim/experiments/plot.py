@@ -299,6 +299,10 @@ def runs_of(path: Path, where: Sequence[str], apart: Sequence[str] = ()) -> list
     if not rows:
         raise Fault('%s has no runs: run tools/sweep again' % path)
     check_whole(path, rows)
+    lacking = [name for name in parameters_of(rows) if name not in rows[0]]
+    if lacking:
+        raise Fault('%s has no column for a parameter of its sweep, %s: keep all columns that tools/sweep wrote' % (
+            path, ', '.join(lacking)))
     rows = chosen(rows, where)
     if not rows:
         raise Fault('%s has no runs with these values together: %s' % (path, ', '.join(where)))
