@@ -26,6 +26,7 @@ from motesim.grading.nets import nets_of, program_of
 from motesim.grading.page import page_of
 from motesim.grading.pages import HEAD
 from motesim.grading.progress import Progress
+from motesim.grading import tables
 from motesim.grading.tables import cell, csv_of
 from motesim.grading.tables import table as table_of
 from motesim.faults import Fault
@@ -340,6 +341,19 @@ class Nets(Folder):
         self.assertTrue(self.rows('--net', 'task.toml')['ben.mote'].endswith('; mote 0 halts at 0 in task.toml'))
         self.assertIn('mote 0 halts at 0 in task.toml: it used up its work there, as by a loop without a wait',
                       self.grade('--net', 'task.toml', '--why', 'ben'))
+        (self.top / 'secret.toml').write_text(net(PROGRAM % 9, motes=5))
+        self.grade('--net', 'task.toml', '--hidden', 'secret.toml', '-o', 'marks.html')
+        self.assertIn('mote 0 halts at 0 in task.toml', self.page())
+        self.grade('--hidden', 'secret.toml', '-o', 'marks.html')
+        self.assertNotIn('mote 0 halts', self.page())
+
+    def test_why_names_some_nets_and_the_one_of_its_reason(self) -> None:
+        nets = ['n%d.toml' % it for it in range(1, 6)]
+        for count, said in (1, 'in n1.toml'), (2, 'in n1.toml, n2.toml; in n1.toml:'), (
+                5, 'in n1.toml, n2.toml, n3.toml and 2 more; in n1.toml:'):
+            mark = Mark('mote 0 prints a 1', False, tuple(nets[:count]), ('mote 0 has 0 such lines',))
+            self.assertEqual([it.strip() for it in tables.why(Marks('ben', (mark,)))[1:]], [
+                said, 'mote 0 has 0 such lines'])
 
     def test_a_run_page_names_the_lines_of_the_solution_s_file(self) -> None:
         need_program(self)
@@ -583,6 +597,8 @@ class Forms(Folder):
         self.hand_in('cem.toml', net(PROGRAM % 3).replace('end = ', 'end: ', 1))
         words = '--net', 'task.toml'
         self.assertIn('--why ben.mote shows the place of its error', self.grade(*words))
+        self.hand_in('an ott.mote', (PROGRAM % 3).replace('print', 'prnt', 1))
+        self.assertIn("--why 'an ott.mote' shows the place of its error", self.grade(*words))
         self.assertIn('Did you mean `print`?', self.grade(*words, '--why', 'ben'))
         self.assertIn('Write, as line 2:\n  end = ', self.grade(*words, '--why', 'cem'))
         # (the reason is there once, and of a scenario only its program matters)

@@ -76,7 +76,7 @@ class Marks:
     picture  the page with the timeline of its first failed sentence, in the folder of pictures
     no_page  the reason why there is no such page, though pages were asked for
     fix      for a refused scenario or program, the place of its error, and the correction
-    halts    the first mote that halts in a net, if one does
+    halts    the first mote that halts in a net, if one does; and `shown_halts` in a net that isn't hidden
     """
     name: str
     marks: tuple[Mark, ...] = ()
@@ -87,6 +87,7 @@ class Marks:
     fix: tuple[str, ...] = ()
     is_open: bool = False
     halts: str = ''
+    shown_halts: str = ''
 
     def in_lines(self) -> Marks:
         """The same, with each text in one line: names in a solution may have characters that would end or change a
@@ -241,8 +242,9 @@ class Task:
                               first.more if first else (), shown_of(failed), place < self.part.required))
         why = ' '.join(next((its.why for its in found if its.why), '').split())[:LONGEST_WHY]
         lacks = [next((it for it in each if it), '') for each in zip(*(its.lacks for its in found))]
-        halts = next((its.halts + (' in %s' % its.net if its.net else '') for its in found if its.halts), '')
-        return Marks(name, tuple(marks), why, tuple(lacks), halts=halts)
+        halts, shown = (next((it.halts + (' in %s' % it.net if it.net else '') for it in its if it.halts), '')
+                        for its in (found, [it for it in found if not it.is_hidden]))
+        return Marks(name, tuple(marks), why, tuple(lacks), halts=halts, shown_halts=shown)
 
     def possible_pictures(self, entries: Sequence[Entry]) -> list[str]:
         """The names of all pages that the marking of these entries may write."""
@@ -263,8 +265,8 @@ class Task:
         mark = its.marks[place]
         note = note_of(its.run, mark.sentence, its.broken[place] if place < len(its.broken) else None, mark.more)
         name = page_name(number, marks.name, its.net)
-        write_page(self.pictures / name, '%s: %s' % (marks.name, mark.sentence), [its.run._replace(name=marks.name)],
-                   note=note, write=replace_whole)
+        run = its.run._replace(name=marks.name + (' in %s' % its.net if its.net else ''))
+        write_page(self.pictures / name, '%s: %s' % (marks.name, mark.sentence), [run], note=note, write=replace_whole)
         return name, ''
 
 

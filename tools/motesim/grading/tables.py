@@ -3,6 +3,7 @@ from __future__ import annotations
 
 import csv
 import io
+import shlex
 import unicodedata
 from collections.abc import Sequence
 
@@ -11,6 +12,8 @@ from motesim.grading.own import COLUMNS, OF_TOML
 from motesim.judge.expectations import REQUIRED
 from motesim.toml import MARK
 
+# How many nets a line names.
+MOST_NAMED = 3
 # Some spreadsheets treat a cell with this beginning as a formula.
 OF_FORMULA = ('=', '+', '-', '@', '\t', '\r', '|', '%')
 RENAMED = 'Hint: sentences use the names of the task: if a process was renamed, rename it back, and grade again'
@@ -56,7 +59,8 @@ def below(marked: Sequence[Marks], sentences: Sequence[str]) -> list[str]:
 def pointer(marked: Sequence[Marks]) -> list[str]:
     """The line about the option that shows the errors of refused solutions."""
     refused = [it.name for it in marked if any(line.startswith('Hint: ') for line in it.fix)]
-    return ['', '--why %s shows the place of its error, and how to correct it' % refused[0]] if refused else []
+    return ['', '--why %s shows the place of its error, and how to correct it' % shlex.quote(
+        refused[0])] if refused else []
 
 
 def cell(text: str) -> str:
@@ -123,13 +127,19 @@ def toml_of(marked: Sequence[Marks], sentences: Sequence[str], expectations: str
     return '\n'.join(lines) + '\n'
 
 
+def in_nets(nets: Sequence[str]) -> str:
+    """The nets in which a sentence doesn't hold; of several, the reason below is that of the first one."""
+    more = ' and {:,} more'.format(len(nets) - MOST_NAMED) if len(nets) > MOST_NAMED else ''
+    return 'in %s%s%s' % (', '.join(nets[:MOST_NAMED]), more, '; in %s:' % nets[0] if len(nets) > 1 else '')
+
+
 def why(marks: Marks) -> list[str]:
     """The lines about the sentences of one solution, with a hint if they have names that the solution lacks."""
     lines = [*([marks.why] if marks.why else []), *marks.fix]
     # (without a report no sentence holds, all for the same reason)
     for it in marks.marks if not marks.why else ():
         lines.append(('holds   ' if it.holds else 'broken  ') + it.words)
-        nets = ['in %s' % ', '.join(it.nets)] if it.nets else []
+        nets = [in_nets(it.nets)] if it.nets else []
         lines += ['          ' + row for row in [*nets, *it.more]]
     lines += ['%s: it used up its work there, as by a loop without a wait' % marks.halts] if marks.halts else []
     return lines + [RENAMED] * any(marks.lacks)
