@@ -208,6 +208,21 @@ class FileScope(unittest.TestCase):
                 self.assertEqual(shown.shown(source, 0), [
                     'Leave line 1 out,', 'and insert below line %d:' % below, '    ' + declared])
 
+    def test_a_timer_among_statements_moves_to_the_head(self) -> None:
+        for typed, use, below, declared in (
+                ('static struct etimer et;', 'set et 5;', 4, 'etimer et;'),
+                ('etimer et;', 'set et 5;', 4, 'etimer et;'), ('struct ctimer ct;', 'set ct 5;', 5, 'ctimer ct { poll a; }')):
+            with self.subTest(typed):
+                source = ('process a;\nautostart a;\ncode a {\n  var n = 0;\n  etimer u;\n  body {\n    set u 1;\n'
+                          '    %s\n    %s\n  }\n}\n' % (typed, use))
+                fault = find_fault(source)
+                assert fault
+                found, shown = correction(source, fault), advice(source, fault)
+                assert found and shown
+                self.assertEqual((found.line, found.above), ('', (below, declared)))
+                self.assertIsNone(find_fault(found.applied(source)))
+                self.assertIn('Timers are declared at the head of `code`: `%s`.' % declared, shown.hint)
+
     def test_without_a_code_the_hint_has_the_value(self) -> None:
         source = 'static int x = 7, y;\nprocess a;\nautostart a;\n'
         fault = find_fault(source)

@@ -240,6 +240,17 @@ class Hints(unittest.TestCase):
         self.assertEqual(self.shown(text)[:-1], [
             'Hint: The text that begins on line 9 has no end: the three quotes that close it are missing.'])
 
+    def test_a_program_whose_last_quotes_are_others(self) -> None:
+        for quotes, end in ('"""', "'''"), ("'''", '"""'), ("'''", "''"):
+            text = scenario(program='\nprocess a;\ncode a { body { } }\n').replace('"\nprocess', quotes + '\nprocess')
+            with self.subTest(quotes, end=end):
+                self.assertEqual(self.shown(text.replace('}\n"', '}\n' + end))[:-1], [
+                    'Hint: The text that begins on line 9 ends with the same three quotes, `%s`.' % quotes,
+                    'Write, as line 12:', '  ' + quotes])
+
+    def test_a_semicolon_behind_a_block_is_named(self) -> None:
+        self.assertIn('behind a `}` there is none', self.hint('process a; autostart a; code a { body { }; }'))
+
     def test_python_says_only_what_it_says(self) -> None:
         for text, seen in [
             ('.'.join(['a'] * 81) + ' = 1', 'TOML (A key has more than 80 parts: write fewer dots)'),

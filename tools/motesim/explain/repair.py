@@ -284,7 +284,11 @@ def _attempts_at_name(text: str, rows: list[str], tables: object, fault: Scenari
 def _attempts(text: str, fault: ScenarioError) -> Iterator[Repair]:
     rows = text.split('\n')
     if fault.message == 'scenario fault 1':
-        if not quotes.unclosed(text, fault.may):
+        opened = quotes.unclosed(text, fault.may)
+        other = quotes.other_end(rows, opened) if opened else None
+        if opened and other:
+            yield Repair(quotes.OF_END % (opened, other[1]), other[0], other[0], (other[1],))
+        if not opened:
             of_quotes = list(_attempts_at_quotes(rows, fault))
             yield from of_quotes or _attempts_at_toml(rows, fault)
         return

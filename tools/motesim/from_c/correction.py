@@ -106,8 +106,9 @@ def _insertions(text: str, reader: Statements) -> list[tuple[int, str] | None]:
         return [(_above_processes(text), ' '.join(reader.events)) if reader.events else None]
     if reader.events:
         return [None]
-    is_top = reader.place.is_top
-    head = head_for(text, reader.declares[0]) if is_top else reader.place.head
+    is_top, code = reader.place.is_top, reader.place.code
+    has_timer = any(it.startswith('ctimer') for it in reader.declares)
+    head = head_for(text, reader.declares[0], code) if is_top or has_timer else reader.place.head
     declared = head, ' '.join(sorted(reader.declares, key=lambda it: it.split()[0], reverse=True))
     return [declared, None] if is_top and head else [None if is_top else declared]
 

@@ -48,15 +48,20 @@ class Declarations(Lines):
 
     def declared(self, name: str, value: str) -> str:
         if self.place.is_top:
-            return self.in_code('Variables belong', 'var %s = %s;' % (self.new_name(name), value))
+            return self.in_code('Variables', 'var %s = %s;' % (self.new_name(name), value))
         if not self.place.is_head:
             return self.declared_above(name, value)
         return 'var %s = %s;' % (self.new_name(name), value)
 
-    def in_code(self, belong: str, declared: str) -> str:
-        """A declaration above the codes, which moves into one."""
+    def is_moved(self) -> bool:
+        """Returns whether a timer that is declared here belongs to the head of a code."""
+        return self.place.is_top or not self.place.is_head and self.place.head > 0
+
+    def in_code(self, names: str, declared: str) -> str:
+        """A declaration above the codes or among statements, which moves to the head of a code."""
         self.declares.append(declared)
-        belongs = belong + ' to one process, at the head of its `code`: '
+        belongs = names + (' belong to one process, at the head of its `code`: ' if self.place.is_top else
+                           ' are declared at the head of `code`: ')
         self.writer.reasons = [belongs + '`%s`.' % ' '.join(self.declares),
                                *(it for it in self.writer.reasons if not it.startswith(belongs))]
         return ''
@@ -189,17 +194,15 @@ class Declarations(Lines):
         self.at += 1
         self.end('')
         self.why('A callback timer has a block, which runs when the timer is due: `ctimer %s { .. }`.' % name)
-        if self.place.is_top:
-            return self.in_code('Timers belong', 'ctimer %s { }' % name)
-        return 'ctimer %s { %s}' % (name, 'poll %s; ' % self.place.code if self.place.code else '')
+        declared = 'ctimer %s { %s}' % (name, 'poll %s; ' % self.place.code if self.place.code else '')
+        return self.in_code('Timers', declared) if self.is_moved() else declared
 
     def of_names(self, word: str, form: str) -> str:
         """Names with commas between them, each declared by a line of its own."""
         found = []
         while True:
             declared = '%s %s;' % (word, form % self.new_name(self.token.text))
-            is_moved = word == 'etimer' and self.place.is_top
-            found.append(self.in_code('Timers belong', declared) if is_moved else declared)
+            found.append(self.in_code('Timers', declared) if word == 'etimer' and self.is_moved() else declared)
             self.at += 1
             if not self.accept(','):
                 break
@@ -212,7 +215,7 @@ class Declarations(Lines):
         if words[0] in ('etimer', 'event') and words[2] == ',' and self.accept(words[0]):
             self.why('Each name is declared on its own.')
             return self.of_names(words[0], '%s')
-        if words[0] == 'etimer' and self.place.is_top and self.accept('etimer'):
+        if words[0] == 'etimer' and self.is_moved() and self.accept('etimer'):
             return self.of_names('etimer', '%s')
         if words[0] == 'ctimer' and words[2] == ';' and self.accept('ctimer'):
             return self.of_callback()

@@ -67,10 +67,10 @@ def place_below(above: list[str]) -> Surroundings:
                         last_statement(words))
 
 
-def head_for(text: str, declared: str) -> int:
-    """The line (from 1) below which a declaration from above `process` belongs: in the first code that uses its name, or
-    in the first one; 0 if there is no code."""
-    codes = [it for it in CODE.finditer(text) if '{' in text[it.end():]]
+def head_for(text: str, declared: str, code: str = '') -> int:
+    """The line (from 1) below which a declaration belongs: in the code of a process, or without one in the first code
+    that uses its name, or in the first one; 0 if there is no code."""
+    codes = [it for it in CODE.finditer(text) if '{' in text[it.end():] and code in ('', it[1])]
     if not codes:
         return 0
     word, name = declared.rstrip(';').split()[:2]

@@ -106,6 +106,7 @@ class Statements(Declarations, Calls, Control):
             self.at += 1
             return self.directive(word)
         if self.accept(';'):
+            self.why('A `;` ends a statement; behind a `}` there is none.')
             return ''
         if word == '{' and self.place.is_head and self.accept('{'):
             self.why('The brace is there already, behind the name of the `code`.')
