@@ -54,7 +54,7 @@ def in_words(form: str) -> str:
 class Tables(unittest.TestCase):
     def test_what_is_not_so_is_refused_and_what_is_written_instead_is_right(self) -> None:
         for name in PAGES:
-            rows = cells(page(name), '| Not | But |')
+            rows = cells(page(name), '| Wrong | Right |')
             self.assertGreater(len(rows), 6)
             for wrong, right in rows:
                 for line in programs(wrong):
