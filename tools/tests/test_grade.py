@@ -20,7 +20,7 @@ from pathlib import Path
 from unittest import mock
 
 from here import TOOLS
-from motesim.grading.entries import anonymous, data_of, entries_of
+from motesim.grading.entries import Entry, anonymous, data_of, entries_of
 from motesim.grading.marking import Mark, Marks, Task, page_name
 from motesim.grading.nets import nets_of, program_of
 from motesim.grading.page import page_of
@@ -314,6 +314,19 @@ class Nets(Folder):
         self.assertEqual((found.motes, found.programs['task'].strip()), (5, (PROGRAM % 4).strip()))
         self.grade('--write', 'runs', status=2)
         self.assertIn('--write needs a net', self.seen)
+
+    def test_an_empty_folder_has_no_scenario_and_a_folder_s_expectations_are_named(self) -> None:
+        (self.folder / 'aaa').mkdir()
+        (self.folder / 'group').mkdir()
+        self.hand_in('group/eve.toml', net(PROGRAM % 3))
+        self.hand_in('group/eve.expect.toml', '')
+        said = self.grade('--net', 'task.toml', '--write', 'runs')
+        self.assertEqual(sorted(os.listdir(self.top / 'runs')), ['anna.toml_in_task.toml',
+                                                                 'group_eve.toml_3_in_task.toml'])
+        self.assertIn("grade: aaa isn't written: an empty folder", self.seen)
+        self.assertIn('have no row: group/eve.expect.toml', self.seen)
+        self.assertIn('0 of 3  an empty folder', said)
+        self.assertRaises(Fault, data_of, Entry('aaa', self.folder / 'aaa'))
 
     def test_the_key_of_an_anonymous_marking(self) -> None:
         self.hand_in('ben.toml', net(PROGRAM % 4))

@@ -44,7 +44,7 @@ def values_of(words: str) -> list[Value]:
         found += range(begin, end + 1, step)
     counts = Counter(map(text_of_value, found))
     if '' in counts:
-        raise Fault('%s has an empty value' % words)
+        raise Fault('%r has an empty value: values are such as 10,20 or 1..30' % words)
     twice = next((value for value, count in counts.items() if count > 1), None)
     if twice is not None:
         raise Fault('%s has a value twice: %s' % (words, twice))

@@ -99,9 +99,11 @@ def write_scenarios(folder: Path, entries: Sequence[Entry], task: Task) -> None:
     for number, entry in enumerate(entries, 1):
         for net in task.nets:
             try:
+                if entry.why:
+                    raise Fault(entry.why)
                 text = net.with_program(program_of(data_of(entry), entry.path.name, net.program))
             except Fault as fault:
-                print('grade: %s isn\'t written: %s' % (one_line(entry.name), entry.why or fault), file=sys.stderr)
+                print('grade: %s isn\'t written: %s' % (one_line(entry.name), fault), file=sys.stderr)
                 break
             path = folder / (page_name(number, entry.name, net.name).removesuffix('.html').removesuffix('.toml')
                              + '.toml')

@@ -101,10 +101,16 @@ def anonymous(entries: Sequence[Entry], chance: random.Random | None = None) -> 
 
 
 def skipped_of(folder: Path) -> list[str]:
-    """The names of the files of a folder that are not entries."""
-    names = sorted(it.name for it in os.scandir(folder))
-    own = own_of(folder)
-    return [one_line(it) for it in names if it.startswith('.') or it.endswith(OF_TEACHER) or it in own]
+    """The names of the files of a folder and of the folders in it that are not entries."""
+    found: list[str] = []
+    for at, folders, names in os.walk(folder):
+        path = Path(at)
+        hidden = [it for it in folders if it.startswith('.')]
+        folders[:] = sorted(set(folders) - set(hidden)) if len(path.relative_to(folder).parts) < DEEPEST else []
+        own = own_of(path)
+        found += [one_line(str((path / it).relative_to(folder))) for it in sorted([*names, *hidden])
+                  if it.startswith('.') or it.endswith(OF_TEACHER) or it in own]
+    return found
 
 
 def data_of(entry: Entry) -> bytes:
@@ -114,7 +120,8 @@ def data_of(entry: Entry) -> bytes:
         number = os.open(entry.path, os.O_RDONLY | os.O_NONBLOCK | os.O_NOFOLLOW | os.O_CLOEXEC)
     except OSError as fault:
         raise Fault('it can\'t be read: %s' % fault.strerror) from None
+    if not stat.S_ISREG(os.fstat(number).st_mode):
+        os.close(number)
+        raise Fault('not a file')
     with open(number, 'rb') as file:
-        if not stat.S_ISREG(os.fstat(number).st_mode):
-            raise Fault('not a file')
         return file.read(LONGEST_TEXT + 1)
