@@ -223,6 +223,17 @@ class FileScope(unittest.TestCase):
                 self.assertIsNone(find_fault(found.applied(source)))
                 self.assertIn('Timers are declared at the head of `code`: `%s`.' % declared, shown.hint)
 
+    def test_a_timer_that_is_declared_already_is_left_out(self) -> None:
+        source = ('process a;\nautostart a;\ncode a {\n  etimer et;\n  body {\n    static struct etimer et;\n'
+                  '    set et 5;\n  }\n}\n')
+        fault = find_fault(source)
+        assert fault
+        found, shown = correction(source, fault), advice(source, fault)
+        assert found and shown
+        self.assertEqual((found.line, found.above), ('', None))
+        self.assertIsNone(find_fault(found.applied(source)))
+        self.assertEqual(shown.hint, 'An event timer is declared by `etimer`. `et` is declared already.')
+
     def test_without_a_code_the_hint_has_the_value(self) -> None:
         source = 'static int x = 7, y;\nprocess a;\nautostart a;\n'
         fault = find_fault(source)

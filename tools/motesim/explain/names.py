@@ -4,6 +4,7 @@ from __future__ import annotations
 from typing import NamedTuple
 
 from motesim.from_c.correction import Correction
+from motesim.from_c.expressions import QUALIFIERS, TYPES
 from motesim.from_c.places import place_below
 from motesim.notation.faults import ARTICLES, ProgramError, Token, find_fault, tokens_of
 
@@ -11,8 +12,8 @@ DECLARES = {'event': 'event', 'semaphore': 'semaphore', 'process': 'process', 'v
             'ctimer': 'timer', 'thread': 'thread'}
 HEAD = {'variable': 'var %s = 0;', 'timer': 'etimer %s;'}
 # Words of other languages that name no variable.
-NO_VARIABLES = ('true', 'false', 'and', 'or', 'not', 'random', 'rand', 'rnd', 'sleep', 'printf',
-                'break', 'continue', 'return', 'goto', 'switch', 'case', 'for', 'do')
+NO_VARIABLES = {'true', 'false', 'and', 'or', 'not', 'random', 'rand', 'rnd', 'sleep', 'printf', 'break', 'continue',
+                'return', 'goto', 'switch', 'case', 'for', 'do', 'struct', *TYPES, *QUALIFIERS}
 TOP = {'semaphore': 'semaphore %s = 0;', 'event': 'event %s;'}
 
 

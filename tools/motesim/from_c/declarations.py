@@ -201,8 +201,12 @@ class Declarations(Lines):
         """Names with commas between them, each declared by a line of its own."""
         found = []
         while True:
-            declared = '%s %s;' % (word, form % self.new_name(self.token.text))
-            found.append(self.in_code('Timers', declared) if word == 'etimer' and self.is_moved() else declared)
+            name = self.new_name(self.token.text)
+            declared, is_moved = '%s %s;' % (word, form % name), word == 'etimer' and self.is_moved()
+            if is_moved and name in self.place.timers:
+                self.why('`%s` is declared already.' % name)
+            else:
+                found.append(self.in_code('Timers', declared) if is_moved else declared)
             self.at += 1
             if not self.accept(','):
                 break

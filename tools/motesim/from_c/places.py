@@ -29,6 +29,7 @@ class Surroundings(NamedTuple):
     code     the process whose code it is, or nothing
     head     the line (from 1) below which a variable of this code may be declared, or 0
     variables  the variables of this code
+    timers     its event timers that are declared above the lines
     last     the first word of the statement above the lines, or nothing
     before   that complete statement, without its semicolon
     """
@@ -38,6 +39,7 @@ class Surroundings(NamedTuple):
     code: str = ''
     head: int = 0
     variables: frozenset[str] = frozenset()
+    timers: frozenset[str] = frozenset()
     last: str = ''
     before: str = ''
 
@@ -63,7 +65,8 @@ def place_below(above: list[str]) -> Surroundings:
     declared = [at for at in range(codes[-1], len(words)) if words[at] == 'var']
     head = tokens[declared[-1] if declared else codes[-1] + 2].line
     names = frozenset(words[at + 1] for at in declared if at + 1 < len(words))
-    return Surroundings(len(opened) == 1, False, loop, words[codes[-1] + 1], head, names, _last(words),
+    timers = frozenset(name for word, name in zip(words[codes[-1]:], words[codes[-1] + 1:]) if word == 'etimer')
+    return Surroundings(len(opened) == 1, False, loop, words[codes[-1] + 1], head, names, timers, _last(words),
                         last_statement(words))
 
 
