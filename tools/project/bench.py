@@ -20,7 +20,7 @@ from typing import NamedTuple
 
 from motesim.faults import Fault, command
 from motesim.words import words_of
-from motesim.runner.programs import TOP, program_path
+from motesim.runner.programs import TOP, optimized_path
 
 # Each scenario with the arguments of its script.
 SCENARIOS = {'beacons': [31, 2000, 10], 'polls': [500, 200], 'broadcasts': [8, 20000], 'timers': [64, 200000],
@@ -98,7 +98,7 @@ def main() -> int:
     words.add_argument('--against', metavar='PROGRAM', help='an earlier motesim, which runs alternately with this one')
     words.add_argument('--rounds', type=int, default=5, metavar='N', help='N runs of each (5)')
     asked = words.parse_args()
-    programs = [str(program_path().resolve()), *([os.path.abspath(asked.against)] if asked.against else [])]
+    programs = [str(optimized_path()), *([os.path.abspath(asked.against)] if asked.against else [])]
     if len(programs) > 1:
         print('Each measure is that of %s, that of %s, and their ratio.' % tuple(programs))
     return 0 if all([measure_scenario(name, programs, asked.rounds) for name in asked.names or SCENARIOS]) else 1

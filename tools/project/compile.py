@@ -1,6 +1,7 @@
 """Compiles `motesim` without proving it, if no binary of these sources is built. ./run and tools/pack use this module.
 
-The binary is kept in out/programs by a digest of the sources (motesim.runner.programs).
+The binary is kept in out/programs by a digest of the sources (motesim.runner.programs). It is compiled quickly, and
+`motesim.runner.programs.optimize` has it replaced by an optimized one.
 """
 from __future__ import annotations
 
@@ -12,11 +13,12 @@ import time
 from pathlib import Path
 
 from motesim.faults import Fault
-from motesim.runner.programs import PROGRAMS, TOP, compiled_kept, is_program
+from motesim.runner.programs import PARTS, PROGRAMS, TOP, compiled_kept, is_program
 from project import kit
 from project.running import end_on_signals, locked
 
-COMPILING = 'motesim is not built yet: compiling it, without a proof; this needs one to two minutes'
+COMPILING = 'motesim is not built yet: compiling it, without a proof; this needs about a minute; ' \
+            'after that, a faster one is compiled in the background'
 WAITING = 'another run is compiling the program; this one waits for it'
 
 
@@ -27,13 +29,15 @@ def make(kept: Path) -> None:
         shutil.rmtree(left, ignore_errors=True)
     began = time.time()
     with tempfile.TemporaryDirectory(prefix='room-', dir=PROGRAMS) as room:
-        made = Path(room) / kept.name
-        said = kit.compiled(kept.name, TOP, Path(room), made)
+        made, parts = Path(room) / kept.name, Path(room) / PARTS
+        said = kit.compiled(kept.name, TOP, Path(room), made, parts)
         if said is not None:
             raise Fault('the program was not compiled, as these lines say:\n%s' % said.rstrip())
         # (a source that is edited meanwhile is newer than the binary)
         os.utime(made, (began, began))
-        kept.parent.mkdir(exist_ok=True)
+        shutil.rmtree(kept.parent, ignore_errors=True)
+        kept.parent.mkdir()
+        os.replace(parts, kept.parent / PARTS)
         os.replace(made, kept)
 
 

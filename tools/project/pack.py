@@ -31,7 +31,7 @@ from pathlib import Path, PurePosixPath
 from typing import NamedTuple
 
 from motesim.faults import Fault, command
-from motesim.runner.programs import COMPILED, TOP, is_proved, program_of_sources, program_path
+from motesim.runner.programs import COMPILED, TOP, is_proved, optimize, program_of_sources, program_path
 from motesim.scenario import kinds
 from motesim.terminal import one_line
 from motesim.version import KIT, VERSION
@@ -57,7 +57,9 @@ def template(name: str) -> str:
 def program() -> Path:
     """The binary that MOTESIM names, or the proved binary of these sources, or one that is compiled without a
     proof."""
-    return program_path() if os.environ.get('MOTESIM') else program_of_sources() or compile_program()
+    found = program_path() if os.environ.get('MOTESIM') else program_of_sources() or compile_program()
+    optimize(found, waits=True)
+    return found
 
 
 def licenses() -> dict[str, bytes]:

@@ -18,7 +18,7 @@ from pathlib import Path
 from typing import NamedTuple, NoReturn
 
 from motesim.faults import Fault
-from motesim.runner.programs import NOT_PROVED, is_compiled, program_of_sources, program_path
+from motesim.runner.programs import NOT_PROVED, is_compiled, optimize, program_of_sources, program_path
 from motesim.runner.versions import version_line
 from project.compile import compile_program
 from project.running import ends_with_parent
@@ -131,6 +131,7 @@ def program_for(request: Request) -> Path:
         found = compile_program()
     if is_compiled(found) and not request.wants_help:
         say('%s: %s' % (NAME, NOT_PROVED))
+        optimize(found)
     return found
 
 

@@ -20,7 +20,7 @@ from motesim.output import beside
 from motesim.plan.plan import Plan
 from motesim.plan.tables import Value, text_of_value, value_of_text
 from motesim.experiments.results import CsvFile, Row, SqliteFile, open_results, text_of
-from motesim.runner.run import TOP, program_path
+from motesim.runner.programs import TOP, optimized_path
 from motesim.experiments.asked import Sweep, chance_seeds, columns_of, known_names, some_runs, sources_of, sweep_of
 from motesim.experiments.draws import CHANCE, WARNING, Notes, Seeds, without_alike
 from motesim.experiments.progress import Progress
@@ -38,7 +38,7 @@ class Sweeper:
         self.sweep, self.plan = sweep, sweep.plan
         self.sources = sources_of(self.plan, sweep.measures)
         self.columns = columns_of(sweep, known_names(sweep), self.sources)
-        self.program = program_path().resolve()
+        self.program = optimized_path()
         self.made: Row = {
             'plan': self.plan.name, 'program': program_version(self.program),
             'program_sha256': program_digest(self.program), 'kit': kit_version(self.program),

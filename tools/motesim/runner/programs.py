@@ -7,15 +7,17 @@ out/programs by a digest of what they were made from:
     proved-DIGEST/motesim      built by `./prove` or `./test`; the digest is of the sources, contracts and proofs
     compiled-DIGEST/motesim    compiled without a proof; the digest is of the sources
 
-A file in this folder is complete, and never changes.
+A binary in this folder is complete, and never changes, except that an optimized one replaces the first compiled one.
 """
 from __future__ import annotations
 
 import contextlib
+import fcntl
 import functools
 import hashlib
 import os
 import shutil
+import subprocess
 import sys
 import time
 from collections.abc import Sequence
@@ -28,6 +30,8 @@ TOP = Path(__file__).resolve().parents[3]
 PROVED = TOP / 'crates/motesim/out/motesim'
 DAY = 86_400
 PROGRAMS = TOP / 'out/programs'
+# The folder next to a binary that isn't optimized yet, with the inputs of the linker.
+PARTS = 'parts'
 # The binary in an archive that tools/pack made, which has no crates; and the page that the archive has if the binary
 # was proved.
 PACKED, PACKED_PROVED = TOP / 'motesim', TOP / 'PROVED.md'
@@ -141,6 +145,24 @@ def compiled_program() -> Path | None:
     return compiled_kept() if any(PROGRAMS.glob('compiled-*')) and is_program(compiled_kept()) else None
 
 
+def optimize(program: Path, waits: bool = False) -> None:
+    """Starts a process in the background that replaces a compiled binary by an optimized one, unless this is done
+    already or another process does it. With `waits`, prints a line and returns after this."""
+    script = program.resolve().parent / PARTS / 'optimize'
+    # (the script is deleted at the end)
+    with contextlib.suppress(FileNotFoundError):
+        with open(script, 'rb') as held, contextlib.suppress(BlockingIOError):
+            fcntl.flock(held, fcntl.LOCK_EX | fcntl.LOCK_NB)
+            # (the process has the lock until it ends)
+            subprocess.Popen(['nice', script], stdin=subprocess.DEVNULL, stdout=subprocess.DEVNULL,
+                             stderr=subprocess.DEVNULL, start_new_session=True, pass_fds=[held.fileno()])
+        if waits:
+            with open(script, 'rb') as held:
+                print('motesim: waiting for the optimized program, which is compiled in the background',
+                      file=sys.stderr, flush=True)
+                fcntl.flock(held, fcntl.LOCK_SH)
+
+
 def program_of_sources(may_be_proved: bool = True) -> Path | None:
     """The binary of these sources to run, or None if none has been built."""
     if not (TOP / 'crates.txt').is_file():
@@ -209,3 +231,10 @@ def _program_here() -> Path:
     if is_compiled(found):
         say_not_proved()
     return found
+
+
+def optimized_path() -> Path:
+    """The same binary, once it is optimized: for tools that write its digest or measure it."""
+    path = program_path().resolve()
+    optimize(path, waits=True)
+    return path

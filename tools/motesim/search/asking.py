@@ -6,7 +6,7 @@ from collections.abc import Callable
 
 from motesim.experiments.one_run import program_digest
 from motesim.judge.sentences import Sentence
-from motesim.runner.programs import program_path
+from motesim.runner.programs import optimized_path
 from motesim.search.by_dask import ByDask
 from motesim.search.change import Base
 from motesim.search.faults import WHY_NONE, Asked, faults_of
@@ -33,7 +33,7 @@ class Asking:
     def __init__(self, base: Base, texts: list[str], sentences: list[Sentence], asked: Asked, bounds: Bounds,
                  limits: Limits = Limits()):
         self.base, self.texts, self.sentences, self.bounds, self.limits = base, texts, sentences, bounds, limits
-        self.path = program_path().resolve()
+        self.path = optimized_path()
         program = OneProgram(str(self.path), limits)
         self.plain = plain_run(base, program, sentences)
         asked.sent = tuple(self.plain.sent)
