@@ -1,5 +1,5 @@
-"""Calls that nest as deep as calls can. In the walk of a broadcast a poll is due; the polled process kills the second of
-64 processes, whose handler on EXIT kills the third, and so on: each process leaves after all that come later have left."""
+"""The deepest calls that are possible. During the walk of a broadcast a poll is due; the polled process kills the
+second of 64 processes, whose EXIT handler kills the third, and so on: each process leaves after all later ones."""
 MOST = 64
 LATER = range(1, MOST)
 

@@ -1,4 +1,4 @@
-"""Arrays that stand far too deep in one another."""
+"""Arrays that are nested far too deep."""
 
 
 def scenario():

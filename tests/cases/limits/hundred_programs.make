@@ -1,4 +1,4 @@
-"""As many programs as there may be."""
+"""The greatest allowed number of programs."""
 
 
 def scenario():

@@ -1,4 +1,4 @@
-"""A text of 1,048,576 bytes, of which most are a comment."""
+"""A text of 1,048,576 bytes, most of which is a comment."""
 
 
 def scenario():

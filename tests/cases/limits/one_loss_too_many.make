@@ -1,4 +1,4 @@
-"""One loss more than there may be, before what they lack."""
+"""One loss too many: this error is reported before those of missing keys in the losses."""
 
 
 def scenario():

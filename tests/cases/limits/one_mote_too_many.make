@@ -1,4 +1,4 @@
-"""One mote more than there may be."""
+"""One mote more than allowed."""
 
 
 def scenario():

@@ -1,4 +1,4 @@
-"""One program more than there may be."""
+"""One program more than allowed."""
 
 
 def scenario():

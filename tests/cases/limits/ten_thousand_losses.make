@@ -1,4 +1,4 @@
-"""As many losses as there may be, which lack all their keys."""
+"""The greatest allowed number of losses, which lack all their keys."""
 
 
 def scenario():

@@ -1,4 +1,4 @@
-"""A text of one byte too many."""
+"""A text that is one byte too long."""
 
 
 def scenario():

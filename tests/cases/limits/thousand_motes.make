@@ -1,4 +1,4 @@
-"""As many motes as there may be, all at one place."""
+"""The greatest allowed number of motes, all at one place."""
 
 
 def scenario():

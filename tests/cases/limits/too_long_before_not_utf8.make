@@ -1,4 +1,4 @@
-"""A byte too many, and none of them is a text."""
+"""One byte too many, and the bytes aren't UTF-8: the first error is reported."""
 
 
 def scenario():

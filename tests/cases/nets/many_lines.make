@@ -1,4 +1,4 @@
-"""Two motes with so many lines that workers format the report. At moment 0 each has 64 kernel runs, with 150 lines in
+"""Two motes with so many lines that workers format the report. At moment 0 each mote has 64 kernel runs with 150 lines
 each."""
 
 LINES = 150

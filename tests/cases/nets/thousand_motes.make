@@ -1,4 +1,4 @@
-"""A thousand motes in a row, of which each hears its neighbours and sends one packet, which nobody takes."""
+"""A thousand motes in a row. Each hears its neighbours, and sends one packet, for which there is no receiver."""
 
 
 def neighbours(mote):

@@ -1,4 +1,4 @@
-"""Program texts, each with the number of its fault and its line, or with None where it has none: see docs/use/NOTATION.md."""
+"""Program texts, each with the number and the line of its fault, or None without a fault: see docs/use/NOTATION.md."""
 import json
 
 FAULTS = [
@@ -68,7 +68,7 @@ TOKENS_AND_NUMBERS = [
     ('process a;\r\ncode a {\rbody { @', (1, 2)),
 ]
 
-# One part 4,500 times, in the place of an expression, of a statement, or behind a whole program.
+# One part 4,500 times: as an expression, as a statement, or after a whole program.
 LONG_RUNS = [('process a;code a{body{print ' + front + part * 4500, want) for front, part, want in [
     ('', '(', (7, 1)),
     ('', '!', (7, 1)),
@@ -129,7 +129,7 @@ def processes():
     return [(full, None), (full.replace(';\n', ',\nn64;\n', 1), (8, 2))]
 
 
-# A mote that runs another program, so that its report tells no more than that the text has no fault.
+# A mote that runs another program, so its report only shows that the text has no fault.
 SCENARIO = """version = 1
 end = 0
 [medium]

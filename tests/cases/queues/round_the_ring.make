@@ -1,5 +1,5 @@
-"""The order is kept where the ring goes round, at the longest queue: 100 events are posted and taken, then 128 more, and one
-more is refused between."""
+"""The longest queue keeps the order of its events at the end of the ring: 100 events are posted and taken, then 128
+more are posted, and one more is refused before these are taken."""
 
 
 def scenario():
