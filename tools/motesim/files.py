@@ -33,7 +33,7 @@ def write_whole(path: str | Path, parts: Iterable[bytes]) -> None:
                 file.writelines(parts)
             return
         if target.exists() and not os.access(target, os.W_OK):
-            raise PermissionError(0, 'it may not be written')
+            raise PermissionError(0, 'writing to it is not allowed')
         _replace(target, parts)
     except OSError as fault:
         raise NotWritten(path, fault.strerror or str(fault)) from None

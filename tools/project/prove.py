@@ -68,8 +68,8 @@ def prove_copy(number: int) -> bool:
 def prove() -> None:
     """Proves these sources, and moves the built binary to its place."""
     crates, began = crates_of_program(TOP), time.time()
-    say('proving %d crate%s: 20 to 40 minutes from nothing, on four processors; interrupt it at any time, ./prove '
-        'resumes' % (len(crates), 's' * (len(crates) > 1)))
+    say('proving %d crate%s: 20 to 40 minutes without earlier results, on four processors; interrupt it at any time, '
+        './prove resumes' % (len(crates), 's' * (len(crates) > 1)))
     copy_crates(TOP, crates, COPY)
     made = COPY / PROVED.relative_to(TOP)
     if not prove_copy(len(crates)) or not made.is_file():

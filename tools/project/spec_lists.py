@@ -178,5 +178,5 @@ def main() -> int:
     words_of(__doc__).parse_args()
     for page, text in outdated(TOP).items():
         page.write_text(text, 'utf-8')
-        print('%s has another list now' % page)
+        print('%s: the list was updated' % page)
     return 0

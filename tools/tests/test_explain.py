@@ -80,7 +80,7 @@ LACKS = [
      'Allowed here: the key `end`: a whole number, 0 to 1,000,000'),
     ({'end = 5\n': '', 'range = 10': 'range = 10\nend = 5'},
      '.. has no key `end`. Add above the first table (line 2):', 'end = 100',
-     'Hint: The `end` that is there belongs to `[medium]`, since it is below that name: move it up.'),
+     'Hint: The existing `end` belongs to `[medium]`, because it is below that name: move it up.'),
     ({'[medium]\nrange = 10\nbase = 1\nper = 100\n': ''},
      '.. has no table `[medium]`. Add at the end of the text, or above any other table:', '[medium]',
      '`per`: a whole number, 1 to 1,000,000'),
@@ -95,7 +95,7 @@ LACKS = [
      'Allowed here: the key `version`: a whole number, 1 to 2'),
     ({SCENARIO: ''}, '.. has no key `version`. Add:', 'version = 2',
      'Hint: The text has no key and no table. examples/print_then_yield.toml is a small scenario'),
-    ({'[medium]': '[medum]'}, '.., line 3:', '[medum]', 'Hint: It has `medum`: did you mean `medium`?'),
+    ({'[medium]': '[medum]'}, '.., line 3:', '[medum]', 'Hint: The table has `medum`: did you mean `medium`?'),
 ]
 
 # Changes to the scenario, each with the message, and the line and the text that are marked.
@@ -258,7 +258,7 @@ class Scenarios(unittest.TestCase):
     def test_a_fault_of_which_no_place_is_known(self) -> None:
         for line in 'motesim: out of memory', 'motesim: scenario fault 4', 'motesim: anything':
             lines = explain.explanation('s', SCENARIO.encode(), line)
-            self.assertEqual(lines[-1], 'This tool does not know its place.')
+            self.assertEqual(lines[-1], 'This tool can\'t show the place of the error.')
 
     def test_a_long_line_is_shown_around_the_mark(self) -> None:
         text = 'process a; code a { body { %s print zz; } }' % ('yield; ' * 100)

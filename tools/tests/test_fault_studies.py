@@ -57,8 +57,8 @@ class Studies(unittest.TestCase):
         passed, failed, said = self.check(STUDY)
         self.assertEqual((passed, failed), (2, 1))
         self.assertIn('holds   study.toml: no link is needed\nwrong   study.toml: but for mote 1\n', said)
-        self.assertIn('nothing is broken any more by: mote 1 is silent\n', said)
-        self.assertIn('broken, though not expected, by: mote 0 is silent\n', said)
+        self.assertIn('no sentence is broken any more by: mote 1 is silent\n', said)
+        self.assertIn('a sentence is broken unexpectedly by: mote 0 is silent\n', said)
 
     def test_what_cannot_be_read(self) -> None:
         for text, wanted in (('a = [', 'is not TOML'), ('scenario = "x"', r'no tables \[\[study\]\]'),

@@ -219,7 +219,7 @@ class Nets(Folder):
     def test_a_program_alone_is_a_solution(self) -> None:
         self.hand_in('ben.mote', PROGRAM % 4)
         self.assertEqual(self.rows('--net', 'task.toml')['ben.mote'], '1 of 3  broken: 1, 2')
-        self.assertEqual(self.rows()['ben.mote'], '0 of 3  a program without a net: --net names one to run it in')
+        self.assertEqual(self.rows()['ben.mote'], '0 of 3  a program needs a net: name one by --net')
 
     def test_a_byte_order_mark_costs_no_mark(self) -> None:
         for name, text in ('ben.mote', PROGRAM % 3), ('cem.toml', net(PROGRAM % 3)):
@@ -273,7 +273,7 @@ class Nets(Folder):
     def test_a_sentence_that_fits_no_solution_is_told_beside_the_table(self) -> None:
         (self.top / 'task.expect.toml').write_text('expect = ["no mote halts", "mote 0 prints c"]\n')
         self.assertEqual(self.rows(), {'anna.toml': '1 of 2  broken: 2; no process `c` (it has `a`)'})
-        self.assertIn('no solution has what sentence 2 is about (mote 0 prints c): anna.toml has no process `c`',
+        self.assertIn('sentence 2 names something that no solution has (mote 0 prints c): anna.toml has no process `c`',
                       self.seen)
 
 
@@ -352,7 +352,7 @@ class Nets(Folder):
         self.stub = program_path()
         self.hand_in('ben.mote', 'process a;\nautostart a;\ncode a { body { while 1 { } } }\n')
         self.assertTrue(self.rows('--net', 'task.toml')['ben.mote'].endswith('; mote 0 halts at 0 in task.toml'))
-        self.assertIn('mote 0 halts at 0 in task.toml: it used up its work there, as by a loop without a wait',
+        self.assertIn('mote 0 halts at 0 in task.toml: it used up its work there, maybe in a loop without a wait',
                       self.grade('--net', 'task.toml', '--why', 'ben'))
         (self.top / 'secret.toml').write_text(net(PROGRAM % 9, motes=5))
         self.grade('--net', 'task.toml', '--hidden', 'secret.toml', '-o', 'marks.html')

@@ -127,14 +127,14 @@ class Hints(unittest.TestCase):
         for written, wanted in (
                 ('PROCESS_EXITHANDLER(print 3;)', 'onexit { print 3; }'),
                 ('PROCESS_POLLHANDLER(print 3; send 4)', 'onpoll { print 3; send 4; }'),
-                ('PROCESS_POLLHANDLER(handle_poll());', 'Put what `handle_poll()` does into it.'),
+                ('PROCESS_POLLHANDLER(handle_poll());', 'Put the statements of `handle_poll()` into it.'),
                 ('PROCESS_EXITHANDLER(broadcast_close(&broadcast);)', 'No connection is opened, so none is closed')):
             with self.subTest(written):
                 self.assertIn(wanted, self.hint(head % written))
         for function in ('static void broadcast_recv(struct broadcast_conn *c, const rimeaddr_t *from)',
                          'static const struct broadcast_callbacks broadcast_call = {broadcast_recv};'):
             hint = self.hint('process a;\nautostart a;\n%s\n%s' % (function, head.split('\n', 2)[2] % ''))
-            self.assertIn('it is the event `packet` of the process that `receiver P;` names', hint)
+            self.assertIn('name the process that gets it, `receiver P;`', hint)
 
     def test_letters_in_a_number(self) -> None:
         for written, meant in ('1O', '10'), ('1o', '10'), ('l0', '10'), ('3I', '31'), ('2l', '21'):
@@ -294,8 +294,8 @@ class Warnings(unittest.TestCase):
             (CODE % 'set t 1; while (seq >= 0) { pause; }', 5, 'no number is below 0, so this test is always true'),
             (CODE % 'set t 1; if (0 <= seq) { pause; }', 5, 'this test is always true'),
             (CODE % 'set t 1; if (seq < 0) { pause; }', 5, 'this test is never true'),
-            (CODE % 'yield_until fired(t); set t 4;', 5, '`t` is set only behind this wait for it'),
-            (CODE % 'while 1 { yield_until fired(t); print 1; reset t; }', 5, '`t` is set only behind this wait'),
+            (CODE % 'yield_until fired(t); set t 4;', 5, '`t` is set only after this wait for it'),
+            (CODE % 'while 1 { yield_until fired(t); print 1; reset t; }', 5, '`t` is set only after this wait'),
         ]:
             with self.subTest(wanted):
                 self.assertTrue(any(wanted in it for it in self.seen(program, x)))
@@ -358,7 +358,7 @@ class Warnings(unittest.TestCase):
         text = scenario(program=CODE % 'send 1;', x=50) + ''.join(
             '[[mote]]\nx = %d\ny = 0\nprogram = "source"\n' % (100 + 50 * it) for it in range(10))
         found = [it.text for it in warnings(Scenario.parse(text)) if 'nobody hears it' in it.text]
-        self.assertEqual(found, ['mote 0 sends, and nobody hears it: no mote is within `range`; the same goes for 11 '
+        self.assertEqual(found, ['mote 0 sends, and nobody hears it: no mote is within `range`; the same is true of 11 '
                                  'more '
                                  'motes: 1, 2, 3, 4, 5, 6, 7, 8, ..'])
 
@@ -373,7 +373,7 @@ class Warnings(unittest.TestCase):
         text = scenario(program=CODE % 'send 1;', x=50) + '[[loss]]\nfrom = 0\nto = 1\nevery = 2\n'
         self.assertEqual([it.text for it in warnings(Scenario.parse(text)) if 'mote 0' in it.text
                           or 'loss' in it.text], [
-            'mote 0 sends, and nobody hears it: no mote is within `range`; the same goes for 1 more mote: 1'])
+            'mote 0 sends, and nobody hears it: no mote is within `range`; the same is true of 1 more mote: 1'])
 
     def explained(self, name: str, text: str) -> str:
         """The output of tools/explain for a file that is not a scenario."""

@@ -53,7 +53,7 @@ class Others(unittest.TestCase):
 
     def test_no_kit_is_told(self) -> None:
         with mock.patch('project.kit.shutil.which', lambda name: None):
-            with self.assertRaisesRegex(Fault, 'rt of the Rattle kit is not here'):
+            with self.assertRaisesRegex(Fault, 'rt of the Rattle kit, .* is not installed'):
                 kit.rt.__wrapped__()
 
 

@@ -105,7 +105,7 @@ class Resonances(unittest.TestCase):
                                      % (it, it) for it in (2, 3, 4))
         found = [it for it in warnings(Scenario.parse(net), report(values, 2)) if it.loss is not None]
         self.assertEqual([it.cause for it in found], ['step 2', 'together'])
-        self.assertIn('; the same goes for 3 more losses: 1, 2, 3', found[0].text)
+        self.assertIn('; the same is true of 3 more losses: 1, 2, 3', found[0].text)
 
     def test_packets_that_are_lost_on_all_links_at_once(self) -> None:
         # (mote 0 is heard by the motes 1 and 2)

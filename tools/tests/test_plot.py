@@ -108,7 +108,7 @@ class PlotTest(unittest.TestCase):
         for words, seen in [
             (('--measure', 'speed', '--against', 'period'), 'there is no measure speed; there are: sent, late'),
             (('--measure', 'sent', '--against', 'none'), 'there is no parameter none; there are: period, density,'),
-            (('--measure', 'sent'), 'nothing is named for the axis from left to right: add --against NAME'),
+            (('--measure', 'sent'), 'nothing is named for the horizontal axis: add --against NAME'),
             (('--measure', 'sent', '--against', 'perod'), 'density, seed; and the measures: sent, late; did you mean '
              'period?'),
             (('--measure', 'sent', '--against', 'period', '--pair', 'period=1,2'),

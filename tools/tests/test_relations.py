@@ -141,7 +141,7 @@ SENTENCES: list[tuple[str, str | None, int | None]] = [
 REFUSED = [
     ('any mote sends', 'Hint: write `every mote` or `some mote`.'),
     ('nobody halts', 'Hint: write `no mote`.'),
-    ('mote 1 always sends', 'Hint: write what must not be'),
+    ('mote 1 always sends', 'Hint: write what must not happen'),
     ('node 1 sends', 'Hint: write `mote`.'),
     ('mote 1 should send', 'Hint: write only the verb'),
     ('mote 1 sends when mote 2 prints', 'Hint: two events are put in order by'),

@@ -97,7 +97,7 @@ class Lists(unittest.TestCase):
     def test_the_pages_are_written_between_their_marks(self) -> None:
         pages = [self.top / 'docs/dev/SPECS.md', self.top / 'docs/proof/HEADLINE.md']
         self.assertEqual(sorted(spec_lists.outdated(self.top)), pages)
-        self.assertEqual(self.run_it().count('has another list now'), 2)
+        self.assertEqual(self.run_it().count(': the list was updated'), 2)
         self.assertEqual(pages[1].read_text('utf-8'),
                          'before\n%sbehind\n' % MARKS.replace('<!-- end', spec_lists.headline(self.top) + '<!-- end'))
         self.assertEqual((spec_lists.outdated(self.top), self.run_it()), ({}, ''))

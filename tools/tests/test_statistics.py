@@ -221,7 +221,7 @@ class Crossings(unittest.TestCase):
         one = crossing(curve_of([(x, [y]) for x, y in ((0, 0.0), (1, 1.0), (2, 0.0), (4, 1.0))]), 0.6, 0.95)
         assert one
         self.assertEqual((one.low, one.last), (None, None))
-        self.assertIn('at x 3.2, between the points 2 and 4; one run for each point shows no interval',
+        self.assertIn('at x 3.2, between the points 2 and 4; there is no interval, because each point has one run',
                       of_crossing(one, Wish('m', 'x', show='mean', threshold='0.6')))
         open_end = columns_of_crossing(found._replace(low=1.5, high=math.inf))
         self.assertEqual((open_end['crossing low'], open_end['crossing high']), (1.5, math.inf))
@@ -742,7 +742,7 @@ class Command(unittest.TestCase):
         text = (self.folder / 'net.csv').read_text().splitlines()
         (self.folder / 'net.csv').write_text('\n'.join([text[0], *(it for it in text if 'flood,2,' in it)]) + '\n')
         self.plot(*words, status=2)
-        self.assertIn('the two sides have no run in common', self.seen)
+        self.assertIn('the two sides have no pair of runs', self.seen)
 
     def test_the_measure_without_a_value_is_named_on_either_axis(self) -> None:
         text = 'period,seed,sent,first,fault,parameters\n' + ''.join('%d,%d,%d,%s,,period seed\n' % (

@@ -153,7 +153,7 @@ class MeasuresTest(unittest.TestCase):
         source = {'m.py': 'def f(run):\n    return %s\n'}
         for value in 'float("nan")', 'float("inf")', '-1e999':
             text = {'m.py': source['m.py'] % value}
-            with self.assertRaisesRegex(MeasureFault, 'f returns -?(nan|inf), and no cell has that: return None'):
+            with self.assertRaisesRegex(MeasureFault, 'f returns -?(nan|inf), which a cell can.t have: return None'):
                 read_measure('python: m.py:f', self.names, text).of(bench())
 
     def test_the_measure_that_was_meant_is_named(self) -> None:

@@ -108,7 +108,7 @@ def pairs_of(one: Sequence[Row], other: Sequence[Row], measure: str, names: Sequ
     """The runs that both sides have, by these parameters; with the nets of the pairs, if their names are given."""
     first, second = _by_key(one, names, sides[0]), _by_key(other, names, sides[1])
     if not first.keys() & second.keys():
-        raise Fault('the two sides have no run in common: no parameters (%s) are the same' % ', '.join(names))
+        raise Fault('the two sides have no pair of runs: no two runs have the same values of %s' % ', '.join(names))
     pairs, of_two_nets = [], 0
     left_out: Counter[tuple[Cell, str]] = Counter()
     without: Counter[tuple[Cell, str]] = Counter()

@@ -22,7 +22,7 @@ REJECTED = 'rejected'
 # The column with the digest of a net's places.
 PLACES = 'places_sha256'
 # The columns with the digests of a run's plan (with the files that it reads) and of its measures.
-MADE_BY = {'plan_sha256': 'plans, or of changed files next to one', 'measures_sha256': 'sets of measures'}
+MADE_BY = {'plan_sha256': 'plans, or of one plan with changed files next to it', 'measures_sha256': 'sets of measures'}
 # The column with the digest of motesim, by which runs can be separated too.
 PROGRAM = 'program_sha256'
 SEPARATES = (*MADE_BY, PROGRAM)
@@ -259,7 +259,7 @@ def shared_nets(rows: Sequence[Row], names: Sequence[str], measure: str) -> tupl
 def names_of_nets(rows: Sequence[Row], over: str) -> list[str]:
     """The parameters that repeat runs and don't vary within nets: their values name the nets."""
     if PLACES not in rows[0]:
-        raise Fault('the results have no column %s, by which nets are known: run the sweep again' % PLACES)
+        raise Fault('the results have no column %s, which identifies nets: run the sweep again' % PLACES)
     good = [row for row in rows if not row['fault']]
     varying = [name for name in parameters_of(rows) if len({row[name] for row in good}) > 1]
     repeats = repeats_of(varying, over)

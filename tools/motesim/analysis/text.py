@@ -179,7 +179,7 @@ def left_out(shown: Shown, wish: Wish, most: int | None = None) -> list[str]:
         curves = [it for it in shown.curves() if len(it.values) < it.runs]
         counts = ['%d of %d %s' % (it.runs - len(it.values), it.runs, counted(wish)) for it in curves]
         names = [' (%s %s)' % (wish.by, text_of(it.by)) if wish.by else '' for it in curves]
-        lines.append('no value of %s in %s: so much of a curve is missing at its end' % (
+        lines.append('no value of %s in %s: a curve lacks this share at its end' % (
             wish.measure, ', '.join(map(''.join, zip(counts, names)))))
     elif shown.empty:
         lines.append('left out: %s without a value of %s%s' % (
@@ -320,7 +320,7 @@ def of_crossing(found: Crossing | None, wish: Wish) -> str:
         'rises above' if it.is_rising else 'falls below', threshold, wish.against, it.at, *it.gap)
         for it in found.places]
     if found.low is None or found.high is None:
-        ways[-1] += '; one run for each point shows no interval'
+        ways[-1] += '; there is no interval, because each point has one run'
     if len(ways) == 1:
         lines = ['the %s %s' % (middle, ways[0])]
     else:

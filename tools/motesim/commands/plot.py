@@ -3,7 +3,7 @@
   tools/plot net.csv --measure ratio --against period                        a table: medians with quartiles
   tools/plot net.csv --measure ratio --against period --show mean            means with confidence intervals
   tools/plot net.csv --measure ratio --against motes --by period --show mean --threshold 0.9 -o ratio.pdf
-  tools/plot net.csv --measure delay --against sent                          a measure on either axis
+  tools/plot net.csv --measure delay --against sent                          a measure on each axis
   tools/plot net.csv --measure delay --by period --show cdf -o delay.svg
   tools/plot a.csv --compare b.csv --measure ratio --against period          run by run, both with the same parameters
   tools/plot net.csv --plan net.plan.toml                                    what the plan's `plot` describes
@@ -34,7 +34,7 @@ def arguments() -> argparse.Namespace:
     words = words_of(__doc__)
     words.add_argument('results', metavar='RESULTS', help='a file that tools/sweep wrote')
     words.add_argument('--measure', metavar='NAME', help='the measure')
-    words.add_argument('--against', metavar='NAME', help='the parameter, or the measure, from left to right')
+    words.add_argument('--against', metavar='NAME', help='the parameter, or the measure, on the horizontal axis')
     words.add_argument('--by', metavar='NAME', help='a parameter with a line for each value')
     words.add_argument('--show', choices=SHOWS,
                        help='the statistic of the runs at each point (median)')
@@ -44,7 +44,7 @@ def arguments() -> argparse.Namespace:
                        help='the confidence of the intervals (95)')
     words.add_argument('--threshold', metavar='VALUE', help='report where each curve crosses this value')
     words.add_argument('--over', metavar='NAMES',
-                       help='the parameters in which runs of a point may differ (`seed` and those in `_seed`)')
+                       help='the parameters in which runs of a point may differ (`seed` and those that end in `_seed`)')
     words.add_argument('--nets', action='store_true', help='average the runs of each net first: each net counts once')
     words.add_argument('--compare', metavar='RESULTS', help='the other side of a comparison, run by run')
     words.add_argument('--pair', metavar='NAME=ONE,OTHER', help='compare two values of a parameter, run by run')
@@ -59,8 +59,8 @@ def arguments() -> argparse.Namespace:
     words.add_argument('--size', metavar='WxH', default='',
                        help='the size of the picture in centimetres (16.3x10.7); column is 8.8x6.6')
     words.add_argument('--log', action='store_true',
-                       help='a logarithmic axis: each step to the right doubles the parameter')
-    words.add_argument('--log-y', action='store_true', help='a logarithmic axis upwards')
+                       help='a logarithmic horizontal axis, on which doubling is a step of fixed length')
+    words.add_argument('--log-y', action='store_true', help='a logarithmic vertical axis')
     words.add_argument('--plan', metavar='PLAN', help="show what this plan's `plot` describes")
     words.add_argument('-o', dest='output', metavar='FILE', help='the picture, NAME.svg, NAME.pdf or NAME.png')
     asked = words.parse_args()

@@ -43,7 +43,7 @@ def arguments() -> argparse.ArgumentParser:
     words.add_argument('--expect', action='append', default=[], metavar='SENTENCE',
                        help='an expectation, instead of those of a file')
     words.add_argument('--faults', default='', metavar='KINDS',
-                       help='which kinds of faults (links,motes; with --set, those that --set is for)')
+                       help='the kinds of faults (links,motes; with --set, the kinds of its values)')
     words.add_argument('--at-most', type=int, default=1, metavar='K', help='how many faults at once (1)')
     words.add_argument('--every', default='2', metavar='NUMBERS', help='for `every`: which packets are lost (2)')
     words.add_argument('--moments', metavar='NUMBERS', help='for `deaths` and `late`: the moments')
@@ -63,7 +63,7 @@ def arguments() -> argparse.ArgumentParser:
                        help='the limit of a report, in bytes (16,000,000)')
     words.add_argument('--jobs', type=int, default=os.cpu_count() or 1, metavar='N',
                        help='how many runs at a time (one for each processor)')
-    words.add_argument('--dask', metavar='ADDRESS', help='give the runs to the Dask scheduler there')
+    words.add_argument('--dask', metavar='ADDRESS', help='send the runs to the Dask scheduler at this address')
     words.add_argument('-o', dest='output', metavar='FOLDER', help='the folder of the written files (NAME.search)')
     words.add_argument('--csv', metavar='FILE', help='write a table of the sets that were found')
     words.add_argument('--json', metavar='FILE',

@@ -61,6 +61,6 @@ def main() -> int:
                        help='what happens in each N moments; with --flow, the messages that began in them')
     asked = words.parse_args()
     if asked.by is not None and (asked.motes or asked.links):
-        words.error('--by is for the whole net: it does not go with --motes or --links')
+        words.error('--by is for the whole net: it can\'t be combined with --motes or --links')
     from motesim.summary.counts import status_of
     return status_of(asked)

@@ -47,7 +47,7 @@ def main() -> int:
                        help='the limit of a run, in seconds of processor time (that of the plan, or 60)')
     words.add_argument('--bytes', type=int, default=MOST_BYTES, metavar='N',
                        help='the limit of a report, in bytes (200,000,000)')
-    words.add_argument('--dask', metavar='ADDRESS', help='give the runs to the Dask scheduler there')
+    words.add_argument('--dask', metavar='ADDRESS', help='send the runs to the Dask scheduler at this address')
     words.add_argument('--renew', action='store_true',
                        help='repeat the rows from before a change of the plan, motesim or the measures')
     words.add_argument('--retry', action='store_true', help='repeat runs with an error or without a measure')

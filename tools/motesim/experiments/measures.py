@@ -189,7 +189,7 @@ def _of_sentence(kind: str, words: str, names: Names) -> Callable[[Bench], Cell]
 def _checked(value: object, name: str) -> Cell:
     """Checks the result of a user's function, and returns it."""
     if type(value) is float and not math.isfinite(value):
-        raise MeasureFault('%s returns %r, and no cell has that: return None if there is no value' % (name, value))
+        raise MeasureFault('%s returns %r, which a cell can\'t have: return None if there is no value' % (name, value))
     if value is None or type(value) in (int, float):
         return value  # type: ignore[return-value]
     if type(value) is bool:

@@ -225,7 +225,7 @@ def wishes(asked: argparse.Namespace) -> list[Wish]:
     if not asked.measure:
         raise Fault('no measure is named: add --measure NAME --against NAME, or --plan PLAN')
     if not asked.against and asked.show != 'cdf':
-        raise Fault('nothing is named for the axis from left to right: add --against NAME, with a parameter or a '
+        raise Fault('nothing is named for the horizontal axis: add --against NAME, with a parameter or a '
                     'measure; only --show cdf needs none')
     if asked.output and Path(asked.output).suffix not in FORMATS:
         raise Fault('%s: a picture is SVG, PDF or PNG: its name ends in .svg, .pdf or .png' % asked.output)

@@ -130,7 +130,7 @@ def rule_and_advice(source: str, its: program_faults.ProgramError, offset: int |
     """The rule that a program breaks, the allowed words, and the most likely intention."""
     title, rule = program_faults.RULES[its.kind]
     if its.token.kind == 'end' and its.kind == 2:
-        rule = 'The text ends here, which can\'t follow the words before it.'
+        rule = 'The text ends here, but other words must follow those before it.'
     found = advice(source, its)
     hint = hinted(found.hint) + found.shown(source, offset) if found else []
     return wrapped('%s: %s' % (title, rule)) + hint + allowed(', '.join(its.may))
@@ -176,7 +176,7 @@ def explanation(name: str, data: bytes, line: str) -> list[str]:
     what, fault = line.removeprefix('motesim: '), scenario_faults.find_fault(data)
     if fault is None or fault.message != what:
         # (for instance of an error of memory, or of a text that only Python reads as TOML)
-        return wrapped(rule_of(what)) + ['This tool does not know its place.']
+        return wrapped(rule_of(what)) + ['This tool can\'t show the place of the error.']
     if begins_as_program(data):
         return program_instead(name, data)
     text = data.decode('utf-8', 'replace')

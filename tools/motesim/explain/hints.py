@@ -20,11 +20,11 @@ from motesim.toml import MANY_PARTS, TOO_DEEP
 # Forms that readers of other languages write, and the forms of the notation.
 WISHES = {
     'for': 'There is no `for`: write `i = 0; while (i < n) { .. i = (i + 1); }`.',
-    'do': 'There is no `do`: a `while` tests before each turn.',
+    'do': 'There is no `do`: a `while` tests before each round.',
     'switch': 'There is no `switch`: write an `if` in the `else` block of another.',
     'elif': 'There is no `elif`: put the next `if` into the `else` block, `else { if .. { .. } }`.',
     'elseif': 'There is no `elseif`: put the next `if` into the `else` block, `else { if .. { .. } }`.',
-    'then': 'There is no `then`: the block follows the test at once, `if (x == 1) { .. }`.',
+    'then': 'There is no `then`: the block follows the test directly, `if (x == 1) { .. }`.',
     'return': 'There is no `return`: `exit;` ends the process or the thread.',
     'break': 'There is no `break`: let the test of the `while` become false.',
     'int': 'A variable has 16 bits and no type: `var x = 0;`, at the head of its `code`.',
@@ -43,7 +43,7 @@ WISHES = {
     'wait': 'Write `wait_until` or `yield_until` and a test, `pause`, or `acquire` and a semaphore.',
     'printf': 'A program prints numbers: `print x;`.',
     'println': 'A program prints numbers: `print x;`.',
-    'random': 'There is no chance in a mote: each run is the same. A generator with a seed serves, as '
+    'random': 'A mote has no random numbers: each run is the same. Use a generator with a seed, such as '
               '`dice = ((dice * 25173) + 13849); if (dice < 6554) { .. }`, which is true 1 time in 10. At the start of '
               '`body` mix its seed, otherwise motes draw in step: `dice = ((self * 257) + 1); dice = (dice * ((2 * '
               'dice) + 1)); dice = (dice + (dice / 256)); dice = (dice * ((2 * dice) + 1));`. This is for at most 255 '
@@ -63,19 +63,19 @@ NO_TOML = {
     "']]'": 'Each mote and each loss is a table of its own, named in two brackets: `[[mote]]`, `[[loss]]`.',
     "'='": 'A key and its value are on one line: `end = 5`.',
     'newline': 'Each key and its value have a line of their own.',
-    'twice': 'A table is there once; only motes and losses are many, and each of them is a table `[[mote]]`, '
+    'twice': 'Each table occurs once; only motes and losses are many, and each of them is a table `[[mote]]`, '
     '`[[loss]]`.',
-    'overwrite': 'A key may be only once in its table.',
+    'overwrite': 'A key may occur only once in its table.',
     MANY_PARTS: 'A dot between two words of a key makes a table in a table. A scenario needs two parts at most: '
                 '`medium.range = 10`.',
     TOO_DEEP: 'A scenario needs no bracket in more than two others. Is a `]` or a `}` missing?',
-    '': 'Texts are in quotes, programs of several lines in three: p = """ .. """.',
+    '': 'Texts are in quotes; a program of several lines is between three quotes: p = """ .. """.',
 }
 OF_PARAMETERS = ('A thread has no parameters, `thread t { .. }`: it uses the variables of its process, as `var n = 0;` '
                  'at the head of its `code`.')
 OF_ARGUMENTS = 'A `spawn` passes nothing, `spawn t;`: set a variable of the process before it, which the thread reads.'
-OF_PROGRAM = ('A scenario has it under `[programs]`, between three quotes: `p = """ .. """`. Or a plan names its file, '
-              'and tools/scenario makes a scenario of the plan.')
+OF_PROGRAM = ('In a scenario this text is under `[programs]`, between three quotes: `p = """ .. """`. Or a plan names '
+              'the file of the program, and tools/scenario makes a scenario from the plan.')
 OF_PLAN = '%s is a plan, not a scenario: tools/scenario %s -o NAME.toml makes a scenario of it.'
 QUOTES = '\u2018\u2019\u201a\u201b\u201c\u201d\u201e\u201f\u00ab\u00bb\u00b4`'
 OF_QUOTES = 'These are quotes of another kind, as word processors make them: write plain ones, `"` or `\'`.'
@@ -143,9 +143,9 @@ def _of_sign(here: Token, behind: Token) -> str | None:
     if word.isupper():
         return 'Names have small letters: `%s`.' % word.lower()
     if word[:1].isdigit() and word.isdigit():
-        return 'Without the zeros in front: `%s`.' % (word.lstrip('0') or '0')
+        return 'Write it without the zeros in front: `%s`.' % (word.lstrip('0') or '0')
     if word and ord(word[0]) > 127:
-        return 'This sign, U+%04X, is none of the notation: was a plain %s meant?' % (
+        return 'The notation doesn\'t have this character, U+%04X: was a plain %s meant?' % (
             ord(word[0]), 'space' if word[0].isspace() else 'letter, quote or dash')
     return None
 
@@ -192,7 +192,7 @@ def _of_unexpected(before: list[Token], here: Token, behind: Token, may: list[st
     if word in ('event', 'semaphore'):
         return 'Events and semaphores are declared above the `process` line: `event e;`, `semaphore s = 0;`.'
     if word == 'else':
-        return 'An `else` follows the block of an `if` at once: `if .. { .. } else { .. }`.'
+        return 'An `else` directly follows the block of an `if`: `if .. { .. } else { .. }`.'
     if word == 'thread' or word in ('etimer', 'ctimer'):
         return ('A `code` has variables, then `etimer`s, `ctimer`s, threads, `onpoll`, `onexit`, and the body, in this '
                 'order.')
@@ -281,14 +281,14 @@ def _of_missing(tables: dict[str, object], fault: ScenarioError) -> str | None:
     wanted = fault.missing
     like = like_of_missing(tables, fault)
     if like:
-        return 'It has `%s`: did you mean `%s`?' % (like, wanted)
+        return 'The table has `%s`: did you mean `%s`?' % (like, wanted)
     if wanted == 'collide':
         return 'Version 2 says whether packets collide: `collide = true` or `collide = false` in `[medium]`.'
     if not tables:
         return 'The text has no key and no table. examples/print_then_yield.toml is a small scenario to begin with.'
     behind = next((name for name, table in tables.items() if isinstance(table, dict) and wanted in table), None)
     if not fault.path and behind:
-        return 'The `%s` that is there belongs to `[%s]`, since it is below that name: move it up.' % (wanted, behind)
+        return 'The existing `%s` belongs to `[%s]`, because it is below that name: move it up.' % (wanted, behind)
     return None
 
 

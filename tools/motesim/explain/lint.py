@@ -19,12 +19,12 @@ ENDLESS = 'an endless loop in which nothing waits: the mote halts when its work 
 AT_ONCE, WHILE, OF_EVENT, LATER = 'wait_until', 'wait_while', ('is', 'fired', 'gone'), 'yield_until'
 SAME = frozenset(('(', ')', '!', 'data', 'from', 'self', *OPERATORS))
 STILL = ('an endless loop in which only `%s` waits: its test is about the event of this call, and stays %s until the '
-         'next call, so the loop turns until the mote\'s work is used up, and the mote halts; `%s`%s waits for the next '
-         'call first')
+         'next call, so the loop repeats until the mote\'s work is used up, and the mote halts; `%s`%s waits for the '
+         'next call first')
 STILL_TRUE = STILL % (AT_ONCE, 'true', LATER, '')
 STILL_FALSE = STILL % (WHILE, 'false', LATER, ' and the opposite test')
 BUSY = ('a loop that waits for nothing: its test can\'t change before the next call, so once it is true the loop '
-        'turns until the mote\'s work is used up, and the mote halts; ')
+        'repeats until the mote\'s work is used up, and the mote halts; ')
 BUSY_FOR_STATE = BUSY + '`wait_while` and the same test, without a block, lets the mote wait'
 BUSY_FOR_EVENT = BUSY + '`%s` and the opposite test, without a block, waits for the next call first' % LATER
 LOOPS = ENDLESS, STILL_TRUE, STILL_FALSE, BUSY_FOR_STATE, BUSY_FOR_EVENT
@@ -36,11 +36,11 @@ OF_CTIMER = ('`%s` is a `ctimer`: its event goes to the process ctimer, which ru
 # warning.
 FACTOR, MOST_DRAWING = '257', 255
 SAME_DRAWS = ('in a net of more than 255 motes, mote k + 255 with one seed draws the same numbers as mote k with '
-              'the seed before (255 * 257 is -1 in 16 bits), so that runs of neighbouring seeds are not independent: '
+              'the previous seed (255 * 257 is -1 in 16 bits), so runs of neighbouring seeds are not independent: '
               'use at most 255 motes')
-NATURAL = ('no number is below 0, so this test is %s true: values are 0 to 65,535, and 0 - 1 is 65,535; a loop that '
-           'counts down ends by `while (x > 0)`')
-BEHIND = 'the timer `%s` is set only behind this wait for it, so the wait never ends: set it before'
+NATURAL = ('no number is below 0, so this test is %s true: values are 0 to 65,535, and 0 - 1 is 65,535; write '
+           '`while (x > 0)` to count down')
+BEHIND = 'the timer `%s` is set only after this wait for it, so the wait never ends: set it before'
 FOR_TIMER, SETS = ('yield_until', 'wait_until'), ('set', 'restart_timer', 'reset')
 # The most other places that a warning names.
 MOST_PLACES = 8
@@ -304,5 +304,5 @@ def together(its: list[Warned]) -> Warned:
         return first._replace(text='%s (mote%s %s)' % (first.text, 's' if len(places) > 1 else '', shown))
     what = 'loss' if others[0].mote is None else 'mote'
     many = what + ('es' if what == 'loss' else 's')
-    return first._replace(text='%s; the same goes for %d more %s: %s' % (
+    return first._replace(text='%s; the same is true of %d more %s: %s' % (
         first.text, len(others), many if len(others) > 1 else what, shown))

@@ -94,7 +94,7 @@ def _of_thread(own: Declared, here: Token) -> str:
         return ('A thread never spawns itself. A `while` in it repeats a part, `restart;` begins it again, and '
                 '`spawn` takes '
                 'a thread that is declared above it.')
-    return 'A thread is declared above what spawns it: move `thread %s` up.' % own.token.text
+    return 'A thread is declared above the code that spawns it: move `thread %s` up.' % own.token.text
 
 
 def otherwise(text: str, fault: ProgramError) -> str:

@@ -213,7 +213,7 @@ def _attempts_at_header(name: str, number: int) -> Iterator[Repair]:
         hint = 'Each mote and each loss is a table of its own, named in two brackets: `[[%s]]`.' % name
         yield Repair(hint, number, number, ('[[%s]]' % name,))
     else:
-        yield Repair('The table `%s` is there once, so it is named in single brackets.' % name, number, number,
+        yield Repair('The table `%s` occurs once, so its name is in single brackets.' % name, number, number,
                      ('[%s]' % name,))
 
 
@@ -226,7 +226,7 @@ def _attempts_at_missing(text: str, rows: list[str], tables: object, fault: Scen
     row, number, value = rows[place.line - 1], place.line, synonyms.at(tables, (*fault.path, like))
     if place.length != len(like) or row[place.column:place.column + place.length] != like:
         return
-    hint = 'It has `%s`: write `%s`.' % (like, wanted)
+    hint = 'The table has `%s`: write `%s`.' % (like, wanted)
     if isinstance(value, list) and len(value) == 2 and wanted in ('x', 'y') and isinstance(table, dict):
         pairs = ['%s = %s' % it for it in zip('xy', value) if it[0] not in table]
         yield Repair('A mote has its place in two keys, `x` and `y`.', number, number, tuple(pairs))

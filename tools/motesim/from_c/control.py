@@ -53,7 +53,7 @@ class Control(Lines):
         if self.token.kind == 'end':
             raise NoCounterpart
         if self.token.text == ';' and self.ahead(1).text == '{' and self.accept(';'):
-            self.why('The block follows the test at once, without a `;`.')
+            self.why('The block follows the test directly, without a `;`.')
         if not self.accept('{'):
             self.why('A block always has its braces.')
             return '{ %s }' % self.statement()
@@ -78,7 +78,7 @@ class Control(Lines):
         while self.accept(')'):
             self.why(ONE_TOO_MANY)
         if self.accept('then', ':'):
-            self.why('The block follows the test at once.')
+            self.why('The block follows the test directly.')
         return text
 
     def of_switch(self) -> str:
@@ -105,15 +105,15 @@ class Control(Lines):
         before = last_statement([it.text for it in self.tokens[:self.at]]) or self.place.before
         if before in ends:
             self.at += 1
-            self.why('There is no `break`: `%s;` already makes the test of the `while` false, so leave it out. What '
-                     'follows in the block still runs once.' % before)
+            self.why('There is no `break`: `%s;` already makes the test of the `while` false, so leave it out. '
+                     'The rest of the block still runs once.' % before)
             return self.end('').removesuffix(';')
         # (a flag rather than a count, which may be needed behind the loop)
         assigned = next((it for it in ends if it.endswith(' = 1')), ends[0] if len(ends) == 1 else '')
         if not assigned:
             raise NoCounterpart(NO_BREAK + self.of_flag(before))
         self.at += 1
-        self.why('%s Here, `%s;` does it; what follows in the block still runs once.' % (NO_BREAK, assigned))
+        self.why('%s Here, `%s;` does it; the rest of the block still runs once.' % (NO_BREAK, assigned))
         return self.end(assigned)
 
     def of_flag(self, before: str) -> str:
@@ -192,10 +192,10 @@ class Control(Lines):
         self.at += 1
         body = self.body()
         if self.is_cut:
-            raise NoCounterpart('There is no `do`: a `while` tests before each turn. Put its first turn above it.')
+            raise NoCounterpart('There is no `do`: a `while` tests before each round. Put the first round above it.')
         self.need('while')
         test = self.condition()
-        self.why('There is no `do`: a `while` tests before each turn, so the first turn is above it.')
+        self.why('There is no `do`: a `while` tests before each round, so the first round is above it.')
         self.end('')
         return '%s while %s %s' % (body.removeprefix('{').removesuffix('}').strip(), test, body)
 

@@ -9,13 +9,13 @@ from motesim.from_c.scope import allowed
 
 # The order of declarations, in a `code` and above it.
 ORDER = ('event', 'semaphore', 'process', 'autostart', 'receiver', 'var', 'etimer', 'ctimer', 'thread')
-CALLBACK = ('There are no functions. What a callback timer calls is its own block: `ctimer c { .. }` at the head of '
-            '`code`; other steps go into a `thread`, which is run by `spawn`.')
+CALLBACK = ('There are no functions. A callback timer runs its own block, `ctimer c { .. }`, at the head of `code`; '
+            'put other steps into a `thread`, which `spawn` runs.')
 # A function with such a parameter is called for each packet.
 CONNECTION = re.compile(r'\w+_conn|rimeaddr_t|linkaddr_t|uip_ipaddr_t')
-OF_PACKETS = ('No function is called when a packet arrives: it is the event `packet` of the process that `receiver P;` '
-              'names, above the first `code`. That process waits for it by `yield_until is(packet);`, and what the '
-              'function would do follows: `data` is the value, and `from` the sender.')
+OF_PACKETS = ('No function is called when a packet arrives: a packet is the event `packet`. Above the first `code`, '
+              'name the process that gets it, `receiver P;`. This process waits by `yield_until is(packet);`, and the '
+              'statements of the function follow there: `data` is the value, and `from` the sender.')
 MOST_MEMBERS = 8
 NO_PLACE = 'Variables are declared at the head of `code`, before its timers, threads and `body`: `var %s = 0;`.'
 
@@ -133,8 +133,8 @@ class Declarations(Lines):
         self.at += 1
         if any(CONNECTION.fullmatch(it.text) for it in self.tokens[self.at:]):
             raise NoCounterpart(OF_PACKETS)
-        self.why('There are no functions: a `thread` serves as one, without parameters, and `spawn %s;` runs it. What '
-                 'a callback timer calls is its own block, `ctimer c { .. }`.' % name)
+        self.why('There are no functions: a `thread` serves as one, without parameters, and `spawn %s;` runs it. A '
+                 'callback timer runs its own block, `ctimer c { .. }`.' % name)
         self.parameters(self.place.is_head)
         if not self.place.is_head or not self.accept('{') or self.token.kind != 'end':
             raise NoCounterpart(CALLBACK)

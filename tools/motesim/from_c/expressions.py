@@ -55,11 +55,11 @@ NO_CALLS = ('There are no functions: a `thread` without waits serves as one. It 
             'variables of its process.')
 # A generator of pseudo-random numbers: its variable, its step, and the number that it yields.
 DICE, STEP, DRAWN = 'dice', 'dice = ((dice * 25173) + 13849);', '(dice / 256)'
-NO_CHANCE = ('There is no chance in a mote: each run is the same. A generator of its own serves, as below, with a '
-             'seed that differs by mote, mixed so that motes don\'t draw in step. At the start of `body`: `dice = ((self '
-             '* 257) + 1); dice = (dice * ((2 * dice) + 1)); dice = (dice + (dice / 256)); dice = (dice * ((2 * dice) + '
-             '1));`, for at most 255 motes. Then `((dice / 256) % 10)` is one of 0 to 9, and `(dice < 6554)` is so 1 '
-             'time in 10.')
+NO_CHANCE = ('A mote has no random numbers: each run is the same. Use a generator, as below, with a seed that '
+             'differs by mote, and mix the seed, so that motes don\'t draw in step. At the start of `body`: `dice = '
+             '((self * 257) + 1); dice = (dice * ((2 * dice) + 1)); dice = (dice + (dice / 256)); dice = (dice * ((2 * '
+             'dice) + 1));`, for at most 255 motes. Then `((dice / 256) % 10)` is one of 0 to 9, and `(dice < 6554)` '
+             'is true 1 time in 10.')
 TOO_LARGE = ('Numbers have 16 bits, 0 to 65,535: a timer is set to 65535 moments at most. Count larger ones in parts, '
              'such as '
              'thousands in a second variable.')
@@ -405,7 +405,7 @@ class Writer:
             timer = 'fired(%s)' % self.of_kind(right, 'timer')
             return timer if sign == '==' else '!' + timer
         if sign == '&&' and self.is_timer_event(left) and right.kind == 'binary' and self.is_of_timer(*right.parts):
-            self.why('`fired(..)` is both tests: the event is a timer\'s, and it is this timer.')
+            self.why('`fired(..)` tests both: the event is that of a timer, and the timer is this one.')
             return self.text(right)
         if sign in ('*', '/') and 'real' in (left.kind, right.kind):
             return self.scaled(sign, left, right)

@@ -39,9 +39,9 @@ ADVICE = {
     'unicast_send': UNICAST, 'runicast_send': UNICAST, 'simple_udp_sendto': UNICAST, 'mesh_send': UNICAST,
     'broadcast_send': BROADCAST, 'abc_send': BROADCAST, 'packetbuf_copyfrom': BROADCAST, 'netstack_network': BROADCAST,
     'nullnet_buf': BROADCAST, 'sleep': WAIT, 'delay': WAIT, 'clock_delay': WAIT, 'clock_wait': WAIT, 'usleep': WAIT,
-    'default': 'There is no `switch`: what belongs to `default` goes into the last `else { .. }`.',
-    'continue': 'There is no `continue` in loops: put what it would skip into the block of an `else`, `if .. { } else '
-    '{ .. }`.',
+    'default': 'There is no `switch`: put the statements of `default` into the last `else { .. }`.',
+    'continue': 'There is no `continue` in loops: put the statements that it would skip into the block of an '
+    '`else`, `if .. { } else { .. }`.',
     'goto': 'There is no `goto`: use `while`, `if`, or a `thread` that is run by `spawn`.',
     'random_init': 'There is no generator to set up: a seed is a variable, `seed = self;`.',
     'srand': 'There is no generator to set up: a seed is a variable, `seed = self;`.',
@@ -219,7 +219,7 @@ class Statements(Declarations, Calls, Control):
         try:
             text = reader.written()
         except NoCounterpart:
-            self.why('%s Put what `%s` does into it.' % (OF_HANDLER % head, does.replace(' ', '').rstrip(';')))
+            self.why('%s Put the statements of `%s` into it.' % (OF_HANDLER % head, does.replace(' ', '').rstrip(';')))
             return head + ' { }'
         self.why(OF_HANDLER % head)
         for reason in reader.writer.reasons:
@@ -261,7 +261,7 @@ class Statements(Declarations, Calls, Control):
             self.why('An assignment has no value: each is a statement of its own.')
             return '%s %s = %s;' % (self.assignment(), variable, self.variable(inner))
         if self.token.text in ('post', 'broadcast', 'synch'):
-            self.why('What a `post` returns goes into a variable by `into`.')
+            self.why('`into` stores the result of a `post` in a variable.')
             text = self.own().removesuffix(';')
             return '%s;' % text if text.startswith('synch') else '%s into %s;' % (text, variable)
         right = self.expression()
@@ -394,5 +394,5 @@ class Statements(Declarations, Calls, Control):
         """The word of an event, which is never left out."""
         if self.token.text not in (';', ')', 'into') and self.token.kind != 'end':
             return self.value()
-        self.why('An event has a word, a number: 0 if there is nothing to say.')
+        self.why('An event has a word, which is a number: write 0 if the event needs none.')
         return '0'

@@ -67,7 +67,7 @@ def spoken_of_by_none(marked: Sequence[Marks], sentences: Sequence[str]) -> list
     lines = []
     for number, (sentence, *lacks) in enumerate(zip(sentences, *(it.lacks for it in known)), 1):
         if lacks and all(lacks):
-            lines.append('no solution has what sentence %d is about (%s): %s has %s' % (
+            lines.append('sentence %d names something that no solution has (%s): %s has %s' % (
                 number, sentence, known[0].name, lacks[0]))
     return lines
 

@@ -147,7 +147,7 @@ class Task:
         if entry.why:
             return Marks(entry.name, why=entry.why)
         if entry.path.suffix == '.mote' and not self.nets:
-            return Marks(entry.name, why='a program without a net: --net names one to run it in')
+            return Marks(entry.name, why='a program needs a net: name one by --net')
         data = b''
         try:
             data = data_of(entry)

@@ -69,7 +69,7 @@ def _texts(path: Path, vary: Sequence[str]) -> Iterator[tuple[str, str]]:
 def _net(name: str, text: str, program: str | None) -> Net:
     fault = find_fault(text.encode())
     if fault:
-        raise Fault('%s is not a net to grade in: motesim: %s (tools/explain says more)' % (name, fault.message))
+        raise Fault('%s can\'t be the net of a marking: motesim: %s (tools/explain says more)' % (name, fault.message))
     scenario = Scenario.parse(text)
     names = list(scenario.programs)
     if program is None and len(names) != 1:

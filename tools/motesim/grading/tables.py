@@ -141,5 +141,5 @@ def why(marks: Marks) -> list[str]:
         lines.append(('holds   ' if it.holds else 'broken  ') + it.words)
         nets = [in_nets(it.nets)] if it.nets else []
         lines += ['          ' + row for row in [*nets, *it.more]]
-    lines += ['%s: it used up its work there, as by a loop without a wait' % marks.halts] if marks.halts else []
+    lines += ['%s: it used up its work there, maybe in a loop without a wait' % marks.halts] if marks.halts else []
     return lines + [RENAMED] * any(marks.lacks)

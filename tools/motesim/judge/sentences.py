@@ -44,7 +44,7 @@ REDIRECTS = {
     'everything': 'write `every mote`.', 'nobody': 'write `no mote`.', 'nothing': 'write `no mote`.',
     'somebody': 'write `some mote`.', 'someone': 'write `some mote`.',
     'node': 'write `mote`.', 'nodes': 'write `motes`.',
-    'always': 'write what must not be, `mote 3 never halts`, or `in each 120 from 0 to 1199`.',
+    'always': 'write what must not happen, `mote 3 never halts`, or `in each 120 from 0 to 1199`.',
     'eventually': 'leave it out: a sentence without TIMES and WHEN says that it happens at least once.',
     'only': '`prints just P 1, 2, 3` says that these are all of the values.',
     'last': '`finally prints P VALUE` is about the last line.',

@@ -62,7 +62,7 @@ class Row:
         value = self.values[name]
         if re.fullmatch('-?[0-9]{1,18}', value) and key.least <= int(value) <= key.most:
             return int(value)
-        raise self.fault('The column %s has another value here.' % name, key.may(name))
+        raise self.fault('The value in the column %s is not allowed.' % name, key.may(name))
 
 
 class CsvTable:

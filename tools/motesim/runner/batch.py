@@ -224,7 +224,7 @@ class _Batch(Generic[Item, Result]):
                 try:
                     number, result, fault = worker.take()
                 except (EOFError, OSError):
-                    yield self.drop(worker, 'its process was ended by the system, perhaps for want of memory')
+                    yield self.drop(worker, 'its process was ended by the system, perhaps because memory ran out')
                 else:
                     if not worker.given:
                         self.give(worker)

@@ -33,12 +33,12 @@ RULES: dict[str, str] = {
     'program': 'The text of this program has an error. docs/use/NOTATION.md has the notation.',
     'medium fault 2': 'The least delay, `base`, is at least 1: nothing is heard in the moment in which it is sent.',
     'medium fault 3': '`per` is at least 1, as the squared distance is divided by it.',
-    'medium fault 4': 'A loss is between two different motes that are there, has an `every` from 1 on, and there is '
+    'medium fault 4': 'A loss is between two different existing motes, its `every` is at least 1, and there is '
                       'at most one for two motes in one direction.',
-    'run fault 5': 'The thread of a worker could not be started or run. The scenario may be in order.',
-    'run fault 6': 'A worker stopped because of another, which reported no fault. The scenario may be in order.',
-    'write fault': 'The report could not be written. The scenario may be in order.',
-    'out of memory': 'There was not enough memory. The scenario may be in order.',
+    'run fault 5': 'The thread of a worker could not be started or run. The scenario may have no error.',
+    'run fault 6': 'A worker stopped because of another, which reported no fault. The scenario may have no error.',
+    'write fault': 'The report could not be written. The scenario may have no error.',
+    'out of memory': 'There was not enough memory. The scenario may have no error.',
 }
 
 

@@ -165,7 +165,7 @@ class Explainer:
         moment = int(self.replay.trace[at].partition(' ')[0])
         reason = 'timer %s was due' % timer.name
         if moment > due:
-            reason += ' since %d, and is offered until the queue has room; it was due' % due
+            reason += ' at %d, and its event is offered until the queue has room; it was due' % due
         if due > link.since:
             reason += ' %s after' % count(due - link.since, 'moment')
         else:

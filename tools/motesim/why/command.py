@@ -110,7 +110,7 @@ def show_why(source: Source, asked: argparse.Namespace) -> int:
 def status_of(asked: argparse.Namespace) -> int:
     """The work of tools/why; returns the status."""
     if asked.json and asked.other is not None:
-        raise Fault('--json and --other do not go together')
+        raise Fault('--json and --other can\'t be combined')
     given = [it for it in (asked.question, asked.watch, asked.state) if it is not None]
     if len(given) != 1:
         raise Fault('one question is needed: a sentence, a line, --watch or --state')

@@ -85,7 +85,7 @@ class _Misses:
 
     def past_the_end(self) -> Iterator[Miss]:
         if self.missing.span[1] is not None and self.missing.span[1] > self.source.scenario.end:
-            yield Miss('end', 'the run ends at %d: what would come later is not known' % self.source.scenario.end)
+            yield Miss('end', 'the run ends at %d: later lines are not known' % self.source.scenario.end)
 
     def other_values(self) -> Iterator[Miss]:
         """Lines of the same kind with another value."""
