@@ -211,7 +211,8 @@ class FileScope(unittest.TestCase):
     def test_a_timer_among_statements_moves_to_the_head(self) -> None:
         for typed, use, below, declared in (
                 ('static struct etimer et;', 'set et 5;', 4, 'etimer et;'),
-                ('etimer et;', 'set et 5;', 4, 'etimer et;'), ('struct ctimer ct;', 'set ct 5;', 5, 'ctimer ct { poll a; }')):
+                ('etimer et;', 'set et 5;', 4, 'etimer et;'),
+                ('struct ctimer ct;', 'set ct 5;', 5, 'ctimer ct { poll a; }')):
             with self.subTest(typed):
                 source = ('process a;\nautostart a;\ncode a {\n  var n = 0;\n  etimer u;\n  body {\n    set u 1;\n'
                           '    %s\n    %s\n  }\n}\n' % (typed, use))

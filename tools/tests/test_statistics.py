@@ -1,6 +1,7 @@
 """Statistics of sweeps: estimates against tables and by hand, crossings, pairs, and what is shown of them."""
 import csv
 import hashlib
+import itertools
 import math
 import os
 import re
@@ -10,14 +11,16 @@ import tempfile
 import unittest
 from collections.abc import Sequence
 from pathlib import Path
+from unittest import mock
 
 from here import TOOLS
-from motesim.analysis import estimates
+from motesim.analysis import drawing, estimates
 from motesim.analysis.around import dodged, labelled
 from motesim.analysis.crossings import Key, Runs, crossing, place
 from motesim.analysis.drawing import lengths, ticks_between, with_gaps
 from motesim.analysis.paired import Pair, Paired, differences, pairs_of
-from motesim.analysis.points import Wish, is_seed, shown_of
+from motesim.analysis.estimates import Estimate
+from motesim.analysis.points import Point, Wish, is_seed, shown_of
 from motesim.analysis.rows import by_net, once, warnings_of
 from motesim.analysis.text import columns_of_crossing, of_crossing, of_pairs, remarks
 from motesim.experiments.results import Row, read_results
@@ -1148,11 +1151,43 @@ class Command(unittest.TestCase):
         self.plot('--measure', 'sent', '--show', 'cdf', '--by', 'density', '--over', 'seed,period', '-o', 'a.svg',
                   '--label', 'thin=4 neighbours')
         self.assertIn('>4 neighbours<', (self.folder / 'a.svg').read_text())
-        for more, seen in ((('--by', 'density', '--label', 'thick=a'),
-                            'no line has density = thick; there are: dense, thin'), (('--label', 'thin=a', *ONE), '--label is the text of a line of --by'),
+        self.plot(*words, '--by', 'density', '--label', 'thick=a', '--label', 'thin=b')
+        self.assertIn('plot: no line has density = thick, so this label isn\'t used; there are: dense, thin', self.seen)
+        self.assertIn('>b<', (self.folder / 'a.svg').read_text())
+        for more, seen in ((('--label', 'thin=a', *ONE), '--label is the text of a line of --by'),
                            (('--by', 'density', '--label', 'thin'), '--label needs VALUE=TEXT')):
             self.plot(*words, *more, status=2)
             self.assertIn(seen, self.seen)
+
+    def test_a_threshold_is_in_the_legend_below_the_curves(self) -> None:
+        interpreter_with(self, 'matplotlib')
+        words = '--measure', 'sent', '--against', 'period', '--show', 'mean', '--threshold', '25', '-o', 'a.svg'
+        curves: list[tuple[Sequence[str], list[str]]] = [
+            (ONE, []), (('--by', 'density'), ['density dense', 'density thin'])]
+        for more, wanted in curves:
+            self.plot(*words, *more)
+            texts = re.findall('>([^<]*)</text>', (self.folder / 'a.svg').read_text())
+            its = [it for it in texts if it in (*wanted, 'threshold 25', 'interval of the crossing')]
+            self.assertEqual(its, [*wanted, 'threshold 25', 'interval of the crossing'])
+
+    def test_no_line_joins_names(self) -> None:
+        points = [Point(None, name, (1, 2), Estimate(2, 1.5, 1, 2)) for name in ('aloha', 'csma')]
+        for show, is_scale in itertools.product(('median', 'mean'), (False, True)):
+            axes, wish = mock.Mock(), Wish('sent', 'name', show=show)
+            drawing._draw_points(axes, points, [0, 1], wish, drawing._look(0), None, is_scale)
+            call = axes.plot.call_args or axes.errorbar.call_args
+            self.assertEqual(call.kwargs['linestyle'], '-' if is_scale else '')
+            self.assertEqual(axes.fill_between.called, show == 'median' and is_scale)
+
+    def test_a_count_of_0_and_1_is_no_share(self) -> None:
+        for name in ('collided', 'halt', 'sent of mote 3', 'count: mote 1 sends',
+                     'delay: mote 0 sends -> mote 1 sends'):
+            self.assertEqual(Wish(name).kind_of(name, [0, 1, 1]), 'any', name)
+        for name in 'holds: no mote halts', 'ok', 'ratio':
+            self.assertEqual(Wish(name).kind_of(name, [0, 1, 1]), 'yes or no', name)
+            self.assertEqual(Wish(name, is_count=True).kind_of(name, [0, 1, 1]), 'any', name)
+            self.assertEqual(Wish('other', name, is_count=True).kind_of(name, [0, 1, 1]), 'yes or no', name)
+        self.assertEqual(Wish('collided').kind_of('collided', [0, 0.5]), 'share')
 
     def test_error_bars_of_several_lines_are_next_to_each_other(self) -> None:
         self.assertEqual(dodged([0, 10, 100], 0, 1, False), [0, 10, 100])

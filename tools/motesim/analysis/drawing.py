@@ -36,6 +36,8 @@ OF_HEIGHT = 0.6
 THICK, THIN = 5, 3
 # The angle of labels that don't fit next to each other.
 ANGLE = 30
+# The texts of the legend about a threshold, which follow those of the curves.
+THRESHOLD, CROSSING = 'threshold ', 'interval of the crossing'
 # Colours that readers with colour blindness can distinguish (Okabe and Ito); lines differ by their marks too.
 COLOURS = ['#0072b2', '#d55e00', '#009e73', '#cc79a7', '#e69f00', '#56b4e9', '#000000']
 MARKS = ['o', 's', '^', 'D', 'v', 'P', 'X']
@@ -79,13 +81,12 @@ def _legend_of(wish: Wish, by: Cell) -> str:
     return dict(wish.labels).get(text_of(by), '%s %s' % (wish.by, text_of(by)))
 
 
-def check_labels(shown: Shown, wish: Wish) -> None:
-    """Refuses texts of values that no curve has."""
-    values = [text_of(it) for it in dict.fromkeys(point.by for point in shown.points)]
-    wrong = next((value for value, _ in wish.labels if value not in values), None)
-    if wrong is not None:
-        raise Fault('a label is the text of a line, and no line has %s = %s; there are: %s' % (
-            wish.by, wrong, ', '.join(values)))
+def unused_labels(shown: Shown, wish: Wish) -> list[str]:
+    """The line about texts of values that no curve has."""
+    values = [text_of(it.by) for it in shown.curves()]
+    unused = [value for value, _ in wish.labels if value not in values]
+    return ['no line has %s = %s, so this label isn\'t used; there are: %s' % (
+        wish.by, ' or '.join(unused), ', '.join(values))] if unused else []
 
 
 def _groups(shown: Shown) -> dict[Cell, list[Point]]:
@@ -116,8 +117,8 @@ def lengths(found: Sequence[Estimate]) -> list[list[float]]:
 
 
 def _draw_points(axes: Any, points: list[Point], xs: list[float], wish: Wish, look: dict[str, str],
-                 label: str | None) -> None:
-    """A curve with its intervals, or all the points."""
+                 label: str | None, is_scale: bool) -> None:
+    """A curve with its intervals, or all the points; on an axis of names, whose order says nothing, no line."""
     if wish.show == 'points':
         # (on an axis of a measure each run has a place of its own)
         places = [it for x, point in zip(xs, points)
@@ -126,7 +127,7 @@ def _draw_points(axes: Any, points: list[Point], xs: list[float], wish: Wish, lo
                   marker=look['marker'], linestyle='', alpha=0.55, markersize=4)
         return
     middles = [it.estimate.middle for it in points]
-    if wish.show == 'median' and points[0].across is None:
+    if wish.show == 'median' and points[0].across is None and is_scale:
         axes.plot(xs, middles, label=label, **look)
         lows, highs = ([math.nan if end is None else end for end in ends] for ends in zip(*(
             (it.estimate.low, it.estimate.high) for it in points)))
@@ -134,7 +135,7 @@ def _draw_points(axes: Any, points: list[Point], xs: list[float], wish: Wish, lo
         return
     across = _errors(points, lambda it: it.across) if points[0].across else None
     axes.errorbar(xs, middles, yerr=_errors(points, lambda it: it.estimate), xerr=across, label=label, capsize=3,
-                  elinewidth=1, **look)
+                  elinewidth=1, **(look if is_scale else {**look, 'linestyle': ''}))
 
 
 def _draw_steps(axes: Any, shown: Shown, wish: Wish) -> None:
@@ -295,7 +296,6 @@ def _place_of_notes(path: Path, has_warnings: bool) -> str:
 
 def draw(shown: Shown, wish: Wish, path: Path) -> bool:
     """Draws the points into a file; returns whether the notes have room below the picture."""
-    check_labels(shown, wish)
     pyplot = _pyplot(wish)
     figure, axes = _figure(pyplot, wish)
     if wish.show == 'heat':
@@ -334,11 +334,11 @@ def _draw_curves(axes: Any, shown: Shown, wish: Wish) -> None:
         label = _legend_of(wish, by) if wish.by else None
         points = with_gaps(points, shown, places) if wish.show in ('mean', 'median') else points
         xs = [it.x if is_scale else float(places.index(it.against)) for it in points]
-        if wish.show in ('mean', 'points') and shown.points[0].across is None:
+        if (wish.show in ('mean', 'points') or not is_scale) and shown.points[0].across is None:
             every = _numbers(places, is_scale)
             moved = dict(zip(every, dodged(every, number, len(groups), wish.log and is_scale)))
             xs = [moved.get(it, it) for it in xs]
-        _draw_points(axes, points, xs, wish, _look(number), label)
+        _draw_points(axes, points, xs, wish, _look(number), label, is_scale)
     _draw_threshold(axes, shown, wish)
     if wish.show != 'cdf':
         if shown.points[0].across is None:
@@ -356,8 +356,7 @@ def _draw_curves(axes: Any, shown: Shown, wish: Wish) -> None:
                wish.y or ('part of runs' if wish.show == 'cdf' else wish.measure))
     axes.grid(True, color='#dddddd', linewidth=0.6)
     axes.spines[['top', 'right']].set_visible(False)
-    if wish.by:
-        _legend(axes)
+    _legend(axes)
 
 
 def _name_axes(axes: Any, across: str, up: str) -> None:
@@ -373,6 +372,8 @@ def _legend(axes: Any) -> None:
     handles, labels = axes.get_legend_handles_labels()
     if not labels:
         return
+    last = [it.startswith((THRESHOLD, CROSSING)) for it in labels]
+    handles, labels = ([it for _, it in sorted(zip(last, its), key=lambda it: it[0])] for its in (handles, labels))
     inches = axes.figure.get_figwidth()
     points = points_of(inches * INCH, 'legend')
     # (the legend begins at the left end of the axes, to the right of their name and labels; a line with its space is
@@ -391,9 +392,13 @@ def _draw_threshold(axes: Any, shown: Shown, wish: Wish) -> None:
     threshold = threshold_of(wish)
     if threshold is None or wish.show == 'cdf':
         return
-    axes.axhline(threshold, color='#555555', linewidth=0.8, linestyle=(0, (6, 3)))
+    axes.axhline(threshold, color='#555555', linewidth=0.8, linestyle=(0, (6, 3)),
+                 label=THRESHOLD + wish.threshold)
     first, last = min(it.x for it in shown.points), max(it.x for it in shown.points)
     every = crossings_of(shown, wish)
+    if any(it and it.low is not None for it in every.values()):
+        axes.plot([], [], linewidth=THICK if len(every) == 1 else THIN, alpha=0.4, color='#555555',
+                  label=CROSSING)
     transforms: Any = packages.load('matplotlib.transforms')
     for number, found in enumerate(every.values()):
         # (next to each other: on one line they would hide each other)
@@ -419,7 +424,8 @@ def draw_differences(found: Sequence[Difference], wish: Wish, words: str, notes:
     is_scale = all(type(it) in (int, float) for it in places)
     xs = [float(it) if isinstance(it, int | float) and is_scale else number for number, it in enumerate(places)]
     gaps = [it.difference for it in found]
-    axes.errorbar(xs, [it.middle for it in gaps], capsize=3, elinewidth=1, yerr=lengths(gaps), **_look(0))
+    axes.errorbar(xs, [it.middle for it in gaps], capsize=3, elinewidth=1, yerr=lengths(gaps),
+                  **(_look(0) if is_scale else {**_look(0), 'linestyle': ''}))
     axes.axhline(0, color='#555555', linewidth=0.8)
     _scale(axes, places, wish, is_scale)
     _name_axes(axes, wish.x or wish.against, wish.y or 'difference of %s' % wish.measure)

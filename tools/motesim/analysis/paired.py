@@ -13,7 +13,7 @@ from __future__ import annotations
 import math
 import statistics
 from collections import Counter
-from collections.abc import Mapping, Sequence
+from collections.abc import Callable, Mapping, Sequence
 from typing import NamedTuple
 
 from motesim.analysis.estimates import AUTO, Estimate, Measured, is_skewed, mean_by_wilson, mean_of, measured
@@ -148,12 +148,13 @@ def _number(row: Mapping[str, Cell], measure: str) -> float:
     return float(value)
 
 
-def differences(paired: Paired, confidence: float, interval: str) -> list[Difference]:
+def differences(paired: Paired, confidence: float, interval: str,
+                kind_of: Callable[[Sequence[float]], Measured] = measured) -> list[Difference]:
     """The differences, for each value of the parameter on the horizontal axis."""
     groups: dict[Cell, list[Pair]] = {}
     for pair in paired.pairs:
         groups.setdefault(pair.against, []).append(pair)
-    kind = measured([value for pair in paired.pairs for value in (pair.one, pair.other)])
+    kind = kind_of([value for pair in paired.pairs for value in (pair.one, pair.other)])
     found = []
     nets = paired.nets()
     for against, its in groups.items():

@@ -7,7 +7,7 @@ from typing import NamedTuple
 
 from motesim.analysis.estimates import AUTO, NAMES, Estimate, Measured, mean_of, measured, median_with_quartiles
 from motesim.explain.synonyms import known
-from motesim.experiments.measures import Cell
+from motesim.experiments.measures import Cell, is_count
 from motesim.experiments.results import Row, text_of
 from motesim.faults import Fault
 
@@ -41,6 +41,7 @@ class Wish(NamedTuple):
     size           the width and the height of a picture in centimetres, `16x10`, or `column`, or nothing
     labels         texts of the legend, by the values of `by`
     nets           whether the runs of a net are averaged first, so that each net counts once
+    is_count       whether the measure is a count, and so not a share, even if all its values are from 0 to 1
     """
     measure: str
     against: str = ''
@@ -63,10 +64,17 @@ class Wish(NamedTuple):
     compare: str = ''
     where: tuple[str, ...] = ()
     labels: tuple[tuple[str, str], ...] = ()
+    is_count: bool = False
 
     @property
     def part(self) -> float:
         return self.confidence / 100
+
+    def kind_of(self, name: str, values: Sequence[float]) -> Measured:
+        """Returns the kind of a measure with these values."""
+        kind = measured(values)
+        is_any = self.is_count and name == self.measure or kind == 'yes or no' and is_count(name)
+        return 'any' if is_any else kind
 
     def estimate(self, values: Sequence[float], measure: Measured = 'any') -> Estimate:
         """Returns the estimate of the runs of a point."""
@@ -299,7 +307,7 @@ def shown_of(rows: Sequence[Row], wish: Wish) -> Shown:
             group.append((value, tuple(row[name] for name in over)))
         empty_at[place] += _lacking_runs(row, value)
     keys = sorted(groups, key=lambda key: (order(key[0]), order(key[1])))
-    kind = measured([value for its in groups.values() for value, _ in its])
+    kind = wish.kind_of(wish.measure, [value for its in groups.values() for value, _ in its])
     points = []
     for key in (it for it in keys if groups[it]):
         values = [value for value, _ in groups[key]]
@@ -367,8 +375,8 @@ def _of_two_measures(rows: Sequence[Row], good: Sequence[Row], varying: Sequence
             continue
         groups.setdefault(key, []).append((x, y, tuple(row[name] for name in over)))
         bys[key] = row[wish.by] if wish.by else None
-    of_x = measured([x for runs in groups.values() for x, _, _ in runs])
-    of_y = measured([y for runs in groups.values() for _, y, _ in runs])
+    of_x = wish.kind_of(wish.against, [x for runs in groups.values() for x, _, _ in runs])
+    of_y = wish.kind_of(wish.measure, [y for runs in groups.values() for _, y, _ in runs])
     points = []
     for key, runs in groups.items():
         xs, values, keys = zip(*runs)

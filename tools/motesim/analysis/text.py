@@ -9,7 +9,7 @@ from typing import Any
 
 from motesim.analysis.crossings import Crossing, Middle, Runs, crossing
 from motesim.analysis.estimates import BOUNDED, DRAWN, ENOUGH_RUNS, LEAST_RUNS, NAMES, OF_ROW, RANGE
-from motesim.analysis.estimates import Estimate, is_skewed_near_an_end, measured
+from motesim.analysis.estimates import Estimate, is_skewed_near_an_end
 from motesim.analysis.paired import Difference, Paired, reasons
 from motesim.analysis.points import Curve, Net, Place, Point, Shown, Wish, order
 from motesim.experiments.measures import Cell
@@ -218,12 +218,12 @@ def remarks(shown: Shown, wish: Wish) -> list[str]:
     if wish.show != 'mean':
         return [*(['bootstrap: %s' % DRAWN] if has_crossing else []), *found]
     found += of_intervals([it for point in shown.points for it in point.estimates], has_crossing)
-    return found + of_skewed(shown)
+    return found + of_skewed(shown, wish)
 
 
-def of_skewed(shown: Shown) -> list[str]:
+def of_skewed(shown: Shown, wish: Wish) -> list[str]:
     """The warning that intervals of few skewed runs near 0 or 1 are too narrow."""
-    kind = measured([value for point in shown.points for value in point.values])
+    kind = wish.kind_of(wish.measure, [value for point in shown.points for value in point.values])
     its = [it for it in shown.points if it.estimate.method in NARROW and it.estimate.runs < ENOUGH_RUNS and
            is_skewed_near_an_end(it.values)] if kind == 'share' else []
     return ['%d mean%s near 0 or 1 of fewer than %d skewed runs: such an interval contains the true mean less often '

@@ -40,6 +40,8 @@ def arguments() -> argparse.Namespace:
                        help='the statistic of the runs at each point (median)')
     words.add_argument('--interval', choices=MEANS, default='auto',
                        help='the method for intervals of means (auto: t, or one for shares)')
+    words.add_argument('--count', action='store_true',
+                       help="the measure is a count: it isn't a share, even if all its values are 0 and 1")
     words.add_argument('--confidence', type=float, default=95, metavar='PERCENT',
                        help='the confidence of the intervals (95)')
     words.add_argument('--threshold', metavar='VALUE', help='report where each curve crosses this value')

@@ -34,6 +34,10 @@ NAMED = re.compile(r'\s*([A-Za-z][A-Za-z0-9_ -]{0,39}?)\s*=(?!=)\s*(.*)', re.S)
 OF_SUMMARY = re.compile(r'([a-z]+)(?:\s+of\s+mote\s+([0-9]{1,4}))?')
 OF_FLOW = re.compile(r'flow\s+([a-z]+)\s*:(.*)', re.S)
 OF_SENTENCE = re.compile(r'(%s)\s*:(.*)' % '|'.join(KINDS), re.S)
+# The names of columns of unnamed measures that count something, or measure time.
+OF_COUNT = re.compile(r'(?:%s)(?:\s+of\s+mote\s+[0-9]+)?|(?:count|motes|moment|last|delay)\s*:.*'
+                      r'|flow\s+(?:sent|delivered|copies|duplicates)\s*:.*' % '|'.join(
+                          it for it in SUMMARY if it != 'ratio'), re.S)
 OF_PYTHON = re.compile(r'python\s*:\s*([^:]+?)\s*:\s*([A-Za-z_]\w*)')
 
 
@@ -236,6 +240,11 @@ def _said(fault: Exception, file: str) -> str:
     where = 'line %d: ' % line if line else ''
     what = fault.msg if isinstance(fault, SyntaxError) else str(fault)
     return '%s%s: %s' % (where, type(fault).__name__, ' '.join(what.split()))
+
+
+def is_count(name: str) -> bool:
+    """Returns whether a column has the name of a measure that counts, and so isn't a share if it is only 0 and 1."""
+    return OF_COUNT.fullmatch(name) is not None
 
 
 def name_of(words: str) -> str:

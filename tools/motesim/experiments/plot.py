@@ -5,6 +5,7 @@ import argparse
 import shlex
 import sys
 from collections.abc import Iterable, Sequence
+from functools import partial
 from pathlib import Path
 from typing import NamedTuple
 
@@ -35,7 +36,7 @@ PLOT = {'file': needed(str), 'measure': needed(str), 'against': optional(str, ''
         'show': optional(str, 'median'), 'interval': optional(str, AUTO), 'confidence': any_kind('a number', False),
         'threshold': any_kind('a number', False), 'over': optional(str, ''),
         'footer': optional(str, None), 'size': optional(str, ''), 'log_y': optional(bool, False),
-        'nets': optional(bool, False), 'pair': optional(str, ''), 'compare': optional(str, ''),
+        'nets': optional(bool, False), 'count': optional(bool, False), 'pair': optional(str, ''), 'compare': optional(str, ''),
         WHERE: optional(dict, {}), LABELS: optional(dict, {})}
 # The most values of a column in a message.
 MOST_SHOWN = 12
@@ -96,7 +97,7 @@ def wishes_of(plan: Plan) -> list[Wish]:
             raise tables.fault(path + (LABELS,), 'Labels are the texts of the lines of `by`.', 'a plot with `by`',
                                False)
         values[LABELS] = tuple(values[LABELS].items())
-        wish = Wish(**values)
+        wish = Wish(**{key: value for key, value in values.items() if key != 'count'}, is_count=values['count'])
         try:
             drawing.size_of(wish.size)
         except Fault as fault:
@@ -168,6 +169,8 @@ def show(rows: Sequence[Row], wish: Wish, source: Source) -> bool:
     if wish.file and packages.is_here('matplotlib'):
         picture = source.folder / wish.file
         has_room = drawing.draw(shown, wish, picture)
+        for line in drawing.unused_labels(shown, wish):
+            print('plot: %s' % line, file=sys.stderr)
         notes = [*text.crossings(shown, wish), *text.left_out(shown, wish), *text.remarks(shown, wish)]
         write_tables(picture, text.rows_of_picture(shown, wish), source, rows, [text.heading(shown, wish), *notes])
         print('\n'.join(map(str, [picture, *notes, *left_to_caption(has_room, picture)])))
@@ -194,7 +197,8 @@ def compare(sides: Sides, wish: Wish, source: Source) -> bool:
         check_made([row for row in side if not row['fault']], [it for it in kept if not is_repeat(it, wish.over)], wish)
     nets = names_of_nets([*rows, *others], wish.over) if wish.nets else None
     paired = pairs_of(rows, others, wish.measure, kept, wish.against, names, nets)
-    found = differences(paired.by_net() if wish.nets else paired, wish.part, wish.interval)
+    found = differences(paired.by_net() if wish.nets else paired, wish.part, wish.interval,
+                        partial(wish.kind_of, wish.measure))
     found.sort(key=lambda it: order(it.against))
     by = text.by_methods([it.difference.method for it in found])
     words = '%s against %s: %s less %s, %s' % (wish.measure, wish.against, names[1], names[0],
@@ -251,7 +255,7 @@ def wishes(asked: argparse.Namespace) -> list[Wish]:
                  log=asked.log, show=asked.show or MEDIAN, interval=asked.interval, confidence=asked.confidence,
                  threshold=asked.threshold or '', over=asked.over or '', footer=asked.footer, size=asked.size,
                  log_y=asked.log_y, nets=asked.nets, pair=asked.pair or '', compare=asked.compare or '',
-                 labels=labels_of(asked.label))]
+                 labels=labels_of(asked.label), is_count=asked.count)]
 
 
 def some_of(values: Iterable[Cell]) -> str:
