@@ -372,8 +372,8 @@ def _legend(axes: Any) -> None:
     handles, labels = axes.get_legend_handles_labels()
     if not labels:
         return
-    last = [it.startswith((THRESHOLD, CROSSING)) for it in labels]
-    handles, labels = ([it for _, it in sorted(zip(last, its), key=lambda it: it[0])] for its in (handles, labels))
+    order_of = sorted(range(len(labels)), key=lambda it: str(labels[it]).startswith((THRESHOLD, CROSSING)))
+    handles, labels = ([its[it] for it in order_of] for its in (handles, labels))
     inches = axes.figure.get_figwidth()
     points = points_of(inches * INCH, 'legend')
     # (the legend begins at the left end of the axes, to the right of their name and labels; a line with its space is
