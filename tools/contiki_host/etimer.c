@@ -69,7 +69,7 @@ post_due_timers(void)
   }
 }
 
-/* Takes the timers of a process that exits off the list. They keep their owner. */
+/* Removes the timers of an exiting process from the list. They keep their owner. */
 static void
 purge_timers(const struct process *p)
 {

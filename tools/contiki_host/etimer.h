@@ -10,7 +10,7 @@
 struct etimer {
   struct timer timer;
   struct etimer *next;
-  struct process *p;      /* the owner, who gets the event */
+  struct process *p;      /* the owner, which gets the event */
 };
 
 extern struct process etimer_process;

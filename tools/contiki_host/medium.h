@@ -32,7 +32,7 @@ struct copy medium_take(int to);
 
 const struct text *medium_log(void);
 
-/* How many copies would arrive after the end. */
+/* The number of copies that would arrive after the end. */
 uint64_t medium_left(void);
 
 #endif /* MEDIUM_H_ */

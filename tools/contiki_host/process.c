@@ -21,14 +21,14 @@ struct event {
 struct process *process_current;
 
 static struct process *process_list;      /* the newest first */
-static uint64_t incarnations;             /* how many starts there were */
+static uint64_t incarnations;             /* the number of starts */
 static unsigned char poll_requested;
 static process_event_t last_event;
 
 static struct event *events;              /* as many places as the queue has */
 static process_num_events_t first_event;
 static process_num_events_t event_count;
-static uint64_t accepted;                 /* how many events were ever accepted */
+static uint64_t accepted;                 /* the number of accepted events */
 
 const struct host_memory process_memory[] = {
   HOST_MEMORY(process_current), HOST_MEMORY(process_list), HOST_MEMORY(incarnations),
@@ -282,7 +282,7 @@ do_event(void)
   }
 }
 
-/* How much is left to do: the events in the queue, and one more if a poll is requested. */
+/* The work that is left: the events in the queue, and one more if a poll is requested. */
 int
 process_nevents(void)
 {

@@ -7,14 +7,14 @@ timer_set(struct timer *t, clock_time_t interval)
   t->start = clock_time();
 }
 
-/* Goes on from the last expiration, so that a period stays steady. */
+/* Continues from the last expiration, so that a period stays steady. */
 void
 timer_reset(struct timer *t)
 {
   t->start += t->interval;
 }
 
-/* Goes on from now. */
+/* Continues from now. */
 void
 timer_restart(struct timer *t)
 {

@@ -159,7 +159,7 @@ class Count:
 class Window:
     """The moments from `begin` to `end`.
 
-    With `hop`, both moments are later by `hop` for each hop from `root`. With `every`, each interval of so many
+    With `hop`, both moments are later by `hop` for each hop from `root`. With `every`, each interval of this many
     moments is judged separately.
     """
     begin: int = 0

@@ -10,7 +10,8 @@ from motesim.why.fate import after_post, after_recv, fate_of
 from motesim.why.source import At, Source
 
 MOST_LINES = 6
-# The fields of a line that count the events and packets before it. They may differ though the lines mean the same.
+# The fields of a line that count the events and packets before it. They may differ between lines with the same
+# meaning.
 COUNTERS = ('serial', 'number')
 
 
@@ -43,10 +44,10 @@ def moment(line: str) -> int:
 
 
 def counterpart(one: Source, other: Source, hop: Hop, there: At) -> At | None:
-    """The line of another run that has the words of a hop, except numbers that count; `there` is that of its cause.
+    """The line of another run that corresponds to a hop; `there` is the line of the other run for the hop's cause.
 
-    It is the arrival or the end of the same packet or event. Otherwise, of several such lines of a moment, it has the
-    same rank.
+    It is the arrival or the end of the same packet or event, or otherwise a line with the same words, except for
+    numbers that count. If a moment has several such lines, the one with the same rank counts.
     """
     where = hop.where
     if where.mote >= other.traces.motes:
