@@ -102,12 +102,17 @@ MEASURES: list[tuple[str, str, Cell]] = [
     ('count: some packet is sent', 'count: some packet is sent', 2),
     ('motes: every mote prints a', 'motes: every mote prints a', 2),
     ('delay = delay: mote 0 sends 7 -> every mote but 0 prints a 7', 'delay', 6),
+    ('ratio = delivery: mote 1 prints a -> mote 2 prints a', 'ratio', 0.5),
+    ('pdr = delivery: mote 0 sends -> every mote but 0 prints a', 'pdr', 1.0),
+    ('pdr = delivery: motes 1 and 2 print a -> mote 1 prints a after 3', 'pdr', 0.3333),
+    ('pdr = delivery: mote 2 sends -> mote 1 prints a', 'pdr', None),
     ('flow most: print a', 'flow most: print a', 6),
     ('python: mine.py:lines', 'lines', 10),
     ('python: mine.py:odd', 'odd', 'two words'),
 ]
 WRONG = ['speed', 'moment: mote 1 never prints a', 'moment: no mote halts', 'moment: no copy collides',
-         'delay: mote 0 sends', 'moment: mote 0 sends -> mote 1 sends', 'flow fast: print a', 'flow most: halt',
+         'delay: mote 0 sends', 'delivery: mote 0 sends', 'moment: mote 0 sends -> mote 1 sends',
+         'flow fast: print a', 'flow most: halt',
          'python: mine.py:none', 'python: no.py:x', "holds: the scenario is refused with 'medium fault 2'"]
 MINE = '''def lines(run):
     return sum(1 for line in run.report.lines())

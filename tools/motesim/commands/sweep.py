@@ -17,6 +17,8 @@ Values are 10,20,40 or 1..30 or 0..100..25 (in steps of 25). Measures are
   last:, count:, motes:         the last moment, how many lines, how many motes
   delay: mote 0 sends 1 -> every mote but 0 prints flood 1
                                 the time from the first moment to the second
+  delivery: motes 1 to 9 print source -> mote 0 prints sink
+                                the share of the first lines that a second one with the same value follows
   python: measures.py:energy    a function of yours, in a file next to the plan, whose argument is the run
 and `name = MEASURE` names its column.
 

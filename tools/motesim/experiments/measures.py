@@ -7,6 +7,7 @@ from __future__ import annotations
 
 import math
 import re
+from collections import Counter
 from collections.abc import Callable, Mapping
 from dataclasses import dataclass
 from functools import cached_property
@@ -29,7 +30,9 @@ Cell = int | float | str | None
 SUMMARY = ('sent', 'copies', *summary.BECAME.values(), 'ratio', *summary.COUNTED.values(), 'halt')
 REACHABLE = 'reachable'
 FLOWS = tuple(FLOW_NAMES[1:])
-KINDS = ('holds', 'moment', 'last', 'count', 'motes', 'delay')
+# Measures of one sentence, and those of two, `A -> B`.
+OF_TWO = ('delay', 'delivery')
+KINDS = ('holds', 'moment', 'last', 'count', 'motes', *OF_TWO)
 NAMED = re.compile(r'\s*([A-Za-z][A-Za-z0-9_ -]{0,39}?)\s*=(?!=)\s*(.*)', re.S)
 OF_SUMMARY = re.compile(r'([a-z]+)(?:\s+of\s+mote\s+([0-9]{1,4}))?')
 OF_FLOW = re.compile(r'flow\s+([a-z]+)\s*:(.*)', re.S)
@@ -134,6 +137,21 @@ def _motes(judge: Judge, it: Does) -> int:
     return sum(len(_events(judge, it, (mote,))) >= wanted for mote in judge.chosen(it.motes))
 
 
+def _delivery(judge: Judge, begin: Does, end: Does) -> float | None:
+    """The share of the lines of a sentence that a line of another with the same value follows; each of these once."""
+    sent, arrived = (_events(judge, it, judge.chosen(it.motes)) for it in (begin, end))
+    lines = sorted([(it.line.at, False, it.line.value) for it in sent] + [(it.line.at, True, it.line.value)
+                                                                          for it in arrived], key=lambda it: it[:2])
+    waiting, delivered = Counter[int | None](), 0
+    for _, is_end, value in lines:
+        if not is_end:
+            waiting[value] += 1
+        elif waiting[value]:
+            waiting[value] -= 1
+            delivered += 1
+    return round(delivered / len(sent), 4) if sent else None
+
+
 def _count_rows(judge: Judge, it: Copies | Packets) -> int:
     """The number of copies or packets of a sentence."""
     if isinstance(it, Copies) and it.outcome == 'left':
@@ -166,9 +184,9 @@ def _guarded(work: Callable[[Judge], Cell]) -> Callable[[Bench], Cell]:
 
 def _of_sentence(kind: str, words: str, names: Names) -> Callable[[Bench], Cell]:
     parts = [part.strip() for part in words.split('->')]
-    if len(parts) != (2 if kind == 'delay' else 1):
-        raise MeasureFault('delay needs two sentences, `A -> B`; other measures need one' if '->' in words else
-                           'delay needs two sentences, `A -> B`')
+    if len(parts) != (2 if kind in OF_TWO else 1):
+        raise MeasureFault('%s need two sentences, `A -> B`%s' % (
+            ' and '.join(OF_TWO), '; other measures need one' if '->' in words else ''))
     sentences = [read_sentence(part, names) for part in parts]
     first = sentences[0]
     if isinstance(first, Refused):
@@ -185,6 +203,8 @@ def _of_sentence(kind: str, words: str, names: Names) -> Callable[[Bench], Cell]
             return None if begin is None or end is None else end - begin
 
         return _guarded(delay)
+    if kind == 'delivery':
+        return _guarded(lambda judge: _delivery(judge, *its))
     work: dict[str, Callable[[Judge, Does], Cell]] = {
         'moment': _moment, 'last': _last, 'count': _count, 'motes': _motes}
     return _guarded(lambda judge: work[kind](judge, its[0]))
