@@ -472,6 +472,36 @@ class Pages(unittest.TestCase):
             })()''' % lane)
             self.assertEqual(seen, [True, True], lane)
 
+    def test_no_mark_covers_a_printed_value(self) -> None:
+        prints = ''.join('%d print a %d\n' % (at + at % 3, 10_000 + at) for at in range(1, 400, 4))
+        self.open(Run('prints', Report.parse('mote 0 p\n0 start a\n%smedium\nleft 0\n' % prints), None))
+        seen = self.value('''(() => {
+          const c = pane.context, texts = [], marks = [];
+          c.fillText = (text, x, y) => texts.push({text, x, y, after: marks.length});
+          c.drawImage = (image, x, y, w, h) => marks.push({x, w, y: y + h / 2});
+          m.drawAll();
+          delete c.fillText;
+          delete c.drawImage;
+          const values = texts.filter(it => /^10[0-9]{3}$/.test(it.text)), wide = c.measureText('10000').width;
+          const covers = (mark, it) => Math.abs(mark.y - it.y) < 5 && mark.x < it.x + wide && mark.x + mark.w > it.x;
+          return [values.length, marks.length, values.filter(it => marks.slice(it.after).some(
+            mark => covers(mark, it))).length];
+        })()''')
+        self.assertGreater(seen[0], 0)
+        self.assertGreater(seen[1], seen[0])
+        self.assertEqual(seen[2], 0)
+
+    def test_the_shares_of_two_opposite_losses_are_apart(self) -> None:
+        text = (TOP / 'examples/small_network.toml').read_text() + ''.join(
+            '[[loss]]\nfrom = %d\nto = %d\nevery = %d\n' % it for it in ((1, 0, 991), (2, 1, 997), (1, 2, 1013)))
+        self.open(small_network()._replace(scenario=Scenario.parse(text)))
+        its = self.value('m.maps[0].shares')
+        self.assertGreater(len(its), 1)
+        for number, one in enumerate(its):
+            for other in its[:number]:
+                self.assertTrue(abs(one['x'] - other['x']) >= (one['wide'] + other['wide']) / 2
+                                or abs(one['y'] - other['y']) >= 12)
+
     def test_many_lanes_are_drawn_as_colours_and_what_is_not_drawn_is_said(self) -> None:
         self.open(Run('many', Report.parse(many(900, 40)), None))
         said = self.value('document.getElementById("drawn").textContent')

@@ -51,16 +51,29 @@ function putMark(pane, form, x, y, r, line) {
   return true;
 }
 
-function putLabel(pane, text, x, y, colour, row) {
-  const c = pane.context, wide = text.length * 6.4;
-  if (x < (pane.labelEnd[row] ?? -99) || x > pane.width) return;
+/** Keeps a label until the next mark shows whether it has room. */
+function putLabel(pane, text, x, y, colour) {
+  drawLabel(pane);
+  if (x <= pane.width) pane.label = {text, x, y, colour, end: x + text.length * 6.4};
+}
+
+/** Draws the label that is kept if the next mark begins behind it, and drops it if that mark would cover it. */
+function settleLabel(pane, x, y) {
+  if (!pane.label) return;
+  if (x >= pane.label.end) drawLabel(pane);
+  else if (Math.abs(y - pane.label.y) < 9) pane.label = null;
+}
+
+function drawLabel(pane) {
+  if (!pane.label) return;
+  const c = pane.context, {text, x, y, colour} = pane.label;
+  pane.label = null;
   c.strokeStyle = colours.paper;
   c.lineWidth = 3;
   c.lineJoin = 'round';
   c.strokeText(text, x, y);
   c.fillStyle = colours[colour];
   c.fillText(text, x, y);
-  pane.labelEnd[row] = x + wide + 4;
 }
 
 /** Draws the boxes of a turn's runs. A run goes from a start or take to the next. */
@@ -110,7 +123,7 @@ function drawLane(pane, mote) {
     Math.max(2.5, Math.min(5.5, Math.round(pane.lane * 0.5) / 2));
   const top = pane.laneTop(mote), {kind, at} = run;
   pane.marks = new Map();
-  pane.labelEnd = {};
+  pane.label = null;
   pane.runEnd = -99;
   drawn.lines += to - from;
   pane.context.font = '11px system-ui, "DejaVu Sans", sans-serif';
@@ -129,16 +142,18 @@ function drawLane(pane, mote) {
         continue;
       }
       const x = xOf(line), y = form === 'silent' ? pane.lineY(SEND, mote) : pane.lineY(k, mote);
+      settleLabel(pane, x - r, y);
       if (k === RECV && !isFull) {
         if (putMark(pane, 'tick', x, y, Math.min(4, pane.lane * 0.2), line)) continue;
       } else if (putMark(pane, form, x, y, k === PRINT && !isFull ? Math.min(4, r) : r, line) && k === PRINT &&
         pane.lane >= 14) {
-        putLabel(pane, String(run.w[line]), x + r + 2, y, 'print', 'print');
-      } else if (k === HALT && pane.lane >= 14) putLabel(pane, 'halts', x + r * 1.6 + 3, y, 'trouble', 'print');
+        putLabel(pane, String(run.w[line]), x + r + 2, y, 'print');
+      } else if (k === HALT && pane.lane >= 14) putLabel(pane, 'halts', x + r * 1.6 + 3, y, 'trouble');
       if (isFull && form === 'silent') putMark(pane, 'timer', x, pane.lineY(TAKE, mote), r, line);
     }
     i = end;
   }
+  drawLabel(pane);
   if (run.haltAt[mote] < pane.moment(pane.width)) {
     const x = Math.max(pane.gutter, pane.x(run.haltAt[mote] + 1)), c = pane.context;
     c.save();

@@ -9,6 +9,9 @@ import {chosen, mapOverlays, play} from './stage.js';
 import {count} from './words.js';
 
 const MOST_LINKS = 12000;
+// The places of a loss's label along its link, and below or above it; of one of two opposite losses, near its receiver.
+const PLACES = [[0.5, -6], [0.5, 18], [0.7, -4], [0.7, 16], [0.6, -4], [0.6, 16]], OF_BOTH = PLACES.slice(2);
+const TALL = 12;
 
 export class MapView extends MapLayout {
   constructor(pane, box, several) {
@@ -59,15 +62,16 @@ export class MapView extends MapLayout {
       });
       stroke(c, colours.edge, this.radius > 4 ? 1.2 : 0.8);
     }
-    for (const [s, r, every] of run.losses) if (run.hearers[s] && run.hearers[s].includes(r))
-      this.drawLoss(c, s, r, every);
+    const losses = run.losses.filter(([s, r]) => run.hearers[s] && run.hearers[s].includes(r));
+    for (const [s, r] of losses) this.drawLoss(c, s, r);
+    this.drawShares(c, losses);
     if (run.troubled.size <= 3000) for (const [link, sum] of run.troubled)
       this.drawTrouble(c, link >>> 16, link & 65535, sum);
     return canvas;
   }
 
-  /** Draws the receiver's half of a link that loses packets: dashed, with a cross and their share. */
-  drawLoss(c, s, r, every) {
+  /** Draws the receiver's half of a link that loses packets: dashed, with a cross. */
+  drawLoss(c, s, r) {
     const x0 = this.x(s), y0 = this.y(s), x1 = this.x(r), y1 = this.y(r), mx = (x0 + x1) / 2, my = (y0 + y1) / 2;
     path(c, [mx, my, x1, y1]);
     stroke(c, colours.paper, 3);
@@ -77,13 +81,38 @@ export class MapView extends MapLayout {
     c.setLineDash([]);
     if (Math.hypot(x1 - x0, y1 - y0) < 20) return;
     cross(c, mx, my, 4, colours.trouble, 1.8);
-    if (Math.hypot(x1 - x0, y1 - y0) > 44) {
-      c.font = '11px system-ui, "DejaVu Sans", sans-serif';
-      c.fillStyle = colours.trouble;
-      c.textAlign = 'center';
-      c.textBaseline = 'bottom';
-      c.fillText(every === 1 ? 'all' : `1 in ${every}`, mx, my - 6);
+  }
+
+  /** Draws the shares of losses next to their links, as far as none overlaps another; keeps their boxes. */
+  drawShares(c, losses) {
+    const both = new Set(losses.map(([s, r]) => `${r} ${s}`));
+    c.font = '11px system-ui, "DejaVu Sans", sans-serif';
+    c.fillStyle = colours.trouble;
+    c.textAlign = 'center';
+    c.textBaseline = 'bottom';
+    this.shares = [];
+    for (const [s, r, every] of losses) {
+      const dx = this.x(r) - this.x(s), dy = this.y(r) - this.y(s);
+      if (Math.hypot(dx, dy) <= 44) continue;
+      const text = every === 1 ? 'all' : `1 in ${every}`, wide = c.measureText(text).width;
+      for (const [way, below] of both.has(`${s} ${r}`) ? OF_BOTH : PLACES) {
+        const x = this.x(s) + dx * way, y = this.y(s) + dy * way + below;
+        if (!this.hasRoom(x, y, wide)) continue;
+        c.fillText(text, x, y);
+        this.shares.push({x, y, wide});
+        break;
+      }
     }
+  }
+
+  /** Returns whether a label that ends above `y` lies in the map, and overlaps neither a mote nor another label. */
+  hasRoom(x, y, wide) {
+    if (x < wide / 2 || x > this.width - wide / 2 || y < TALL || y > this.height) return false;
+    if (this.shares.some(it => Math.abs(it.x - x) < (it.wide + wide) / 2 + 3 && Math.abs(it.y - y) < TALL)) return false;
+    for (let m = 0; m < this.run.begins.length; m++)
+      if (Math.abs(this.x(m) - x) < wide / 2 + this.radius + 1 &&
+          Math.abs(this.y(m) - y + TALL / 2) < TALL / 2 + this.radius) return false;
+    return true;
   }
 
   /** Draws a star at the receiver's end of a link if copies collided there, and a box if they found no room. */
