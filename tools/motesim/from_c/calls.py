@@ -38,7 +38,10 @@ class Calls(Lines):
         """A connection that is opened: the process that gets its packets."""
         self.expression()
         self.end('')
-        if self.scope.receiver or not self.place.is_top or not self.scope.codes:
+        if self.scope.receiver:
+            self.why('No connection is opened: `receiver` names the process that gets packets, and `send x;` sends.')
+            return ''
+        if not self.place.is_top or not self.scope.codes:
             raise NoCounterpart('No connection is opened. The process that gets packets is named once, by `receiver '
                                 'P;` above '
                                 'the first `code`; `send x;` sends, and a packet is the event `packet`.')
@@ -57,6 +60,9 @@ class Calls(Lines):
         if word != 'packetbuf_copyfrom' or not call.parts:
             raise NoCounterpart(BROADCAST)
         value = call.parts[0].parts[0] if call.parts[0].kind == 'unary' else call.parts[0]
+        if value.kind == 'text':
+            self.note(value.text)
+            return self.end('send 1')
         if value.kind != 'name' or self.scope.kinds.get(value.text) != 'variable':
             raise NoCounterpart(BROADCAST)
         return self.end('send ' + value.text)
@@ -89,8 +95,12 @@ class Calls(Lines):
         """A text that is printed: a number, with the text as a comment."""
         self.at += 1
         self.why('There are no texts: a program prints numbers, and the line of the report names the process anyway.')
-        self.comments.append('// ' + shown.strip('"').replace('\\n', '').strip())
+        self.note(shown)
         return self.end('print 1')
+
+    def note(self, shown: str) -> None:
+        """Keeps a text of C as a comment."""
+        self.comments.append('// ' + shown.strip('"').replace('\\n', '').strip())
 
     def macro(self) -> str:
         """A macro or a call of Contiki."""

@@ -15,6 +15,7 @@ from motesim.from_c.structure import process_line, unclosed_block
 from motesim.notation.faults import ProgramError, find_fault, tokens_of
 
 MOST_LINES = 4
+OF_COMMENT = 'A comment begins with `//` and ends with its line, so each line of a long one needs its own `//`.'
 MOST_REASONS = 2
 # No correction is tried in a longer text, or for longer lines.
 LONGEST_TEXT, LONGEST_LINES = 200_000, 2_000
@@ -55,6 +56,11 @@ def _spans(text: str, fault: ProgramError) -> Iterator[tuple[int, int]]:
             yield here, here + more
     if above == here and here > 1:
         yield here - 1, here
+    # (a function ends with a brace at the beginning of a line)
+    rows = text.split('\n')
+    end = next((it for it in range(here + 1, count + 1) if rows[it - 1].startswith('}')), here)
+    if end >= here + MOST_LINES:
+        yield here, end
 
 
 def _rank(text: str, made: Correction) -> int:
@@ -73,12 +79,13 @@ def _same(one: str, other: str) -> bool:
     return [it.text for it in tokens_of(one)] == [it.text for it in tokens_of(other)]
 
 
-def _readings(source: str, scope: Scope, above: list[str], lacks_brace: bool) -> Iterator[Statements]:
-    """The ways in which lines may be read."""
+def _readings(source: str, scope: Scope, above: list[str], unclosed: int) -> Iterator[Statements]:
+    """The ways in which lines may be read, the likeliest first, in a text with so many blocks that aren't closed."""
     place = place_below(above)
-    for end in ('', '}') if '_end' in source.lower() else ('',):
+    ends = ('}', '') if unclosed > 0 else ('', '}')
+    for end in ends if '_end' in source.lower() else ('',):
         yield Statements(source, scope, place, end)
-    if lacks_brace:
+    if unclosed < 0:
         reader = Statements(source, scope, place)
         reader.opens = True
         yield reader
@@ -91,6 +98,19 @@ def _structural(text: str) -> Correction | None:
         if line and _rank(text, made) == 2:
             return made
     return None
+
+
+def _long_comment(text: str, fault: ProgramError) -> Correction | None:
+    """Leaves out a comment of several lines that begins at a fault."""
+    first = fault.token.line
+    rows = text.split('\n')
+    begin = sum(len(row) + 1 for row in rows[:first - 1]) + fault.token.column
+    end = text.find('*/', begin)
+    last = first + text.count('\n', begin, end)
+    if not text.startswith('/*', begin) or end < 0 or last == first:
+        return None
+    rest = rows[first - 1][:fault.token.column] + rows[last - 1].partition('*/')[2]
+    return Correction(first, last, rest.strip(), (OF_COMMENT,))
 
 
 def _is_only_named(text: str, fault: ProgramError) -> bool:
@@ -120,8 +140,8 @@ def correction(text: str, fault: ProgramError) -> Correction | None:
     lines = text.split('\n')
     scope = Scope.of(text)
     signs = [it.text for it in tokens_of(text)]
-    lacks_brace = signs.count('}') > signs.count('{')
-    whole = _structural(text)
+    unclosed = signs.count('{') - signs.count('}')
+    whole = _long_comment(text, fault) or _structural(text)
     if whole:
         return whole
     advice, is_only_named = '', _is_only_named(text, fault)
@@ -130,7 +150,7 @@ def correction(text: str, fault: ProgramError) -> Correction | None:
         if len(source) > LONGEST_LINES:
             continue
         found: list[tuple[int, Correction]] = []
-        for reader in _readings(source, scope, lines[:first - 1], lacks_brace):
+        for reader in _readings(source, scope, lines[:first - 1], unclosed):
             try:
                 written = reader.written()
             except NoCounterpart as said:

@@ -16,6 +16,7 @@ CONNECTION = re.compile(r'\w+_conn|rimeaddr_t|linkaddr_t|uip_ipaddr_t')
 OF_PACKETS = ('No function is called when a packet arrives: a packet is the event `packet`. Above the first `code`, '
               'name the process that gets it, `receiver P;`. This process waits by `yield_until is(packet);`, and the '
               'statements of the function follow there: `data` is the value, and `from` the sender.')
+NO_CONNECTION = 'No connection is opened: `send x;` sends, and a packet is the event `packet`.'
 MOST_MEMBERS = 8
 NO_PLACE = 'Variables are declared at the head of `code`, before its timers, threads and `body`: `var %s = 0;`.'
 
@@ -84,8 +85,11 @@ class Declarations(Lines):
         kind = self.token.text
         if 'struct' in words and kind in ('etimer', 'ctimer', 'timer', 'stimer', 'rtimer', 'pt_sem', 'pt'):
             return self.of_struct(kind)
-        if 'struct' in words and words[-1] == 'struct' and kind.endswith('_callbacks'):
-            raise NoCounterpart(OF_PACKETS)
+        if 'struct' in words and words[-1] == 'struct' and kind.endswith(('_callbacks', '_conn')):
+            while self.token.kind != 'end' and not self.accept(';'):
+                self.at += 1
+            self.why(OF_PACKETS if kind.endswith('_callbacks') else NO_CONNECTION)
+            return ''
         if 'struct' in words:
             raise NoCounterpart(NO_FIELDS)
         if self.ahead(1).text == '(':
@@ -101,6 +105,8 @@ class Declarations(Lines):
         found = []
         while True:
             name = self.token.text
+            if self.token.kind != 'name':
+                raise NoCounterpart
             self.at += 1
             if self.token.text == '[':
                 return self.of_array(name)
@@ -132,7 +138,7 @@ class Declarations(Lines):
         name = allowed(self.token.text)
         self.at += 1
         if any(CONNECTION.fullmatch(it.text) for it in self.tokens[self.at:]):
-            raise NoCounterpart(OF_PACKETS)
+            return self.of_receiver()
         self.why('There are no functions: a `thread` serves as one, without parameters, and `spawn %s;` runs it. A '
                  'callback timer runs its own block, `ctimer c { .. }`.' % name)
         self.parameters(self.place.is_head)

@@ -79,3 +79,7 @@ class Lines(Expressions):
     def assignment(self) -> str:
         """An assignment."""
         raise NotImplementedError
+
+    def of_receiver(self) -> str:
+        """The parameters and the body of a function that is called for each packet."""
+        raise NotImplementedError

@@ -9,7 +9,7 @@ import re
 
 from motesim.from_c.calls import BROADCAST, CALLS, Calls
 from motesim.from_c.control import Control
-from motesim.from_c.declarations import Declarations
+from motesim.from_c.declarations import OF_PACKETS, Declarations
 from motesim.from_c.expressions import (
     DICE, NO_ARRAYS, NO_CALLS, NO_CHANCE, NO_FIELDS, QUALIFIERS, READ_ONLY, STEP, TYPES, NoCounterpart, Node,
 )
@@ -31,6 +31,8 @@ OF_LEDS = 'A mote has no LEDs: a `print` shows the moment in the report.'
 OPENS = ('broadcast_open', 'abc_open', 'unicast_open', 'runicast_open', 'nullnet_set_input_callback',
          'simple_udp_register')
 CLOSES = re.compile(r'(broadcast|abc|unicast|runicast|mesh|collect)_close\b')
+OF_STATEMENTS = ('Here, the statements are `%s`. If the process also waits for a timer, it waits by `yield_until '
+                 '(is(packet) || fired(t));`, and `if is(packet) { .. }` has these statements.')
 OF_HANDLER = 'The handler is a block of the `code`, `%s { .. }`, below its timers and threads and above its `body`.'
 WAIT = ('A process waits by an event timer: `set t 5; yield_until fired(t);`, with `etimer t;` at the head of its '
         '`code`.')
@@ -225,6 +227,20 @@ class Statements(Declarations, Calls, Control):
         for reason in reader.writer.reasons:
             self.why(reason)
         return '%s { %s }' % (head, text)
+
+    def of_receiver(self) -> str:
+        """The line that names the process that gets the packets, instead of a function that is called for each."""
+        words = [it.text for it in self.tokens]
+        if '{' not in words or words[-1] != '}' or words.count('{') != words.count('}'):
+            raise NoCounterpart(OF_PACKETS)
+        self.at = len(words)
+        self.why(OF_PACKETS)
+        try:
+            inner = ' '.join(words[words.index('{') + 1:-1])
+            self.why(OF_STATEMENTS % Statements(inner, self.scope).written())
+        except NoCounterpart:
+            pass
+        return '' if self.scope.receiver else 'receiver %s;' % self.of_process((*self.scope.codes, 'p')[0])
 
     def of_semaphore(self, name: str) -> str:
         """A semaphore whose count is incremented or decremented."""

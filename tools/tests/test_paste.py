@@ -1,0 +1,134 @@
+"""Contiki's own example of a broadcast, pasted into a scenario: each message says which lines to write or to leave out."""
+import re
+import unittest
+
+from here import TOOLS  # noqa: F401
+from motesim.explain.explanation import explanation
+from motesim.notation.faults import tokens_of
+from motesim.scenario import Scenario
+from motesim.scenario.faults import find_fault
+
+PASTED = r"""/*
+ * Copyright (c) 2007, Swedish Institute of Computer Science.
+ * All rights reserved.
+ *
+ * Redistribution and use in source and binary forms, with or without
+ * modification, are permitted.
+ */
+
+#include "contiki.h"
+#include "net/rime/rime.h"
+#include "random.h"
+#include <stdio.h>
+/*---------------------------------------------------------------------------*/
+PROCESS(example_broadcast_process, "Broadcast example");
+AUTOSTART_PROCESSES(&example_broadcast_process);
+/*---------------------------------------------------------------------------*/
+static void
+broadcast_recv(struct broadcast_conn *c, const linkaddr_t *from)
+{
+  printf("broadcast message received from %d.%d: '%s'\n",
+         from->u8[0], from->u8[1], (char *)packetbuf_dataptr());
+}
+static const struct broadcast_callbacks broadcast_call = {broadcast_recv};
+static struct broadcast_conn broadcast;
+/*---------------------------------------------------------------------------*/
+PROCESS_THREAD(example_broadcast_process, ev, data)
+{
+  static struct etimer et;
+
+  PROCESS_EXITHANDLER(broadcast_close(&broadcast);)
+
+  PROCESS_BEGIN();
+
+  broadcast_open(&broadcast, 129, &broadcast_call);
+
+  while(1) {
+
+    /* Delay 2-4 seconds */
+    etimer_set(&et, CLOCK_SECOND * 4 + random_rand() % (CLOCK_SECOND * 4));
+
+    PROCESS_WAIT_EVENT_UNTIL(etimer_expired(&et));
+
+    packetbuf_copyfrom("Hello", 6);
+    broadcast_send(&broadcast);
+    printf("broadcast message sent\n");
+  }
+
+  PROCESS_END();
+}
+/*---------------------------------------------------------------------------*/
+"""
+REPAIRED = """process example_broadcas;
+autostart example_broadcas;
+receiver example_broadcas;
+code example_broadcas {
+  var dice = 1;
+  etimer et;
+  body {
+    while 1 {
+      dice = ((dice * 25173) + 13849); set et ((10 * 4) + ((dice / 256) % (10 * 4)));
+      yield_until expired(et);
+      send 1;
+      print 1;
+    }
+  }
+}
+"""
+SCENARIO = """version = 1
+end = 100
+[medium]
+range = 10
+base = 1
+per = 100
+[programs]
+p = '''
+%s'''
+[[mote]]
+x = 0
+y = 0
+program = "p"
+"""
+WRITE = re.compile(r'(?:Write, as|Leave) lines? (\d+)(?: to (\d+))?(?::| out)')
+INSERT = re.compile(r'and insert below line (\d+):')
+
+
+def followed(text: str, message: list[str]) -> str:
+    """A scenario with the lines that a message says, as a reader changes them."""
+    found = [(at, WRITE.match(line)) for at, line in enumerate(message)]
+    at, lines = next((at, it) for at, it in found if it)
+    inserted = [(int(it[1]), message[below + 1]) for below, line in enumerate(message) if (it := INSERT.match(line))]
+    written = [message[at + 1]] if message[at].startswith('Write') else []
+    edits = [(int(lines[1]) - 1, int(lines[2] or lines[1]), written)] + [(it, it, [line]) for it, line in inserted]
+    rows = text.split('\n')
+    for begin, end, new in sorted(edits, reverse=True):
+        rows[begin:end] = new
+    return '\n'.join(rows)
+
+
+class Pasted(unittest.TestCase):
+    def messages(self) -> tuple[str, list[str]]:
+        """The scenario when no message is left, and all messages."""
+        text, said = SCENARIO % PASTED, []
+        for _ in range(60):
+            fault = find_fault(text.encode())
+            if fault is None:
+                break
+            message = explanation('net.toml', text.encode(), 'motesim: ' + fault.message)
+            said.append('\n'.join(message))
+            with self.subTest(said[-1]):
+                text = followed(text, message)
+        return text, said
+
+    def test_its_messages_lead_to_a_program_that_runs(self) -> None:
+        text, said = self.messages()
+        self.assertIsNone(find_fault(text.encode()))
+        its = Scenario.parse(text.encode()).programs['p']
+        self.assertEqual([it.text for it in tokens_of(its)], [it.text for it in tokens_of(REPAIRED)])
+        callback = re.sub(r'\s+', ' ', next(it for it in said if 'static void' in it))
+        self.assertIn('the statements are `print from; print from; print data;`', callback)
+        self.assertIn('Write, as lines 14 to 19: receiver example_broadcas;', callback)
+
+
+if __name__ == '__main__':
+    unittest.main()
