@@ -224,6 +224,19 @@ class SweepTest(Bed):
         self.assertTrue(all(len(row[name]) == 16 for row in rows for name in row if name.endswith('sha256')))
         self.assertEqual(len({row['scenario_sha256'] for row in rows}), 6)
 
+    def test_a_parameter_that_nothing_uses_and_an_error_in_a_picture_are_known_before_the_runs(self) -> None:
+        plan = self.folder / 'net.plan.toml'
+        plan.write_text(plan.read_text().replace('[parameters]\n', '[parameters]\nunused = 1\n'))
+        said = 'sweep: warning: nothing uses the parameter unused, '
+        for vary, is_warned in ('unused=1,2', True), ('unused=1', False), ('period=1,2', False):
+            done = self.sweep('--vary', vary, '--measure', 'sent', '-o', vary[:6] + '.csv', '--renew')
+            self.assertEqual((done.returncode, said in done.stderr), (0, is_warned), done)
+        picture = '[[plot]]\nfile = "a.svg"\nmeasure = "sent"\nagainst = "period"\nbye = "x"\n'
+        plan.write_text(plan.read_text() + picture)
+        done = self.sweep('--vary', 'period=1,2', '--measure', 'sent', '-o', 'none.csv', '--plot')
+        self.assertEqual((done.returncode, done.stdout, (self.folder / 'none.csv').exists()), (2, '', False))
+        self.assertIn('A plot has no key of this name.', done.stderr)
+
     def test_more_seeds_than_draw_apart(self) -> None:
         source = 'process a;\ncode a { var dice = 0; body { dice = ((self * 257) + ${period}); print 3; } }\n'
         (self.folder / 'a.mote').write_text(source)

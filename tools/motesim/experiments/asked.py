@@ -22,6 +22,8 @@ from motesim.judge.sentences import Names, SentenceFault, names_of
 MOST_RUNS = 1_000_000
 # The most runs that are tried in search of one whose plan makes a scenario.
 MOST_TRIED = 40
+# For how many values of parameters, one by one, the files are looked at too.
+MOST_TRIED_ALONE = 200
 SECONDS, MOST_SECONDS, MOST_BYTES = 60, 86_400, 200_000_000
 RANGE = re.compile(r'(-?[0-9]{1,9})\.\.(-?[0-9]{1,9})(?:\.\.([0-9]{1,9}))?')
 SWEEP = {'vary': optional(dict, {}), 'measure': optional(list, []), 'seconds': optional(int, SECONDS, 1, MOST_SECONDS)}
@@ -135,6 +137,20 @@ def chance_seeds(plan: Plan, files: Sequence[str]) -> list[str]:
         with contextlib.suppress(Fault, ValueError):
             names.update(dict.fromkeys(seeds_of(plan.files.read(file).decode('utf-8', 'replace'))))
     return [name for name in plan.parameters if name in names]
+
+
+def unused(sweep: Sweep) -> list[str]:
+    """The parameters that vary, though neither the plan nor a file of the tried runs names them."""
+    tried = [*some_runs(sweep), *itertools.islice(
+        (sweep.plan.with_given({**sweep.run_at(0), name: value}) for name, values in sweep.vary.items()
+         for value in values), MOST_TRIED_ALONE)]
+    texts = {'': sweep.plan.text}
+    for given in tried:
+        with contextlib.suppress(Fault):
+            for name in set(sweep.plan.used_files(given)).difference(texts):
+                texts[name] = sweep.plan.files.read(name).decode('utf-8', 'replace')
+    return [name for name, values in sweep.vary.items() if len(values) > 1
+            and not any('${%s}' % name in text for text in texts.values())]
 
 
 def some_runs(sweep: Sweep) -> Iterator[dict[str, Value]]:

@@ -22,13 +22,16 @@ from motesim.plan.tables import Value, text_of_value, value_of_text
 from motesim.experiments.results import CsvFile, Row, SqliteFile, open_results, text_of
 from motesim.runner.programs import TOP, optimized_path
 from motesim.experiments.asked import Sweep, chance_seeds, columns_of, known_names, some_runs, sources_of, sweep_of
+from motesim.experiments.asked import unused
 from motesim.experiments.draws import CHANCE, WARNING, Notes, Seeds, without_alike
+from motesim.experiments.plot import wishes_of
 from motesim.experiments.progress import Progress
 from motesim.experiments.runs import Stopped, longest, run_by_dask, run_here
 from motesim.runner.versions import kit_version, program_version
 
 # The place of a row whose values aren't those of the sweep.
 OTHER = -1
+UNUSED = 'nothing uses the parameter %s, so its values make no difference: write ${%s} in the plan or in a program'
 
 
 class Sweeper:
@@ -249,10 +252,13 @@ def status_of(asked: argparse.Namespace) -> int:
         packages.load('distributed')
     plan = Plan.read(asked.plan)
     sweep = sweep_of(plan, asked.vary, asked.measure, asked.seconds)
+    if asked.plot:
+        # (an error in a picture is reported before the runs, not after them)
+        wishes_of(plan)
     sweep.most_bytes = asked.bytes
     sweeper = Sweeper(sweep, Path(asked.output) if asked.output else default_output(asked.plan))
     sweeper.keep(asked.renew, asked.retry)
-    for line in sweeper.alike():
+    for line in [*sweeper.alike(), *(UNUSED % (it, it) for it in unused(sweep))]:
         print('sweep: warning: %s' % line, file=sys.stderr)
     try:
         status = said(sweeper, sweeper.run(asked.jobs, asked.dask))

@@ -108,7 +108,8 @@ export class MapView extends MapLayout {
   /** Returns whether a label that ends above `y` lies in the map, and overlaps neither a mote nor another label. */
   hasRoom(x, y, wide) {
     if (x < wide / 2 || x > this.width - wide / 2 || y < TALL || y > this.height) return false;
-    if (this.shares.some(it => Math.abs(it.x - x) < (it.wide + wide) / 2 + 3 && Math.abs(it.y - y) < TALL)) return false;
+    const isNear = it => Math.abs(it.x - x) < (it.wide + wide) / 2 + 3 && Math.abs(it.y - y) < TALL;
+    if (this.shares.some(isNear)) return false;
     for (let m = 0; m < this.run.begins.length; m++)
       if (Math.abs(this.x(m) - x) < wide / 2 + this.radius + 1 &&
           Math.abs(this.y(m) - y + TALL / 2) < TALL / 2 + this.radius) return false;
