@@ -2,7 +2,7 @@
 
 The proved binary of these sources runs if it has been built. Otherwise a binary is compiled without a proof, once, and
 is kept; a line on standard error says so. Before that, arguments that motesim doesn't know, and a file that can't be
-read, are refused. The environment variable MOTESIM names another binary. On a terminal, a further line says how to
+read, are refused. The environment variable MOTESIM names another binary. After an error, a further line says how to
 find out why there is no report. With --help the options of ./run are below those of motesim.
 """
 from __future__ import annotations
@@ -95,8 +95,8 @@ def is_plan(file: str) -> bool:
 
 
 def say_more(file: str | None) -> None:
-    """Prints, on a terminal, how to find out why there is no report, if the scenario is the reason."""
-    if file and os.isatty(2):
+    """Prints how to find out why there is no report, if the scenario is the reason."""
+    if file:
         if not can_be_read(file):
             say('%s: there is no file %s that can be read' % (NAME, file))
         elif is_plan(file):
@@ -136,12 +136,12 @@ def program_for(request: Request) -> Path:
 
 
 def run(program: Path, request: Request) -> NoReturn:
-    """Runs motesim, with the further lines for a terminal."""
+    """Runs motesim, with the further lines."""
     words = [NAME, *request.words]
     if request.file is None and not request.wants_help and os.isatty(0):
         say('%s: waiting for a scenario on standard input, which ends with Ctrl-D (./run FILE reads a file)' % NAME)
     try:
-        if not (request.wants_help or request.file and os.isatty(2)):
+        if not (request.wants_help or request.file):
             os.execv(program, words)
         status = subprocess.call(words, executable=program, preexec_fn=ends_with_parent(signal.SIGTERM))
     except OSError as fault:

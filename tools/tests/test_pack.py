@@ -110,7 +110,7 @@ class Pack(unittest.TestCase):
         os.close(ours)
         return done.returncode, said.decode().replace('\r', '').splitlines()
 
-    def test_a_refused_scenario_has_a_line_more_on_a_terminal(self) -> None:
+    def test_a_refused_scenario_has_a_line_more(self) -> None:
         top = self.unpacked()
         (top / 'empty.toml').write_text('')
         self.assertEqual(self.on_terminal(top, 'empty.toml'), (0, ['motesim: this program is compiled, not proved']))
@@ -120,9 +120,10 @@ class Pack(unittest.TestCase):
         for name in 'none.toml', 'docs':
             self.assertEqual(self.on_terminal(top, name), (1, [
                 'motesim: a fault', 'motesim: there is no file %s that can be read' % name]))
-        done = subprocess.run(['./run', 'run'], cwd=top, capture_output=True, text=True,
-                              env={'PATH': '/usr/bin:/bin', 'MOTESIM_SEEN': str(top / 'said')})
-        self.assertEqual((done.returncode, done.stdout, done.stderr), (1, '', 'motesim: a fault\n'))
+        for stdout, more in (subprocess.DEVNULL, 'motesim: ./tools/explain run says more\n'), (subprocess.PIPE, ''):
+            done = subprocess.run(['./run', 'run'], cwd=top, stdout=stdout, stderr=subprocess.PIPE, text=True,
+                                  env={'PATH': '/usr/bin:/bin', 'MOTESIM_SEEN': str(top / 'said')})
+            self.assertEqual((done.returncode, done.stdout or '', done.stderr), (1, '', 'motesim: a fault\n' + more))
 
     def test_no_link_of_an_archive_is_dead(self) -> None:
         top = self.unpacked()
