@@ -248,6 +248,21 @@ class Hints(unittest.TestCase):
                     'Hint: The text that begins on line 9 ends with the same three quotes, `%s`.' % quotes,
                     'Write, as line 12:', '  ' + quotes])
 
+    def test_other_quotes_behind_the_last_line_of_a_program(self) -> None:
+        text = scenario(program='\nprocess a;\ncode a { body { } }').replace('"\nprocess', '"""\nprocess')
+        self.assertEqual(self.shown(text.replace('} }"', "} } '''"))[:-1], [
+            'Hint: The text that begins on line 9 ends with the same three quotes, `"""`.',
+            'Write, as line 11:', '  code a { body { } } """'])
+
+    def test_a_file_in_c_is_named(self) -> None:
+        for text in '#include "contiki.h"\nPROCESS(a, "A");', '/*\n * A\n */\n\nstatic int n;', 'PROCESS(a, "A");':
+            with self.subTest(text):
+                shown = ' '.join(explain.explanation('hans.c', text.encode(), 'motesim: scenario fault 1'))
+                self.assertIn('hans.c is a program in C, not a scenario.', shown)
+                self.assertIn('docs/use/FROM_CONTIKI.md', shown)
+        scenario_below = b'#include "a"\nend = 1\n'
+        self.assertNotIn('in C', ' '.join(explain.explanation('a.toml', scenario_below, 'motesim: scenario fault 2')))
+
     def test_a_semicolon_behind_a_block_is_named(self) -> None:
         self.assertIn('behind a `}` there is none', self.hint('process a; autostart a; code a { body { }; }'))
 

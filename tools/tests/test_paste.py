@@ -1,4 +1,4 @@
-"""Contiki's own example of a broadcast, pasted into a scenario: each message says which lines to write or to leave out."""
+"""Contiki's own example of a broadcast, pasted into a scenario: each message has the lines to change."""
 import re
 import unittest
 

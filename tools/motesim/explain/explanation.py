@@ -16,7 +16,7 @@ from motesim.report import Report
 from motesim.runner.run import Answer, answer, is_report, read_file
 from motesim.scenario import Scenario
 from motesim.scenario.faults import Place, ScenarioError
-from motesim.scenario.kinds import begins_as_program
+from motesim.scenario.kinds import begins_as_c, begins_as_program
 from motesim.terminal import one_line
 from motesim.toml import MARK, NoToml, read_toml
 
@@ -180,6 +180,8 @@ def explanation(name: str, data: bytes, line: str) -> list[str]:
     if begins_as_program(data):
         return program_instead(name, data)
     text = data.decode('utf-8', 'replace')
+    if begins_as_c(data) and tables_or_none(text) is None:
+        return ['%s is a program in C, not a scenario.' % one_line(name), *hinted(hints.OF_C)]
     if fault.program:
         return of_program(name, text, str(fault.path[1]), fault.program)
     encoding = encodings.encoding_of(data) if fault.line else None

@@ -12,7 +12,8 @@ LINE_ENDS = "Illegal character '\\n'"
 OF_COMMENT = 'The three quotes in this comment end the text of the program: leave them out.'
 OF_LINES = 'A text in single or double quotes ends on its line: a program of several lines is between three, `%s`.'
 OF_END = 'The text that begins on line %d ends with the same three quotes, `%s`.'
-OTHER_END = re.compile(r'''\s*["']{2,4}\s*''')
+# (a line of a program may be before three quotes, but not a key, whose text begins there)
+OTHER_END = re.compile(r'''([^=]*?)(?:"{3}|\'{3}|(?<!\S)["']{2,4})\s*''')
 OPENED = re.compile(r'''^(\s*[\w"'-]+\s*=\s*)(["'])(?!\2)(.*)$''')
 
 
@@ -23,11 +24,14 @@ def unclosed(text: str, said: str) -> int | None:
     return opened if NO_END.search(said) and any(it in row for it in LONG_QUOTES) else None
 
 
-def other_end(rows: list[str], opened: int) -> tuple[int, str] | None:
-    """The first line below the beginning of a text that has only quotes, but not the right ones; and these."""
+def other_end(rows: list[str], opened: int) -> tuple[int, str, str] | None:
+    """The first line below the beginning of a text that ends with quotes of another kind; the right ones, and the
+    line with them."""
     quotes = next(it for it in LONG_QUOTES if it in rows[opened - 1])
-    number = next((it for it in range(opened + 1, len(rows) + 1) if OTHER_END.fullmatch(rows[it - 1])), None)
-    return (number, quotes) if number else None
+    for number, row in enumerate(rows[opened:], opened + 1):
+        if found := OTHER_END.fullmatch(row):
+            return number, quotes, found[1] + quotes
+    return None
 
 
 def closed_in_comment(text: str, place: tuple[int, int]) -> tuple[int, str] | None:

@@ -287,7 +287,7 @@ def _attempts(text: str, fault: ScenarioError) -> Iterator[Repair]:
         opened = quotes.unclosed(text, fault.may)
         other = quotes.other_end(rows, opened) if opened else None
         if opened and other:
-            yield Repair(quotes.OF_END % (opened, other[1]), other[0], other[0], (other[1],))
+            yield Repair(quotes.OF_END % (opened, other[1]), other[0], other[0], (other[2],))
         if not opened:
             of_quotes = list(_attempts_at_quotes(rows, fault))
             yield from of_quotes or _attempts_at_toml(rows, fault)

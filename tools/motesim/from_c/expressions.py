@@ -205,6 +205,10 @@ class Expressions:
         while True:
             if node.kind == 'name' and self.accept('('):
                 node = Node('call', node.text, tuple(self.arguments()))
+            elif node.kind == 'name' and node.text in TESTS and self.token.kind == 'name' and (
+                    self.token.text not in WORDS):
+                self.why('The name behind `%s` is in parentheses: `%s(%s)`.' % (node.text, node.text, self.token.text))
+                node = Node('call', node.text, (self.primary(),))
             elif self.accept('['):
                 node = Node('index', '', (node, self.expression()))
                 self.need(']')

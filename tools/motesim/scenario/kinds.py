@@ -7,6 +7,11 @@ import re
 PROGRAM = re.compile(rb'(?:\xef\xbb\xbf)?(?:\s|//[^\n]*+\n)*+(?:process|event|semaphore)[ \t]++[a-z]')
 SCENARIO = re.compile(rb'(?:\xef\xbb\xbf)?(?:\s|#[^\n]*+\n)*+(?:\[|[A-Za-z0-9_"\'-]++[ \t]*+=)')
 
+# A text in C begins with an `#include`, a macro of Contiki or a declaration, below comments.
+C = re.compile(rb'(?:\xef\xbb\xbf)?(?:\s|//[^\n]*+\n|/\*(?s:.*?)\*/)*+'
+               rb'(?:#[ \t]*(?:include|define)\b|(?:PROCESS|PROCESS_NAME|PROCESS_THREAD|AUTOSTART_PROCESSES)[ \t]*\(|'
+               rb'(?:static|const|extern|struct|int|void|unsigned|u?int(?:8|16|32)_t)\s+\w)')
+
 # A plan has places, and neither a version nor motes. The first line of results has the columns of a sweep.
 PLACES = re.compile(rb'^[ \t]*(?:\[\[?[ \t]*places[ \t]*\]|places[ \t]*=)', re.M)
 OF_SCENARIO = re.compile(rb'^[ \t]*(?:\[\[?[ \t]*mote[ \t]*\]|(?:mote|version)[ \t]*=)', re.M)
@@ -34,6 +39,11 @@ def begins_as_results(data: bytes) -> bool:
 def begins_as_program(data: bytes) -> bool:
     """Returns whether a text begins like a program, and not like TOML."""
     return PROGRAM.match(data) is not None
+
+
+def begins_as_c(data: bytes) -> bool:
+    """Returns whether a text begins like a file in C. (`#include` is also a comment of TOML.)"""
+    return C.match(data) is not None
 
 
 def begins_as_scenario(data: bytes) -> bool:
