@@ -1,9 +1,10 @@
 """Tries mutants of the crates' functions, many in one check: the prover must refuse each because of its effect.
 
 A mutant is a file NAME.edit of crates/CRATE/must-fail, gate-bodies or wrong-bodies (docs/proof/WRONG_BODIES.md). It is
-refused for its meaning if a goal of a contract fails. If only a proof by hand no longer fits, or the prover stops at
-a limit, it says little about the contract: such a mutant is reported as open, and counts as skipped, until it is
-written so that the contract decides. A control comes first: the crate without an edit has to be proved.
+refused for its meaning if a goal of a contract fails, one without a proof by hand. If only a proof by hand no longer
+fits, or the prover stops at a limit, it says little about the contract: such a mutant is reported as open, and counts
+as skipped, until it is written so that the contract decides. A control comes first: it has to prove the crate without
+an edit.
 
 The libraries below are those in crates/*/out; missing or outdated ones are built first. With --built they are used
 unchanged: rt ci has just built them. The verdicts are noted in log/wrong_bodies.tsv, with a digest of all that the

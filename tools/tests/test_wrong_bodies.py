@@ -156,8 +156,14 @@ def crate_at(room: Path, files: dict[str, str]) -> Any:
 
 
 class WhatACheckSays(unittest.TestCase):
+    def setUp(self) -> None:
+        room = tempfile.TemporaryDirectory()
+        self.addCleanup(room.cleanup)
+        crate_at(Path(room.name), {'proofs/q/post/Answers.antt': 'pub returns : goal.returns\nreturns c = c.new\n'})
+        self.room = Path(room.name)
+
     def verdict(self, *lines: str) -> Verdict | None:
-        return next(iter(refused_in(lines).values()), None)
+        return next(iter(refused_in(lines, self.room).values()), None)
 
     def test_name_of_a_function(self) -> None:
         for name in 'q::queue::EventQueue::post', 'q::queue::post', 'q::queue::fn::EventQueue::post::map_err', \
@@ -191,6 +197,27 @@ class WhatACheckSays(unittest.TestCase):
         found = self.verdict(error, 'fn c::q::post: not proved: it calls c::q::take')
         self.assertEqual(found, (ANSWER, 'c::q::post', error))
 
+    GONE = 'proofs/q/post/Answers.antt:4:2: error: `returns`: `goal.%s`: module `q.Goals` has no such name'
+    NOTE = 'note: src/q.rt:2:1: it is not proved that it returns (`%s`)%s'
+
+    def test_a_goal_without_an_answer_decides_if_another_answer_no_longer_fits(self) -> None:
+        error, said = 'proofs/q/post/Answers.antt:4:2: error: the two sides differ', 'fn c::q::post: not proved'
+        found = self.verdict(error, self.NOTE % ('returns-clause-len', ''), said)
+        self.assertEqual(found, (CONTRACT, 'c::q::post', 'returns-clause-len'))
+        for goal in 'returns', 'returns-2', 'loop-a-preserved':
+            self.assertEqual(self.verdict(error, self.NOTE % (goal, ''), said), (ANSWER, 'c::q::post', error), goal)
+
+    def test_a_goal_that_may_have_another_name_decides_only_if_it_is_false(self) -> None:
+        false = '; the facts known there allow values at which this goal is false'
+        for gone, note, kind in ('returns', '', ANSWER), ('returns', false, CONTRACT), ('loop-a-init', '', CONTRACT):
+            found = self.verdict(self.GONE % gone, self.NOTE % ('returns-then', note), 'fn c::q::post: not proved')
+            self.assertEqual(found and found.kind, kind, (gone, note))
+
+    def test_a_goal_of_a_cycle_of_calls_decides_nothing(self) -> None:
+        error = 'proofs/q/+turns/Answers.antt:4:2: error: the two sides differ'
+        found = self.verdict(error, self.NOTE % ('take-returns', ''), 'fn c::q::post: not proved')
+        self.assertEqual(found, (ANSWER, 'c::q::post', error))
+
     def test_refused_for_what_it_calls(self) -> None:
         self.assertIsNone(self.verdict('fn c::q::post: not proved: it calls c::q::take, which is not proved'))
         self.assertIsNone(self.verdict('proofs/q/take/Answers.antt:4:2: error: x',
@@ -199,7 +226,7 @@ class WhatACheckSays(unittest.TestCase):
 
 
 class Trials(unittest.TestCase):
-    LOW: Any = SimpleNamespace(name='low')
+    LOW: Any = SimpleNamespace(name='low', folder='')
     ONE, TWO = Edit(LOW, Path('a'), 'one', True, None), Edit(LOW, Path('b'), 'two', True, None)
     GOOD, BAD = 'fn c::a::%s: proved\n', 'fn c::a::%s: no proof: `search` did not prove `returns`\n'
 

@@ -24,6 +24,9 @@ KINDS = CONTRACT, INVARIANT, LIMIT, ANSWER, NOT_REFUSED, UNKNOWN = (
 REFUSED, OPEN = (CONTRACT, INVARIANT), (ANSWER, LIMIT)
 # The notes of a check about a goal that `search` did not prove, with the words for them in the log.
 NOTES = {'allow values at which this goal is false': 'false', 'gave up at one of its limits': 'search gave up'}
+# The note about a goal that is not proved; and an error about a goal of a contract that the edit removed.
+NOT_PROVED = re.compile(r'note: .* it is not proved that .*\(`([^`]+)`\)')
+GONE = re.compile(r'`goal\.(?!loop-)')
 # The prover's words for one of its limits that it reaches each time it checks the same text.
 LIMITS = re.compile(r'ran out of (stack|the (steps|memory))|outgrew the memory limit|stopped at the step limit')
 COULD_NOT_TELL = 'could not tell'
@@ -48,12 +51,29 @@ def function_of(name: str) -> str:
     return next(it for it in path.split('::') if it[0].islower()) if is_closure else name.split('::')[-1]
 
 
-def proof_errors(lines: Sequence[str], name: str) -> list[str]:
-    """The errors in the files of a function's proof, or of the proof of its cycle of calls, in a folder +CYCLE."""
+def proof_folders(name: str) -> tuple[str, str]:
+    """The folder with a function's proof, and the beginning of that with the proof of its cycle of calls, +CYCLE."""
     *around, last = [part for part in name.split('::')[1:] if part != 'fn']
-    folders = tuple('/'.join(['proofs', *around, it]) for it in (last + '/', '+'))
+    folder = '/'.join(['proofs', *around, ''])
+    return folder + last + '/', folder + '+'
+
+
+def proof_errors(lines: Sequence[str], name: str) -> list[str]:
+    """The errors in the files of a function's proof, or of the proof of its cycle of calls."""
     errors = (it.removeprefix('./') for it in lines if ': error: ' in it and 'was not admitted' not in it)
-    return [it for it in errors if it.startswith(folders)]
+    return [it for it in errors if it.startswith(proof_folders(name))]
+
+
+def unnumbered(goal: str) -> str:
+    """A goal without the number that tells it from others of the same name."""
+    return re.sub(r'-\d+$', '', goal)
+
+
+def by_hand(name: str, crate: Path) -> set[str]:
+    """The goals of a function, or of its cycle of calls, that a crate proves by hand."""
+    files = (it for it in crate.glob('proofs/**/*.antt')
+             if it.relative_to(crate).as_posix().startswith(proof_folders(name)))
+    return {unnumbered(goal) for it in files for goal in re.findall(r'goal\.([\w-]+)', it.read_text('utf-8'))}
 
 
 def noted(goal: str, notes: Sequence[str]) -> str:
@@ -62,9 +82,21 @@ def noted(goal: str, notes: Sequence[str]) -> str:
     return goal + ''.join(' (%s)' % it for said, it in NOTES.items() if said in note)
 
 
-def verdict_of(name: str, said: str, notes: Sequence[str], lines: Sequence[str]) -> Verdict | None:
-    """The verdict on a function, by the end of its line in a check, the notes above that line, and all lines; None if
-    it is proved, or is refused only because of functions that it calls."""
+def noted_goals(name: str, crate: Path, notes: Sequence[str], errors: Sequence[str]) -> list[str]:
+    """The goals of contracts that the notes name as not proved, without those that the crate proves by hand. If such a
+    one is gone, it may have another name now: then only the goals that the prover found false."""
+    if any('/+' in it for it in errors):
+        # (the goals may be those of another function, in the same cycle of calls)
+        return []
+    proved, is_gone = by_hand(name, crate), any(GONE.search(it) for it in errors)
+    goals = [it[1] for it in map(NOT_PROVED.match, notes) if it and 'loop-' not in it[1]]
+    found = [noted(it, notes) for it in goals if unnumbered(it) not in proved]
+    return [it for it in found if not is_gone or it.endswith('(false)')]
+
+
+def verdict_of(name: str, said: str, notes: Sequence[str], lines: Sequence[str], crate: Path) -> Verdict | None:
+    """The verdict on a function of a crate, by the end of its line in a check, the notes above that line, and all
+    lines; None if it is proved, or is refused only because of functions that it calls."""
     if not said.startswith(('not proved', 'no proof', COULD_NOT_TELL)):
         return None
     reasons = re.sub(r'^(not proved|no proof)[:;]? ?', '', said).split('; ')
@@ -76,20 +108,23 @@ def verdict_of(name: str, said: str, notes: Sequence[str], lines: Sequence[str])
     errors = proof_errors(lines, name)
     if not (own or errors or said == 'not proved'):
         return None
+    goals = noted_goals(name, crate, notes, errors)
+    if goals:
+        return Verdict(CONTRACT, name, ', '.join(goals))
     error = next((it for it in errors if not OF_NAMES.search(it)), next(iter(errors), own))
     kind = LIMIT if LIMITS.search(error) or own == COULD_NOT_TELL else ANSWER
     return Verdict(kind, name, error or 'not proved')
 
 
-def refused_in(lines: Sequence[str]) -> dict[str, Verdict]:
-    """The verdict on each function that a check refuses for a reason in the function itself."""
+def refused_in(lines: Sequence[str], crate: Path) -> dict[str, Verdict]:
+    """The verdict on each function that a check of a crate refuses for a reason in the function itself."""
     found: dict[str, Verdict] = {}
     notes: list[str] = []
     for line in lines:
         if line.startswith('note: '):
             notes.append(line)
         elif result := re.match(r'fn (\S+): (.*)', line):
-            verdict = verdict_of(result[1], result[2], notes, lines)
+            verdict = verdict_of(result[1], result[2], notes, lines, crate)
             found |= {verdict.function: verdict} if verdict else {}
             notes = []
     return found
@@ -153,14 +188,14 @@ class Trial:
         lines, _, is_void = self.check(group, kept)
         if is_void or not lines[-1].startswith(VERDICTS):
             return {}
-        refused = refused_in(lines)
+        refused = refused_in(lines, Path(self.crate.folder))
         found = {it: best(it, refused) for it in group}
         return {edit: verdict for edit, verdict in found.items() if verdict.kind in REFUSED}
 
     def verdict_alone(self, edit: Edit, kept: Path) -> Verdict:
         """The verdict on a mutant by a check with only its edit."""
         lines, status, is_void = self.check([edit], kept)
-        found = best(edit, refused_in(lines))
+        found = best(edit, refused_in(lines, Path(self.crate.folder)))
         if found.kind != NOT_REFUSED or status == 0:
             return found
         limit = next((it for it in lines if LIMITS.search(it)), None)
