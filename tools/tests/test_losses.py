@@ -11,7 +11,7 @@ from motesim.analysis.estimates import mean_by_t
 from motesim.explain.hints import WISHES
 from motesim.experiments.one_run import warned
 from motesim.explain.lint import SAME_DRAWS, warnings
-from motesim.explain.resonance import Together, all_at_once, hit, resonances
+from motesim.explain.resonance import RARE, Together, all_at_once, hit, kinds_of, resonances
 from motesim.from_c.expressions import NO_CHANCE
 from motesim.plan.files import Files
 from motesim.plan.plan import Plan
@@ -58,6 +58,12 @@ def report(values: list[int], every: int) -> Report:
 class Resonances(unittest.TestCase):
     def found(self, values: list[int], every: int) -> list[str]:
         return [str(it) for it in resonances(Scenario.parse(SCENARIO % every), report(values, every))]
+
+    def among(self, values: list[int], every: int, *others: int) -> list[str]:
+        """The same, if mote 0 has further neighbours, and each link has a loss of another period."""
+        net = SCENARIO % every + ''.join('[[mote]]\nx = %d\ny = 1\nprogram = "p"\n[[loss]]\nfrom = 0\nto = %d\n'
+                                         'every = %d\n' % (it, it, period) for it, period in enumerate(others, 2))
+        return [str(it) for it in resonances(Scenario.parse(net), report(values, every))]
 
     def test_every_second_packet_of_two_kinds(self) -> None:
         values = [it for n in range(1, 11) for it in (900, n)]
@@ -124,7 +130,19 @@ class Resonances(unittest.TestCase):
         for every in 2, 4, 6:
             values = [900 if n % every else n for n in range(1, 120)]
             found = next(resonances(Scenario.parse(SCENARIO % every), report(values, every)))
-            self.assertIsNone(hit(values, found.better or 0))
+            self.assertIsNone(hit(values, found.better or 0, kinds_of(values), RARE))
+
+    def test_the_more_is_looked_at_the_rarer_it_must_be(self) -> None:
+        # (all of 6 packets are among the 10 lost ones of 30 with a probability of 1 in 2,800, and there are 2 kinds)
+        values = [n // 3 + 1 if n % 3 == 2 and n < 18 else 900 for n in range(30)]
+        self.assertIn('it loses all of the 6 packets with the values 1 to 6', self.found(values, 3)[0])
+        self.assertEqual(self.among(values, 3, 7), [])
+
+    def test_with_the_rule_primes_another_seed_helps(self) -> None:
+        values = [it for n in range(1, 11) for it in (900, n)]
+        self.assertIn('; every = 3 is not in step', self.among(values, 2, 4, 5)[0])
+        self.assertIn('; another `seed` of the rule `primes` gives the links other periods',
+                      self.among(values, 2, 3, 5)[0])
 
 
 class Primes(unittest.TestCase):

@@ -3,7 +3,7 @@
 A loss with `every = 2` loses every second packet of its sender. If the sender alternates between two kinds of packets,
 the loss hits all packets of one kind and none of the other, though the ratio in the summary is 0.500.
 `resonances(scenario, report)` finds such losses in a run: one kind of packet is lost far more often than the period
-implies.
+implies, and so often that among all kinds of the run together this happens by chance with a probability below RARE.
 
 `all_at_once(scenario, report)` finds the senders whose links all lose the same packets, because the periods have a
 common multiple that is too small: with `every = 2` on each link, every second packet reaches nobody.
@@ -28,7 +28,8 @@ from motesim.scenario import Scenario
 # A value that is sent at least this often, or that makes up this part of the packets, is its own kind.
 REPEATED = 3
 FREQUENT = 1 / 8
-# A kind with fewer packets is ignored, and so is a result that has more than this probability by chance.
+# A kind with fewer packets is ignored, and so is a result that has more than this probability by chance, times the
+# number of results that are tested in a run (Bonferroni's correction).
 LEAST_PACKETS = 5
 RARE = 1e-3
 # A kind is hit if the lost part of it is this many times the part that the period implies.
@@ -53,16 +54,20 @@ class Kind(NamedTuple):
 
 
 class Resonance(NamedTuple):
-    """A loss by its place in the scenario and its link, the kind that it hits, and a period that doesn't hit it."""
+    """A loss by its place in the scenario and its link, the kind that it hits, a period that doesn't hit it, and
+    whether the periods seem to be those of the rule `primes`."""
     place: int
     sender: int
     to: int
     every: int
     kind: Kind
     better: int | None
+    is_by_primes: bool = False
 
     def __str__(self) -> str:
         more = '; every = %d is not in step' % self.better if self.better else ''
+        if self.is_by_primes:
+            more = '; another `seed` of the rule `primes` gives the links other periods'
         return ('the loss from mote %d to mote %d, every = %d, is in step with the rhythm of mote %d: it loses %s (1 '
                 'in '
                 '%d would be %d)%s' % (self.sender, self.to, self.every, self.sender, self.kind, self.every,
@@ -83,6 +88,10 @@ class Together(NamedTuple):
         return ('mote %d loses the same packets on all of its %d links: %d of its %d packets reach nobody (about %d '
                 'would, if the links lost independently); give its links different periods, as the rule `primes` of a '
                 'plan does' % (self.sender, self.links, self.lost, self.packets, round(self.expected)))
+
+
+def is_prime(number: int) -> bool:
+    return number > 1 and all(number % it for it in range(2, int(number ** 0.5) + 1))
 
 
 Division = list[tuple[str, int, int]]
@@ -120,28 +129,32 @@ def _chance(packets: int, lost: int, of: int, all_lost: int) -> float:
                                                                                                              all_lost)
 
 
-def hit(values: Sequence[int], every: int) -> Kind | None:
-    """The kind of packet that a loss of this period hits far more than others."""
+def kinds_of(values: Sequence[int]) -> dict[tuple[int, ...], str]:
+    """The names of the kinds of a mote's packets that have enough packets, by the places of these packets."""
+    found: dict[tuple[int, ...], str] = {}
+    for division in divisions(values):
+        groups: dict[tuple[str, int, int], list[int]] = defaultdict(list)
+        for number, kind in enumerate(division):
+            groups[kind].append(number)
+        for (what, _, _), numbers in groups.items():
+            if LEAST_PACKETS <= len(numbers) < len(values):
+                found.setdefault(tuple(numbers), what)
+    return found
+
+
+def hit(values: Sequence[int], every: int, kinds: dict[tuple[int, ...], str], rare: float) -> Kind | None:
+    """The kind of packet that a loss of this period hits far more than others, with less than this probability by
+    chance."""
     if every < 2 or len(values) < 2 * LEAST_PACKETS:
         return None
-    found = [it for division in divisions(values) for it in hits(values, every, division)]
-    return min(found, key=lambda it: it[0])[1] if found else None
-
-
-def hits(values: Sequence[int], every: int, division: Division) -> Iterator[tuple[float, Kind]]:
-    """The kinds that are hit far more than others, with the probability that this happens by chance."""
-    groups: dict[tuple[str, int, int], list[int]] = defaultdict(list)
-    for number, kind in enumerate(division):
-        groups[kind].append(number)
-    all_lost = len(values) // every
-    for (what, _, _), numbers in groups.items():
+    found = []
+    for numbers, what in kinds.items():
         lost = sum((number + 1) % every == 0 for number in numbers)
-        if len(numbers) < LEAST_PACKETS or len(numbers) == len(values) or lost * every < MORE * len(numbers):
-            continue
-        chance = _chance(len(numbers), lost, len(values), all_lost)
-        its = [values[number] for number in numbers]
-        if chance < RARE:
-            yield chance, Kind(len(numbers), lost, min(its), max(its), what)
+        if lost * every >= MORE * len(numbers):
+            chance = _chance(len(numbers), lost, len(values), len(values) // every)
+            its = [values[number] for number in numbers]
+            found += [(chance, Kind(len(numbers), lost, min(its), max(its), what))] if chance < rare else []
+    return min(found, key=lambda it: it[0])[1] if found else None
 
 
 def all_at_once(scenario: Scenario, report: Report) -> Iterator[Together]:
@@ -166,15 +179,20 @@ def resonances(scenario: Scenario, report: Report) -> Iterator[Resonance]:
     sent: dict[int, list[int]] = defaultdict(list)
     for packet in report.medium:
         sent[packet.sender].append(packet.value)
+    losses = {place: (*link, every) for place, (link, every) in enumerate(scenario.losses.items())
+              if scenario.hears(link[1], link[0])}
+    kinds = {sender: kinds_of(sent[sender]) for sender, _, _ in losses.values()}
+    rare = RARE / max(1, sum(len(kinds[sender]) for sender, _ in {(it[0], it[2]) for it in losses.values()}))
+    periods = set(scenario.losses.values())
+    is_by_primes = len(periods) > 2 and all(map(is_prime, periods))
     found: dict[tuple[int, int], tuple[Kind | None, int | None]] = {}
-    for place, ((sender, to), every) in enumerate(scenario.losses.items()):
-        if not scenario.hears(to, sender):
-            continue
+    for place, (sender, to, every) in losses.items():
         if (sender, every) not in found:
-            values = sent[sender]
-            kind = hit(values, every)
+            its = sent[sender], kinds[sender]
+            kind = hit(its[0], every, its[1], rare)
             nearest = sorted(PRIMES, key=lambda it: (abs(it - every), it)) if kind else []
-            found[sender, every] = kind, next((it for it in nearest if it != every and not hit(values, it)), None)
+            found[sender, every] = kind, next(
+                (it for it in nearest if it != every and not hit(its[0], it, its[1], rare)), None)
         kind, better = found[sender, every]
         if kind:
-            yield Resonance(place, sender, to, every, kind, better)
+            yield Resonance(place, sender, to, every, kind, better, is_by_primes)

@@ -3,14 +3,11 @@ from __future__ import annotations
 
 from collections.abc import Iterable
 
+from motesim.explain.resonance import is_prime
 from motesim.plan.chance import Chance
 from motesim.plan.keys import LOSS_STREAM, PRIMES
 
 Link = tuple[int, int]
-
-
-def is_prime(number: int) -> bool:
-    return number > 1 and all(number % it for it in range(2, int(number ** 0.5) + 1))
 
 
 def near(about: int, count: int = PRIMES) -> list[int]:
