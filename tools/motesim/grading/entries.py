@@ -107,7 +107,8 @@ def skipped_of(folder: Path) -> list[str]:
         path = Path(at)
         hidden = [it for it in folders if it.startswith('.')]
         folders[:] = sorted(set(folders) - set(hidden)) if len(path.relative_to(folder).parts) < DEEPEST else []
-        own = own_of(path)
+        # (the pages of an earlier marking are many, and in a folder of their own)
+        own = own_of(path) if path == folder else set()
         found += [one_line(str((path / it).relative_to(folder))) for it in sorted([*names, *hidden])
                   if it.startswith('.') or it.endswith(OF_TEACHER) or it in own]
     return found
