@@ -141,7 +141,7 @@ class Resonances(unittest.TestCase):
     def test_with_the_rule_primes_another_seed_helps(self) -> None:
         values = [it for n in range(1, 11) for it in (900, n)]
         self.assertIn('; every = 3 is not in step', self.among(values, 2, 4, 5)[0])
-        self.assertIn('; another `seed` of the rule `primes` gives the links other periods',
+        self.assertIn('; another `seed` of the rule `primes` changes the periods',
                       self.among(values, 2, 3, 5)[0])
 
 

@@ -67,7 +67,7 @@ class Resonance(NamedTuple):
     def __str__(self) -> str:
         more = '; every = %d is not in step' % self.better if self.better else ''
         if self.is_by_primes:
-            more = '; another `seed` of the rule `primes` gives the links other periods'
+            more = '; another `seed` of the rule `primes` changes the periods'
         return ('the loss from mote %d to mote %d, every = %d, is in step with the rhythm of mote %d: it loses %s (1 '
                 'in '
                 '%d would be %d)%s' % (self.sender, self.to, self.every, self.sender, self.kind, self.every,
