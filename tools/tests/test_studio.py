@@ -21,6 +21,7 @@ from here import TOOLS, TOP
 import stand_in
 from motesim.faults import Fault
 from motesim.studio import answers, guides
+from motesim.studio.command import pinned
 from motesim.studio.desk import Changed, Desk
 from motesim.studio.edits import applied, edit
 from motesim.studio.runs import LimitMet, Limits, Runs, Superseded
@@ -449,6 +450,13 @@ class Guides(unittest.TestCase):
 
 
 class Command(unittest.TestCase):
+    def test_a_plan_is_refused_as_the_other_scenario(self) -> None:
+        with tempfile.TemporaryDirectory() as room:
+            plan = Path(room, 'net.plan.toml')
+            plan.write_text('end = 20\n[places]\nrule = "line"\ncount = 3\nstep = 10\n')
+            with self.assertRaisesRegex(Fault, 'is a plan, not a scenario: tools/scenario .* makes a scenario of it'):
+                pinned(str(plan))
+
     def start(self, *words: str, **variables: str) -> Any:
         return subprocess.Popen([sys.executable, '-B', str(TOOLS / 'studio'), '--no-open', *words], text=True,
                                 stdout=subprocess.PIPE, stderr=subprocess.PIPE, env={**os.environ, **variables},

@@ -130,7 +130,7 @@ def show(words: argparse.Namespace, asking: Asking, search: Search, folder: Path
         for row in [*asking.notes, *covered_lines(search), *verdict_lines(search, found, asking.texts, words.all)]:
             print(row)
         print()
-        print(last_line(search, found, folder, asking.base.name))
+        print(last_line(search, found, folder, asking.base))
     if search.is_stopped:
         return INTERRUPTED
     if words.shrink:
@@ -161,7 +161,7 @@ def shrink_each(asking: Asking, found: list[Found], folder: Path, is_quiet: bool
     program.close()
 
 
-def last_line(search: Search, found: list[Found], folder: Path, name: str) -> str:
+def last_line(search: Search, found: list[Found], folder: Path, base: Base) -> str:
     """The last line: how many expectations hold."""
     wanted, holding = (bin(mask).count('1') for mask in (search.known.wanted, search.holding))
     broken = len({sentence for it in found for sentence in it.sentences})
@@ -171,7 +171,10 @@ def last_line(search: Search, found: list[Found], folder: Path, name: str) -> st
     said += '; {:,} runs'.format(search.runs)
     if found:
         said += '\n%s in %s, with the table found.csv; `tools/studio FILE --against %s` shows one' % (
-            counted(len(found), 'counter-example is', 'counter-examples are'), folder, name)
+            counted(len(found), 'counter-example is', 'counter-examples are'), folder,
+            'NAME.toml' if base.plan else base.name)
+        if base.plan:
+            said += ' next to the scenario that `tools/scenario %s -o NAME.toml` makes' % base.name
     if search.ended_by:
         said += '\nNOT ALL WAS TRIED: %s; --resume continues' % search.ended_by
     return said

@@ -15,6 +15,7 @@ from pathlib import Path
 from motesim.faults import Fault, in_words
 from motesim.judge.expectations import text_of
 from motesim.runner.programs import program_path
+from motesim.runner.run import read_file, refuse_others
 from motesim.studio.desk import Desk
 from motesim.studio.runs import Limits, Runs
 from motesim.studio.server import Server
@@ -64,13 +65,19 @@ def serve(server: Server, is_open: bool) -> None:
         server.serve_forever(poll_interval=0.2)
 
 
+def pinned(path: str) -> str:
+    """The text of the scenario whose run is pinned."""
+    refuse_others(path, read_file(path))
+    return text_of(Path(path))
+
+
 def status_of(asked: argparse.Namespace) -> int:
     """Runs tools/studio with its arguments."""
     # (the studio runs for hours, so it needs the garbage collector, unlike other commands)
     gc.enable()
     program_path()
     runs = Runs(Limits(asked.seconds, asked.memory, asked.report))
-    session = Session(Desk(asked.file), runs, against=text_of(Path(asked.against)) if asked.against else None)
+    session = Session(Desk(asked.file), runs, against=pinned(asked.against) if asked.against else None)
     session.desk.first()
     try:
         server = Server(session)
