@@ -347,6 +347,25 @@ class Nets(Folder):
         self.assertIn(b'\n"anna.toml";3;3;"";1;1;1\n', data)
         self.assertEqual(list(self.rows()), ['anna.toml'])
 
+    def test_each_option_is_in_the_table_of_its_page(self) -> None:
+        page = (TOOLS.parent / 'docs/use/EXPECTATIONS.md').read_text('utf-8')
+        table = page[page.index('| `--net NET`'):]
+        named = set(re.findall('--?[a-z]+', ' '.join(re.findall(r'^\| (`-.*?) \|', table, re.M))))
+        options = set(re.findall(r'^  (--?[a-z]+)', self.grade('--help'), re.M)) - {'-h', '--version'}
+        self.assertEqual(options - named, set())
+
+    def test_a_process_that_nothing_starts_is_named(self) -> None:
+        need_program(self)
+        self.stub = program_path()
+        starts = 'no process starts at boot: an `autostart` with its names is missing'
+        self.hand_in('ben.mote', 'process a;\ncode a { body { print 3; } }\n')
+        self.hand_in('cem.mote', 'process a;\nautostart a;\ncode a { body { yield_until is(packet); print 3; } }\n')
+        self.assertIn('Warning: %s\n' % starts, self.grade('--net', 'task.toml', '--why', 'ben'))
+        self.assertIn('but no process is the `receiver`', self.grade('--net', 'task.toml', '--why', 'cem'))
+        self.assertNotIn('Warning', self.grade('--net', 'task.toml', '--why', 'anna'))
+        self.grade('--net', 'task.toml', '-o', 'marks.html')
+        self.assertIn(starts, self.page())
+
     def test_a_halt_is_in_the_row(self) -> None:
         need_program(self)
         self.stub = program_path()

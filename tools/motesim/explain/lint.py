@@ -192,8 +192,8 @@ def is_of_event(test: list[str]) -> bool:
     return len(its) < len(test) and all(it in SAME or it.isdecimal() for it in its)
 
 
-def of_program(program: Program) -> Iterator[Warned]:
-    """Yields the warnings of a program."""
+def of_start(program: Program) -> Iterator[Warned]:
+    """Yields the warnings about processes that never start, and about packets that no process gets."""
     name, started = program.name, {it.text for it in program.started}
     if not program.first('autostart'):
         yield Warned('no process starts at boot: an `autostart` with its names is missing', name, program.processes[0])
@@ -208,6 +208,12 @@ def of_program(program: Program) -> Iterator[Warned]:
         yield Warned('the program waits for packets, but no process is the `receiver`: they are dropped, and the '
                      'report calls them `deaf`; write `receiver %s;` above the first `code`' % (
                          its.text if its else 'P'), name, packet)
+
+
+def of_program(program: Program) -> Iterator[Warned]:
+    """Yields the warnings of a program."""
+    name = program.name
+    yield from of_start(program)
     for text, token in program.endless_loops():
         yield Warned(text, name, token, instead=LATER if text == STILL_TRUE else '')
     for token in program.awaited_ctimers():

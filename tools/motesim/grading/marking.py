@@ -2,12 +2,13 @@
 from __future__ import annotations
 
 import re
-from collections.abc import Iterable, Iterator, Sequence
+from collections.abc import Iterable, Iterator, Mapping, Sequence
 from dataclasses import dataclass, replace
 from pathlib import Path
 from typing import NamedTuple
 
 from motesim.explain.explanation import explanation, of_program, of_program_file, tables_or_none
+from motesim.explain.lint import Program, of_start
 from motesim.faults import Fault
 from motesim.files import replace_whole
 from motesim.grading.entries import Entry, data_of
@@ -40,8 +41,8 @@ WIDEST_NAME = 40
 UNSAFE = re.compile(r'[^A-Za-z0-9.-]|^\.')
 LONGEST_NAME = 80
 OF_HIDDEN = 'in a hidden net'
-# The most lines of an error that are shown.
-MOST_LINES = 40
+# The most lines of an error, and the most warnings, that are shown.
+MOST_LINES, MOST_WARNED = 40, 3
 
 
 class Mark(NamedTuple):
@@ -77,6 +78,7 @@ class Marks:
     no_page  the reason why there is no such page, though pages were asked for
     fix      for a refused scenario or program, the place of its error, and the correction
     halts    the first mote that halts in a net, if one does; and `shown_halts` in a net that isn't hidden
+    warned   the warnings about its processes that never start, and about packets that no process gets
     """
     name: str
     marks: tuple[Mark, ...] = ()
@@ -88,6 +90,7 @@ class Marks:
     is_open: bool = False
     halts: str = ''
     shown_halts: str = ''
+    warned: tuple[str, ...] = ()
 
     def in_lines(self) -> Marks:
         """The same, with each text in one line: names in a solution may have characters that would end or change a
@@ -131,6 +134,7 @@ class InNet(NamedTuple):
     is_hidden: bool = False
     bytes: int = 0
     halts: str = ''
+    warned: tuple[str, ...] = ()
 
 
 @dataclass(frozen=True)
@@ -164,8 +168,8 @@ class Task:
             else:
                 source = [program_of(data, entry.path.name, net.program) for net in self.nets]
                 its = file, data.decode('utf-8')
-                found = [self.in_net(net.with_program(text), its)._replace(net=net.name, is_hidden=net.is_hidden)
-                         for net, text in zip(self.nets, source)]
+                found = [self.in_net(net.with_program(text), its, net.program)._replace(
+                    net=net.name, is_hidden=net.is_hidden) for net, text in zip(self.nets, source)]
         except UnicodeDecodeError:
             return Marks(entry.name, why='the file is not UTF-8 text')
         except LimitMet as fault:
@@ -199,8 +203,9 @@ class Task:
                 lines = explanation(entry.name, data, 'motesim: ' + fault.message) if fault else []
         return tuple(line[:LONGEST_WHY] for line in lines[:MOST_LINES])
 
-    def in_net(self, text: str, file: tuple[str, str]) -> InNet:
-        """The marks of a scenario, whose program is in a file of this name and text."""
+    def in_net(self, text: str, file: tuple[str, str], program: str = '') -> InNet:
+        """The marks of a scenario, whose program is in a file of this name and text; without a name of the program,
+        the scenario has no program of another author."""
         known, names = known_of(text)
         lacks = [lacking(it, names) for it in self.part.sentences]
         part = replace(self.part, sentences=[it for it, lack in zip(self.part.sentences, lacks) if not lack])
@@ -225,7 +230,8 @@ class Task:
             marks.append(Mark(whole.sentence, whole.holds, (), tuple(whole.more)))
         run = Run('', report, scenario, file) if len(got.report) <= MOST_SHOWN else None
         return InNet(marks, lacks, '', run, [None if lack else next(places) for lack in lacks], bytes=len(got.report),
-                     halts=halt_of(report))
+                     halts=halt_of(report), warned=warned_of(
+                         {program: scenario.programs[program]} if program else scenario.programs))
 
     def spread(self, held: Iterator[Mark], lacks: list[str]) -> list[Mark]:
         """A mark for each sentence: a sentence about something that the scenario lacks doesn't hold."""
@@ -244,7 +250,7 @@ class Task:
         lacks = [next((it for it in each if it), '') for each in zip(*(its.lacks for its in found))]
         halts, shown = (next((it.halts + (' in %s' % it.net if it.net else '') for it in its if it.halts), '')
                         for its in (found, [it for it in found if not it.is_hidden]))
-        return Marks(name, tuple(marks), why, tuple(lacks), halts=halts, shown_halts=shown)
+        return Marks(name, tuple(marks), why, tuple(lacks), halts=halts, shown_halts=shown, warned=found[0].warned)
 
     def possible_pictures(self, entries: Sequence[Entry]) -> list[str]:
         """The names of all pages that the marking of these entries may write."""
@@ -274,6 +280,12 @@ def halt_of(report: Report) -> str:
     """The first mote that halts in a report, with the moment; an empty text if none does."""
     last = ((mote.number, mote.lines[-1]) for mote in report.motes if mote.lines)
     return next(('mote %d halts at %d' % (number, it.at) for number, it in last if it.kind == 'halt'), '')
+
+
+def warned_of(programs: Mapping[str, str]) -> tuple[str, ...]:
+    """The warnings of tools/explain about processes that never start, and about packets that no process gets."""
+    found = [it.text for name, text in programs.items() for it in of_start(Program(name, text))]
+    return tuple('Warning: %s' % it for it in found[:MOST_WARNED])
 
 
 def unmarked(name: str, why: str) -> Marks:

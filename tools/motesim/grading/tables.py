@@ -142,4 +142,5 @@ def why(marks: Marks) -> list[str]:
         nets = [in_nets(it.nets)] if it.nets else []
         lines += ['          ' + row for row in [*nets, *it.more]]
     lines += ['%s: it used up its work there, maybe in a loop without a wait' % marks.halts] if marks.halts else []
+    lines += marks.warned if marks.first_failed is not None else ()
     return lines + [RENAMED] * any(marks.lacks)
