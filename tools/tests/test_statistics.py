@@ -18,6 +18,7 @@ from motesim.analysis import drawing, estimates
 from motesim.analysis.around import dodged, labelled
 from motesim.analysis.crossings import Key, Runs, crossing, place
 from motesim.analysis.drawing import lengths, ticks_between, with_gaps
+from motesim.analysis.origin import digest_of_tools, origin_of
 from motesim.analysis.paired import Pair, Paired, differences, pairs_of
 from motesim.analysis.estimates import Estimate
 from motesim.analysis.points import Point, Wish, is_seed, shown_of
@@ -668,6 +669,14 @@ class Command(unittest.TestCase):
         self.plot(*words, '--show', 'mean', '--interval', 'bootstrap')
         self.assertIn('note,"bootstrap: 2,000 draws with replacement, by SplitMix64 with the seed 1"\n',
                       (self.folder / 'a.origin.csv').read_text())
+
+    def test_the_origin_distinguishes_commits_of_the_tools(self) -> None:
+        top = self.folder / 'tools'
+        (top / 'analysis').mkdir(parents=True)
+        (top / 'a.py').write_text('A = 1\n')
+        (top / 'analysis/b.py').write_text('B = 2\n')
+        self.assertEqual(digest_of_tools(top), hashlib.sha256(b'A = 1\nB = 2\n').hexdigest()[:16])
+        self.assertIn('"SHA-256 of the tools, 16 digits",%s\n' % digest_of_tools(), origin_of('', [], [], []))
 
     def test_a_picture_of_the_same_name_in_another_format_loses_its_table(self) -> None:
         interpreter_with(self, 'matplotlib')

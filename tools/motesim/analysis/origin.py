@@ -31,9 +31,18 @@ def digest_of_file(path: Path) -> str:
     return hashlib.sha256(path.read_bytes()).hexdigest()
 
 
+def digest_of_tools(top: Path = Path(__file__).parents[1]) -> str:
+    """The SHA-256 of the Python sources of these tools, one after another in the order of their paths, 16 digits."""
+    found = hashlib.sha256()
+    for path in sorted(top.rglob('*.py'), key=Path.as_posix):
+        found.update(path.read_bytes())
+    return found.hexdigest()[:16]
+
+
 def origin_of(command: str, files: Sequence[Path], rows: Sequence[Row], notes: Sequence[str]) -> str:
     """The origin as CSV with the columns `what` and `value`."""
-    lines: list[tuple[str, Cell]] = [('command', command), ('tools', 'motesim %s' % VERSION)]
+    lines: list[tuple[str, Cell]] = [('command', command), ('tools', 'motesim %s' % VERSION),
+                                     ('SHA-256 of the tools, 16 digits', digest_of_tools())]
     for path in files:
         lines += [('results', path.name), ('SHA-256 of the results', digest_of_file(path))]
     lines += [('rows', len(rows)), ('parameters', ' '.join(parameters_of(rows)))]
