@@ -9,8 +9,8 @@ or newer, from any folder: nothing is installed, and nothing is fetched from a n
 It has the files that git knows, and the folders and files of your own that you name, such as an exercise and its
 worksheet: tools/pack examples/mylab worksheet.pdf. A folder or file outside of this tree is at the top of the archive.
 A file isn't packed if a word of its name, or of its folder's, begins with `solution`, `hidden`, `answer` or `marks`,
-even if you name it; nor is docs/use/TEACH.md. With --for-teachers these are packed too. tools/pack lists what it adds
-to the repository's own files, and what it leaves out.
+even if you name it; nor are key.csv and docs/use/TEACH.md. With --for-teachers these are packed too. tools/pack lists
+what it adds to the repository's own files, and what it leaves out.
 
 The archive has the binary that the environment variable MOTESIM names, or without it the proved `motesim` of these
 sources, if ./prove has built it; the page PROVED.md then describes the proof and the kit. Otherwise it has one that is

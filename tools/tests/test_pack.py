@@ -201,7 +201,7 @@ class Pack(unittest.TestCase):
 
     def test_solutions_in_a_folder_of_one_s_own_are_packed_only_on_request(self) -> None:
         top = self.tree('docs/use/TEACH.md tools/motesim/answers.py', '')
-        its = 'start.toml', 'task1_solution.toml', 'net-hidden.toml', 'answers/anna.toml', 'marks.csv', 'bookmarks.md'
+        its = 'start.toml', 'task1_solution.toml', 'net-hidden.toml', 'answers/anna.toml', 'marks.csv', 'key.csv', 'bookmarks.md'
         for name in its:
             (top / 'lab' / name).parent.mkdir(parents=True, exist_ok=True)
             (top / 'lab' / name).write_text('')
@@ -211,7 +211,7 @@ class Pack(unittest.TestCase):
         self.assertIn('Left out: lab/task1_solution.toml (for teachers)', found.notes())
         found = pack.sorted_files(parts, [top / 'lab'], top, has_all=True)
         self.assertEqual(found.added, sorted('lab/' + it for it in its))
-        self.assertEqual((len(found.packed), found.left_out), (8, {}))
+        self.assertEqual((len(found.packed), found.left_out), (9, {}))
 
     def test_files_from_elsewhere_are_at_the_top_of_the_archive(self) -> None:
         top = self.tree('examples/a.toml LICENSE', '')

@@ -4,6 +4,7 @@ from __future__ import annotations
 import http.client
 import json
 import os
+import re
 import signal
 import struct
 import subprocess
@@ -443,8 +444,10 @@ class Guides(unittest.TestCase):
         found = guides.guide('flooding.toml', (TOP / 'examples/flooding.toml').read_text())
         self.assertTrue(any(it['kind'] == 'task' and 'broadcast storm' in it['text'] for it in found))
         self.assertTrue(any(it['kind'] == 'look' for it in found))
-        self.assertEqual(guides.title('flooding.toml'), 'a message that reaches all, and what that costs')
-        self.assertEqual(guides.title('tdma.toml'), 'collisions, and none')
+        for name in 'flooding', 'tdma', 'broadcast':
+            page = (TOP / 'docs/use/EXAMPLES.md').read_text()
+            row = next(it for it in page.splitlines() if re.match(r'\| \[[^]]*\b%s\b' % name, it))
+            self.assertEqual(guides.title(name + '.toml'), row.rstrip(' |').rpartition(' | ')[2])
         for path in sorted((TOP / 'examples').glob('*.toml')):
             self.assertNotIn('|', guides.title(path.name))
 

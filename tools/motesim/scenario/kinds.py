@@ -18,7 +18,7 @@ OF_SCENARIO = re.compile(rb'^[ \t]*(?:\[\[?[ \t]*mote[ \t]*\]|(?:mote|version)[ 
 RESULTS = re.compile(rb'[^\n]*,fault,note,plan,[^\n]*,parameters\r?\n')
 
 # The name of a file or folder that students shouldn't see: a word of it begins so.
-FOR_TEACHERS = re.compile(r'(?:.*[^a-z])?(?:solution|hidden|answer|marks)', re.S | re.I)
+FOR_TEACHERS = re.compile(r'(?:.*[^a-z])?(?:solution|hidden|answer|marks|key\.csv\Z)', re.S | re.I)
 
 
 def is_for_teachers(name: str) -> bool:
