@@ -676,7 +676,8 @@ class Command(unittest.TestCase):
         (top / 'a.py').write_text('A = 1\n')
         (top / 'analysis/b.py').write_text('B = 2\n')
         self.assertEqual(digest_of_tools(top), hashlib.sha256(b'A = 1\nB = 2\n').hexdigest()[:16])
-        self.assertIn('"SHA-256 of the tools, 16 digits",%s\n' % digest_of_tools(), origin_of('', [], [], []))
+        self.assertIn('"SHA-256 of the tools, 16 digits",%s\n' % digest_of_tools(),
+                      origin_of('', [], [row(1, 1, 1)], []))
 
     def test_a_picture_of_the_same_name_in_another_format_loses_its_table(self) -> None:
         interpreter_with(self, 'matplotlib')
