@@ -681,6 +681,13 @@ class Runs(unittest.TestCase):
         return subprocess.run([sys.executable, str(TOOLS / 'why'), *arguments], capture_output=True, text=True,
                               cwd=TOP, env=dict(os.environ))
 
+    def test_a_question_without_quotes(self) -> None:
+        shown = self.why('examples/flooding.toml', 'mote', '3', 'prints', 'flood', '2', '--short')
+        self.assertEqual((shown.returncode, shown.stderr), (2, (
+            "why: the question has to be in quotes: tools/why examples/flooding.toml 'mote 3 prints flood 2'\n")))
+        shown = self.why('examples/flooding.toml', '--foo')
+        self.assertIn('unrecognized arguments: --foo', shown.stderr)
+
     def test_the_command(self) -> None:
         shown = self.why('examples/flooding.toml', 'mote 6 prints flood 1', '--short')
         self.assertEqual(shown.returncode, 0)

@@ -4,7 +4,9 @@ QUESTION is a sentence, such as "mote 24 prints flood 2", or a line of the repor
 or its mote and text, such as "24:64 print flood 1"."""
 from __future__ import annotations
 
-from motesim.faults import command
+import shlex
+
+from motesim.faults import Fault, command
 from motesim.words import words_of
 
 
@@ -24,6 +26,11 @@ def main() -> int:
                        help='show the state of a mote: --state mote 3 at 46, or after a line: --state 3:114')
     words.add_argument('--json', action='store_true', help='for programs')
     words.add_argument('--short', action='store_true', help='only the hops with a delay')
-    asked = words.parse_intermixed_args()
+    asked, more = words.parse_known_intermixed_args()
+    if any(it.startswith('-') for it in more):
+        words.error('unrecognized arguments: %s' % ' '.join(more))
+    if more:
+        raise Fault('the question has to be in quotes: tools/why %s' % shlex.join(
+            [asked.file, ' '.join(filter(None, [asked.question, *more]))]))
     from motesim.why.command import status_of
     return status_of(asked)
