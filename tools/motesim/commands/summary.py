@@ -14,7 +14,7 @@ For a mote and for the net
   late        copies that would have arrived after the end
   ratio     the share of received copies in all that were not late
   posted    events that its queue accepted
-  taken     events that reached a process; one for all processes counts once for each
+  taken     events that reached a process; an event for all processes counts once for each of them
   dropped   events whose process wasn't running
   refused   events that found the queue full
   prints    lines that it printed
@@ -26,7 +26,7 @@ For a link
 which began with the first packet of that value, at the mote that sent it. In `--flow "print source -> print sink"`
 messages begin with a print. For an origin, and for the net
   sent      messages that began there
-  delivered those that arrived at another mote at least once, and ratio, their share
+  delivered those that arrived at another mote at least once; ratio is their share
   reached   how many motes a message reached, on average
   copies    deliveries in all; duplicates are those to a mote that had the message already
   hops      least hops to the motes reached, on average, if the scenario is known

@@ -184,7 +184,7 @@ def _of_unexpected(before: list[Token], here: Token, behind: Token, may: list[st
     if here.kind == 'keyword' and word not in WISHES and any(it.startswith('a variable (') for it in may):
         return OF_WORD % (word, '', word)
     if word == ';' and may == ['`=`']:
-        return 'A variable begins with a number: `var x = 0;`.'
+        return 'The initial value of a variable is a number: `var x = 0;`.'
     if word == 'timer' and '`etimer`' in may:
         return 'There are two kinds: an `etimer` posts an event to its process, a `ctimer` has a block that it calls.'
     if word == 'to' and '`;`' in may:

@@ -80,7 +80,7 @@ def _same(one: str, other: str) -> bool:
 
 
 def _readings(source: str, scope: Scope, above: list[str], unclosed: int) -> Iterator[Statements]:
-    """The ways in which lines may be read, the likeliest first, in a text with so many blocks that aren't closed."""
+    """The ways in which lines may be read, the likeliest first. `unclosed` is the number of blocks without an end."""
     place = place_below(above)
     ends = ('}', '') if unclosed > 0 else ('', '}')
     for end in ends if '_end' in source.lower() else ('',):

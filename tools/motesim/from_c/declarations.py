@@ -101,7 +101,7 @@ class Declarations(Lines):
         return self.variables()
 
     def variables(self) -> str:
-        """Variables with their first values."""
+        """Variables with their initial values."""
         found = []
         while True:
             name = self.token.text
@@ -113,7 +113,7 @@ class Declarations(Lines):
             if self.accept('='):
                 value = self.beginning()
             else:
-                self.why('A variable begins with a number.')
+                self.why('The initial value of a variable is a number.')
                 value = '0'
             found.append(self.declared(name, value))
             if not self.accept(','):
@@ -164,7 +164,7 @@ class Declarations(Lines):
                 self.declares.append('var %s = 0;' % found)
 
     def beginning(self) -> str:
-        """The number with which a variable begins."""
+        """The initial value of a variable."""
         node = self.expression()
         if node.kind == 'unary' and node.text == '-' and node.parts[0].kind == 'number':
             self.why('There are no numbers below 0: values have 16 bits, and 65535 is one less than 0.')
@@ -173,7 +173,8 @@ class Declarations(Lines):
         if not value.isdecimal() and not self.place.is_head and not self.place.is_top:
             return value
         if not value.isdecimal():
-            raise NoCounterpart('A variable begins with a number: begin with 0, and assign at the start of `body`.')
+            raise NoCounterpart('The initial value of a variable is a number: write 0, and assign the value at the '
+                                'start of `body`.')
         return value
 
     def of_struct(self, kind: str) -> str:
@@ -237,7 +238,7 @@ class Declarations(Lines):
             return 'receiver %s;' % words[1]
         if words[0] == 'semaphore' and words[2] == ';':
             self.at += 3
-            self.why('A semaphore begins with its count.')
+            self.why('A semaphore is declared with its initial count.')
             return 'semaphore %s = 0;' % words[1]
         found = []
         while self.token.kind != 'end':

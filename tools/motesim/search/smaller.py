@@ -128,7 +128,7 @@ def codes(code: Code) -> Iterator[tuple[str, Code]]:
     for at, (name, number) in enumerate(code.variables):
         yield 'removes `var %s`' % name, code._replace(variables=without(code.variables, at))
         for less in smaller_numbers(number):
-            yield '`var %s` begins with %d' % (name, less), code._replace(
+            yield '`var %s` has the initial value %d' % (name, less), code._replace(
                 variables=instead(code.variables, at, (name, less)))
 
 
@@ -191,7 +191,7 @@ def programs(program: Program) -> Iterator[Step]:
     for at, (name, number) in enumerate(program.semaphores):
         yield Step('removes `semaphore %s`' % name, program._replace(semaphores=without(program.semaphores, at)))
         for less in smaller_numbers(number):
-            yield Step('`semaphore %s` begins with %d' % (name, less), program._replace(
+            yield Step('`semaphore %s` has the initial count %d' % (name, less), program._replace(
                 semaphores=instead(program.semaphores, at, (name, less))))
 
 
