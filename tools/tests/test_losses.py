@@ -268,6 +268,18 @@ class ByChance(unittest.TestCase):
             self.assertEqual(found, ['self'] * count)
             self.assertEqual(warned(report([7] * 9, 2), net, 60), ['warning: ' + SAME_DRAWS] * count)
 
+    def test_two_processes_of_a_mote_draw_as_two_motes_do(self) -> None:
+        page = (TOP / 'docs/use/EXPERIMENTS.md').read_text('utf-8')
+        self.assertIn('    dice = (((self * 257) + ${seed}) + 128);\n', page)
+        pairs = [(mote, seed) for mote in range(255) for seed in range(1, 129)]
+        for limit in 6_554, 32_768:
+            lost = self.cycle.lost(limit)
+            one, other = ([lost[self.cycle.first(mote, seed + more) + packet] for mote, seed in pairs[::17]
+                           for packet in range(1, 41)] for more in (0, 128))
+            self.assertLess(abs(correlation(one, other)), 0.02)
+        self.assertEqual(len({(mote * 257 + seed + more) % WORD for mote, seed in pairs for more in (0, 128)}),
+                         2 * len(pairs))
+
     def test_the_rate_over_all_states_is_exact(self) -> None:
         self.assertEqual(len(self.cycle.places), WORD)
         for limit in 3_277, 6_554, 32_768:
