@@ -892,12 +892,33 @@ class Command(unittest.TestCase):
             self.plot('--measure', 'sent', '--against', 'period', '--pair', 'density=thin,dense', *words, status=2)
             self.assertIn('leave out %s' % words[0], self.seen)
 
+    def test_a_comparison_has_a_line_for_each_value(self) -> None:
+        words = '--measure', 'sent', '--against', 'period', '--compare', 'more.csv', '--by', 'density'
+        (self.folder / 'more.csv').write_text(results(2).replace('4,dense,3,', '4,dense,9,'))
+        rows = self.plot(*words)
+        self.assertEqual([it[:2] for it in rows[1:8]], [['density', 'period'], *(
+            [density, period] for density in ('dense', 'thin') for period in '148')])
+        self.assertEqual([it[2] for it in rows[2:8]], ['5', '4', '5', '5', '5', '5'])
+        self.assertIn('density dense: left out: 2 pairs of runs', ' '.join(rows[8]))
+        self.plot(*words[:-2], status=2)
+        self.assertIn('--by density separates them', self.seen)
+        interpreter_with(self, 'matplotlib')
+        self.plot(*words, '--label', 'thin=4 neighbours', '--label', 'thick=10', '-o', 'a.svg')
+        self.assertIn('no line has density = thick', self.seen)
+        texts = re.findall('>([^<]*)</text>', (self.folder / 'a.svg').read_text())
+        self.assertTrue({'4 neighbours', 'density dense'} <= set(texts), texts)
+
+    def test_a_file_with_the_name_of_a_parameter_is_named_in_full(self) -> None:
+        (self.folder / 'net.csv').rename(self.folder / 'seed.csv')
+        (self.folder / 'net.csv').write_text(results(2))
+        rows = self.plot('--measure', 'sent', '--against', 'seed', '--over', 'period', '--compare', 'seed.csv', *ONE)
+        self.assertEqual(rows[1][:7], ['seed', 'pairs', 'left', 'out', 'net.csv', 'seed.csv', 'difference'])
+
     def test_words_without_an_effect_are_refused(self) -> None:
         for words, seen in (
                 (('--interval', 'bootstrap', *ONE), '--interval bootstrap is for intervals of means: add --show mean'),
                 (('--interval', 't', '--show', 'points', *ONE), 'add --show mean'),
-                (('--by', 'density', '--pair', 'density=thin,dense'), 'leave out --by density'),
-                (('--by', 'density', '--compare', 'more.csv'), 'leave out --by')):
+                (('--by', 'density', '--pair', 'density=thin,dense'), '--by density separates nothing')):
             self.plot('--measure', 'sent', '--against', 'period', *words, status=2)
             self.assertIn(seen, self.seen)
         self.plot('--measure', 'sent', '--against', 'period', '--pair', 'density=thin,dense', '--interval', 't')

@@ -3,7 +3,7 @@ from __future__ import annotations
 
 import math
 import re
-from collections.abc import Callable, Sequence
+from collections.abc import Callable, Iterable, Sequence
 from pathlib import Path
 from typing import Any
 
@@ -81,9 +81,9 @@ def _legend_of(wish: Wish, by: Cell) -> str:
     return dict(wish.labels).get(text_of(by), '%s %s' % (wish.by, text_of(by)))
 
 
-def unused_labels(shown: Shown, wish: Wish) -> list[str]:
-    """The line about texts of values that no curve has."""
-    values = [text_of(it.by) for it in shown.curves()]
+def unused_labels(every: Iterable[Cell], wish: Wish) -> list[str]:
+    """The line about texts of values that none of the curves has, whose values these are."""
+    values = list(dict.fromkeys(map(text_of, every)))
     unused = [value for value, _ in wish.labels if value not in values]
     return ['no line has %s = %s, so this label isn\'t used; there are: %s' % (
         wish.by, ' or '.join(unused), ', '.join(values))] if unused else []
@@ -420,15 +420,19 @@ def draw_differences(found: Sequence[Difference], wish: Wish, words: str, notes:
     """Draws the differences of a paired comparison, with their intervals; returns whether notes have room below."""
     pyplot = _pyplot(wish)
     figure, axes = _figure(pyplot, wish)
-    places = [it.against for it in found]
+    places = sorted({it.against for it in found}, key=order)
     is_scale = all(type(it) in (int, float) for it in places)
-    xs = [float(it) if isinstance(it, int | float) and is_scale else number for number, it in enumerate(places)]
-    gaps = [it.difference for it in found]
-    axes.errorbar(xs, [it.middle for it in gaps], capsize=3, elinewidth=1, yerr=lengths(gaps),
-                  **(_look(0) if is_scale else {**_look(0), 'linestyle': ''}))
+    groups = {it.by: [each for each in found if each.by == it.by] for it in found}
+    for number, (by, its) in enumerate(groups.items()):
+        moved = dict(zip(places, dodged(_numbers(places, is_scale), number, len(groups), wish.log and is_scale)))
+        gaps, look = [it.difference for it in its], _look(number)
+        axes.errorbar([moved[it.against] for it in its], [it.middle for it in gaps], yerr=lengths(gaps), capsize=3,
+                      elinewidth=1, label=_legend_of(wish, by) if wish.by else None,
+                      **(look if is_scale else {**look, 'linestyle': ''}))
     axes.axhline(0, color='#555555', linewidth=0.8)
     _scale(axes, places, wish, is_scale)
     _name_axes(axes, wish.x or wish.against, wish.y or 'difference of %s' % wish.measure)
+    _legend(axes)
     has_room = words_around(figure, size_of(wish.size)[0], wish, words, '\n'.join(notes),
                             _place_of_notes(path, False))
     axes.grid(True, color='#dddddd', linewidth=0.6)

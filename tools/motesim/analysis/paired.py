@@ -82,6 +82,8 @@ class Difference(NamedTuple):
     pairs: int = 0
     nets: Sequence[Net] = ()
     is_skewed: bool = False
+    # The value of the parameter that separates lines.
+    by: Cell = None
 
 
 def _by_key(rows: Sequence[Row], names: Sequence[str], side: str) -> dict[Key, Row]:

@@ -248,10 +248,9 @@ def check_made(rows: Sequence[Row], names: Sequence[str], wish: Wish) -> None:
 def check_pairs(rows: Sequence[Row], wish: Wish, kept: Sequence[str]) -> None:
     """Refuses to mix pairs of treatments at one point of a comparison run by run."""
     good = [row for row in rows if not row['fault']]
-    varying = [name for name in kept if name != wish.against and len({row[name] for row in good}) > 1]
+    varying = [name for name in kept if name not in (wish.against, wish.by) and len({row[name] for row in good}) > 1]
     repeats = repeats_of(varying, wish.over)
-    # (a comparison has one line)
-    check_mixture(good, [it for it in varying if it not in repeats], repeats, 'none', 'each point')
+    check_mixture(good, [it for it in varying if it not in repeats], repeats, wish.by, 'each point')
 
 
 def shared_nets(rows: Sequence[Row], names: Sequence[str], measure: str) -> tuple[int, int] | None:

@@ -362,10 +362,11 @@ def columns_of_crossing(found: Crossing | None) -> Row:
             'last crossing high': last[1]}
 
 
-def rows_of_differences(found: Sequence[Difference], against: str, one: str, other: str,
-                        is_by_net: bool = False) -> list[Row]:
+def rows_of_differences(found: Sequence[Difference], wish: Wish, one: str, other: str) -> list[Row]:
     """A paired comparison as rows of a table; with nets, also how many there are, and which have missing pairs."""
-    return [{against: it.against, **({'nets': it.difference.runs} if is_by_net else {}), 'pairs': it.pairs,
+    is_by_net = wish.nets
+    return [{**({wish.by: it.by} if wish.by else {}), wish.against: it.against,
+             **({'nets': it.difference.runs} if is_by_net else {}), 'pairs': it.pairs,
              'left out': it.left_out, one: it.one, other: it.other,
              'difference': it.difference.middle, 'low': it.difference.low, 'high': it.difference.high,
              'interval': OF_ROW[it.difference.method], 'greater': it.greater, 'less': it.less,

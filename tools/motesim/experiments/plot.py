@@ -14,7 +14,7 @@ from motesim.analysis.drawing import FORMATS
 from motesim.analysis.estimates import AUTO, MEANS
 from motesim.analysis.estimates import quartiles as quartiles
 from motesim.analysis.origin import origin_of, origin_path
-from motesim.analysis.paired import differences, pairs_of
+from motesim.analysis.paired import Difference, Paired, differences, pairs_of
 from motesim.analysis.points import MEDIAN, SEPARATES, SHOWS, Wish, check_made, check_pairs, is_repeat, measures_of
 from motesim.analysis.points import names_of_nets, order, parameters_of, shared_nets, shown_of
 from motesim.analysis.rows import by_net, once, warnings_of
@@ -43,7 +43,7 @@ MOST_SHOWN = 12
 # The views without a measure on the vertical axis.
 NOT_UPWARDS = ('cdf', 'heat')
 # Options that have no effect in a comparison run by run, and are refused.
-NOT_IN_PAIRS = ('show', 'threshold', 'by', 'log_y')
+NOT_IN_PAIRS = ('show', 'threshold', 'log_y')
 
 
 def table_path(picture: Path) -> Path:
@@ -73,8 +73,8 @@ def wishes_of(plan: Plan) -> list[Wish]:
             raise tables.fault(path + ('pair',), 'A plot has one comparison.', '`pair` or `compare`, not both', False)
         for key in NOT_IN_PAIRS if is_paired else ():
             if key in given:
-                raise tables.fault(path + (key,), 'A comparison run by run shows the mean of the differences, as one '
-                                                  'line.', 'a plot without `%s`' % key, False)
+                raise tables.fault(path + (key,), 'A comparison run by run shows the means of the '
+                                                  'differences.', 'a plot without `%s`' % key, False)
         if values['log_y'] and values['show'] in NOT_UPWARDS:
             raise tables.fault(path + ('log_y',), 'A plot with this `show` has no measure on the vertical axis.',
                                '`log_y` for medians, means and points', False)
@@ -169,7 +169,7 @@ def show(rows: Sequence[Row], wish: Wish, source: Source) -> bool:
     if wish.file and packages.is_here('matplotlib'):
         picture = source.folder / wish.file
         has_room = drawing.draw(shown, wish, picture)
-        for line in drawing.unused_labels(shown, wish):
+        for line in drawing.unused_labels([it.by for it in shown.curves()], wish):
             print('plot: %s' % line, file=sys.stderr)
         notes = [*text.crossings(shown, wish), *text.left_out(shown, wish), *text.remarks(shown, wish)]
         write_tables(picture, text.rows_of_picture(shown, wish), source, rows, [text.heading(shown, wish), *notes])
@@ -190,37 +190,52 @@ def compare(sides: Sides, wish: Wish, source: Source) -> bool:
     if wish.against == wish.pair.partition('=')[0]:
         raise Fault('--pair compares two values of %s, so --against needs another parameter: %s' % (
             wish.against, ', '.join(kept) or 'there is none'))
-    if wish.against not in kept:
-        raise Fault('there is no parameter %s on both sides; there are: %s' % (wish.against, ', '.join(kept)))
+    if wish.by and wish.by in (wish.against, wish.pair.partition('=')[0]):
+        raise Fault('--by %s separates nothing: name another parameter' % wish.by)
+    for name in filter(None, [wish.against, wish.by]):
+        if name not in kept:
+            raise Fault('there is no parameter %s on both sides; there are: %s' % (name, ', '.join(kept)))
     check_pairs([*rows, *others], wish, kept)
     for side in rows, others:
         check_made([row for row in side if not row['fault']], [it for it in kept if not is_repeat(it, wish.over)], wish)
     nets = names_of_nets([*rows, *others], wish.over) if wish.nets else None
-    paired = pairs_of(rows, others, wish.measure, kept, wish.against, names, nets)
-    found = differences(paired.by_net() if wish.nets else paired, wish.part, wish.interval,
-                        partial(wish.kind_of, wish.measure))
-    found.sort(key=lambda it: order(it.against))
+    groups: list[tuple[Cell, Paired]] = []
+    for by in sorted({row[wish.by] for row in [*rows, *others]}, key=order) if wish.by else [None]:
+        one, other = ([row for row in side if not wish.by or row[wish.by] == by] for side in (rows, others))
+        groups.append((by, pairs_of(one, other, wish.measure, kept, wish.against, names, nets)))
+    found = [it._replace(by=by) for by, paired in groups for it in sorted(
+        differences(paired.by_net() if wish.nets else paired, wish.part, wish.interval,
+                    partial(wish.kind_of, wish.measure)), key=lambda it: order(it.against))]
     by = text.by_methods([it.difference.method for it in found])
     words = '%s against %s: %s less %s, %s' % (wish.measure, wish.against, names[1], names[0],
                                                'run by run, and averaged by net' if wish.nets else 'run by run')
     words += ', with intervals of %g %% %s' % (wish.confidence, by) if by else ''
-    made = text.rows_of_differences(found, wish.against, *names, wish.nets)
+    made = text.rows_of_differences(found, wish, *names)
     good = [row for row in rows if not row['fault']]
-    shared = None if wish.nets else shared_nets(good, [wish.against], wish.measure)
+    shared = None if wish.nets else shared_nets(good, [wish.against, *filter(None, [wish.by])], wish.measure)
     more = note_of_compared(sides) + text.of_nets(shared) + text.of_intervals([it.difference for it in found])
     warnings = warnings_of([*rows, *others], [*separated_by(wish), *wish.over.split(',')], False)
     more += warnings
-    notes = text.of_pairs(paired, found, wish.against) + more
+    notes = of_groups(groups, found, wish) + more
     warn(notes, shared, warnings)
     if wish.file and packages.is_here('matplotlib'):
         picture = source.folder / wish.file
-        below = text.of_pairs(paired, found, wish.against, text.MOST_BELOW) + more
+        below = of_groups(groups, found, wish, text.MOST_BELOW) + more
         has_room = drawing.draw_differences(found, wish, words, below, picture)
+        for line in drawing.unused_labels([by for by, _ in groups], wish):
+            print('plot: %s' % line, file=sys.stderr)
         write_tables(picture, made, source, [*sides.one, *sides.other], [words, *notes])
         print('\n'.join([str(picture), *notes, *left_to_caption(has_room, picture)]))
         return True
     print('\n'.join([words, *table(made, [it for it in made[0] if it != text.NETS]), *notes]))
     return not wish.file
+
+
+def of_groups(groups: Sequence[tuple[Cell, Paired]], found: Sequence[Difference], wish: Wish,
+              most: int | None = None) -> list[str]:
+    """The lines about the pairs that each line of a comparison leaves out."""
+    return [('%s %s: ' % (wish.by, text_of(by)) if wish.by else '') + line for by, paired in groups
+            for line in text.of_pairs(paired, [it for it in found if it.by == by], wish.against, most)]
 
 
 def wishes(asked: argparse.Namespace) -> list[Wish]:
@@ -236,8 +251,6 @@ def wishes(asked: argparse.Namespace) -> list[Wish]:
     if (asked.pair or asked.compare) and (asked.show or asked.threshold):
         raise Fault('a comparison run by run shows the mean of the differences: leave out %s' % (
             '--show' if asked.show else '--threshold'))
-    if (asked.pair or asked.compare) and asked.by:
-        raise Fault('a comparison run by run has one line: leave out --by %s' % asked.by)
     if asked.interval != AUTO and asked.show != 'mean' and not (asked.pair or asked.compare):
         raise Fault('--interval %s is for intervals of means: add --show mean, or leave it out' % asked.interval)
     if asked.label and not asked.by:
@@ -353,7 +366,7 @@ def sides_of(wish: Wish, rows: list[Row], results: Path, other: Path, where: Seq
             raise Fault('--compare needs another file than %s, the first side' % results)
         others = runs_of(other, where)
         names = results.stem, other.stem
-        if names[0] == names[1]:
+        if names[0] == names[1] or {*names} & {*parameters}:
             names = str(results), str(other)
         kept = [it for it in parameters if it in parameters_of(others)]
         compared = compared_by(rows, others, [it for it in kept if it != wish.against], wish.over)
