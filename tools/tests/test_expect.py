@@ -17,7 +17,7 @@ from motesim.judge import expectations
 from motesim.judge.expectations import UnknownSentence, expect, parts_of, read_all
 from motesim.judge.judge import Judge
 from motesim.report import Report
-from motesim.runner import LimitMet, Limits, programs
+from motesim.runner import LimitMet, Limits, Runner, programs
 from motesim.scenario import Scenario
 from motesim.judge.sentences import (
     Copies, Count, Does, Names, Refused, Sentence, SentenceFault, names_of, read_sentence,
@@ -301,11 +301,11 @@ class Files(unittest.TestCase):
         self.assertEqual(said, ('holds   mote 0 sends twice\n1 passed, 0 failed\n', '', 0))
 
     def test_a_run_that_meets_a_limit_is_told_of_the_scenario(self) -> None:
-        with mock.patch.object(expectations, 'answer', side_effect=LimitMet('report', Limits())):
+        with mock.patch.object(Runner, 'answer', side_effect=LimitMet('report', Limits())):
             out, err, code = self.said('expect = ["no mote halts"]')
         self.assertEqual((out, code), ('', 2))
-        self.assertEqual(err, 'expect: %s: the run was ended: the report is longer than 1,073,741,824 bytes\n' %
-                         self.scenario)
+        self.assertEqual(err, 'expect: %s: the run was ended: the report is longer than 1,073,741,824 bytes. '
+                         'A larger --report raises the limit\n' % self.scenario)
 
     def test_a_change_is_refused_as_expected(self) -> None:
         text = """expect = ["mote 0 sends"]

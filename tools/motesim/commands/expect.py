@@ -15,7 +15,7 @@ from __future__ import annotations
 from pathlib import Path
 
 from motesim.faults import Fault, command
-from motesim.words import words_of
+from motesim.words import add_limits, words_of
 
 
 @command('expect')
@@ -24,14 +24,16 @@ def main() -> int:
     words.add_argument('scenario', metavar='SCENARIO', help='a scenario, NAME.toml')
     words.add_argument('expectations', nargs='?', metavar='EXPECTATIONS',
                        help='the sentences (NAME.expect.toml next to it)')
+    add_limits(words)
     asked = words.parse_intermixed_args()
+    from motesim.explain.within import runs_within
     from motesim.judge.expectations import beside, expect
     scenario = Path(asked.scenario)
     expectations = Path(asked.expectations) if asked.expectations else beside(scenario)
     if not asked.expectations and scenario.exists() and not expectations.exists():
         raise Fault('there is no file %s next to %s: name another one, tools/expect SCENARIO EXPECTATIONS' % (
             expectations, scenario))
-    passed, failed = expect(scenario, expectations)
+    passed, failed = expect(scenario, expectations, run=runs_within(asked.scenario, asked))
     print('%d passed, %d failed' % (passed, failed))
     return 1 if failed else 0
 

@@ -9,13 +9,15 @@ meant. Ends with status 0 if the scenario has a report, 1 if an error is explain
 from __future__ import annotations
 
 from motesim.faults import command
-from motesim.words import words_of
+from motesim.words import add_limits, words_of
 
 
 @command('explain')
 def main() -> int:
     words = words_of(__doc__)
     words.add_argument('file', metavar='FILE', help='a scenario; - is standard input')
-    name = words.parse_args().file
+    add_limits(words)
+    asked = words.parse_args()
     from motesim.explain.explanation import explain
-    return explain(name)
+    from motesim.explain.within import runs_within
+    return explain(asked.file, runs_within(asked.file, asked))

@@ -3,6 +3,7 @@ from __future__ import annotations
 
 import re
 import textwrap
+from collections.abc import Callable
 from typing import Any
 
 from motesim.explain import hints, missing, synonyms
@@ -248,13 +249,13 @@ def program_instead(name: str, data: bytes) -> list[str]:
     return lines + ([*wrapped('The program has an error, too:'), *of_program_file(name, source, its)] if its else [])
 
 
-def explain(name: str) -> int:
-    """Prints the explanation of a file, as tools/explain does; returns the status."""
+def explain(name: str, run: Callable[[bytes], Answer] | None = None) -> int:
+    """Prints the explanation of a file, as tools/explain does; returns the status. `run` runs the scenario."""
     data = read_file(name)
     if begins_as_program(data):
         print('\n'.join(program_instead(name, data)))
         return 1
-    got = answer(data)
+    got = (run or answer)(data)
     line = error_line(got)
     if line is None:
         print('\n'.join(['%s has a report, and no fault' % one_line(name), *all_warnings(name, data, got.report)]))

@@ -5,7 +5,7 @@
 from __future__ import annotations
 
 import itertools
-from collections.abc import Sequence
+from collections.abc import Callable, Sequence
 from dataclasses import dataclass, replace
 from pathlib import Path
 from typing import Any, NamedTuple
@@ -191,19 +191,21 @@ def judged_each(scenario: str, part: Part) -> tuple[list[Verdict], list[str]]:
     return found + list(verdicts), lacks
 
 
-def judged(scenario: str, part: Part) -> list[Verdict]:
-    """The verdicts of a part."""
+def judged(scenario: str, part: Part, run: Callable[[bytes], Answer] | None = None) -> list[Verdict]:
+    """The verdicts of a part. `run` runs the scenario."""
     text = changed(scenario, part.replace)
     known, names = known_of(text)
     sentences = read_all(part.sentences, names)
-    got = answer(text.encode())
+    got = (run or answer)(text.encode())
     if got.status:
         return refused(part, sentences, got)
     return of_report(part, sentences, Judge(Report.parse(got.report), known or Scenario.parse(text)))
 
 
-def expect(scenario: Path, expectations: Path, is_quiet: bool = False) -> tuple[int, int]:
-    """Prints which sentences hold, or, if `is_quiet`, those that don't; returns how many hold and how many don't."""
+def expect(scenario: Path, expectations: Path, is_quiet: bool = False,
+           run: Callable[[bytes], Answer] | None = None) -> tuple[int, int]:
+    """Prints which sentences hold, or, if `is_quiet`, those that don't; returns how many hold and how many don't.
+    `run` runs the scenario."""
     text = text_of(scenario)
     refuse_others(scenario, text.encode())
     passed = failed = 0
@@ -211,7 +213,7 @@ def expect(scenario: Path, expectations: Path, is_quiet: bool = False) -> tuple[
     name = str(expectations)
     for part in parts_of(text_of(expectations), name):
         try:
-            verdicts = judged(text, part)
+            verdicts = judged(text, part, run)
         except LimitMet as fault:
             raise Fault('%s: the run was ended: %s' % (scenario, fault)) from None
         except ProgramFault:

@@ -1,0 +1,77 @@
+"""Runs of tools/explain and tools/expect that reach a limit: the message names the process that prints most."""
+import os
+import subprocess
+import sys
+import tempfile
+import unittest
+from pathlib import Path
+
+from here import TOOLS
+from skips import need_program
+
+PROGRAM = """process loud;
+autostart loud;
+code loud {
+  var i = 0;
+  body {
+    while 1 {
+      i = 0;
+      while (i < 500) {
+        %s i;
+        i = (i + 1);
+      }
+      pause;
+    }
+  }
+}
+"""
+NET = """version = 2
+end = 1000000
+[medium]
+range = 10
+base = 2
+per = 100
+collide = false
+[programs]
+p = '''
+%s'''
+[[mote]]
+x = 0
+y = 0
+program = "p"
+"""
+
+
+class Endless(unittest.TestCase):
+    def setUp(self) -> None:
+        need_program(self)
+        scratch = tempfile.TemporaryDirectory()
+        self.addCleanup(scratch.cleanup)
+        self.folder = Path(scratch.name)
+        (self.folder / 'net.expect.toml').write_text('expect = ["no mote halts"]\n')
+
+    def said(self, tool: str, word: str, *words: str) -> str:
+        (self.folder / 'net.toml').write_text(NET % PROGRAM % word)
+        done = subprocess.run([sys.executable, '-B', str(TOOLS / tool), 'net.toml', *words], cwd=self.folder,
+                              env=dict(os.environ), capture_output=True, text=True, timeout=120)
+        self.assertEqual((done.returncode, done.stdout), (2, ''), done)
+        return done.stderr
+
+    def test_the_message_names_the_process_and_its_lines(self) -> None:
+        for tool in 'explain', 'expect':
+            with self.subTest(tool):
+                self.assertRegex(self.said(tool, 'print', '--memory', '60'), (
+                    r'^%s: net\.toml: the run was ended: the run needs more than 60 megabytes of memory\. Up to moment '
+                    r'\d+, process loud of mote 0 prints [\d,]+ times \(line 18\): does a loop repeat without end\? A '
+                    r'larger --memory raises the limit\n$' % tool))
+
+    def test_the_message_names_the_mote_that_sends(self) -> None:
+        self.assertRegex(self.said('explain', 'send', '--seconds', '0.3'),
+                         r'Up to moment \d+, mote 0 sends [\d,]+ packets: .* A larger --seconds raises the limit\n$')
+
+    def test_limits_are_greater_than_0(self) -> None:
+        self.assertEqual(self.said('explain', 'print', '--memory', '0'), 'explain: limits are greater than 0\n')
+
+
+if __name__ == '__main__':
+    unittest.main()
