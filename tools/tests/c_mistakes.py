@@ -57,6 +57,7 @@ RIGHT: list[tuple[str, str, str]] = [
     (BODY, 'if ((x == 1)) {\n}', 'if (x == 1) {\n}'),
     (BODY, 'yield_until (fired(t));', 'yield_until fired(t);'),
     (BODY, 'yield_until(is(packet));', 'yield_until is(packet);'),
+    (BODY, 'linkaddr_t x;', 'x = 0;'),
     (BODY, 'yield_until fired t;', 'yield_until fired(t);'),
     (BODY, 'if (is packet && (data > 3)) {\n}', 'if (is(packet) && (data > 3)) {\n}'),
     (BODY, 'if (is packet and running other) {\n}', 'if (is(packet) && running(other)) {\n}'),

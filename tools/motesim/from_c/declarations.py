@@ -88,7 +88,7 @@ class Declarations(Lines):
         if 'struct' in words and words[-1] == 'struct' and kind.endswith(('_callbacks', '_conn')):
             while self.token.kind != 'end' and not self.accept(';'):
                 self.at += 1
-            self.why(OF_PACKETS if kind.endswith('_callbacks') else NO_CONNECTION)
+            self.why(OF_PACKETS if kind.endswith('_callbacks') and not self.scope.receiver else NO_CONNECTION)
             return ''
         if 'struct' in words:
             raise NoCounterpart(NO_FIELDS)

@@ -21,7 +21,7 @@ WORDS = {'and': '&&', 'or': '||'}
 TYPES = frozenset((
     'int', 'char', 'short', 'long', 'unsigned', 'signed', 'bool', 'float', 'double', 'void', 'size_t', 'clock_time_t',
     'uint8_t', 'uint16_t', 'uint32_t', 'int8_t', 'int16_t', 'int32_t', 'u8_t', 'u16_t', 'process_event_t',
-    'process_data_t', 'let', 'auto'))
+    'process_data_t', 'rimeaddr_t', 'linkaddr_t', 'let', 'auto'))
 QUALIFIERS = frozenset(('static', 'const', 'volatile', 'extern', 'register'))
 VALUES = {'true': '1', 'false': '0', 'null': '0', 'node_id': 'self', 'simmoteid': 'self', 'rtimer_now': 'now'}
 TESTS = ('is', 'fired', 'expired', 'gone', 'running', 'count')
