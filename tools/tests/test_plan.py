@@ -341,6 +341,15 @@ class CommandTest(unittest.TestCase):
             self.assertTrue(re.match('scenario: /.*/a.plan.toml, line 13:\n', wrong.stderr), wrong.stderr)
             self.assertEqual(self.run_it(str(folder / 'no.toml')).returncode, 2)
 
+    def test_a_parameter_that_nothing_uses_has_a_warning(self) -> None:
+        with tempfile.TemporaryDirectory() as name:
+            folder = Path(name)
+            (folder / 'a.plan.toml').write_text(PLAN.replace('[parameters]\n', '[parameters]\nunused = 1\n'))
+            (folder / 'flood.mote').write_text(MOTE)
+            for word, seen in ('unused=2', 'scenario: warning: nothing uses the parameter unused, '), ('period=3', ''):
+                done = self.run_it(str(folder / 'a.plan.toml'), '--set', word)
+                self.assertEqual((done.returncode, done.stderr.partition('so its')[0]), (0, seen), done.stderr)
+
 
 if __name__ == '__main__':
     unittest.main()

@@ -17,7 +17,7 @@ from motesim.experiments import packages
 from motesim.faults import INTERRUPTED, Fault
 from motesim.experiments.one_run import DIGITS, TOO_BUSY, Job, Result, Work, program_digest
 from motesim.output import beside
-from motesim.plan.plan import Plan
+from motesim.plan.plan import UNUSED, Plan
 from motesim.plan.tables import Value, text_of_value, value_of_text
 from motesim.experiments.results import CsvFile, Row, SqliteFile, open_results, text_of
 from motesim.runner.programs import TOP, optimized_path
@@ -31,7 +31,6 @@ from motesim.runner.versions import kit_version, program_version
 
 # The place of a row whose values aren't those of the sweep.
 OTHER = -1
-UNUSED = 'nothing uses the parameter %s, so its values make no difference: write ${%s} in the plan or in a program'
 
 
 class Sweeper:

@@ -19,6 +19,8 @@ from motesim.plan.net import Builder, files_of
 from motesim.plan.tables import NAME, Tables, Value, as_truth
 from motesim.runner.run import read_file
 
+UNUSED = 'nothing uses the parameter %s, so its values make no difference: write ${%s} in the plan or in a program'
+
 
 class Plan:
     """A plan's text, with the files next to it. Faults name it by the typed path, `shown_as`, if that is given."""

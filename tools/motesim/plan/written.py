@@ -11,7 +11,7 @@ from motesim.faults import Fault
 from motesim.files import write_whole
 from motesim.output import beside
 from motesim.plan.from_scenario import write_plan
-from motesim.plan.plan import Plan
+from motesim.plan.plan import UNUSED, Plan
 from motesim.plan.tables import Value, value_of_text
 from motesim.runner.run import read_file
 from motesim.scenario import Scenario
@@ -38,6 +38,12 @@ def checked(text: str) -> str:
     return text
 
 
+def unused(plan: Plan, given: dict[str, Value]) -> list[str]:
+    """The given parameters that neither the plan nor a file that it needs names."""
+    texts = [plan.text, *(plan.files.read(it).decode('utf-8', 'replace') for it in plan.used_files(given))]
+    return [name for name in given if not any('${%s}' % name in text for text in texts)]
+
+
 def write_from(source: str, output: str | None) -> int:
     """Writes the plan of a scenario."""
     data = read_file(source)
@@ -57,7 +63,10 @@ def status_of(asked: argparse.Namespace) -> int:
     """The work of tools/scenario; returns the status."""
     if asked.source:
         return write_from(asked.source, asked.output)
-    text = checked(Plan.read(asked.plan).scenario(given_of(asked.set)))
+    plan, given = Plan.read(asked.plan), given_of(asked.set)
+    text = checked(plan.scenario(given))
+    for name in unused(plan, given):
+        print('scenario: warning: ' + UNUSED % (name, name), file=sys.stderr)
     if not asked.output:
         sys.stdout.write(text)
         return 0
