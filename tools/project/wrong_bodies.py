@@ -53,9 +53,13 @@ def named(edits: Sequence[Edit], names: Sequence[str]) -> list[Edit]:
 
 
 def tenth(edits: Sequence[Edit], seed: str) -> list[Edit]:
-    """A tenth of the mutants, chosen by a seed: complete batches, so that few crates are loaded."""
+    """A tenth of the mutants, chosen by a seed: whole batches, of as few crates as possible, since each crate needs a
+    control."""
+    def place(group: list[Edit]) -> list[bytes]:
+        return [hashlib.sha256((seed + it).encode()).digest() for it in (group[0].crate.name, group[0].name)]
+
     found: list[Edit] = []
-    for group in sorted(groups(edits), key=lambda it: hashlib.sha256((seed + it[0].name).encode()).digest()):
+    for group in sorted(groups(edits), key=place):
         if len(found) * 10 < len(edits):
             found += group
     return found

@@ -371,6 +371,10 @@ class Choice(unittest.TestCase):
         self.assertEqual(found, wrong_bodies.tenth(self.EVERY, 'one'))
         self.assertNotEqual(found, wrong_bodies.tenth(self.EVERY, 'two'))
 
+    def test_a_tenth_has_few_crates(self) -> None:
+        for seed in 'one', 'two', 'three':
+            self.assertEqual(len({it.crate.name for it in wrong_bodies.tenth(self.EVERY, seed)}), 1)
+
     def test_each_is_tried_in_the_end(self) -> None:
         found = {edit.name for seed in range(200) for edit in wrong_bodies.tenth(self.EVERY, str(seed))}
         self.assertEqual(len(found), 120)
