@@ -64,10 +64,10 @@ just_at : (w k : ℕ) → eqb w k ≡ (ltb w (suc k) && not (ltb w k))
 just_at w k = grind (arith, nat_tests)
 
 -- the copies for motes of the first workers are the copies for motes of each of these workers
-module _ (of : List ℕ) where
+module _ (owners : List ℕ) where
   -- the copy is for a mote of one of the first k workers
   abbrev is_to_first : ℕ → RadioCopy → Bool
-  is_to_first k copy = option_map_or (λ w. ltb w k) (slice_get of copy.to) false
+  is_to_first k copy = option_map_or (λ w. ltb w k) (slice_get owners copy.to) false
 
   first_more : (o : Option ℕ) (k : ℕ) → option_map_or (λ w. ltb w k) o false ≡ true → option_map_or (λ w. ltb w (suc k)) o false ≡ true
   first_more None k e = e
@@ -81,52 +81,52 @@ module _ (of : List ℕ) where
   none_first None = refl
   none_first (Some w) = grind (arith, nat_tests)
 
-  to_first : (xs : List RadioCopy) (k : ℕ) → IsPermutation (filter (is_to_first k) xs) (flat_map (λ v. filter (is_to of v) xs) (up_to k))
+  to_first : (xs : List RadioCopy) (k : ℕ) → IsPermutation (filter (is_to_first k) xs) (flat_map (λ v. filter (is_to owners v) xs) (up_to k))
   to_first xs zero = subst (λ l. IsPermutation l []) (sym (filter_none (is_to_first 0) xs (none xs))) (IsPermutation-refl [])
     where
       none : (ys : List RadioCopy) → Each (λ c. is_to_first 0 c ≡ false) ys
       none [] = tt
-      none (y ∷ ys) = (none_first (slice_get of y.to), none ys)
+      none (y ∷ ys) = (none_first (slice_get owners y.to), none ys)
   to_first xs (suc k) =
       IsPermutation-trans _ _ _ (subst (IsPermutation (filter (is_to_first (suc k)) xs)) parted (IsPermutation-filter_both (is_to_first k) (λ c. not (is_to_first k c)) (λ c. refl) (filter (is_to_first (suc k)) xs)))
-      (subst (IsPermutation (filter (is_to_first k) xs ++ filter (is_to of k) xs)) (sym joined) (IsPermutation-append_left (filter (is_to of k) xs) _ _ (to_first xs k)))
+      (subst (IsPermutation (filter (is_to_first k) xs ++ filter (is_to owners k) xs)) (sym joined) (IsPermutation-append_left (filter (is_to owners k) xs) _ _ (to_first xs k)))
     where
-      parted : filter (is_to_first k) (filter (is_to_first (suc k)) xs) ++ filter (λ c. not (is_to_first k c)) (filter (is_to_first (suc k)) xs) ≡ filter (is_to_first k) xs ++ filter (is_to of k) xs
+      parted : filter (is_to_first k) (filter (is_to_first (suc k)) xs) ++ filter (λ c. not (is_to_first k c)) (filter (is_to_first (suc k)) xs) ≡ filter (is_to_first k) xs ++ filter (is_to owners k) xs
       parted =
-          ap₂ (λ a b. a ++ b) (filter_stronger (is_to_first k) (is_to_first (suc k)) (λ c e. first_more (slice_get of c.to) k e) xs)
-          (filter_both (λ c. not (is_to_first k c)) (is_to_first (suc k)) (is_to of k) (λ c. last_of (slice_get of c.to) k) xs)
+          ap₂ (λ a b. a ++ b) (filter_stronger (is_to_first k) (is_to_first (suc k)) (λ c e. first_more (slice_get owners c.to) k e) xs)
+          (filter_both (λ c. not (is_to_first k c)) (is_to_first (suc k)) (is_to owners k) (λ c. last_of (slice_get owners c.to) k) xs)
 
-      joined : flat_map (λ v. filter (is_to of v) xs) (up_to (suc k)) ≡ flat_map (λ v. filter (is_to of v) xs) (up_to k) ++ filter (is_to of k) xs
-      joined = flat_map-append (λ v. filter (is_to of v) xs) (up_to k) (k ∷ []) ∙ ap (λ l. flat_map (λ v. filter (is_to of v) xs) (up_to k) ++ l) (append-nil (filter (is_to of k) xs))
+      joined : flat_map (λ v. filter (is_to owners v) xs) (up_to (suc k)) ≡ flat_map (λ v. filter (is_to owners v) xs) (up_to k) ++ filter (is_to owners k) xs
+      joined = flat_map-append (λ v. filter (is_to owners v) xs) (up_to k) (k ∷ []) ∙ ap (λ l. flat_map (λ v. filter (is_to owners v) xs) (up_to k) ++ l) (append-nil (filter (is_to owners k) xs))
 
-  to_all : (workers : ℕ) (xs : List RadioCopy) → Each (λ copy. IsHad of workers copy.to) xs → IsPermutation xs (flat_map (λ v. filter (is_to of v) xs) (up_to workers))
+  to_all : (workers : ℕ) (xs : List RadioCopy) → Each (λ copy. IsHad owners workers copy.to) xs → IsPermutation xs (flat_map (λ v. filter (is_to owners v) xs) (up_to workers))
   to_all workers xs had =
-      subst (λ l. IsPermutation l (flat_map (λ v. filter (is_to of v) xs) (up_to workers)))
-      (filter_every (is_to_first workers) xs (every_weaker (λ (copy : RadioCopy). IsHad of workers copy.to) (λ copy. is_to_first workers copy ≡ true) (λ copy h. is_first copy h) xs had))
+      subst (λ l. IsPermutation l (flat_map (λ v. filter (is_to owners v) xs) (up_to workers)))
+      (filter_every (is_to_first workers) xs (every_weaker (λ (copy : RadioCopy). IsHad owners workers copy.to) (λ copy. is_to_first workers copy ≡ true) (λ copy h. is_first copy h) xs had))
       (to_first xs workers)
     where
-      is_first : (copy : RadioCopy) → IsHad of workers copy.to → is_to_first workers copy ≡ true
+      is_first : (copy : RadioCopy) → IsHad owners workers copy.to → is_to_first workers copy ≡ true
       is_first copy h = ap (λ o. option_map_or (λ w. ltb w workers) o false) h.1 ∙ lt-ltb h.0 workers h.2
 
-module _ (n : NetModel) (fine : RunsForward (system_of n)) (of : List ℕ) (end : ℕ) (group : WorkerGroup) (at : IsAt n of (suc end) group) where
+module _ (n : NetModel) (fine : RunsForward (system_of n)) (owners : List ℕ) (end : ℕ) (group : WorkerGroup) (at : IsAt n owners (suc end) group) where
   abbrev workers : ℕ
   workers = length group.inboxes.items
 
   abbrev all : List RadioCopy
   all = coming (system_of n) fine (suc end) at.motes
 
-  all_had : Each (λ copy. IsHad of workers copy.to) all
+  all_had : Each (λ copy. IsHad owners workers copy.to) all
   unfolding system_of
-  all_had = every_filter (λ (copy : RadioCopy). IsHad of workers copy.to) (λ (copy : RadioCopy). IsHad of workers copy.to) _ (λ copy h e. h) _ (every_flat_map (λ (copy : RadioCopy). IsHad of workers copy.to) (copies_by (system_of n) at.motes) (up_to (length n.motes)) (each (up_to (length n.motes))))
+  all_had = every_filter (λ (copy : RadioCopy). IsHad owners workers copy.to) (λ (copy : RadioCopy). IsHad owners workers copy.to) _ (λ copy h e. h) _ (every_flat_map (λ (copy : RadioCopy). IsHad owners workers copy.to) (copies_by (system_of n) at.motes) (up_to (length n.motes)) (each (up_to (length n.motes))))
     where
-      each : (ks : List ℕ) → Each (λ k. Each (λ (copy : RadioCopy). IsHad of workers copy.to) (copies_by (system_of n) at.motes k)) ks
+      each : (ks : List ℕ) → Each (λ k. Each (λ (copy : RadioCopy). IsHad owners workers copy.to) (copies_by (system_of n) at.motes k)) ks
       each [] = tt
       each (k ∷ ks) = (
-        every_weaker (λ (copy : RadioCopy). copy.to < length n.motes) (λ (copy : RadioCopy). IsHad of workers copy.to) (λ copy h. some_worker (length n.motes) workers of at.cut copy.to h) _ (receivers (system_of n) fine at.motes k),
+        every_weaker (λ (copy : RadioCopy). copy.to < length n.motes) (λ (copy : RadioCopy). IsHad owners workers copy.to) (λ copy h. some_worker (length n.motes) workers owners at.cut copy.to h) _ (receivers (system_of n) fine at.motes k),
         each ks,
       )
 
-  with_worker : (v : ℕ) → v < workers → (share : Share) (taker : TakerView) → AreWith (get_or group.shares.items v share) (get_or group.takers.items v taker) (filter (is_to of v) all)
+  with_worker : (v : ℕ) → v < workers → (share : Share) (taker : TakerView) → AreWith (get_or group.shares.items v share) (get_or group.takers.items v taker) (filter (is_to owners v) all)
   with_worker v h share taker =
       let s = get_or group.shares.items v share in
       let t = get_or group.takers.items v taker in
@@ -135,15 +135,15 @@ module _ (n : NetModel) (fine : RunsForward (system_of n)) (of : List ℕ) (end 
       record {
         items = agenda.items;
         holds = agenda.holds;
-        waiting = waiting n fine of (suc end) at.motes at.led group.first_out at.first v s t here;
-        gathered = gathered_is n fine of (suc end) at.motes at.led group.first_out at.first v s t here;
-        both = to_come_is n fine of (suc end) at.motes at.led group.first_out at.first v s t here (packets agenda.items) agenda.copies;
+        waiting = waiting n fine owners (suc end) at.motes at.led group.first_out at.first v s t here;
+        gathered = gathered_is n fine owners (suc end) at.motes at.led group.first_out at.first v s t here;
+        both = to_come_is n fine owners (suc end) at.motes at.led group.first_out at.first v s t here (packets agenda.items) agenda.copies;
       }
 
 pub agenda_is_held : AgendaIsHeld
-agenda_is_held n fine of end group at net run = (
-  λ v. filter (is_to of v) (coming (system_of n) fine (suc end) at.motes),
-  with_worker n fine of end group at,
+agenda_is_held n fine owners end group at net run = (
+  λ v. filter (is_to owners v) (coming (system_of n) fine (suc end) at.motes),
+  with_worker n fine owners end group at,
   IsPermutation-trans _ _ _ (agenda_is (system_of n) fine end at.motes at.led net run)
-      (to_all of (length group.inboxes.items) (coming (system_of n) fine (suc end) at.motes) (all_had n fine of end group at)),
+      (to_all owners (length group.inboxes.items) (coming (system_of n) fine (suc end) at.motes) (all_had n fine owners end group at)),
 )

@@ -25,16 +25,16 @@ module _ (P : RadioCopy → Type 0) where
       let g = rw e at (h x.sender) in
       (g.0, every_of_each xs (rest_of_each x xs h))
 
-there_at : (of : List ℕ) (k workers : ℕ) → k < length of → Each (λ w. w < workers) of → slice_index of k < workers
+there_at : (owners : List ℕ) (k workers : ℕ) → k < length owners → Each (λ w. w < workers) owners → slice_index owners k < workers
 there_at [] k workers h all = absurd (omega arith)
-there_at (x ∷ of) zero workers h all = all.0
-there_at (x ∷ of) (suc k) workers h all = there_at of k workers (omega arith) all.1
+there_at (x ∷ owners) zero workers h all = all.0
+there_at (x ∷ owners) (suc k) workers h all = there_at owners k workers (omega arith) all.1
 
-pub leaves_sent : (n : NetModel) (of : List ℕ) (workers worker : ℕ) (outgoing : List RadioCopy)
-    → IsCut (length n.motes) workers of → Each (IsOutgoing n of worker) outgoing → Each (Leaves of workers worker) outgoing
-leaves_sent n of workers worker outgoing cut out = every_weaker _ _ one outgoing out
+pub leaves_sent : (n : NetModel) (owners : List ℕ) (workers worker : ℕ) (outgoing : List RadioCopy)
+    → IsCut (length n.motes) workers owners → Each (IsOutgoing n owners worker) outgoing → Each (Leaves owners workers worker) outgoing
+leaves_sent n owners workers worker outgoing cut out = every_weaker _ _ one outgoing out
   where
-    one : (c : RadioCopy) → IsOutgoing n of worker c → Leaves of workers worker c
+    one : (c : RadioCopy) → IsOutgoing n owners worker c → Leaves owners workers worker c
     one c g =
-        let h : c.to < length of = subst (λ l. c.to < l) (sym cut.len) g.there in
-        record { there = h; its_worker = there_at of c.to workers h cut.there; other = g.to }
+        let h : c.to < length owners = subst (λ l. c.to < l) (sym cut.len) g.there in
+        record { there = h; its_worker = there_at owners c.to workers h cut.there; other = g.to }

@@ -61,22 +61,22 @@ fresh_at (i ∷ is) (t ∷ ts) h (suc v) d low = fresh_at is ts h.1 v d (omega a
 none_sent : {S L : Type 0} (system : System S L) (s : ℕ) → copies_by system (first_mote system) s ≡ []
 none_sent system s = elim (cases_Bool (ltb s system.motes)) [ inl e ↦ rw e refl | inr e ↦ rw e refl ]
 
-pub none_crossed : {S L : Type 0} (system : System S L) (of : List ℕ) (v s : ℕ) → crossed system of (first_mote system) v s ≡ []
-none_crossed system of v s =
-    elim (cases_Bool (is_own of v s)) [ inl e ↦ rw e refl | inr e ↦ rw e (ap (filter (is_to of v)) (none_sent system s)) ]
+pub none_crossed : {S L : Type 0} (system : System S L) (owners : List ℕ) (v s : ℕ) → crossed system owners (first_mote system) v s ≡ []
+none_crossed system owners v s =
+    elim (cases_Bool (is_own owners v s)) [ inl e ↦ rw e refl | inr e ↦ rw e (ap (filter (is_to owners v)) (none_sent system s)) ]
 
-first_worker : (n : NetModel) (of : List ℕ) (v : ℕ) (share : Share) (taker : TakerView) (marked : Bool) → IsWholeShare n of v 0 (first_mote (system_of n)) [] share
+first_worker : (n : NetModel) (owners : List ℕ) (v : ℕ) (share : Share) (taker : TakerView) (marked : Bool) → IsWholeShare n owners v 0 (first_mote (system_of n)) [] share
     → taker.state ≡ make_taker_state marked 0 [] []
-    → IsWorkerAt n of 0 (first_mote (system_of n)) None v share taker
-first_worker n of v share taker marked keeps fresh = record {
-  keeps = subst (λ d. IsWholeShare n of v 0 (first_mote (system_of n)) (copies_of d.taken) share) (sym fresh) keeps;
-  gathered = λ s. let e = none_crossed (system_of n) of v s in rw fresh (sym e);
+    → IsWorkerAt n owners 0 (first_mote (system_of n)) None v share taker
+first_worker n owners v share taker marked keeps fresh = record {
+  keeps = subst (λ d. IsWholeShare n owners v 0 (first_mote (system_of n)) (copies_of d.taken) share) (sym fresh) keeps;
+  gathered = λ s. let e = none_crossed (system_of n) owners v s in rw fresh (sym e);
   waits = λ s. record { rest = []; all = rw fresh refl; later = tt };
 }
 
-pub starts : (n : NetModel) (of : List ℕ) (group : WorkerGroup) → IsCut (length n.motes) (length group.inboxes.items) of → AllZip IsFresh group.inboxes.items group.takers.items
-    → AreFirst n of (length group.inboxes.items) group.shares.items → group.first_out ≡ None → IsAt n of 0 group
-starts n of group cut fresh shares none = record {
+pub starts : (n : NetModel) (owners : List ℕ) (group : WorkerGroup) → IsCut (length n.motes) (length group.inboxes.items) owners → AllZip IsFresh group.inboxes.items group.takers.items
+    → AreFirst n owners (length group.inboxes.items) group.shares.items → group.first_out ≡ None → IsAt n owners 0 group
+starts n owners group cut fresh shares none = record {
   motes = first_mote (system_of n);
   led = Last;
   cut = cut;
@@ -84,6 +84,6 @@ starts n of group cut fresh shares none = record {
   settled = all_settled group.inboxes.items group.takers.items fresh;
   first = rw none tt;
   each = λ v low share taker.
-      subst (λ o. IsWorkerAt n of 0 (first_mote (system_of n)) o v (get_or group.shares.items v share) (get_or group.takers.items v taker)) (sym none)
-      (first_worker n of v _ _ _ (shares.each v share low) (fresh_at group.inboxes.items group.takers.items fresh v taker low));
+      subst (λ o. IsWorkerAt n owners 0 (first_mote (system_of n)) o v (get_or group.shares.items v share) (get_or group.takers.items v taker)) (sym none)
+      (first_worker n owners v _ _ _ (shares.each v share low) (fresh_at group.inboxes.items group.takers.items fresh v taker low));
 }

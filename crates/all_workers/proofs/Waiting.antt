@@ -46,8 +46,8 @@ same_copies xs ys h =
     IsPermutation-trans _ _ _ (sorted_permutes (λ copy. copy.sender) (λ copy. copy.number) xs)
     (subst (λ l. IsPermutation l ys) (sym (in_order_same xs ys h)) (IsPermutation-sym _ _ (sorted_permutes (λ copy. copy.sender) (λ copy. copy.number) ys)))
 
-module _ (n : NetModel) (fine : RunsForward (system_of n)) (of : List ℕ) (from : ℕ) (motes : Motes) (led : Windows (system_of n) 0 from (first_mote (system_of n)) motes) (first : Option ℕ) (starts : NoneBefore from first)
-    (v : ℕ) (share : Share) (taker : TakerView) (here : IsWorkerAt n of from motes first v share taker) where
+module _ (n : NetModel) (fine : RunsForward (system_of n)) (owners : List ℕ) (from : ℕ) (motes : Motes) (led : Windows (system_of n) 0 from (first_mote (system_of n)) motes) (first : Option ℕ) (starts : NoneBefore from first)
+    (v : ℕ) (share : Share) (taker : TakerView) (here : IsWorkerAt n owners from motes first v share taker) where
   -- the copies of one sender in the inbox
   abbrev rest_of : ℕ → List RadioCopy
   rest_of s = (here.waits s).rest
@@ -66,11 +66,11 @@ module _ (n : NetModel) (fine : RunsForward (system_of n)) (of : List ℕ) (from
   no_rest s e = second_none (taken_of s) (rest_of s) (sym (here.waits s).all ∙ e)
 
   -- no copies cross from a mote past the last, or from the worker's own motes
-  none_beyond : (s : ℕ) → ltb s (length n.motes) ≡ false → crossed (system_of n) of motes v s ≡ []
+  none_beyond : (s : ℕ) → ltb s (length n.motes) ≡ false → crossed (system_of n) owners motes v s ≡ []
   unfolding system_of
-  none_beyond s e = elim (cases_Bool (is_own of v s)) [ inl t ↦ rw t refl | inr t ↦ rw (t, e) refl ]
+  none_beyond s e = elim (cases_Bool (is_own owners v s)) [ inl t ↦ rw t refl | inr t ↦ rw (t, e) refl ]
 
-  none_own : (s : ℕ) → is_own of v s ≡ true → crossed (system_of n) of motes v s ≡ []
+  none_own : (s : ℕ) → is_own owners v s ≡ true → crossed (system_of n) owners motes v s ≡ []
   none_own s e = rw e refl
 
   -- all copies in the inbox
@@ -92,42 +92,42 @@ module _ (n : NetModel) (fine : RunsForward (system_of n)) (of : List ℕ) (from
   gathered_is = same_copies (gathered_by taker) (taken_by taker ++ waiting) gathered_each
 
   -- for one sender, the pending copies and those in the inbox are the copies to this worker from this moment on
-  of_sender : (s : ℕ) → filter (is_to_come (is_own of v) from) (copies_seen (system_of n) (is_own of v) motes (taken_by taker) s) ++ rest_of s ≡ filter (comes_from from) (filter (is_to of v) (copies_by (system_of n) motes s))
-  of_sender s = of_case (cases_Bool (is_own of v s))
+  of_sender : (s : ℕ) → filter (is_to_come (is_own owners v) from) (copies_seen (system_of n) (is_own owners v) motes (taken_by taker) s) ++ rest_of s ≡ filter (comes_from from) (filter (is_to owners v) (copies_by (system_of n) motes s))
+  of_sender s = of_case (cases_Bool (is_own owners v s))
     where
-      of_case : (is_own of v s ≡ true) ⊎ (is_own of v s ≡ false)
-          → filter (is_to_come (is_own of v) from) (copies_seen (system_of n) (is_own of v) motes (taken_by taker) s) ++ rest_of s ≡ filter (comes_from from) (filter (is_to of v) (copies_by (system_of n) motes s))
+      of_case : (is_own owners v s ≡ true) ⊎ (is_own owners v s ≡ false)
+          → filter (is_to_come (is_own owners v) from) (copies_seen (system_of n) (is_own owners v) motes (taken_by taker) s) ++ rest_of s ≡ filter (comes_from from) (filter (is_to owners v) (copies_by (system_of n) motes s))
       of_case (inl e) = rw e (
-          ap (λ l. filter (is_to_come (is_own of v) from) (copies_by (system_of n) motes s) ++ l) (no_rest s (here.gathered s ∙ none_own s e))
-          ∙ (append-nil _ ∙ sym (filter_both (comes_from from) (is_to of v) (is_to_come (is_own of v) from) (λ c. refl) (copies_by (system_of n) motes s))))
+          ap (λ l. filter (is_to_come (is_own owners v) from) (copies_by (system_of n) motes s) ++ l) (no_rest s (here.gathered s ∙ none_own s e))
+          ∙ (append-nil _ ∙ sym (filter_both (comes_from from) (is_to owners v) (is_to_come (is_own owners v) from) (λ c. refl) (copies_by (system_of n) motes s))))
       of_case (inr e) = rw e (
           ap₂ (λ a b. a ++ b)
-          (sym (filter_both (comes_from from) (is_to of v) (is_to_come (is_own of v) from) (λ c. refl) (taken_of s)) ∙ ap (filter (comes_from from)) (filter_every (is_to of v) (taken_of s) all_to))
+          (sym (filter_both (comes_from from) (is_to owners v) (is_to_come (is_own owners v) from) (λ c. refl) (taken_of s)) ∙ ap (filter (comes_from from)) (filter_every (is_to owners v) (taken_of s) all_to))
           (sym (filter_every (comes_from from) (rest_of s) (every_weaker (λ (c : RadioCopy). from ≤ c.at) (λ c. comes_from from c ≡ true) (λ c h. comes from c.at h) (rest_of s) (rest_later s))))
           ∙ (sym (filter-append (comes_from from) (taken_of s) (rest_of s)) ∙ ap (filter (comes_from from)) whole))
         where
-          crossed_is : crossed (system_of n) of motes v s ≡ filter (is_to of v) (copies_by (system_of n) motes s)
+          crossed_is : crossed (system_of n) owners motes v s ≡ filter (is_to owners v) (copies_by (system_of n) motes s)
           crossed_is = rw e refl
 
-          whole : taken_of s ++ rest_of s ≡ filter (is_to of v) (copies_by (system_of n) motes s)
+          whole : taken_of s ++ rest_of s ≡ filter (is_to owners v) (copies_by (system_of n) motes s)
           whole = sym (here.waits s).all ∙ (here.gathered s ∙ crossed_is)
 
-          all_to : Each (λ c. is_to of v c ≡ true) (taken_of s)
-          all_to = (ends_of (λ c. is_to of v c ≡ true) (taken_of s) (rest_of s) (subst (Each (λ c. is_to of v c ≡ true)) (sym whole) (every_passes (is_to of v) (copies_by (system_of n) motes s)))).0
+          all_to : Each (λ c. is_to owners v c ≡ true) (taken_of s)
+          all_to = (ends_of (λ c. is_to owners v c ≡ true) (taken_of s) (rest_of s) (subst (Each (λ c. is_to owners v c ≡ true)) (sym whole) (every_passes (is_to owners v) (copies_by (system_of n) motes s)))).0
 
   -- the copies of each sender that are pending for this worker's motes
   abbrev pub AreToCome : List RadioCopy → Type 0
-  AreToCome rest = (s : ℕ) → filter (is_from_sender s) rest ≡ filter (is_to_come (is_own of v) from) (copies_seen (system_of n) (is_own of v) motes (taken_by taker) s)
+  AreToCome rest = (s : ℕ) → filter (is_from_sender s) rest ≡ filter (is_to_come (is_own owners v) from) (copies_seen (system_of n) (is_own owners v) motes (taken_by taker) s)
 
-  to_come_each : (rest : List RadioCopy) → AreToCome rest → (s : ℕ) → filter (is_from_sender s) (rest ++ waiting) ≡ filter (is_from_sender s) (filter (is_to of v) (coming (system_of n) fine from motes))
+  to_come_each : (rest : List RadioCopy) → AreToCome rest → (s : ℕ) → filter (is_from_sender s) (rest ++ waiting) ≡ filter (is_from_sender s) (filter (is_to owners v) (coming (system_of n) fine from motes))
   to_come_each rest matches s =
       filter-append (is_from_sender s) rest waiting
       ∙ (ap₂ (λ a b. a ++ b) (matches s) (waiting_of s)
       ∙ (of_sender s
-      ∙ (filter_filter (comes_from from) (is_to of v) (copies_by (system_of n) motes s)
-      ∙ (ap (filter (is_to of v)) (sym (coming_pending (system_of n) fine from motes led s))
-      ∙ sym (filter_filter (is_from_sender s) (is_to of v) (coming (system_of n) fine from motes))))))
+      ∙ (filter_filter (comes_from from) (is_to owners v) (copies_by (system_of n) motes s)
+      ∙ (ap (filter (is_to owners v)) (sym (coming_pending (system_of n) fine from motes led s))
+      ∙ sym (filter_filter (is_from_sender s) (is_to owners v) (coming (system_of n) fine from motes))))))
 
   -- the copies on their way to this worker are the copies pending for its motes and those in its inbox
-  pub to_come_is : (rest : List RadioCopy) → AreToCome rest → IsPermutation (filter (is_to of v) (coming (system_of n) fine from motes)) (rest ++ waiting)
-  to_come_is rest matches = same_copies (filter (is_to of v) (coming (system_of n) fine from motes)) (rest ++ waiting) (λ s. sym (to_come_each rest matches s))
+  pub to_come_is : (rest : List RadioCopy) → AreToCome rest → IsPermutation (filter (is_to owners v) (coming (system_of n) fine from motes)) (rest ++ waiting)
+  to_come_is rest matches = same_copies (filter (is_to owners v) (coming (system_of n) fine from motes)) (rest ++ waiting) (λ s. sym (to_come_each rest matches s))

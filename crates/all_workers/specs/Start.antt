@@ -11,15 +11,15 @@ use Rattle.all_workers.specs.declared.workers.WorkerGroup.{WorkerGroup}
 use Rattle.all_workers.specs.WorkerGroup.{IsCut}
 
 -- the shares of this many workers, in order; each mote wakes at 0
-pub record AreFirst (n : NetModel) (of : List ℕ) (workers : ℕ) (shares : List Share) : Type 0 where
+pub record AreFirst (model : NetModel) (owners : List ℕ) (workers : ℕ) (shares : List Share) : Type 0 where
   pub count : length shares ≡ workers
   pub each : (worker : ℕ) (share : Share) → worker < workers
-      → IsWholeShare n of worker 0 (first_mote (system_of n)) [] (slice_index_or shares worker share)
+      → IsWholeShare model owners worker 0 (first_mote (system_of model)) [] (slice_index_or shares worker share)
 
 -- workers that can run: there are at most 16 of them, each has an inbox that was never used, and each mote belongs to
 -- one of them and wakes at 0
-pub record AreReady (n : NetModel) (of : List ℕ) (group : WorkerGroup) : Type 0 where
+pub record AreReady (model : NetModel) (owners : List ℕ) (group : WorkerGroup) : Type 0 where
   pub few : length group.inboxes.items ≤ 16
-  pub cut : IsCut (length n.motes) (length group.inboxes.items) of
+  pub cut : IsCut (length model.motes) (length group.inboxes.items) owners
   pub fresh : AllZip IsFresh group.inboxes.items group.takers.items
-  pub first : AreFirst n of (length group.inboxes.items) group.shares.items
+  pub first : AreFirst model owners (length group.inboxes.items) group.shares.items

@@ -4,8 +4,8 @@ use Rattle.radio_medium.specs.Medium.{medium_fault}
 use Rattle.mote_net.specs.Net.{NetModel}
 
 -- the medium of a net is sound: it has no error, and it has a place for each mote
-abbrev pub IsSound : NetModel → Type 0
-IsSound n = (medium_fault n.radio ≡ None) × (length n.radio.places ≡ length n.motes)
+abbrev pub HasSoundMedium : NetModel → Type 0
+HasSoundMedium n = (medium_fault n.radio ≡ None) × (length n.radio.places ≡ length n.motes)
 
 -- a window is as long as the lookahead, or as `longest` if that is shorter and not 0
 abbrev pub length_of_window : (lookahead longest : ℕ) → ℕ

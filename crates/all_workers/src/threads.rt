@@ -1,7 +1,7 @@
 //! The threads of the workers.
 
 ghost use Rattle.std.specs.Prelude.{◌≡◌, ◌^◌, ◌≤◌, true, length, IfErr, IfOk};
-ghost use Rattle.fork_join.specs.Gravest.{is_own};
+ghost use Rattle.fork_join.specs.Gravest.{is_own_failure};
 ghost use Rattle.copy_exchange.specs.Inboxes.{Settled};
 ghost use Rattle.all_workers.specs.Threads.{AllMade, HaveWorked};
 
@@ -35,7 +35,7 @@ where
     requires ready { AllMade inboxes.now takers.items shares.items (W.ready work.now) }
     ensures worked { IfOk result
         (λ done. HaveWorked inboxes.now takers.items shares.items (W.makes work.now) done.items) }
-    ensures failed { IfErr result (λ e. is_own e ≡ true) }
+    ensures failed { IfErr result (λ e. is_own_failure e ≡ true) }
 {
     let Ok(endpoints) = endpoints(alloc, inboxes, takers) else {
         return Err(WorkerError::Memory);

@@ -5,7 +5,7 @@ ghost use Rattle.mote_net.specs.Limits.{latest_end};
 ghost use Rattle.mote_net.specs.Meaning.{net_of};
 ghost use Rattle.net_agenda.specs.NetSystem.{system_of};
 ghost use Rattle.window_laws.specs.Forward.{RunsForward};
-ghost use Rattle.all_workers.specs.WindowLength.{IsSound, end_of_window, length_of_window};
+ghost use Rattle.all_workers.specs.WindowLength.{HasSoundMedium, end_of_window, length_of_window};
 
 use mote_net::Net;
 
@@ -14,7 +14,7 @@ use mote_net::Net;
 pub fn lookahead_of(net: &Net) -> u64
     ensures value { result ≡ (system_of (net_of net.now)).lookahead }
     ensures forward { RunsForward (system_of (net_of net.now)) }
-    ensures sound { IsSound (net_of net.now) }
+    ensures sound { HasSoundMedium (net_of net.now) }
 {
     net.medium().lookahead(net.end())
 }

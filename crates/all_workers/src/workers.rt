@@ -28,45 +28,46 @@ pub struct WorkerGroup {
 fn first_shares(
     alloc: Global,
     net: &Net,
-    of: &[u16],
+    owners: &[u16],
     workers: u16,
 ) -> Result<Vec<Share>, WorkerError>
-    requires covers_motes { length of.now ≡ length (net_of net.now).motes }
-    ensures first { let n = net_of net.now in IfOk result (λ shares. AreFirst n of.now workers shares.items) }
+    requires covers_motes { length owners.now ≡ length (net_of net.now).motes }
+    ensures first { let model = net_of net.now in IfOk result
+        (λ shares. AreFirst model owners.now workers shares.items) }
     ensures err { IfErr result (λ e. e ≡ Memory) }
 {
     let mut shares = Vec::new(alloc);
     for worker in 0..workers {
-        let share = Share::new(alloc, net, of, worker)?;
+        let share = Share::new(alloc, net, owners, worker)?;
         shares.push(share)?;
     }
     Ok(shares)
 }
 
 impl WorkerGroup {
-    /// Makes the workers before the motes' first turns: each mote wakes at 0, and the inboxes are empty. `of` is the
-    /// worker of each mote.
+    /// Makes the workers before the motes' first turns: each mote wakes at 0, and the inboxes are empty. `owners` is
+    /// the worker of each mote.
     ///
     /// # Errors
     /// `Memory` if an allocation fails. There is no other error.
     pub fn new(
         alloc: Global,
         net: &Net,
-        of: &[u16],
+        owners: &[u16],
         inboxes: Vec<Inbox>,
         takers: Vec<Taker>,
     ) -> Result<WorkerGroup, WorkerError>
         requires inboxes_bounded { length inboxes.items ≤ 16 }
-        requires cut { IsCut (length (net_of net.now).motes) (length inboxes.items) of.now }
+        requires cut { IsCut (length (net_of net.now).motes) (length inboxes.items) owners.now }
         requires fresh { AllZip IsFresh inboxes.items takers.items }
-        ensures at { IfOk result (λ group. IsAt (net_of net.now) of.now 0 group) }
+        ensures at_moment { IfOk result (λ group. IsAt (net_of net.now) owners.now 0 group) }
         ensures first { IfOk result
-            (λ group. AreFirst (net_of net.now) of.now (length inboxes.items) group.shares.items) }
+            (λ group. AreFirst (net_of net.now) owners.now (length inboxes.items) group.shares.items) }
         ensures inboxes { IfOk result
             (λ group. (group.inboxes.items ≡ inboxes.items) × (group.takers.items ≡ takers.items)) }
         ensures err { IfErr result (λ e. e ≡ Memory) }
     {
-        let shares = first_shares(alloc, net, of, inboxes.len() as u16)?;
+        let shares = first_shares(alloc, net, owners, inboxes.len() as u16)?;
         Ok(WorkerGroup {
             shares,
             inboxes,

@@ -16,7 +16,7 @@ use Rattle.copy_exchange.specs.declared.endpoint.Endpoint.{Endpoint}
 use Rattle.copy_exchange.specs.Takers.{copies_gathered, IsOrderly}
 use Rattle.copy_exchange.specs.Endpoints.{IsEndpoint, IsOnInboxes, IsCollected, DeliversOwn, Stays, AreOpen, Returns}
 use Rattle.copy_exchange.specs.Endpoints.{AllReturn, GathersDelivered, sender_to, senders_to, identity_of}
-use Rattle.copy_exchange.specs.Inboxes.{IsPlain, IsSettled, Settled}
+use Rattle.copy_exchange.specs.Inboxes.{HasNoMarks, IsSettled, Settled}
 use Rattle.copy_exchange.specs.Steps.{AreTakersOf, GathersRow, GathersBack, TellsOf, gather_into, gather_senders}
 use Rattle.copy_exchange.specs.Steps.{at_place}
 use Rattle.copy_exchange.proofs.Gathers.{gather_is, with_joined, numbers_of, joined_copies, all_gathered, orderly_then}
@@ -132,7 +132,7 @@ module _ (inboxes : List InboxId) (cs : List Endpoint) (back : AllReturn inboxes
 
   -- the taker had taken all items that it knew of, and its inbox has no marks
   abbrev IsDone : Endpoint → Type 0
-  IsDone c = IsCollected c × IsPlain c.taker
+  IsDone c = IsCollected c × HasNoMarks c.taker
 
   abbrev pub HasEnded : Endpoint → Type 0
   HasEnded c = IsEndpoint inboxes c × (IsOrderly (with_all c).state × AllGathered (with_all c).state) × GathersDelivered cs c (with_all c) × IsDone c
@@ -289,8 +289,8 @@ module _ (inboxes : List InboxId) (cs : List Endpoint) (back : AllReturn inboxes
     still_marked : (t : TakerView) (ss : List SenderView) → (gather_senders t ss).state.marked ≡ t.state.marked
     still_marked t ss = ap (λ (u : TakerView). u.state.marked) (gather_is t ss)
 
-    pub plain_after : Each IsPlain ts
-    plain_after = each_from IsPlain ts (λ v t lt.
+    pub plain_after : Each HasNoMarks ts
+    plain_after = each_from HasNoMarks ts (λ v t lt.
         let n = h.count in
         let inside : v < length cs = omega arith in
         let p = picked v inside in

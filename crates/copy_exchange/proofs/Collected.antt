@@ -12,7 +12,7 @@ use Rattle.copy_inbox.specs.Handles.{InboxId, TakerView, TakesCopies, after_taki
 use Rattle.copy_exchange.specs.declared.endpoint.Endpoint.{Endpoint}
 use Rattle.copy_inbox.proofs.Parts.{packets_copies}
 use Rattle.copy_exchange.specs.Endpoints.{IsEndpoint, Collects}
-use Rattle.copy_exchange.specs.Inboxes.{IsPlain}
+use Rattle.copy_exchange.specs.Inboxes.{HasNoMarks}
 use Rattle.copy_exchange.specs.Takers.{SameOfEach, taken_by, gathered_by, IsRest, IsOrderly}
 use Rattle.copy_exchange.proofs.Parts.{from, copies-append}
 
@@ -77,7 +77,7 @@ module _ (inboxes : List InboxId) (c : Endpoint) (t : TakerView) (r : Result (Ve
       }
       cases (Err e) takes begun others = tt
 
-  pub collects : IsPlain c.taker → OnOk r (Whole t.state.gathered t.state.taken) → IfOk r (λ copies. Collects c (with_taker c t) copies.items)
+  pub collects : HasNoMarks c.taker → OnOk r (Whole t.state.gathered t.state.taken) → IfOk r (λ copies. Collects c (with_taker c t) copies.items)
   collects plain whole = cases r takes others whole
     where
       cases : (q : Result (Vec RadioCopy Global) InboxError) → IfOk q (λ copies. TakesCopies c.taker t copies.items)

@@ -11,7 +11,7 @@ use Rattle.copy_inbox.specs.declared.items.Carried.TheVariants.{Packet, Mark}
 use Rattle.copy_inbox.specs.declared.items.Item.{Item}
 use Rattle.copy_inbox.specs.declared.rule.Gathered.{Gathered}
 use Rattle.copy_inbox.specs.declared.rule.TakerState.{TakerState}
-use Rattle.copy_inbox.specs.Items.{copies_of, carried_copy, is_packet, Packets, part}
+use Rattle.copy_inbox.specs.Items.{copies_of, carried_copy, carries_packet, Packets, part}
 use Rattle.copy_inbox.specs.Gathered.{is_gathered, Apart, TookFronts, known_of, untaken_of}
 use Rattle.copy_inbox.specs.Handles.{PacketsLeft}
 use Rattle.copy_inbox.proofs.Parts.{part-here, part-else, part-not_nil, part-nil_right}
@@ -21,9 +21,9 @@ use Rattle.copy_exchange.proofs.Parts.{copies_in-append}
 
 -- ---- the packets among items
 abbrev packets_in : List Item → List Item
-packets_in items = filter (λ (x : Item). is_packet x.what) items
+packets_in items = filter (λ (x : Item). carries_packet x.what) items
 
-one_more : (w : Carried) (l : List RadioCopy) → length (cons_option (carried_copy w) l) ≡ cond (is_packet w) 1 0 + length l
+one_more : (w : Carried) (l : List RadioCopy) → length (cons_option (carried_copy w) l) ≡ cond (carries_packet w) 1 0 + length l
 one_more (Packet copy) l = omega arith
 one_more (Mark window) l = omega arith
 
@@ -44,7 +44,7 @@ copies_count [] = refl
 copies_count (x ∷ xs) =
     let rest = copies_count xs in
     let one = one_more x.what (copies_of xs) in
-    either (is_packet x.what)
+    either (carries_packet x.what)
     (λ yes. rw yes (let one' = one ∙ ap (λ (b : Bool). cond b 1 0 + length (copies_of xs)) yes in omega arith))
     (λ no. rw no (let one' = one ∙ ap (λ (b : Bool). cond b 1 0 + length (copies_of xs)) no in omega arith))
 
@@ -53,7 +53,7 @@ module _ (s : ℕ) where
   abbrev kept : List Item → ℕ
   kept items = length (part s (packets_in items))
 
-  kept_more : (x : Item) (xs : List Item) (b : Bool) → is_packet x.what ≡ b → kept (x ∷ xs) ≡ length (part s (cond b (x ∷ packets_in xs) (packets_in xs)))
+  kept_more : (x : Item) (xs : List Item) (b : Bool) → carries_packet x.what ≡ b → kept (x ∷ xs) ≡ length (part s (cond b (x ∷ packets_in xs) (packets_in xs)))
   kept_more x xs b e = ap (λ c. length (part s (cond c (x ∷ packets_in xs) (packets_in xs)))) e
 
   part_count : (items : List Item) → kept items ≡ length (copies_in (part s items))
@@ -64,12 +64,12 @@ module _ (s : ℕ) where
       ⊎_elim
       (λ (t : (eqb x.sender s ≡ true) × (x.sender ≡ s)).
       let all = ap (λ l. length (copies_in l)) (part-here s x xs t.1) in
-      either (is_packet x.what)
+      either (carries_packet x.what)
       (λ yes. let more = kept_more x xs true yes in let here = ap length (part-here s x (packets_in xs) t.1) in let one' = one ∙ ap (λ (b : Bool). cond b 1 0 + length (copies_in (part s xs))) yes in omega arith)
       (λ no. let more = kept_more x xs false no in let one' = one ∙ ap (λ (b : Bool). cond b 1 0 + length (copies_in (part s xs))) no in omega arith))
       (λ (t : (eqb x.sender s ≡ false) × (x.sender ≢ s)).
       let all = ap (λ l. length (copies_in l)) (part-else s x xs t.1) in
-      either (is_packet x.what)
+      either (carries_packet x.what)
       (λ yes. let more = kept_more x xs true yes in let here = ap length (part-else s x (packets_in xs) t.1) in omega arith)
       (λ no. let more = kept_more x xs false no in omega arith))
       (eqb_tells x.sender s)

@@ -25,16 +25,16 @@ same_at (s ∷ ss) zero d e lt = refl
 same_at (s ∷ ss) (suc v) d e lt = same_at ss v d e (omega arith)
 
 -- the sender on the inbox of the receiver's worker
-module _ (inboxes : List InboxId) (of : List ℕ) (c : Endpoint) (copy : RadioCopy) (to mote : ℕ) (endpoint : IsOnInboxes inboxes c) (leaves : Leaves of (length inboxes) c.worker copy)
-    (at_mote : mote ≡ copy.to) (at_to : to ≡ get_or of mote 0) where
-  pub to_is : to ≡ slice_index of copy.to
-  to_is = at_to ∙ ap (λ k. slice_index of k) at_mote
+module _ (inboxes : List InboxId) (owners : List ℕ) (c : Endpoint) (copy : RadioCopy) (to mote : ℕ) (endpoint : IsOnInboxes inboxes c) (leaves : Leaves owners (length inboxes) c.worker copy)
+    (at_mote : mote ≡ copy.to) (at_to : to ≡ get_or owners mote 0) where
+  pub to_is : to ≡ slice_index owners copy.to
+  to_is = at_to ∙ ap (λ k. slice_index owners k) at_mote
 
   pub to_inside : to < length inboxes
   to_inside = let e = to_is in let h = leaves.its_worker in omega arith
 
   to_other : (to == c.worker) ≡ false
-  to_other = ap (λ k. k == c.worker) to_is ∙ (sym (own_is of copy.to c.worker leaves.there) ∙ leaves.other)
+  to_other = ap (λ k. k == c.worker) to_is ∙ (sym (own_is owners copy.to c.worker leaves.there) ∙ leaves.other)
 
   -- there is such a sender
   pub never_none : (s : Option SenderView) → s ≡ get_or c.senders.items to s → s ≡ None → ⊥
@@ -66,7 +66,7 @@ sender_on id false s t e h = e ∙ h
 abbrev pub with_sender : Endpoint → (to : ℕ) → SenderView → Endpoint
 with_sender c to t = record { worker = c.worker; taker = c.taker; senders = with_item c.senders to (Some t) }
 
-module _ (inboxes : List InboxId) (of : List ℕ) (c : Endpoint) (copy : RadioCopy) (to : ℕ) (endpoint : IsOnInboxes inboxes c) (inside : to < length inboxes) (there : copy.to < length of) (is : to ≡ slice_index of copy.to)
+module _ (inboxes : List InboxId) (owners : List ℕ) (c : Endpoint) (copy : RadioCopy) (to : ℕ) (endpoint : IsOnInboxes inboxes c) (inside : to < length inboxes) (there : copy.to < length owners) (is : to ≡ slice_index owners copy.to)
     (s t : SenderView) (was : Some s ≡ get_or c.senders.items to (Some s)) (same_inbox : t.inbox ≡ s.inbox) (state : t.state ≡ after_pushing s.state (Packet copy)) where
   here : sender_to c to ≡ Some s
   here = let count = endpoint.count in same_at c.senders.items to None (Some s) (omega arith) ∙ sym was
@@ -92,33 +92,33 @@ module _ (inboxes : List InboxId) (of : List ℕ) (c : Endpoint) (copy : RadioCo
         (eqb_tells v to);
   }
 
-  adds_at : (v : ℕ) → delivered (with_sender c to t) v ≡ delivered c v ++ filter (is_to of v) (copy ∷ [])
+  adds_at : (v : ℕ) → delivered (with_sender c to t) v ≡ delivered c v ++ filter (is_to owners v) (copy ∷ [])
   adds_at v = ⊎_elim
       (λ (q : (eqb v to ≡ true) × (v ≡ to)).
-      let e : is_to of v copy ≡ true = own_is of copy.to v there ∙ eq-eqb (slice_index of copy.to) v (sym (q.1 ∙ is)) in
+      let e : is_to owners v copy ≡ true = own_is owners copy.to v there ∙ eq-eqb (slice_index owners copy.to) v (sym (q.1 ∙ is)) in
       ap pushed_by (ap (sender_to (with_sender c to t)) q.1 ∙ then_here)
       ∙ (ap (λ (p : SenderState). copies_in p.pushed) state ∙ copies_in-append s.state.pushed (Packet copy ∷ []))
       ∙ ap (λ (o : Option SenderView). pushed_by o ++ copy ∷ []) (sym (ap (sender_to c) q.1 ∙ here))
       ∙ ap (λ (b : Bool). delivered c v ++ cond b (copy ∷ []) []) (sym e))
       (λ (q : (eqb v to ≡ false) × (v ≢ to)).
-      let e : is_to of v copy ≡ false = own_is of copy.to v there ∙ ne_eqb (slice_index of copy.to) v (λ h. q.1 (sym (is ∙ h))) in
+      let e : is_to owners v copy ≡ false = own_is owners copy.to v there ∙ ne_eqb (slice_index owners copy.to) v (λ h. q.1 (sym (is ∙ h))) in
       ap pushed_by (then_else v q.1) ∙ sym (append-nil (delivered c v)) ∙ ap (λ (b : Bool). delivered c v ++ cond b (copy ∷ []) []) (sym e))
       (eqb_tells v to)
 
-  pushes_at : (v : ℕ) → pushed_to (with_sender c to t) v ≡ pushed_to c v ++ map Packet (filter (is_to of v) (copy ∷ []))
+  pushes_at : (v : ℕ) → pushed_to (with_sender c to t) v ≡ pushed_to c v ++ map Packet (filter (is_to owners v) (copy ∷ []))
   pushes_at v = ⊎_elim
       (λ (q : (eqb v to ≡ true) × (v ≡ to)).
-      let e : is_to of v copy ≡ true = own_is of copy.to v there ∙ eq-eqb (slice_index of copy.to) v (sym (q.1 ∙ is)) in
+      let e : is_to owners v copy ≡ true = own_is owners copy.to v there ∙ eq-eqb (slice_index owners copy.to) v (sym (q.1 ∙ is)) in
       ap pushed_list (ap (sender_to (with_sender c to t)) q.1 ∙ then_here)
       ∙ ap (λ (p : SenderState). p.pushed) state
       ∙ ap (λ (o : Option SenderView). pushed_list o ++ Packet copy ∷ []) (sym (ap (sender_to c) q.1 ∙ here))
       ∙ ap (λ (b : Bool). pushed_to c v ++ map Packet (cond b (copy ∷ []) [])) (sym e))
       (λ (q : (eqb v to ≡ false) × (v ≢ to)).
-      let e : is_to of v copy ≡ false = own_is of copy.to v there ∙ ne_eqb (slice_index of copy.to) v (λ h. q.1 (sym (is ∙ h))) in
+      let e : is_to owners v copy ≡ false = own_is owners copy.to v there ∙ ne_eqb (slice_index owners copy.to) v (λ h. q.1 (sym (is ∙ h))) in
       ap pushed_list (then_else v q.1) ∙ sym (append-nil (pushed_to c v)) ∙ ap (λ (b : Bool). pushed_to c v ++ map Packet (cond b (copy ∷ []) [])) (sym e))
       (eqb_tells v to)
 
-  pub delivers_with : Delivers of c (with_sender c to t) (copy ∷ [])
+  pub delivers_with : Delivers owners c (with_sender c to t) (copy ∷ [])
   delivers_with = record {
     stays = record {
       worker = refl;
@@ -144,8 +144,8 @@ stays_on a b c h k = record {
   identities = k.identities ∙ h.identities;
 }
 
-pub delivers_none : (of : List ℕ) (c : Endpoint) → Delivers of c c []
-delivers_none of c = record {
+pub delivers_none : (owners : List ℕ) (c : Endpoint) → Delivers owners c c []
+delivers_none owners c = record {
   stays = record { worker = refl; inbox = refl; marked = refl; made = refl; gathered = refl; identities = refl };
   taker = refl;
   adds = λ v. sym (append-nil (delivered c v));
@@ -153,21 +153,21 @@ delivers_none of c = record {
 }
 
 -- packets that are appended to packets are packets
-packets_on : (of : List ℕ) (v : ℕ) (old : List Carried) (xs ys : List RadioCopy) → (old ++ map Packet (filter (is_to of v) xs)) ++ map Packet (filter (is_to of v) ys) ≡ old ++ map Packet (filter (is_to of v) (xs ++ ys))
-packets_on of v old xs ys =
-    append_assoc old (map Packet (filter (is_to of v) xs)) (map Packet (filter (is_to of v) ys))
-    ∙ ap (λ l. old ++ l) (sym (map-append Packet (filter (is_to of v) xs) (filter (is_to of v) ys)) ∙ ap (map Packet) (sym (filter-append (is_to of v) xs ys)))
+packets_on : (owners : List ℕ) (v : ℕ) (old : List Carried) (xs ys : List RadioCopy) → (old ++ map Packet (filter (is_to owners v) xs)) ++ map Packet (filter (is_to owners v) ys) ≡ old ++ map Packet (filter (is_to owners v) (xs ++ ys))
+packets_on owners v old xs ys =
+    append_assoc old (map Packet (filter (is_to owners v) xs)) (map Packet (filter (is_to owners v) ys))
+    ∙ ap (λ l. old ++ l) (sym (map-append Packet (filter (is_to owners v) xs) (filter (is_to owners v) ys)) ∙ ap (map Packet) (sym (filter-append (is_to owners v) xs ys)))
 
-pub delivers_more : (of : List ℕ) (a b c : Endpoint) (xs ys : List RadioCopy) → Delivers of a b xs → Delivers of b c ys → Delivers of a c (xs ++ ys)
-delivers_more of a b c xs ys h k = record {
+pub delivers_more : (owners : List ℕ) (a b c : Endpoint) (xs ys : List RadioCopy) → Delivers owners a b xs → Delivers owners b c ys → Delivers owners a c (xs ++ ys)
+delivers_more owners a b c xs ys h k = record {
   stays = stays_on a b c h.stays k.stays;
   taker = k.taker ∙ h.taker;
-  adds = λ v. k.adds v ∙ (ap (λ l. l ++ filter (is_to of v) ys) (h.adds v) ∙ (append_assoc (delivered a v) (filter (is_to of v) xs) (filter (is_to of v) ys) ∙ ap (λ l. delivered a v ++ l) (sym (filter-append (is_to of v) xs ys))));
-  pushes = λ v. k.pushes v ∙ (ap (λ l. l ++ map Packet (filter (is_to of v) ys)) (h.pushes v) ∙ packets_on of v (pushed_to a v) xs ys);
+  adds = λ v. k.adds v ∙ (ap (λ l. l ++ filter (is_to owners v) ys) (h.adds v) ∙ (append_assoc (delivered a v) (filter (is_to owners v) xs) (filter (is_to owners v) ys) ∙ ap (λ l. delivered a v ++ l) (sym (filter-append (is_to owners v) xs ys))));
+  pushes = λ v. k.pushes v ∙ (ap (λ l. l ++ map Packet (filter (is_to owners v) ys)) (h.pushes v) ∙ packets_on owners v (pushed_to a v) xs ys);
 }
 
 -- ---- an endpoint of a window of fork-join is still one after a delivery
-pub endpoint_again : (inboxes : List InboxId) (of : List ℕ) (a b : Endpoint) (copies : List RadioCopy) → IsEndpoint inboxes a → Delivers of a b copies → IsOnInboxes inboxes b → IsEndpoint inboxes b
-endpoint_again inboxes of a b copies h d s =
+pub endpoint_again : (inboxes : List InboxId) (owners : List ℕ) (a b : Endpoint) (copies : List RadioCopy) → IsEndpoint inboxes a → Delivers owners a b copies → IsOnInboxes inboxes b → IsEndpoint inboxes b
+endpoint_again inboxes owners a b copies h d s =
     let P : TakerView → Type 0 = λ t. IsOrderly t.state in
     record { on_inboxes = s; orderly = subst P (sym d.taker) h.orderly }

@@ -14,7 +14,7 @@ use Rattle.copy_inbox.proofs.Parts.{part-append, part-here, part-else}
 use Rattle.copy_exchange.proofs.Lists.{each_join}
 use Rattle.copy_exchange.proofs.Parts.{copies-append}
 use Rattle.copy_exchange.specs.Expected.{Position, IsExpectedAt, IsUnexpected, AddsCopy, TakesExpected, TakesUnexpected}
-use Rattle.copy_exchange.specs.Marks.{marks_of, Counts, AreNone}
+use Rattle.copy_exchange.specs.Marks.{marks_of, AreTakersCounts, AreNone}
 use Rattle.copy_exchange.specs.Pushes.{marks_in}
 use Rattle.copy_exchange.proofs.Whole.{marks_append}
 
@@ -36,7 +36,7 @@ few_marks (Packet c ∷ ws) = let h = few_marks ws in omega arith
 few_marks (Mark n ∷ ws) = let h = few_marks ws in omega arith
 
 -- the count doesn't overflow
-pub count_fits : (marks : List ℕ) (d : TakerState) (x : Item) (n m : ℕ) → Counts marks d → IsNextTaken d x → x.what ≡ Mark n → m ≡ get_or marks x.sender m → m + 1 ≤ 2 ^ 62
+pub count_fits : (marks : List ℕ) (d : TakerState) (x : Item) (n m : ℕ) → AreTakersCounts marks d → IsNextTaken d x → x.what ≡ Mark n → m ≡ get_or marks x.sender m → m + 1 ≤ 2 ^ 62
 count_fits marks d x n m c next is at =
     let e = at ∙ c.each x.sender m next.number in
     let here = marks_here x.sender d.taken x refl ∙ ap (λ w. marks_of x.sender d.taken + marks_in (w ∷ [])) is in
@@ -44,7 +44,7 @@ count_fits marks d x n m c next is at =
     let few = next.few in
     omega arith
 
-pub counts_packet : (marks : List ℕ) (d : TakerState) (x : Item) (copy : RadioCopy) → Counts marks d → IsNextTaken d x → x.what ≡ Packet copy → Counts marks (state_with d x)
+pub counts_packet : (marks : List ℕ) (d : TakerState) (x : Item) (copy : RadioCopy) → AreTakersCounts marks d → IsNextTaken d x → x.what ≡ Packet copy → AreTakersCounts marks (state_with d x)
 counts_packet marks d x copy c next is = record {
   all = c.all;
   each = λ s none lt. c.each s none lt ∙ ⊎_elim
@@ -54,7 +54,7 @@ counts_packet marks d x copy c next is = record {
       (eqb_tells x.sender s);
 }
 
-pub counts_mark : (marks : List ℕ) (d : TakerState) (x : Item) (n m : ℕ) → Counts marks d → IsNextTaken d x → x.what ≡ Mark n → m ≡ get_or marks x.sender m → Counts (set marks x.sender (m + 1)) (state_with d x)
+pub counts_mark : (marks : List ℕ) (d : TakerState) (x : Item) (n m : ℕ) → AreTakersCounts marks d → IsNextTaken d x → x.what ≡ Mark n → m ≡ get_or marks x.sender m → AreTakersCounts (set marks x.sender (m + 1)) (state_with d x)
 counts_mark marks d x n m c next is at =
     let all = c.all in
     let number = next.number in

@@ -12,18 +12,18 @@ use Rattle.copy_exchange.specs.Delivers.{PushesWindow}
 use Rattle.copy_exchange.specs.Expected.{TakesExpected, position}
 
 -- the copies were pushed first, and then the mark
-pub pushes_window : (of : List ℕ) (workers window : ℕ) (a b c : Endpoint) (copies : List RadioCopy) → Delivers of a b copies → PushesMarks workers window b c → PushesWindow of workers window a c copies
-pushes_window of workers window a b c copies out marks = record {
+pub pushes_window : (owners : List ℕ) (workers window : ℕ) (a b c : Endpoint) (copies : List RadioCopy) → Delivers owners a b copies → PushesMarks workers window b c → PushesWindow owners workers window a c copies
+pushes_window owners workers window a b c copies out marks = record {
   stays = stays_on a b c out.stays marks.stays;
   taker = marks.taker ∙ out.taker;
   pushes = λ v lt other.
       marks.pushes v lt (ap (λ w. v == w) out.stays.worker ∙ other)
-      ∙ (ap (λ l. l ++ Mark window ∷ []) (out.pushes v) ∙ append_assoc (pushed_to a v) (map Packet (filter (is_to of v) copies)) (Mark window ∷ []));
+      ∙ (ap (λ l. l ++ Mark window ∷ []) (out.pushes v) ∙ append_assoc (pushed_to a v) (map Packet (filter (is_to owners v) copies)) (Mark window ∷ []));
 }
 
 -- the identities of the senders are the same after items are taken
-pub takes_stays : (of : List ℕ) (from : ℕ) (old new : Endpoint) (copies : List RadioCopy) → TakesExpected (position of old.worker from) old.taker new.taker copies → new.worker ≡ old.worker → new.senders ≡ old.senders → Stays old new
-takes_stays of from old new copies took worker senders = record {
+pub takes_stays : (owners : List ℕ) (from : ℕ) (old new : Endpoint) (copies : List RadioCopy) → TakesExpected (position owners old.worker from) old.taker new.taker copies → new.worker ≡ old.worker → new.senders ≡ old.senders → Stays old new
+takes_stays owners from old new copies took worker senders = record {
   worker = worker;
   inbox = ap (λ (t : TakerView). t.inbox) took.taker;
   marked = ap (λ (t : TakerView). t.state.marked) took.taker;
@@ -32,7 +32,7 @@ takes_stays of from old new copies took worker senders = record {
   identities = ap (λ s. map identity_of s.items) senders;
 }
 
-pub takes_on_inboxes : (inboxes : List InboxId) (of : List ℕ) (from : ℕ) (old new : Endpoint) (copies : List RadioCopy) → TakesExpected (position of old.worker from) old.taker new.taker copies → new.worker ≡ old.worker → new.senders ≡ old.senders
+pub takes_on_inboxes : (inboxes : List InboxId) (owners : List ℕ) (from : ℕ) (old new : Endpoint) (copies : List RadioCopy) → TakesExpected (position owners old.worker from) old.taker new.taker copies → new.worker ≡ old.worker → new.senders ≡ old.senders
     → IsOnInboxes inboxes old → IsOnInboxes inboxes new
-takes_on_inboxes inboxes of from old new copies took worker senders on_inboxes =
-    on_inboxes_stays inboxes old new (takes_stays of from old new copies took worker senders) on_inboxes
+takes_on_inboxes inboxes owners from old new copies took worker senders on_inboxes =
+    on_inboxes_stays inboxes old new (takes_stays owners from old new copies took worker senders) on_inboxes

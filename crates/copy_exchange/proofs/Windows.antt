@@ -70,9 +70,9 @@ filter_none p s (x ∷ xs) h = cases (is_from_sender s x) (p x) refl refl (filte
 
 -- an endpoint that was made, has collected, and has delivered copies from its own worker's motes is at the end of the
 -- window
-pub returns_from : (inboxes : List InboxId) (of : List ℕ) (worker_of : ℕ → ℕ) (t : TakerView) (a b c : Endpoint) (arrived out : List RadioCopy) → StartsAs t a → Collects a b arrived → Delivers of b c out → IsEndpoint inboxes c
+pub returns_from : (inboxes : List InboxId) (owners : List ℕ) (worker_of : ℕ → ℕ) (t : TakerView) (a b c : Endpoint) (arrived out : List RadioCopy) → StartsAs t a → Collects a b arrived → Delivers owners b c out → IsEndpoint inboxes c
     → ((s : ℕ) → (worker_of s == a.worker) ≡ false → filter (is_from_sender s) out ≡ []) → Returns inboxes worker_of a c
-returns_from inboxes of worker_of t a b c arrived out starts collects delivers endpoint own =
+returns_from inboxes owners worker_of t a b c arrived out starts collects delivers endpoint own =
     let stays = stays_on a b c collects.stays delivers.stays in
     let P : TakerView → Type 0 = λ u. Whole u.state.gathered u.state.taken in
     record {
@@ -82,7 +82,7 @@ returns_from inboxes of worker_of t a b c arrived out starts collects delivers e
       collected = subst P (sym delivers.taker) collects.all;
       own = λ s v other.
           let other' : (worker_of s == a.worker) ≡ false = ap (λ w. worker_of s == w) (sym stays.worker) ∙ other in
-          ap (from s) (delivers.adds v ∙ ap (λ l. l ++ filter (is_to of v) out) (collects.delivers_none v ∙ starts.nothing v)) ∙ filter_none (is_to of v) s out (own s other');
+          ap (from s) (delivers.adds v ∙ ap (λ l. l ++ filter (is_to owners v) out) (collects.delivers_none v ∙ starts.nothing v)) ∙ filter_none (is_to owners v) s out (own s other');
     }
 
 -- ---- after a window

@@ -13,7 +13,7 @@ use Rattle.copy_inbox.specs.Handles.{InboxId, TakerView, SenderView}
 use Rattle.copy_exchange.specs.declared.endpoint.Endpoint.{Endpoint}
 use Rattle.window_laws.specs.Windows.{is_from_sender}
 use Rattle.copy_exchange.specs.Takers.{SameOfEach, copies_in, taken_by, gathered_by, IsOrderly}
-use Rattle.copy_exchange.specs.Inboxes.{IsPlain}
+use Rattle.copy_exchange.specs.Inboxes.{HasNoMarks}
 
 -- the endpoint's sender on the inbox of worker v
 abbrev pub sender_to : Endpoint → (v : ℕ) → Option SenderView
@@ -91,24 +91,24 @@ pub record Stays (old new : Endpoint) : Type 0 where
 -- the endpoint took these copies from an inbox without marks; they are all copies that were gathered and not yet taken
 pub record Collects (old new : Endpoint) (copies : List RadioCopy) : Type 0 where
   pub stays : Stays old new
-  pub plain : IsPlain new.taker
+  pub plain : HasNoMarks new.taker
   pub adds : taken_by new.taker ≡ taken_by old.taker ++ copies
   pub in_order : SameOfEach (taken_by new.taker) (gathered_by old.taker)
   pub all : IsCollected new
   pub delivers_none : (v : ℕ) → delivered new v ≡ delivered old v
 
 -- the copy is for a mote of another of these workers
-pub record Leaves (of : List ℕ) (workers worker : ℕ) (copy : RadioCopy) : Type 0 where
-  pub there : copy.to < length of
-  pub its_worker : slice_index of copy.to < workers
-  pub other : is_to of worker copy ≡ false
+pub record Leaves (owners : List ℕ) (workers worker : ℕ) (copy : RadioCopy) : Type 0 where
+  pub there : copy.to < length owners
+  pub its_worker : slice_index owners copy.to < workers
+  pub other : is_to owners worker copy ≡ false
 
 -- the endpoint delivered these copies, each to the worker of its receiver, in order
-pub record Delivers (of : List ℕ) (old new : Endpoint) (copies : List RadioCopy) : Type 0 where
+pub record Delivers (owners : List ℕ) (old new : Endpoint) (copies : List RadioCopy) : Type 0 where
   pub stays : Stays old new
   pub taker : new.taker ≡ old.taker
-  pub adds : (v : ℕ) → delivered new v ≡ delivered old v ++ filter (is_to of v) copies
-  pub pushes : (v : ℕ) → pushed_to new v ≡ pushed_to old v ++ map Packet (filter (is_to of v) copies)
+  pub adds : (v : ℕ) → delivered new v ≡ delivered old v ++ filter (is_to owners v) copies
+  pub pushes : (v : ℕ) → pushed_to new v ≡ pushed_to old v ++ map Packet (filter (is_to owners v) copies)
 
 -- the endpoint pushed the mark of this window to each other worker, and nothing else
 pub record PushesMarks (workers window : ℕ) (old new : Endpoint) : Type 0 where
@@ -146,7 +146,7 @@ pub record Together (inboxes : List InboxId) (endpoints : List Endpoint) : Type 
 pub record Returns (inboxes : List InboxId) (worker_of : ℕ → ℕ) (old new : Endpoint) : Type 0 where
   pub stays : Stays old new
   pub endpoint : IsEndpoint inboxes new
-  pub plain : IsPlain new.taker
+  pub plain : HasNoMarks new.taker
   pub collected : IsCollected new
   pub own : DeliversOwn worker_of new
 

@@ -14,18 +14,18 @@ use Rattle.copy_exchange.specs.declared.take.MarkError.TheVariants.{Memory, Stop
 -- a worker's position between two windows (`WindowPosition` in the code): the worker of each mote, the worker's own
 -- number, and the moment at which its next window begins
 pub record Position : Type 0 where
-  pub of : List ℕ
+  pub owners : List ℕ
   pub worker : ℕ
   pub from : ℕ
 
-abbrev pub position : (of : List ℕ) → (worker from : ℕ) → Position
-position of worker from = record { of = of; worker = worker; from = from }
+abbrev pub position : (owners : List ℕ) → (worker from : ℕ) → Position
+position owners worker from = record { owners = owners; worker = worker; from = from }
 
 abbrev pub position_of : WindowPosition → Position
-position_of s = position s.of.now s.worker s.from
+position_of s = position s.owners.now s.worker s.from
 
 abbrev pub IsExpectedAt : Position → RadioCopy → Type 0
-IsExpectedAt p copy = IsExpected p.of p.worker p.from copy
+IsExpectedAt p copy = IsExpected p.owners p.worker p.from copy
 
 -- the item is a copy that isn't expected
 abbrev pub IsUnexpected : Position → Item → Type 0

@@ -10,8 +10,8 @@ abbrev pub IsFresh : InboxId → TakerView → Type 0
 IsFresh inbox t = (t.inbox ≡ inbox) × (t.state ≡ make_taker_state t.state.marked 0 [] [])
 
 -- the taker's inbox has no marks
-abbrev pub IsPlain : TakerView → Type 0
-IsPlain t = t.state.marked ≡ false
+abbrev pub HasNoMarks : TakerView → Type 0
+HasNoMarks t = t.state.marked ≡ false
 
 -- every sender is gathered, and no mark is left
 pub record IsSettled (inbox : InboxId) (t : TakerView) : Type 0 where

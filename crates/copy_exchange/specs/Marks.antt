@@ -10,7 +10,7 @@ abbrev pub marks_of : ℕ → List Item → ℕ
 marks_of s taken = marks_in (part s taken)
 
 -- these are the numbers of marks from each sender that the taker made
-pub record Counts (marks : List ℕ) (d : TakerState) : Type 0 where
+pub record AreTakersCounts (marks : List ℕ) (d : TakerState) : Type 0 where
   pub all : length marks ≡ d.made
   pub each : (s none : ℕ) → s < d.made → slice_index_or marks s none ≡ marks_of s d.taken
 

@@ -6,7 +6,7 @@ use Rattle.copy_inbox.specs.declared.items.Carried.{Carried}
 use Rattle.copy_inbox.specs.declared.items.Carried.TheVariants.{Mark}
 use Rattle.copy_inbox.specs.declared.rule.TakerState.{TakerState}
 use Rattle.copy_inbox.specs.declared.rule.SenderState.{SenderState}
-use Rattle.copy_inbox.specs.Items.{Packets, BeginsWith, part}
+use Rattle.copy_inbox.specs.Items.{Packets, HasPrefix, part}
 use Rattle.copy_inbox.specs.Views.{make_sender_state}
 use Rattle.copy_inbox.specs.Handles.{InboxId, TakerView, SenderView, after_sender, after_gather}
 use Rattle.copy_exchange.specs.declared.endpoint.Endpoint.{Endpoint}
@@ -52,7 +52,7 @@ pub record AreSendersOn (inboxes : List InboxId) (senders : List (Option SenderV
 -- the facts that a taker learns about a sender that it gathers: the items that it took from the sender are a prefix of
 -- those that the sender pushed; if there are no marks, all items pushed are packets
 pub record TellsOf (d : TakerState) (p : SenderState) : Type 0 where
-  pub begun : BeginsWith p.pushed (part p.number d.taken)
+  pub begun : HasPrefix p.pushed (part p.number d.taken)
   pub plain : d.marked ≡ false → Packets p.pushed
 
 pub record GathersRow (old new : List TakerView) (senders : List (Option SenderView)) : Type 0 where

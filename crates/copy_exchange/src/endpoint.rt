@@ -4,7 +4,7 @@ ghost use Rattle.std.specs.Prelude.{[], ◌∷◌, ◌<◌, true, length, IfOk, 
 ghost use Rattle.std.specs.List.{AllByRecursion as Each};
 ghost use Rattle.copy_exchange.specs.Endpoints.{IsEndpoint, IsOnInboxes, HasMarks, Collects, Delivers, Leaves};
 ghost use Rattle.copy_exchange.specs.Endpoints.{PushesMarks, sender_to};
-ghost use Rattle.copy_exchange.specs.Inboxes.{IsPlain};
+ghost use Rattle.copy_exchange.specs.Inboxes.{HasNoMarks};
 ghost use Rattle.copy_exchange.specs.Steps.{MarksOne};
 
 use copy_inbox::{Inbox, InboxError, Sender, Taker};
@@ -56,7 +56,7 @@ impl Endpoint {
         inboxes: &[Inbox],
     ) -> Result<Vec<RadioCopy>, InboxError>
         requires endpoint { IsEndpoint inboxes.now self.old }
-        requires plain { IsPlain self.old.taker }
+        requires plain { HasNoMarks self.old.taker }
         ensures collects { IfOk result (λ copies. Collects self.old self.new copies.items) }
         ensures endpoint { OnOk result (IsEndpoint inboxes.now self.new) }
         ensures refused { OnErr result (self.new ≡ self.old) }
@@ -66,7 +66,7 @@ impl Endpoint {
         inbox.drain(rt, &mut self.taker, known)
     }
 
-    /// Delivers each copy, in order, to the worker of its receiver. `of` is the worker of each mote.
+    /// Delivers each copy, in order, to the worker of its receiver. `owners` is the worker of each mote.
     ///
     /// # Errors
     /// [`InboxError::Memory`] if a push fails. The copies before it have been delivered.
@@ -74,16 +74,16 @@ impl Endpoint {
         &mut self,
         rt: &R,
         inboxes: &[Inbox],
-        of: &[u16],
+        owners: &[u16],
         copies: &[RadioCopy],
     ) -> Result<(), InboxError>
         requires on_inboxes { IsOnInboxes inboxes.now self.old }
-        requires leaves { Each (Leaves of.now (length inboxes.now) self.old.worker) copies.now }
-        ensures delivers { OnOk result (Delivers of.now self.old self.new copies.now) }
+        requires leaves { Each (Leaves owners.now (length inboxes.now) self.old.worker) copies.now }
+        ensures delivers { OnOk result (Delivers owners.now self.old self.new copies.now) }
         ensures on_inboxes { OnOk result (IsOnInboxes inboxes.now self.new) }
     {
         for copy in copies {
-            self.deliver_one(rt, inboxes, of, *copy)?;
+            self.deliver_one(rt, inboxes, owners, *copy)?;
         }
         Ok(())
     }
@@ -133,15 +133,15 @@ impl Endpoint {
         &mut self,
         rt: &R,
         inboxes: &[Inbox],
-        of: &[u16],
+        owners: &[u16],
         copy: RadioCopy,
     ) -> Result<(), InboxError>
         requires on_inboxes { IsOnInboxes inboxes.now self.old }
-        requires leaves { Leaves of.now (length inboxes.now) self.old.worker copy }
-        ensures delivers { OnOk result (Delivers of.now self.old self.new (copy ∷ [])) }
+        requires leaves { Leaves owners.now (length inboxes.now) self.old.worker copy }
+        ensures delivers { OnOk result (Delivers owners.now self.old self.new (copy ∷ [])) }
         ensures on_inboxes { OnOk result (IsOnInboxes inboxes.now self.new) }
     {
-        let to = usize::from(of[usize::from(copy.to)]);
+        let to = usize::from(owners[usize::from(copy.to)]);
         let Some(sender) = &mut self.senders[to] else {
             unreachable!();
         };

@@ -6,7 +6,7 @@ ghost use Rattle.copy_exchange.specs.Endpoints.{HasMarks, IsOnInboxes, Leaves};
 ghost use Rattle.copy_exchange.specs.Delivers.{PushesWindow};
 ghost use Rattle.copy_exchange.specs.declared.take.MarkError.TheVariants.{Stopped, Unexpected};
 ghost use Rattle.copy_exchange.specs.Expected.{TakesExpected, TakesUnexpected, position_of};
-ghost use Rattle.copy_exchange.specs.Marks.{Counts, AllPast};
+ghost use Rattle.copy_exchange.specs.Marks.{AreTakersCounts, AllPast};
 
 use crate::endpoint::Endpoint;
 use crate::heard::no_marks;
@@ -39,7 +39,7 @@ impl MarkEndpoint {
         requires made { base.taker.state.made ≡ senders }
         requires taken { base.taker.state.taken ≡ [] }
         ensures base { IfOk result (λ made. made.base ≡ base) }
-        ensures counts { IfOk result (λ made. Counts made.marks.items base.taker.state) }
+        ensures counts { IfOk result (λ made. AreTakersCounts made.marks.items base.taker.state) }
     {
         let marks = no_marks(alloc, senders)?;
         Ok(MarkEndpoint {
@@ -50,7 +50,7 @@ impl MarkEndpoint {
     }
 
     /// Pushes the copies of a window, each to the worker of its receiver, and then the mark of the window to each
-    /// other worker. `of` is the worker of each mote.
+    /// other worker. `owners` is the worker of each mote.
     ///
     /// # Errors
     /// [`InboxError::Memory`] if a push fails. The items before it have been pushed.
@@ -58,19 +58,19 @@ impl MarkEndpoint {
         &mut self,
         rt: &R,
         inboxes: &[Inbox],
-        of: &[u16],
+        owners: &[u16],
         copies: &[RadioCopy],
         window: u64,
     ) -> Result<(), InboxError>
         requires on_inboxes { IsOnInboxes inboxes.now self.old.base }
         requires marked { HasMarks self.old.base }
-        requires leaves { Each (Leaves of.now (length inboxes.now) self.old.base.worker) copies.now }
+        requires leaves { Each (Leaves owners.now (length inboxes.now) self.old.base.worker) copies.now }
         ensures pushes { OnOk result
-            (PushesWindow of.now (length inboxes.now) window self.old.base self.new.base copies.now) }
+            (PushesWindow owners.now (length inboxes.now) window self.old.base self.new.base copies.now) }
         ensures on_inboxes { OnOk result (IsOnInboxes inboxes.now self.new.base) }
         ensures counts { OnOk result (self.new.marks ≡ self.old.marks) }
     {
-        self.base.deliver(rt, inboxes, of, copies)?;
+        self.base.deliver(rt, inboxes, owners, copies)?;
         self.base.push_marks(rt, inboxes, window)
     }
 
@@ -90,12 +90,12 @@ impl MarkEndpoint {
         window_position: &WindowPosition<'_>,
         window: u64,
     ) -> Result<Vec<RadioCopy>, MarkError>
-        requires inbox { self.old.base.taker.inbox ≡ inbox.now }
-        requires counts { Counts self.old.marks.items self.old.base.taker.state }
+        requires of_inbox { self.old.base.taker.inbox ≡ inbox.now }
+        requires counts { AreTakersCounts self.old.marks.items self.old.base.taker.state }
         ensures took { IfOk result
             (λ copies. TakesExpected (position_of window_position.now) self.old.base.taker self.new.base.taker
             copies.items) }
-        ensures marked { OnOk result (Counts self.new.marks.items self.new.base.taker.state
+        ensures marked { OnOk result (AreTakersCounts self.new.marks.items self.new.base.taker.state
             × AllPast window self.new.marks.items) }
         ensures kept { (self.new.base.worker ≡ self.old.base.worker)
             × (self.new.base.senders ≡ self.old.base.senders) }

@@ -6,7 +6,7 @@ ghost use Rattle.copy_inbox.specs.Handles.{IsNextTaken, state_with};
 ghost use Rattle.copy_exchange.specs.declared.take.MarkError.TheVariants.{Stopped, Unexpected};
 ghost use Rattle.copy_exchange.specs.Expected.{AddsCopy, IsExpectedAt, Refuses, TakesExpected, TakesUnexpected};
 ghost use Rattle.copy_exchange.specs.Expected.{position_of};
-ghost use Rattle.copy_exchange.specs.Marks.{Counts, AllPast};
+ghost use Rattle.copy_exchange.specs.Marks.{AreTakersCounts, AllPast};
 
 use crate::heard::all_past;
 use crate::wait::{Waiting, wait};
@@ -54,7 +54,7 @@ impl<T: Drop> From<AllocFailed<T>> for MarkError {
 pub struct WindowPosition<'a> {
     pub worker: u16,
     /// The worker of each mote.
-    pub of: &'a [u16],
+    pub owners: &'a [u16],
     /// The moment at which the worker's next window begins.
     pub from: u64,
 }
@@ -64,10 +64,10 @@ pub struct WindowPosition<'a> {
 fn is_expected(window_position: &WindowPosition<'_>, copy: RadioCopy) -> bool
     ensures decides { IsTrue result ↔ IsExpectedAt (position_of window_position.now) copy }
 {
-    if !is_own(window_position.of, window_position.worker, copy.to) {
+    if !is_own(window_position.owners, window_position.worker, copy.to) {
         return false;
     }
-    if is_own(window_position.of, window_position.worker, copy.sender) {
+    if is_own(window_position.owners, window_position.worker, copy.sender) {
         return false;
     }
     window_position.from <= copy.at
@@ -81,10 +81,10 @@ fn hear(
     arrived: &mut Vec<RadioCopy>,
     item: Item,
 ) -> Result<(), MarkError>
-    requires is_next { (d : TakerState) × Counts marks.old.items d × IsNextTaken d item }
+    requires is_next { (d : TakerState) × AreTakersCounts marks.old.items d × IsNextTaken d item }
     ensures counts { OnOk result
-        ((d : TakerState) → Counts marks.old.items d → IsNextTaken d item
-        → Counts marks.new.items (state_with d item)) }
+        ((d : TakerState) → AreTakersCounts marks.old.items d → IsNextTaken d item
+        → AreTakersCounts marks.new.items (state_with d item)) }
     ensures arrived { OnOk result
         (AddsCopy (position_of window_position.now) item arrived.old.items arrived.new.items) }
     ensures refused { IfErr result (Refuses (position_of window_position.now) item) }
@@ -113,11 +113,11 @@ fn take_waiting<R: Wait, L: Ledger>(
     window: u64,
     waiting: &mut Waiting,
 ) -> Result<Vec<RadioCopy>, MarkError>
-    requires inbox { taker.old.inbox ≡ inbox.now }
-    requires counts { Counts marks.old.items taker.old.state }
+    requires of_inbox { taker.old.inbox ≡ inbox.now }
+    requires counts { AreTakersCounts marks.old.items taker.old.state }
     ensures took { IfOk result
         (λ copies. TakesExpected (position_of window_position.now) taker.old taker.new copies.items) }
-    ensures counts { OnOk result (Counts marks.new.items taker.new.state) }
+    ensures counts { OnOk result (AreTakersCounts marks.new.items taker.new.state) }
     ensures marked { OnOk result (AllPast window marks.new.items) }
     ensures stopped { IfErr result (λ error. error ≡ Stopped → watch.new.seen ≡ true) }
     ensures unexpected { IfErr result
@@ -153,11 +153,11 @@ pub fn take_marks<R: Wait, L: Ledger>(
     window: u64,
     waiting: &mut Waiting,
 ) -> Result<Vec<RadioCopy>, MarkError>
-    requires inbox { taker.old.inbox ≡ inbox.now }
-    requires counts { Counts marks.old.items taker.old.state }
+    requires of_inbox { taker.old.inbox ≡ inbox.now }
+    requires counts { AreTakersCounts marks.old.items taker.old.state }
     ensures took { IfOk result
         (λ copies. TakesExpected (position_of window_position.now) taker.old taker.new copies.items) }
-    ensures counts { OnOk result (Counts marks.new.items taker.new.state) }
+    ensures counts { OnOk result (AreTakersCounts marks.new.items taker.new.state) }
     ensures marked { OnOk result (AllPast window marks.new.items) }
     ensures stopped { IfErr result (λ error. error ≡ Stopped → watch.new.seen ≡ true) }
     ensures unexpected { IfErr result

@@ -4,7 +4,7 @@ ghost use Rattle.std.specs.Prelude.{◌≡◌, ◌≤◌, ◌^◌, true, length,
 ghost use Rattle.std.specs.List.{AllByRecursion as Each, AllZip, range_with_len};
 ghost use Rattle.copy_exchange.specs.Endpoints.{IsOnInboxes, Together, StartsAs, HasMarks, HasPushedNothing, AllReturn};
 ghost use Rattle.copy_exchange.specs.Endpoints.{GathersDelivered};
-ghost use Rattle.copy_exchange.specs.Inboxes.{IsPlain, Settled};
+ghost use Rattle.copy_exchange.specs.Inboxes.{HasNoMarks, Settled};
 ghost use Rattle.copy_exchange.specs.Steps.{AreTakersOf, Opens, opened_taker, opened_sender, AreSendersOn};
 ghost use Rattle.copy_exchange.specs.Steps.{gather_into, GathersRow, GathersBack, TellsOf};
 
@@ -66,7 +66,7 @@ fn senders_of(
 
 // Makes a sender on an inbox, or `None` for the worker's own inbox.
 fn sender_on(inbox: &Inbox, taker: &mut Taker, own: bool) -> Result<Option<Sender>, InboxError>
-    requires inbox { taker.old.inbox ≡ inbox.now }
+    requires of_inbox { taker.old.inbox ≡ inbox.now }
     ensures sender { IfOk result (λ sender. sender ≡ opened_sender own taker.old) }
     ensures taker { OnOk result (taker.new ≡ opened_taker own taker.old) }
 {
@@ -90,7 +90,7 @@ pub fn gather_window<R: Wait>(
 ) -> Result<Vec<Taker>, InboxError>
     requires all_return { AllReturn inboxes.now endpoints.items }
     ensures settled { IfOk result (λ takers. Settled inboxes.now takers.items) }
-    ensures plain { IfOk result (λ takers. Each IsPlain takers.items) }
+    ensures plain { IfOk result (λ takers. Each HasNoMarks takers.items) }
     ensures gathers { IfOk result (λ takers. AllZip (GathersDelivered endpoints.items) endpoints.items takers.items) }
 {
     gather_back(rt, alloc, inboxes, endpoints)

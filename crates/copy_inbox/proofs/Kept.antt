@@ -13,7 +13,7 @@ use Rattle.copy_inbox.specs.Gathered.{is_gathered, known_of}
 use Rattle.copy_inbox.specs.Views.{new_taker, with_one_more, with_gathered, with_taken}
 use Rattle.copy_inbox.specs.Rule.{SeenBy}
 use Rattle.copy_inbox.specs.Handles.{taker_state_in, sender_state_in, IsSender}
-use Rattle.copy_inbox.specs.Kept.{KeepsCounts, CountsTaken, Forgets}
+use Rattle.copy_inbox.specs.Kept.{KeepsSenderCounts, CountsTaken, Forgets}
 use Rattle.copy_inbox.proofs.Takers.{count, byte_is, more_as, took_as, joined_state, joined_is, joined_seen, joined_leaves, joined_index, next_below, next_known, next_kept, next_fits}
 
 -- ---- the count of a sender that is still counted
@@ -34,8 +34,8 @@ still_made first old new kept now made same rest =
     omega (arith, length-drop first new)
 
 -- ---- a new taker
-pub keeps_none : (v : View) → v ≡ new_taker → KeepsCounts v 0 [] 0
-keeps_none v e = subst (λ (u : View). KeepsCounts u 0 [] 0) (sym e) (record {
+pub keeps_none : (v : View) → v ≡ new_taker → KeepsSenderCounts v 0 [] 0
+keeps_none v e = subst (λ (u : View). KeepsSenderCounts u 0 [] 0) (sym e) (record {
   counts = [];
   taker = record {
     is = refl;
@@ -53,7 +53,7 @@ keeps_none v e = subst (λ (u : View). KeepsCounts u 0 [] 0) (sym e) (record {
 })
 
 -- ---- one more sender
-pub keeps_more : (v w : View) (first : ℕ) (kept : List Count) (k : ℕ) → w ≡ with_one_more v → KeepsCounts v first kept k → KeepsCounts w first (kept ++ record { taken = 0; gathered = false } ∷ []) k
+pub keeps_more : (v w : View) (first : ℕ) (kept : List Count) (k : ℕ) → w ≡ with_one_more v → KeepsSenderCounts v first kept k → KeepsSenderCounts w first (kept ++ record { taken = 0; gathered = false } ∷ []) k
 keeps_more v w first kept k e t =
     let one : List Count = count 0 false ∷ [] in
     let made = t.made in
@@ -66,11 +66,11 @@ keeps_more v w first kept k e t =
       gathered = λ s lt. ap (λ (u : View). is_gathered (taker_state_in u).gathered s) (e ∙ ap with_one_more t.taker.is) ∙ t.gathered s lt;
     }
 
-pub keeps_made : (v : View) (first : ℕ) (kept : List Count) (k : ℕ) → KeepsCounts v first kept k → first + length kept ≡ (taker_state_in v).made
+pub keeps_made : (v : View) (first : ℕ) (kept : List Count) (k : ℕ) → KeepsSenderCounts v first kept k → first + length kept ≡ (taker_state_in v).made
 keeps_made v first kept k t = t.made ∙ t.taker.made
 
 -- ---- an item taken
-module _ (v : View) (first : ℕ) (kept : List Count) (k : ℕ) (x : Item) (rest : List Item) (t : KeepsCounts v first kept k) (seen : SeenBy v (x ∷ rest)) where
+module _ (v : View) (first : ℕ) (kept : List Count) (k : ℕ) (x : Item) (rest : List Item) (t : KeepsSenderCounts v first kept k) (seen : SeenBy v (x ∷ rest)) where
   pub next_made : x.sender < first + length kept
   next_made =
       let below = next_below v t.counts k x rest t.taker seen in
@@ -105,7 +105,7 @@ module _ (v : View) (first : ℕ) (kept : List Count) (k : ℕ) (x : Item) (rest
     pub next_down : n ≤ k
     next_down = let d = down in omega arith
 
-    pub keeps_taken : (w : View) → w ≡ with_taken v x → KeepsCounts w first now (k - n)
+    pub keeps_taken : (w : View) → w ≡ with_taken v x → KeepsSenderCounts w first now (k - n)
     keeps_taken w e =
         let new : Count = count (length (part x.sender (taker_state_in v).taken) + 1) (is_gathered (taker_state_in v).gathered x.sender) in
         let all : List Count = set t.counts x.sender new in
@@ -127,7 +127,7 @@ module _ (v : View) (first : ℕ) (kept : List Count) (k : ℕ) (x : Item) (rest
         }
 
 -- ---- a sender gathered
-module _ (v u w : View) (first : ℕ) (kept : List Count) (k pushed number : ℕ) (items : List Item) (t : KeepsCounts v first kept k) (r : IsSender u pushed) (num : number ≡ (sender_state_in u).number)
+module _ (v u w : View) (first : ℕ) (kept : List Count) (k pushed number : ℕ) (items : List Item) (t : KeepsSenderCounts v first kept k) (r : IsSender u pushed) (num : number ≡ (sender_state_in u).number)
     (e : w ≡ with_gathered v u) (seen : SeenBy w items) where
   -- the sender wasn't gathered before, so its count wasn't dropped
   pub joined_first : first ≤ number
@@ -150,7 +150,7 @@ module _ (v u w : View) (first : ℕ) (kept : List Count) (k pushed number : ℕ
   pub joined_at : (c : Count) → c ≡ get_or kept (number - first) c → c ≡ get_or t.counts number c
   joined_at c at = at ∙ kept_at first number t.counts kept c t.rest joined_first
 
-  pub keeps_joined : (y : View) (c : Count) → c ≡ get_or kept (number - first) c → y ≡ w → KeepsCounts y first (set kept (number - first) (count c.taken true)) (k + (pushed - c.taken))
+  pub keeps_joined : (y : View) (c : Count) → c ≡ get_or kept (number - first) c → y ≡ w → KeepsSenderCounts y first (set kept (number - first) (count c.taken true)) (k + (pushed - c.taken))
   keeps_joined y c at same =
       let new : Count = count c.taken true in
       let all : List Count = set t.counts number new in
@@ -177,9 +177,9 @@ drop_one zero counts = refl
 drop_one (suc n) [] = let e : suc n + 1 ≡ suc (n + 1) = omega arith in ap (λ k. drop k []) (sym e)
 drop_one (suc n) (c ∷ counts) = let e : suc n + 1 ≡ suc (n + 1) = omega arith in drop_one n counts ∙ ap (λ k. drop k (c ∷ counts)) (sym e)
 
-pub keeps_forgetting : (v : View) (first then : ℕ) (kept now : List Count) (k : ℕ) → KeepsCounts v first kept k → Forgets first kept then now → KeepsCounts v then now k
+pub keeps_forgetting : (v : View) (first then : ℕ) (kept now : List Count) (k : ℕ) → KeepsSenderCounts v first kept k → Forgets first kept then now → KeepsSenderCounts v then now k
 keeps_forgetting v first then kept now k t f = ⊎_elim
-    (λ (same : (then ≡ first) × (now ≡ kept)). subst (λ (y : ℕ × List Count). KeepsCounts v y.0 y.1 k) (λ i. (sym same.0 i, sym same.1 i)) t)
+    (λ (same : (then ≡ first) × (now ≡ kept)). subst (λ (y : ℕ × List Count). KeepsSenderCounts v y.0 y.1 k) (λ i. (sym same.0 i, sym same.1 i)) t)
     (λ (h : (then ≡ first + 1) × (first < 2 ^ 62) × (0 < length kept) × (now ≡ drop 1 kept) × ((c : Count) → (get_or kept 0 c).gathered ≡ true)).
     let left : now ≡ drop then t.counts = h.3 ∙ (ap (drop 1) t.rest ∙ (drop_one first t.counts ∙ ap (λ n. drop n t.counts) (sym h.0))) in
     let made = t.made in

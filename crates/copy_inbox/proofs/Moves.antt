@@ -13,7 +13,7 @@ use Rattle.copy_inbox.specs.declared.rule.TakerState.{TakerState}
 use Rattle.copy_inbox.specs.declared.rule.SenderState.{SenderState}
 use Rattle.copy_inbox.specs.declared.rule.View.{View}
 use Rattle.copy_inbox.specs.declared.rule.View.TheVariants.{Taking, Sending, Spent}
-use Rattle.copy_inbox.specs.Items.{part, is_packet}
+use Rattle.copy_inbox.specs.Items.{part, carries_packet}
 use Rattle.copy_inbox.specs.Gathered.{is_gathered}
 use Rattle.copy_inbox.specs.Views.{make_taker_state, make_sender_state, make_gathered, new_taker, with_one_more, next_sender, with_marks, no_sender, with_gathered, with_pushed}
 use Rattle.copy_inbox.specs.Rule.{PassFits, Sound, InboxRule, SeenBy, Took, Pushed}
@@ -106,11 +106,11 @@ sends_push views pass q s p w m old now x at was other same more is = ⊎_elim
     set_else views pass q w e.1 ∙ (was ∙ (λ i. some (Sending (make_sender_state m s (sym (same s (other e.1)) i))))))
     (eqb_tells q pass)
 
-each_snoc : (l : List Carried) (w : Carried) → Each (λ (v : Carried). is_packet v ≡ true) l → is_packet w ≡ true → Each (λ (v : Carried). is_packet v ≡ true) (l ++ w ∷ [])
+each_snoc : (l : List Carried) (w : Carried) → Each (λ (v : Carried). carries_packet v ≡ true) l → carries_packet w ≡ true → Each (λ (v : Carried). carries_packet v ≡ true) (l ++ w ∷ [])
 each_snoc [] w h k = (k, tt)
 each_snoc (v ∷ vs) w h k = (h.0, each_snoc vs w h.1 k)
 
-pub pushes : (n pass : ℕ) (p : SenderState) (x : Item) → (p.marked ≡ false → is_packet x.what ≡ true) → x.sender ≡ p.number → length p.pushed < 2 ^ 62 → Pushes InboxRule n pass (Sending p) x (Pushed (Sending p) x)
+pub pushes : (n pass : ℕ) (p : SenderState) (x : Item) → (p.marked ≡ false → carries_packet x.what ≡ true) → x.sender ≡ p.number → length p.pushed < 2 ^ 62 → Pushes InboxRule n pass (Sending p) x (Pushed (Sending p) x)
 pushes n pass p x packet of room items views _ h at =
     let d = h.taker_state in
     let w : View = with_pushed (Sending p) x in
@@ -133,7 +133,7 @@ pushes n pass p x packet of room items views _ h at =
           still = h.sound.still;
           joined = each_map d.gathered (λ g j. record { was_made = j.was_made; spent = j.spent; all = same g.number (apart g.number j.spent) ∙ j.all; behind = behind-snoc g.number g.made items x (λ e. apart g.number j.spent (sym e ∙ of)) j.behind }) h.sound.joined;
           apart = h.sound.apart;
-          plain = λ e s. let P : List Carried → Type 0 = λ l. Each (λ (v : Carried). is_packet v ≡ true) l in ⊎_elim
+          plain = λ e s. let P : List Carried → Type 0 = λ l. Each (λ (v : Carried). carries_packet v ≡ true) l in ⊎_elim
               (λ (t : (eqb s p.number ≡ true) × (s ≡ p.number)). subst P (sym (ap now t.1 ∙ more)) (each_snoc p.pushed x.what (subst P (sym mine.1) (h.sound.plain e p.number)) (packet (mine.2 ∙ e))))
               (λ (t : (eqb s p.number ≡ false) × (s ≢ p.number)). subst P (sym (same s t.1)) (h.sound.plain e s)) (eqb_tells s p.number);
         };
@@ -144,7 +144,7 @@ pushes n pass p x packet of room items views _ h at =
       refl,
     )
 
-pub pushes_as : (n pass : ℕ) (v : View) (p : SenderState) (x : Item) → v ≡ Sending p → (p.marked ≡ false → is_packet x.what ≡ true) → x.sender ≡ p.number → length p.pushed < 2 ^ 62 → Pushes InboxRule n pass v x (Pushed v x)
+pub pushes_as : (n pass : ℕ) (v : View) (p : SenderState) (x : Item) → v ≡ Sending p → (p.marked ≡ false → carries_packet x.what ≡ true) → x.sender ≡ p.number → length p.pushed < 2 ^ 62 → Pushes InboxRule n pass v x (Pushed v x)
 pushes_as n pass v p x is packet of room = subst (λ (u : View). Pushes InboxRule n pass u x (Pushed u x)) (sym is) (pushes n pass p x packet of room)
 
 -- ---- a pop

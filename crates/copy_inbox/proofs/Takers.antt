@@ -16,7 +16,7 @@ use Rattle.copy_inbox.specs.declared.rule.TakerState.{TakerState}
 use Rattle.copy_inbox.specs.declared.rule.SenderState.{SenderState}
 use Rattle.copy_inbox.specs.declared.rule.View.{View}
 use Rattle.copy_inbox.specs.declared.rule.View.TheVariants.{Taking, Sending}
-use Rattle.copy_inbox.specs.Items.{part, is_packet, Packets, BeginsWith}
+use Rattle.copy_inbox.specs.Items.{part, carries_packet, Packets, HasPrefix}
 use Rattle.copy_inbox.specs.Gathered.{is_gathered, untaken_of, known_of}
 use Rattle.copy_inbox.specs.Views.{make_taker_state, make_gathered, with_one_more, with_gathered, with_taken}
 use Rattle.copy_inbox.specs.Rule.{Sound, SeenBy}
@@ -82,7 +82,7 @@ each_right (v ∷ vs) l h = each_right vs l h.1
 -- the head of the queue is a packet, if its sender is gathered and the remaining items of each gathered sender are
 -- packets
 packets_next : (gs : List Gathered) (taken : List Item) (x : Item) (rest : List Item) → Each (Adds taken (x ∷ rest)) gs
-    → Each (λ (g : Gathered). Packets (untaken_of taken g)) gs → is_gathered gs x.sender ≡ true → is_packet x.what ≡ true
+    → Each (λ (g : Gathered). Packets (untaken_of taken g)) gs → is_gathered gs x.sender ≡ true → carries_packet x.what ≡ true
 packets_next [] taken x rest h p is = absurd cc
 packets_next (g ∷ gs) taken x rest h p is = ⊎_elim
     (λ (t : (eqb g.number x.sender ≡ true) × (g.number ≡ x.sender)).
@@ -107,13 +107,13 @@ module _ (d : TakerState) (x : Item) (rest : List Item) (pass_of : ℕ → Optio
   adds = adds_of d pass_of pushed (x ∷ rest) s
 
   -- the sender pushed only packets, so the head of the queue is a packet
-  plain_next : d.marked ≡ false → is_packet x.what ≡ true
+  plain_next : d.marked ≡ false → carries_packet x.what ≡ true
   plain_next plain =
       let P : List Carried → Type 0 = Packets in
       let all : Packets (part x.sender d.taken ++ part x.sender (x ∷ rest)) = subst P (sym (s.parts x.sender) ∙ part-append x.sender d.taken (x ∷ rest)) (s.plain plain x.sender) in
       (subst P (part-here x.sender x rest refl) (each_right (part x.sender d.taken) (part x.sender (x ∷ rest)) all)).0
 
-  packet_next : TakesPackets d → (is_packet x.what ≡ true) × TakesPackets (state_with d x)
+  packet_next : TakesPackets d → (carries_packet x.what ≡ true) × TakesPackets (state_with d x)
   packet_next none = ⊎_elim
       (λ (plain : d.marked ≡ false). (plain_next plain, inl plain))
       (λ (all : AllGathered d × PacketsLeft d).
@@ -200,7 +200,7 @@ joined_few d p items s =
     let k = known-is w.gathered d.taken items (adds_of w s.0 s.1 items s.2) in
     omega (arith, known_joined d p, k, tally-le w.gathered items s.2.apart)
 
-pub joined_begun : (d : TakerState) (p : SenderState) (items : List Item) → SoundWith (joined_state d p) items → BeginsWith p.pushed (part p.number d.taken)
+pub joined_begun : (d : TakerState) (p : SenderState) (items : List Item) → SoundWith (joined_state d p) items → HasPrefix p.pushed (part p.number d.taken)
 joined_begun d p items s = (begun_of (joined_state d p).gathered d.taken items (adds_of (joined_state d p) s.0 s.1 items s.2)).0
 
 pub joined_below : (d : TakerState) (p : SenderState) (items : List Item) → SoundWith (joined_state d p) items → p.number < d.made
@@ -347,10 +347,10 @@ joined_leaves v u w y counts k pushed number items c t r num e seen at same =
     subst (λ (z : View). IsTaker z (set counts number (count c.taken true)) (k + (pushed - c.taken))) (sym same) end
 
 pub joined_begins : (v u w y : View) (counts : List Count) (k pushed : ℕ) (items : List Item) → IsTaker v counts k → IsSender u pushed → w ≡ with_gathered v u → SeenBy w items → y ≡ w
-    → BeginsWith (sender_state_in u).pushed (part (sender_state_in u).number (taker_state_in y).taken)
+    → HasPrefix (sender_state_in u).pushed (part (sender_state_in u).number (taker_state_in y).taken)
 joined_begins v u w y counts k pushed items t r e seen same =
     let b = joined_begun (taker_state_in v) (sender_state_in u) items (joined_seen v u w counts k pushed items t r e seen) in
-    subst (λ (z : View). BeginsWith (sender_state_in u).pushed (part (sender_state_in u).number (taker_state_in z).taken)) (sym (same ∙ joined_is v u w t.is r.is e)) b
+    subst (λ (z : View). HasPrefix (sender_state_in u).pushed (part (sender_state_in u).number (taker_state_in z).taken)) (sym (same ∙ joined_is v u w t.is r.is e)) b
 
 -- if the inbox has no marks, the sender pushed none
 pub joined_packets : (v u w : View) (counts : List Count) (k pushed : ℕ) (items : List Item) → IsTaker v counts k → IsSender u pushed → w ≡ with_gathered v u → SeenBy w items

@@ -4,7 +4,7 @@ use Rattle.std.specs.List.{AllByRecursion as Each, list_any, sum_by}
 use Rattle.copy_inbox.specs.declared.items.Carried.{Carried}
 use Rattle.copy_inbox.specs.declared.items.Item.{Item}
 use Rattle.copy_inbox.specs.declared.rule.Gathered.{Gathered}
-use Rattle.copy_inbox.specs.Items.{part, BeginsWith}
+use Rattle.copy_inbox.specs.Items.{part, HasPrefix}
 
 abbrev pub is_gathered : List Gathered → ℕ → Bool
 is_gathered gathered s = list_any (λ (g : Gathered). g.number == s) gathered
@@ -28,7 +28,7 @@ Later made gathered = (u : ℕ) → u < made → is_gathered gathered u ≡ fals
 
 -- for each gathered sender, the items taken are a prefix of those that it pushed
 abbrev pub TookFronts : List Gathered → List Item → Type 0
-TookFronts gathered taken = Each (λ (g : Gathered). BeginsWith g.pushed (part g.number taken)) gathered
+TookFronts gathered taken = Each (λ (g : Gathered). HasPrefix g.pushed (part g.number taken)) gathered
 
 -- for each gathered sender, the items taken are all that it pushed
 abbrev pub Whole : List Gathered → List Item → Type 0

@@ -13,7 +13,7 @@ use Rattle.copy_inbox.specs.declared.rule.TakerState.{TakerState}
 use Rattle.copy_inbox.specs.declared.rule.SenderState.{SenderState}
 use Rattle.copy_inbox.specs.declared.rule.View.{View}
 use Rattle.copy_inbox.specs.declared.rule.View.TheVariants.{Taking, Sending, Spent}
-use Rattle.copy_inbox.specs.Items.{is_packet, ArePackets, Packets, part, OfMade}
+use Rattle.copy_inbox.specs.Items.{carries_packet, ArePackets, Packets, part, OfMade}
 use Rattle.copy_inbox.specs.Gathered.{is_gathered, untaken_of, known_of, TookFronts, Whole, Later}
 use Rattle.copy_inbox.specs.Views.{make_taker_state, make_sender_state, make_gathered}
 
@@ -131,7 +131,7 @@ pub record IsNextTaken (d : TakerState) (x : Item) : Type 0 where
   pub known : known_of d.gathered d.taken
       ≡ cond (is_gathered d.gathered x.sender) 1 0 + known_of d.gathered (d.taken ++ x ∷ [])
   -- the item is a packet if the taker may take only packets, and then the next items are packets too
-  pub packet : TakesPackets d → (is_packet x.what ≡ true) × TakesPackets (state_with d x)
+  pub packet : TakesPackets d → (carries_packet x.what ≡ true) × TakesPackets (state_with d x)
   -- the item's sender was gathered, if an item is known and no item of a sender that isn't gathered can be before a
   -- known one
   pub first : Later d.made d.gathered → 0 < known_of d.gathered d.taken → is_gathered d.gathered x.sender ≡ true

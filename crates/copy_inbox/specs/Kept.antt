@@ -7,7 +7,7 @@ use Rattle.copy_inbox.specs.Gathered.{is_gathered}
 use Rattle.copy_inbox.specs.Handles.{taker_state_in, IsTaker}
 
 -- the counts of the senders from `first` on are kept; the senders before `first` were gathered
-pub record KeepsCounts (v : View) (first : ℕ) (kept : List Count) (known : ℕ) : Type 0 where
+pub record KeepsSenderCounts (v : View) (first : ℕ) (kept : List Count) (known : ℕ) : Type 0 where
   pub counts : List Count
   pub taker : IsTaker v counts known
   pub rest : kept ≡ drop first counts

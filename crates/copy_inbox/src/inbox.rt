@@ -4,13 +4,13 @@ ghost use Rattle.std.specs.Prelude.{◌≡◌, ◌≤◌, true, false, [], ◌�
 ghost use Rattle.std.specs.Prelude.{OnErr, IfErr, IfSome, IfNone};
 ghost use Rattle.copy_inbox.specs.declared.items.Carried.TheVariants.{Packet, Mark};
 ghost use Rattle.copy_inbox.specs.declared.inbox.InboxError.TheVariants.{Memory};
-ghost use Rattle.copy_inbox.specs.Items.{is_packet, Packets, part, BeginsWith, OfMade};
+ghost use Rattle.copy_inbox.specs.Items.{carries_packet, Packets, part, HasPrefix, OfMade};
 ghost use Rattle.copy_inbox.specs.Gathered.{known_of, TookFronts};
 ghost use Rattle.copy_inbox.specs.Views.{make_taker_state, make_sender_state};
 ghost use Rattle.copy_inbox.specs.Handles.{InboxId, TakerView, SenderView, after_sender, after_pushing, after_gather};
 ghost use Rattle.copy_inbox.specs.Handles.{after_taking, TakesCopies, Empties, AllGathered, NoMarkLeft, TakesPackets};
 ghost use Rattle.copy_inbox.specs.Handles.{taker_state_in, sender_state_in, IsSender, IsNextTaken};
-ghost use Rattle.copy_inbox.specs.Kept.{KeepsCounts};
+ghost use Rattle.copy_inbox.specs.Kept.{KeepsSenderCounts};
 ghost use Rattle.copy_inbox.specs.Rule.{WasEmpty};
 ghost use Rattle.copy_inbox.specs.Drains.{Drains};
 
@@ -88,7 +88,7 @@ impl Model for Taker {
       state = taker_state_in t.pass.me.view.client;
     } };
 
-    ghost invariant = { λ t. KeepsCounts t.pass.me.view.client t.first t.counts.items t.known
+    ghost invariant = { λ t. KeepsSenderCounts t.pass.me.view.client t.first t.counts.items t.known
         × (t.pass.me.hand ≡ None) × (t.pass.me.spare ≡ None) };
 }
 
@@ -141,7 +141,7 @@ impl Sender {
         requires taker { taker.old.inbox ≡ inbox.now }
         requires sender { self.inbox ≡ inbox.now }
         ensures gathered { taker.new ≡ after_gather taker.old self.state }
-        ensures begun { BeginsWith self.state.pushed (part self.state.number taker.new.state.taken) }
+        ensures begun { HasPrefix self.state.pushed (part self.state.number taker.new.state.taken) }
         ensures plain { taker.old.state.marked ≡ false → Packets self.state.pushed }
     {
         let Sender {
@@ -169,7 +169,7 @@ impl Inbox {
     /// # Errors
     /// `Memory` if an allocation fails.
     pub fn make(alloc: Global) -> Result<(Inbox, Taker), InboxError>
-        ensures inbox { IfOk result (λ made. made.1.inbox ≡ made.0) }
+        ensures of_inbox { IfOk result (λ made. made.1.inbox ≡ made.0) }
         ensures empty { IfOk result (λ made. made.1.state ≡ make_taker_state false 0 [] []) }
     {
         let (queue, pass) = RuledSegQueue::with_rule(alloc)?;
@@ -192,7 +192,7 @@ impl Inbox {
     /// # Errors
     /// `Memory` if an allocation fails.
     pub fn make_marked(alloc: Global) -> Result<(Inbox, Taker), InboxError>
-        ensures inbox { IfOk result (λ made. made.1.inbox ≡ made.0) }
+        ensures of_inbox { IfOk result (λ made. made.1.inbox ≡ made.0) }
         ensures empty { IfOk result (λ made. made.1.state ≡ make_taker_state true 0 [] []) }
     {
         let (inbox, mut taker) = Inbox::make(alloc)?;
@@ -206,8 +206,8 @@ impl Inbox {
     /// # Errors
     /// `Memory` if an allocation fails. Then the taker is unchanged.
     pub fn sender(&self, taker: &mut Taker) -> Result<Sender, InboxError>
-        requires inbox { taker.old.inbox ≡ self.now }
-        ensures inbox { IfOk result (λ sender. sender.inbox ≡ self.now) }
+        requires of_inbox { taker.old.inbox ≡ self.now }
+        ensures of_inbox { IfOk result (λ sender. sender.inbox ≡ self.now) }
         ensures fresh { IfOk result
             (λ sender. sender.state ≡ make_sender_state taker.old.state.marked taker.old.state.made []) }
         ensures taker { OnOk result (taker.new ≡ after_sender taker.old) }
@@ -237,8 +237,8 @@ impl Inbox {
         sender: &mut Sender,
         copy: RadioCopy,
     ) -> Result<(), RadioCopy>
-        requires inbox { sender.old.inbox ≡ self.now }
-        ensures inbox { sender.new.inbox ≡ sender.old.inbox }
+        requires of_inbox { sender.old.inbox ≡ self.now }
+        ensures of_inbox { sender.new.inbox ≡ sender.old.inbox }
         ensures pushed { OnOk result (sender.new.state ≡ after_pushing sender.old.state (Packet copy)) }
         ensures comes_back { IfErr result (λ back. back ≡ copy) }
         ensures refused { OnErr result (sender.new ≡ sender.old) }
@@ -252,9 +252,9 @@ impl Inbox {
     /// # Errors
     /// The window's number, if an allocation fails, or after 2^62 pushes. Then nothing has changed.
     pub fn push_mark<R: Wait>(&self, rt: &R, sender: &mut Sender, window: u64) -> Result<(), u64>
-        requires inbox { sender.old.inbox ≡ self.now }
+        requires of_inbox { sender.old.inbox ≡ self.now }
         requires marked { sender.old.state.marked ≡ true }
-        ensures inbox { sender.new.inbox ≡ sender.old.inbox }
+        ensures of_inbox { sender.new.inbox ≡ sender.old.inbox }
         ensures pushed { OnOk result (sender.new.state ≡ after_pushing sender.old.state (Mark window)) }
         ensures comes_back { IfErr result (λ back. back ≡ window) }
         ensures refused { OnErr result (sender.new ≡ sender.old) }
@@ -273,9 +273,9 @@ impl Inbox {
 
     // Pushes a copy or a mark. A mark may be pushed only if the inbox has marks.
     fn push<R: Wait>(&self, rt: &R, sender: &mut Sender, what: Carried) -> Result<(), Carried>
-        requires inbox { sender.old.inbox ≡ self.now }
-        requires plain { sender.old.state.marked ≡ false → is_packet what ≡ true }
-        ensures inbox { sender.new.inbox ≡ sender.old.inbox }
+        requires of_inbox { sender.old.inbox ≡ self.now }
+        requires plain { sender.old.state.marked ≡ false → carries_packet what ≡ true }
+        ensures of_inbox { sender.new.inbox ≡ sender.old.inbox }
         ensures pushed { OnOk result (sender.new.state ≡ after_pushing sender.old.state what) }
         ensures refused { OnErr result (sender.new ≡ sender.old) }
     {
@@ -298,7 +298,7 @@ impl Inbox {
         requires taker { taker.old.inbox ≡ self.now }
         requires sender { sender.inbox ≡ self.now }
         ensures gathered { taker.new ≡ after_gather taker.old sender.state }
-        ensures begun { BeginsWith sender.state.pushed (part sender.state.number taker.new.state.taken) }
+        ensures begun { HasPrefix sender.state.pushed (part sender.state.number taker.new.state.taken) }
         ensures plain { taker.old.state.marked ≡ false → Packets sender.state.pushed }
     {
         sender.join(rt, self, taker);
@@ -306,7 +306,7 @@ impl Inbox {
 
     /// Returns the number of copies and marks of gathered senders that haven't been taken yet.
     pub fn known(&self, taker: &Taker) -> u64
-        requires inbox { taker.now.inbox ≡ self.now }
+        requires of_inbox { taker.now.inbox ≡ self.now }
         ensures count { result ≡ known_of taker.now.state.gathered taker.now.state.taken }
     {
         let Taker { known, .. } = taker;
@@ -317,7 +317,7 @@ impl Inbox {
     /// `None` only if the queue was found empty and no item is known; then nothing has changed. The items taken from a
     /// gathered sender are still a prefix of those that it pushed.
     pub fn take_next<R: Wait>(&self, rt: &R, taker: &mut Taker) -> Option<Item>
-        requires inbox { taker.old.inbox ≡ self.now }
+        requires of_inbox { taker.old.inbox ≡ self.now }
         ensures still { (taker.new.inbox ≡ taker.old.inbox) × (taker.new.state.made ≡ taker.old.state.made)
             × (taker.new.state.gathered ≡ taker.old.state.gathered) }
         ensures taken { IfSome result (λ x. taker.new ≡ after_taking taker.old (x ∷ [])) }
@@ -345,7 +345,7 @@ impl Inbox {
         taker: &mut Taker,
         n: u64,
     ) -> Result<Vec<RadioCopy>, InboxError>
-        requires inbox { taker.old.inbox ≡ self.now }
+        requires of_inbox { taker.old.inbox ≡ self.now }
         requires plain { taker.old.state.marked ≡ false }
         requires known { n ≤ known_of taker.old.state.gathered taker.old.state.taken }
         ensures count { IfOk result (λ copies. length copies.items ≡ n) }
@@ -363,7 +363,7 @@ impl Inbox {
         taker: &mut Taker,
         n: u64,
     ) -> Result<Vec<RadioCopy>, InboxError>
-        requires inbox { taker.old.inbox ≡ self.now }
+        requires of_inbox { taker.old.inbox ≡ self.now }
         requires packets { TakesPackets taker.old.state }
         requires known { n ≤ known_of taker.old.state.gathered taker.old.state.taken }
         ensures count { IfOk result (λ copies. length copies.items ≡ n) }
@@ -390,7 +390,7 @@ impl Inbox {
     /// # Errors
     /// `Memory` if an allocation fails. Then everything that is left in the inbox is dropped with it.
     pub fn close<R: Wait>(self, rt: &R, taker: Taker) -> Result<Vec<RadioCopy>, InboxError>
-        requires inbox { taker.inbox ≡ self }
+        requires of_inbox { taker.inbox ≡ self }
         requires gathered { AllGathered taker.state }
         requires packets { NoMarkLeft taker.state }
         ensures empties { IfOk result (λ copies. Empties taker.state copies.items) }

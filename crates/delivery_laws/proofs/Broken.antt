@@ -5,7 +5,7 @@ use Rattle.std.proofs.lemmas.List.Elements.{All-head, All-tail, Contains-append_
 use Rattle.std.proofs.lemmas.List.{length-append}
 use Rattle.std.proofs.Math.Seq.{take-append_seam, drop-append_seam}
 use Rattle.std.proofs.lemmas.Bool.Decides.{nat_tests}
-use Rattle.delivery_laws.specs.HandedOn.{Target, ToOne, ToAll, Line, Start, Leave, Post, Take, Drop, Halt, Other, Incarnation, Handing, is_listed, process_list, posted_serials, handings, handings_behind, of_serial, IsFor, IsGivenToAll, EndsInHalt, HandedOn}
+use Rattle.delivery_laws.specs.HandedOn.{Target, ToOne, ToAll, Line, Start, Leave, Post, Take, Drop, Halt, Other, Incarnation, Handing, has_incarnation, process_list, posted_serials, handings, handings_behind, of_serial, IsHandingFor, IsGivenToAll, EndsInHalt, HandedOn}
 use Rattle.delivery_laws.proofs.Lines.{alone}
 use Rattle.delivery_laws.specs.Traces as traces
 use Rattle.delivery_laws.specs.Traces.{TracesThatDoNot}
@@ -71,7 +71,7 @@ after_leaving h =
     let g = h.to_one 0 5 b (1, omega arith, refl) in
     let e : record { serial = 0; process = 5; taken = true; before = Start 5 ∷ Post 0 (ToOne 5) ∷ Leave 5 ∷ [] } ∷ [] ≡ g.line ∷ [] = g.alone in
     let f : record { serial = 0; process = 5; taken = true; before = Start 5 ∷ Post 0 (ToOne 5) ∷ Leave 5 ∷ [] } ≡ g.line = cc in
-    let q : true ≡ false = subst (λ (x : Handing). x.taken ≡ is_listed (process_list x.before) 5) (sym f) g.taken in
+    let q : true ≡ false = subst (λ (x : Handing). x.taken ≡ has_incarnation (process_list x.before) 5) (sym f) g.taken in
     absurd (cc)
 
 though_listed : HandedOn traces.dropped_though_listed → ⊥
@@ -80,7 +80,7 @@ though_listed h =
     let g = h.to_one 0 5 b (1, omega arith, refl) in
     let e : record { serial = 0; process = 5; taken = false; before = Start 5 ∷ Post 0 (ToOne 5) ∷ [] } ∷ [] ≡ g.line ∷ [] = g.alone in
     let f : record { serial = 0; process = 5; taken = false; before = Start 5 ∷ Post 0 (ToOne 5) ∷ [] } ≡ g.line = cc in
-    let q : false ≡ true = subst (λ (x : Handing). x.taken ≡ is_listed (process_list x.before) 5) (sym f) g.taken in
+    let q : false ≡ true = subst (λ (x : Handing). x.taken ≡ has_incarnation (process_list x.before) 5) (sym f) g.taken in
     absurd (cc)
 
 twice : HandedOn traces.taken_twice → ⊥
@@ -115,7 +115,7 @@ record IsAt (t : List Line) (s : ℕ) (lacking : List Incarnation) (k : ℕ) : T
   passes : is_place s t k ≡ true
   reached : List Incarnation
   whole : process_list (take k t) ≡ reached ++ lacking
-  in_turn : AllZip IsFor reached (of_serial s (handings_behind (take k t) (drop k t)))
+  in_turn : AllZip IsHandingFor reached (of_serial s (handings_behind (take k t) (drop k t)))
 
 at_place : (t : List Line) (s : ℕ) (lacking : List Incarnation) → IsGivenToAll t s lacking → (k : ℕ) × IsAt t s lacking k
 at_place t s lacking g =
@@ -132,23 +132,23 @@ at_place t s lacking g =
     )
 
 -- two lines are too many if only one incarnation is listed
-two_for_one : (a : Incarnation) (lacking is : List Incarnation) (h i : Handing) → AllZip IsFor is (h ∷ i ∷ []) → a ∷ [] ≡ is ++ lacking → ⊥
+two_for_one : (a : Incarnation) (lacking is : List Incarnation) (h i : Handing) → AllZip IsHandingFor is (h ∷ i ∷ []) → a ∷ [] ≡ is ++ lacking → ⊥
 two_for_one a lacking [] h i z w = z
 two_for_one a lacking (x ∷ []) h i z w = z.1
 two_for_one a lacking (x ∷ y ∷ is) h i z w = absurd (cc)
 
 -- the first line is for the first listed incarnation
-first_is : (a : Incarnation) (list lacking is : List Incarnation) (h : Handing) (hs : List Handing) → AllZip IsFor is (h ∷ hs) → a ∷ list ≡ is ++ lacking → IsFor a h
+first_is : (a : Incarnation) (list lacking is : List Incarnation) (h : Handing) (hs : List Handing) → AllZip IsHandingFor is (h ∷ hs) → a ∷ list ≡ is ++ lacking → IsHandingFor a h
 first_is a list lacking [] h hs z w = absurd z
-first_is a list lacking (x ∷ is) h hs z w = let e : x ≡ a = cc in subst (λ y. IsFor y h) e z.0
+first_is a list lacking (x ∷ is) h hs z w = let e : x ≡ a = cc in subst (λ y. IsHandingFor y h) e z.0
 
-second_is : (a b : Incarnation) (list lacking is : List Incarnation) (h i : Handing) (hs : List Handing) → AllZip IsFor is (h ∷ i ∷ hs) → a ∷ b ∷ list ≡ is ++ lacking → IsFor b i
+second_is : (a b : Incarnation) (list lacking is : List Incarnation) (h i : Handing) (hs : List Handing) → AllZip IsHandingFor is (h ∷ i ∷ hs) → a ∷ b ∷ list ≡ is ++ lacking → IsHandingFor b i
 second_is a b list lacking [] h i hs z w = absurd z
 second_is a b list lacking (x ∷ []) h i hs z w = absurd z.1
-second_is a b list lacking (x ∷ y ∷ is) h i hs z w = let e : y ≡ b = cc in subst (λ k. IsFor k i) e z.1.0
+second_is a b list lacking (x ∷ y ∷ is) h i hs z w = let e : y ≡ b = cc in subst (λ k. IsHandingFor k i) e z.1.0
 
 -- if there is only one line, one of two incarnations lacks its line
-one_for_two : (a b : Incarnation) (lacking is : List Incarnation) (h : Handing) → AllZip IsFor is (h ∷ []) → a ∷ b ∷ [] ≡ is ++ lacking → lacking ≡ [] → ⊥
+one_for_two : (a b : Incarnation) (lacking is : List Incarnation) (h : Handing) → AllZip IsHandingFor is (h ∷ []) → a ∷ b ∷ [] ≡ is ++ lacking → lacking ≡ [] → ⊥
 one_for_two a b lacking [] h z w e = z
 one_for_two a b lacking (x ∷ []) h z w e = let f : a ∷ b ∷ [] ≡ x ∷ [] = w ∙ ap (λ l. x ∷ l) e in absurd (cc)
 one_for_two a b lacking (x ∷ y ∷ is) h z w e = z.1

@@ -5,7 +5,7 @@ use Rattle.std.specs.List.{All, AllZip, Contains, range_with_len}
 use Rattle.std.proofs.lemmas.List.Elements.{All-append, All-nil, All-cons, All-head, All-tail, Contains-append_right}
 use Rattle.std.proofs.lemmas.List.FromFn.{length-range_with_len}
 use Rattle.std.proofs.lemmas.Bool.Decides.{nat_tests}
-use Rattle.delivery_laws.specs.HandedOn.{Target, ToOne, ToAll, Line, Halt, Incarnation, Handing, process_list, handings, handings_behind, of_serial, IsGivenToOne, IsFor, IsGivenToAll, EndsInHalt, HandedOn}
+use Rattle.delivery_laws.specs.HandedOn.{Target, ToOne, ToAll, Line, Halt, Incarnation, Handing, process_list, handings, handings_behind, of_serial, IsGivenToOne, IsHandingFor, IsGivenToAll, EndsInHalt, HandedOn}
 use Rattle.delivery_laws.specs.Delivery.{DeliveryMachine, initial}
 use Rattle.delivery_laws.specs.Laws.{DeliveryHandsOn}
 use Rattle.delivery_laws.proofs.Lines.{handings_joined}
@@ -28,7 +28,7 @@ found s (x ∷ hs) h more e = elim (split (x.serial == s) refl) [ inl f ↦ foun
 
 -- events that were given to all their processes have lines
 
-found_in_turn : (t : List Line) (s : ℕ) (lacking : List Incarnation) (g : IsGivenToAll t s lacking) → (is : List Incarnation) (hs : List Handing) → (is ≡ [] → ⊥) → AllZip IsFor is hs → of_serial s (handings_behind g.before g.behind) ≡ hs → HasLine t s
+found_in_turn : (t : List Line) (s : ℕ) (lacking : List Incarnation) (g : IsGivenToAll t s lacking) → (is : List Incarnation) (hs : List Handing) → (is ≡ [] → ⊥) → AllZip IsHandingFor is hs → of_serial s (handings_behind g.before g.behind) ≡ hs → HasLine t s
 found_in_turn t s lacking g [] hs f z e = absurd (f refl)
 found_in_turn t s lacking g (i ∷ is) [] f z e = absurd z
 found_in_turn t s lacking g (i ∷ is) (h ∷ hs) f z e =
@@ -101,13 +101,13 @@ both_below s n (h ∷ hs) e a b =
     let d : h.serial ≡ s → ⊥ = All-head (λ x. x.serial ≡ s → ⊥) h hs b in
     All-cons (λ x. x.serial < s) h hs (grind (arith, d)) (both_below s n hs e (All-tail (λ x. x.serial < n) h hs a) (All-tail (λ x. x.serial ≡ s → ⊥) h hs b))
 
-zip_none : (hs : List Handing) → AllZip IsFor [] hs → hs ≡ []
+zip_none : (hs : List Handing) → AllZip IsHandingFor [] hs → hs ≡ []
 zip_none [] z = refl
 zip_none (h ∷ hs) z = absurd z
 
 none_reached : (t : List Line) (s : ℕ) (lacking : List Incarnation) (g : IsGivenToAll t s lacking) → g.reached ≡ [] → All (λ h. h.serial ≡ s → ⊥) (handings t)
 none_reached t s lacking g e =
-    let z : AllZip IsFor [] (of_serial s (handings_behind g.before g.behind)) = subst (λ x. AllZip IsFor x (of_serial s (handings_behind g.before g.behind))) e g.in_turn in
+    let z : AllZip IsHandingFor [] (of_serial s (handings_behind g.before g.behind)) = subst (λ x. AllZip IsHandingFor x (of_serial s (handings_behind g.before g.behind))) e g.in_turn in
     let q : handings t ≡ handings g.before ++ handings_behind g.before g.behind = ap handings g.place ∙ handings_joined [] g.before g.behind in
     rw q (All-append (λ h. h.serial ≡ s → ⊥) _ _ g.not_after_own (none_equal s _ (zip_none _ z)))
 

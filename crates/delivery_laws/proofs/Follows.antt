@@ -4,7 +4,7 @@ use Rattle.std.proofs.lemmas.List.{length_push}
 use Rattle.std.specs.List.{All, AllZip, Contains}
 use Rattle.std.proofs.lemmas.List.Elements.{All-weaker}
 use Rattle.std.proofs.lemmas.Bool.Decides.{nat_tests}
-use Rattle.delivery_laws.specs.HandedOn.{Target, ToOne, ToAll, Line, Start, Leave, Post, Halt, Other, Incarnation, is_on, is_listed, without, list_after, process_list, posted_serials, handing_at, handings}
+use Rattle.delivery_laws.specs.HandedOn.{Target, ToOne, ToAll, Line, Start, Leave, Post, Halt, Other, Incarnation, is_on, has_incarnation, without, list_after, process_list, posted_serials, handing_at, handings}
 use Rattle.delivery_laws.specs.Delivery.{Waiting, DeliveryMachine, initial, take_or_drop, DeliveryStep, starts, leaves, posts, gives_one, begins_walk, walks_on, writes, renumbers, DeliveryRuns, stays, goes_on}
 use Rattle.delivery_laws.proofs.Lines.{listed_more, given_list, given_posted}
 use Rattle.delivery_laws.proofs.IsInState.{IsBelow, IsPair, Waits, IsGiven, lacking_of, IsInState, posts_other, posts_post, same_listed, lists_start, lists_leave, lists_other, pairs_begin, pairs_start, pairs_leave, pairs_other, waits_more, waits_post, gone_quiet, gone_given}
@@ -91,15 +91,15 @@ in_state_aside m l t a h = record {
   current = h.current;
 }
 
-given_one_more : (m : DeliveryMachine) (s p : ℕ) (t : List Line) (h : IsInState m t) → s ≡ h.taken → Contains t (Post h.taken (ToOne p)) → h.lacking ≡ [] → (r : ℕ) → (r < h.taken) ⊎ (r ≡ h.taken) → IsGiven (t ++ take_or_drop (is_listed m.list p) s p ∷ []) r (lacking_of m.walked h.lacking r)
-given_one_more m s p t h e c n r (inl k) = given_more t _ r _ (beyond_given r s p (is_listed m.list p) (omega arith)) (h.are_given r k)
-given_one_more m s p t h e c n r (inr k) = rw (n, lacking_none m.walked r, k, e) (given_one t h.taken p (is_listed m.list p) c h.gone.below (same_listed m.list (process_list t) p h.lists.same))
+given_one_more : (m : DeliveryMachine) (s p : ℕ) (t : List Line) (h : IsInState m t) → s ≡ h.taken → Contains t (Post h.taken (ToOne p)) → h.lacking ≡ [] → (r : ℕ) → (r < h.taken) ⊎ (r ≡ h.taken) → IsGiven (t ++ take_or_drop (has_incarnation m.list p) s p ∷ []) r (lacking_of m.walked h.lacking r)
+given_one_more m s p t h e c n r (inl k) = given_more t _ r _ (beyond_given r s p (has_incarnation m.list p) (omega arith)) (h.are_given r k)
+given_one_more m s p t h e c n r (inr k) = rw (n, lacking_none m.walked r, k, e) (given_one t h.taken p (has_incarnation m.list p) c h.gone.below (same_listed m.list (process_list t) p h.lists.same))
 
-in_state_one : (m : DeliveryMachine) (s p : ℕ) (waiting : List Waiting) (t : List Line) → m.coming ≡ [] → m.queue ≡ record { serial = s; target = ToOne p } ∷ waiting → IsInState m t → IsInState (record m { queue = waiting }) (t ++ take_or_drop (is_listed m.list p) s p ∷ [])
+in_state_one : (m : DeliveryMachine) (s p : ℕ) (waiting : List Waiting) (t : List Line) → m.coming ≡ [] → m.queue ≡ record { serial = s; target = ToOne p } ∷ waiting → IsInState m t → IsInState (record m { queue = waiting }) (t ++ take_or_drop (has_incarnation m.list p) s p ∷ [])
 in_state_one m s p waiting t c q h =
     let w : (s ≡ h.taken) × Contains t (Post h.taken (ToOne p)) × Waits (h.taken + 1) waiting m.accepted t = subst (λ x. Waits h.taken x m.accepted t) q h.waits in
     let n : h.lacking ≡ [] = nothing_lacks (IsPair m.list m.numbered (process_list t) (length t)) m.coming h.lacking h.pairs c in
-    let there = is_listed m.list p in
+    let there = has_incarnation m.list p in
     let l = take_or_drop there s p in
     record {
       posts = posts_other m.accepted t l (given_posted there s p) h.posts;

@@ -4,7 +4,7 @@ use Rattle.std.specs.List.{All, Contains}
 use Rattle.std.proofs.lemmas.List.Elements.{filter-append, Contains-append_left, All-append, All-nil, All-cons, All-weaker, All-head, All-tail}
 use Rattle.std.proofs.lemmas.Slice.Zip.{all_zipped_more}
 use Rattle.std.proofs.lemmas.Bool.Decides.{nat_tests}
-use Rattle.delivery_laws.specs.HandedOn.{Target, ToOne, ToAll, Line, Post, Incarnation, Handing, is_on, is_listed, process_list, handing_at, handings_behind, handings, of_serial, IsGivenToOne, IsFor, IsGivenToAll}
+use Rattle.delivery_laws.specs.HandedOn.{Target, ToOne, ToAll, Line, Post, Incarnation, Handing, is_on, has_incarnation, process_list, handing_at, handings_behind, handings, of_serial, IsGivenToOne, IsHandingFor, IsGivenToAll}
 use Rattle.delivery_laws.specs.Delivery.{take_or_drop}
 use Rattle.delivery_laws.proofs.Lines.{handings_more, given_handing}
 use Rattle.delivery_laws.proofs.IsInState.{IsGivenTo, IsGiven, handings_given}
@@ -65,7 +65,7 @@ none_of s [] a = refl
 none_of s (h ∷ hs) a = let e : h.serial < s = All-head (λ x. x.serial < s) h hs a in let f = none_of s hs (All-tail (λ x. x.serial < s) h hs a) in grind (arith, nat_tests)
 
 -- an event that was posted to one process is given to it
-pub given_one : (t : List Line) (s p : ℕ) (there : Bool) → Contains t (Post s (ToOne p)) → All (λ h. h.serial < s) (handings t) → there ≡ is_listed (process_list t) p → IsGiven (t ++ take_or_drop there s p ∷ []) s []
+pub given_one : (t : List Line) (s p : ℕ) (there : Bool) → Contains t (Post s (ToOne p)) → All (λ h. h.serial < s) (handings t) → there ≡ has_incarnation (process_list t) p → IsGiven (t ++ take_or_drop there s p ∷ []) s []
 given_one t s p there c a e = record {
   target = ToOne p;
   was_posted = Contains-append_left t _ _ c;
@@ -116,7 +116,7 @@ all_next t s i lacking there p e f g =
       not_after_own = g.not_after_own;
       reached = g.reached ++ i ∷ [];
       whole = g.whole ∙ sym (append_assoc g.reached (i ∷ []) lacking);
-      in_turn = rw (all, filter-append, single_own s (record { serial = s; process = p; taken = there; before = t }) refl) (all_zipped_more IsFor g.reached _ i _ g.in_turn (record { process = e; taken = f }));
+      in_turn = rw (all, filter-append, single_own s (record { serial = s; process = p; taken = there; before = t }) refl) (all_zipped_more IsHandingFor g.reached _ i _ g.in_turn (record { process = e; taken = f }));
     }
 
 next_of_target : (g : Target) (t : List Line) (s : ℕ) (i : Incarnation) (lacking : List Incarnation) (there : Bool) (p : ℕ) → p ≡ i.process → there ≡ is_on (process_list t) i → IsGivenTo g t s (i ∷ lacking) → IsGivenTo g (t ++ take_or_drop there s p ∷ []) s lacking

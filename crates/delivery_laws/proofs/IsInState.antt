@@ -4,7 +4,7 @@ use Rattle.std.proofs.lemmas.List.Quantifiers.{all_pairs_push}
 use Rattle.std.specs.List.{All, AllPairs, AllZip, Contains, filter, list_any, range_with_len}
 use Rattle.std.proofs.lemmas.List.Elements.{Contains-append_left, Contains-push, Contains-push_cases, All-push, All-nil, All-cons, All-weaker, All-get_or, All-filter, All-head, All-tail}
 use Rattle.std.proofs.lemmas.Bool.Decides.{nat_tests}
-use Rattle.delivery_laws.specs.HandedOn.{Target, ToOne, ToAll, Line, Post, Incarnation, Handing, is_on, is_listed, without, process_list, posted_serials, handing_at, handings, IsGivenToOne, IsGivenToAll}
+use Rattle.delivery_laws.specs.HandedOn.{Target, ToOne, ToAll, Line, Post, Incarnation, Handing, is_on, has_incarnation, without, process_list, posted_serials, handing_at, handings, IsGivenToOne, IsGivenToAll}
 use Rattle.delivery_laws.specs.Delivery.{Waiting, DeliveryMachine, take_or_drop}
 use Rattle.delivery_laws.proofs.Lines.{on_start, on_leave, handings_more, posted_more, given_handing}
 
@@ -107,11 +107,11 @@ posts_post n t g p = record {
 
 -- the process lists
 
-any_of_processes : (list : List Incarnation) (p : ℕ) → is_listed list p ≡ list_any (λ q. q == p) (map (λ i. i.process) list)
+any_of_processes : (list : List Incarnation) (p : ℕ) → has_incarnation list p ≡ list_any (λ q. q == p) (map (λ i. i.process) list)
 any_of_processes [] p = refl
 any_of_processes (i ∷ list) p = rw (any_of_processes list p) refl
 
-pub same_listed : (list there : List Incarnation) (p : ℕ) → map (λ i. i.process) list ≡ map (λ i. i.process) there → is_listed list p ≡ is_listed there p
+pub same_listed : (list there : List Incarnation) (p : ℕ) → map (λ i. i.process) list ≡ map (λ i. i.process) there → has_incarnation list p ≡ has_incarnation there p
 same_listed list there p e = any_of_processes list p ∙ ap (λ ps. list_any (λ q. q == p) ps) e ∙ sym (any_of_processes there p)
 
 without_of_processes : (list : List Incarnation) (p : ℕ) → map (λ i. i.process) (without list p) ≡ filter (λ q. not (q == p)) (map (λ i. i.process) list)

@@ -2,7 +2,7 @@
 use Rattle.std.proofs.Common.{ℕ, ◌≡◌, ◌⊎◌, inl, inr, Bool, true, false, List, [], ◌∷◌, ◌++◌, refl, sym, ap, ◌∙◌, subst, append-nil, arith}
 use Rattle.std.specs.List.{Contains}
 use Rattle.std.proofs.lemmas.List.Elements.{Contains-append_right, Contains-append_cases}
-use Rattle.delivery_laws.specs.HandedOn.{Line, Start, Leave, Post, Halt, Other, is_on, is_listed, process_list}
+use Rattle.delivery_laws.specs.HandedOn.{Line, Start, Leave, Post, Halt, Other, is_on, has_incarnation, process_list}
 use Rattle.delivery_laws.specs.StartsAndHalts.{HaltIsLast, StartsTheUnlisted}
 use Rattle.delivery_laws.specs.Delivery.{DeliveryMachine, initial, take_or_drop, DeliveryStep, starts, leaves, posts, gives_one, begins_walk, walks_on, writes, renumbers, DeliveryRuns, stays, goes_on}
 use Rattle.delivery_laws.specs.Laws.{DeliveryHaltsLast, DeliveryStartsTheUnlisted}
@@ -54,7 +54,7 @@ no_halt_step : (m : DeliveryMachine) (more : List Line) (m' : DeliveryMachine) �
 no_halt_step m more m' (starts n p u) = no_halt_one _ (λ e. (cc))
 no_halt_step m more m' (leaves n p) = no_halt_one _ (λ e. (cc))
 no_halt_step m more m' (posts n g) = no_halt_one _ (λ e. (cc))
-no_halt_step m more m' (gives_one n s p waiting c q) = no_halt_one _ (no_halt_given (is_listed n.list p) s p)
+no_halt_step m more m' (gives_one n s p waiting c q) = no_halt_one _ (no_halt_given (has_incarnation n.list p) s p)
 no_halt_step m more m' (begins_walk n s waiting c q f) = λ c. omega (arith, c.1)
 no_halt_step m more m' (walks_on n i rest c) = no_halt_one _ (no_halt_given (is_on n.list i) n.walked i.process)
 no_halt_step m more m' (writes n) = no_halt_one _ (λ e. (cc))
@@ -79,15 +79,15 @@ halt_is_last t (inr h) = rw h.ends (ends_with h.before (no_halt_runs initial h.b
 
 -- only processes that aren't listed start
 
-one_more : (t : List Line) (l : Line) → ((p : ℕ) → l ≡ Start p → is_listed (process_list t) p ≡ false) → StartsTheUnlisted t → StartsTheUnlisted (t ++ l ∷ [])
-one_more t l f h before behind p e = elim (split_push t before (Start p) behind l e) [ inl s ↦ subst (λ u. is_listed (process_list u) p ≡ false) (sym s.all) (f p (sym s.same)) | inr s ↦ h before s.rest p s.within ]
+one_more : (t : List Line) (l : Line) → ((p : ℕ) → l ≡ Start p → has_incarnation (process_list t) p ≡ false) → StartsTheUnlisted t → StartsTheUnlisted (t ++ l ∷ [])
+one_more t l f h before behind p e = elim (split_push t before (Start p) behind l e) [ inl s ↦ subst (λ u. has_incarnation (process_list u) p ≡ false) (sym s.all) (f p (sym s.same)) | inr s ↦ h before s.rest p s.within ]
 
 no_start_given : (there : Bool) (s p q : ℕ) → take_or_drop there s p ≡ Start q → ⊥
 no_start_given true s p q e = cc
 no_start_given false s p q e = cc
 
-started : (m : DeliveryMachine) (t : List Line) (p : ℕ) → is_listed m.list p ≡ false → IsInState m t → (q : ℕ) → Start p ≡ Start q → is_listed (process_list t) q ≡ false
-started m t p u h q e = let f : p ≡ q = cc in sym (same_listed m.list (process_list t) q h.lists.same) ∙ subst (λ r. is_listed m.list r ≡ false) f u
+started : (m : DeliveryMachine) (t : List Line) (p : ℕ) → has_incarnation m.list p ≡ false → IsInState m t → (q : ℕ) → Start p ≡ Start q → has_incarnation (process_list t) q ≡ false
+started m t p u h q e = let f : p ≡ q = cc in sym (same_listed m.list (process_list t) q h.lists.same) ∙ subst (λ r. has_incarnation m.list r ≡ false) f u
 
 starts_step : (m : DeliveryMachine) (more : List Line) (m' : DeliveryMachine) (t : List Line) → DeliveryStep m more m' → IsInState m t → StartsTheUnlisted t → StartsTheUnlisted (t ++ more)
 starts_step m more m' t (starts n p u) h k = one_more t (Start p) (started n t p u h) k

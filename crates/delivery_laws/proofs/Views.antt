@@ -1,7 +1,7 @@
 -- Steps of a kernel as runs of the delivery machine, in the middle of any walk.
 use Rattle.std.proofs.Common.{ℕ, ◌≡◌, ◌+◌, ◌<◌, Bool, false, List, [], ◌∷◌, ◌++◌, inl, inr, refl, map}
 use Rattle.std.specs.List.{All}
-use Rattle.delivery_laws.specs.HandedOn.{Line, Target, ToOne, ToAll, Start, Leave, Post, Halt, Other, Incarnation, is_listed, is_on, without, HandedOn}
+use Rattle.delivery_laws.specs.HandedOn.{Line, Target, ToOne, ToAll, Start, Leave, Post, Halt, Other, Incarnation, has_incarnation, is_on, without, HandedOn}
 use Rattle.delivery_laws.specs.StartsAndHalts.{HaltIsLast, StartsTheUnlisted}
 use Rattle.delivery_laws.specs.Delivery.{Waiting, take_or_drop, DeliveryRuns, stays, Halts, starts, leaves, posts, gives_one, begins_walk, walks_on, writes, renumbers}
 use Rattle.delivery_laws.specs.View.{View, machine_at, GoesWithView, HasHalted}
@@ -29,7 +29,7 @@ stops_joined u v ls more h i walked coming = halts_joined _ _ (machine_at v walk
 pub other_moves : (v : View) → Moves v (Other ∷ []) v
 other_moves v walked coming = one_step _ _ _ (writes (machine_at v walked coming))
 
-pub start_moves : (v : View) (p : ℕ) → is_listed v.list p ≡ false → Moves v (Start p ∷ []) (record v { list = record { process = p; number = v.numbered } ∷ v.list; numbered = v.numbered + 1 })
+pub start_moves : (v : View) (p : ℕ) → has_incarnation v.list p ≡ false → Moves v (Start p ∷ []) (record v { list = record { process = p; number = v.numbered } ∷ v.list; numbered = v.numbered + 1 })
 start_moves v p u walked coming = one_step _ _ _ (starts (machine_at v walked coming) p u)
 
 pub leave_moves : (v : View) (p : ℕ) (list : List Incarnation) → list ≡ without v.list p → Moves v (Leave p ∷ []) (record v { list = list })
@@ -43,7 +43,7 @@ halt_stops v walked coming = record { before = []; last = _; runs = stays; ends 
 
 -- the steps of the machine that belong only to the delivery
 
-pub gives : (v : View) (walked s p : ℕ) (there : Bool) (queue : List Waiting) → v.queue ≡ record { serial = s; target = ToOne p } ∷ queue → there ≡ is_listed v.list p → DeliveryRuns (machine_at v walked []) (take_or_drop there s p ∷ []) (machine_at (record v { queue = queue }) walked [])
+pub gives : (v : View) (walked s p : ℕ) (there : Bool) (queue : List Waiting) → v.queue ≡ record { serial = s; target = ToOne p } ∷ queue → there ≡ has_incarnation v.list p → DeliveryRuns (machine_at v walked []) (take_or_drop there s p ∷ []) (machine_at (record v { queue = queue }) walked [])
 gives v walked s p there queue q e = rw e (one_step _ _ _ (gives_one (machine_at v walked []) s p queue refl q))
 
 pub begins : (v : View) (walked s : ℕ) (queue : List Waiting) → v.queue ≡ record { serial = s; target = ToAll } ∷ queue → (v.list ≡ [] → ⊥) → DeliveryRuns (machine_at v walked []) [] (machine_at (record v { queue = queue }) s v.list)

@@ -3,7 +3,7 @@
 use Rattle.std.specs.Prelude.{ℕ, Bool, false, ◌≡◌, ◌<◌, ◌+◌, ◌⊎◌, List, [], ◌∷◌, ◌++◌, map, if◌then◌else◌}
 use Rattle.std.specs.List.{All}
 use Rattle.delivery_laws.specs.HandedOn.{Target, ToOne, ToAll, Line, Start, Leave, Post, Take, Drop, Halt, Other}
-use Rattle.delivery_laws.specs.HandedOn.{Incarnation, is_listed, is_on, without}
+use Rattle.delivery_laws.specs.HandedOn.{Incarnation, has_incarnation, is_on, without}
 
 -- an event in the queue
 pub record Waiting : Type 0 where
@@ -34,7 +34,7 @@ take_or_drop there s p = if there then Take s p else Drop s p
 -- steps of a walk, processes that are not listed start, and processes leave and post. But the next event is taken only
 -- when no walk is in progress.
 pub data DeliveryStep : DeliveryMachine → List Line → DeliveryMachine → Type 0 where
-  starts : (m : DeliveryMachine) (p : ℕ) → is_listed m.list p ≡ false →
+  starts : (m : DeliveryMachine) (p : ℕ) → has_incarnation m.list p ≡ false →
       DeliveryStep m (Start p ∷ []) (record m
       { list = record { process = p; number = m.numbered } ∷ m.list; numbered = m.numbered + 1 })
   leaves : (m : DeliveryMachine) (p : ℕ) → DeliveryStep m (Leave p ∷ []) (record m { list = without m.list p })
@@ -43,7 +43,7 @@ pub data DeliveryStep : DeliveryMachine → List Line → DeliveryMachine → Ty
       (record m { queue = m.queue ++ record { serial = m.accepted; target = g } ∷ []; accepted = m.accepted + 1 })
   gives_one : (m : DeliveryMachine) (s p : ℕ) (waiting : List Waiting) → m.coming ≡ []
       → m.queue ≡ record { serial = s; target = ToOne p } ∷ waiting →
-      DeliveryStep m (take_or_drop (is_listed m.list p) s p ∷ []) (record m { queue = waiting })
+      DeliveryStep m (take_or_drop (has_incarnation m.list p) s p ∷ []) (record m { queue = waiting })
   begins_walk : (m : DeliveryMachine) (s : ℕ) (waiting : List Waiting) → m.coming ≡ []
       → m.queue ≡ record { serial = s; target = ToAll } ∷ waiting → (m.list ≡ [] → ⊥) →
       DeliveryStep m [] (record m { queue = waiting; walked = s; coming = m.list })

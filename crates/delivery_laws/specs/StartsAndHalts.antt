@@ -1,6 +1,6 @@
 -- Two more properties of a trace, besides the delivery of its events.
 use Rattle.std.specs.Prelude.{ℕ, false, ◌≡◌, List, [], ◌∷◌, ◌++◌}
-use Rattle.delivery_laws.specs.HandedOn.{Line, Start, Halt, is_listed, process_list}
+use Rattle.delivery_laws.specs.HandedOn.{Line, Start, Halt, has_incarnation, process_list}
 
 -- no line follows a `halt` line
 abbrev pub HaltIsLast : List Line → Type 0
@@ -10,4 +10,4 @@ HaltIsLast lines = (before behind : List Line) → lines ≡ before ++ Halt ∷ 
 -- process.
 abbrev pub StartsTheUnlisted : List Line → Type 0
 StartsTheUnlisted lines = (before behind : List Line) (p : ℕ) → lines ≡ before ++ Start p ∷ behind
-    → is_listed (process_list before) p ≡ false
+    → has_incarnation (process_list before) p ≡ false

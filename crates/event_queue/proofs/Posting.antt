@@ -5,7 +5,7 @@ use Rattle.circular_buffer.specs.Buffer.{Buffer, buffer}
 use Rattle.event_queue.specs.Queue.{with_posted}
 use Rattle.event_queue.specs.declared.queue.Posted.{Posted}
 use Rattle.event_queue.specs.declared.queue.Waiting.{Waiting}
-use Rattle.event_queue.specs.Posting.{posted_from, queue_of}
+use Rattle.event_queue.specs.Posting.{posted_from, queue_holding}
 
 -- one more event has the serial that follows theirs
 pub posted_one_more : (k : ℕ) (ws : List Waiting) (w : Waiting)
@@ -24,7 +24,7 @@ length_posted k (w ∷ ws) = ap suc (length_posted (k + 1) ws)
 
 -- appending an event to the ring buffer has the effect of posting it to the queue
 pub posts : (old new : Buffer Waiting) (taken : ℕ) (w : Waiting) → new ≡ buffer (old.items ++ w ∷ []) old.capacity
-    → queue_of new.items taken new.capacity ≡ with_posted (queue_of old.items taken old.capacity) w.target w.event
+    → queue_holding new.items taken new.capacity ≡ with_posted (queue_holding old.items taken old.capacity) w.target w.event
 posts old new taken w is =
     let more : taken + length (old.items ++ w ∷ []) ≡ (taken + length old.items) + 1 = omega (arith, length-append old.items (w ∷ [])) in
     rw (is, posted_one_more taken old.items w, more) refl

@@ -11,5 +11,6 @@ posted_from serial (w ∷ ws) =
     record { serial = serial; target = w.target; event = w.event } ∷ posted_from (serial + 1) ws
 
 -- the queue in which these events wait, after this many events were taken
-abbrev pub queue_of : List Waiting → (taken capacity : ℕ) → Queue
-queue_of ws taken capacity = record { events = posted_from taken ws; accepted = taken + length ws; capacity = capacity }
+abbrev pub queue_holding : List Waiting → (taken capacity : ℕ) → Queue
+queue_holding ws taken capacity =
+    record { events = posted_from taken ws; accepted = taken + length ws; capacity = capacity }

@@ -52,11 +52,11 @@ pub struct EventQueue {
 impl Model for EventQueue {
     ghost use Rattle.std.specs.Prelude.{◌+◌, ◌≤◌, ◌^◌, length};
     ghost use Rattle.event_queue.specs.Queue.{Queue};
-    ghost use Rattle.event_queue.specs.Posting.{queue_of};
+    ghost use Rattle.event_queue.specs.Posting.{queue_holding};
 
     ghost Value = { Queue };
 
-    ghost view = { λ q. queue_of q.waiting.items q.taken q.waiting.capacity };
+    ghost view = { λ q. queue_holding q.waiting.items q.taken q.waiting.capacity };
 
     ghost invariant = { λ q. (length q.waiting.items ≤ q.waiting.capacity)
         × (q.taken + length q.waiting.items ≤ 2 ^ 62) };

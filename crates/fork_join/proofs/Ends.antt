@@ -5,7 +5,7 @@ use Rattle.std.specs.Result.{IfErr, result_err}
 use Rattle.fork_join.specs.declared.work.WorkerError.{WorkerError}
 use Rattle.fork_join.specs.Kept.{Handle, AllPromised}
 use Rattle.fork_join.specs.Gravest.{gravest}
-use Rattle.fork_join.specs.Reported.{MayEnd, IsOwn, IsReported, IsReportedOf, with_end, reported}
+use Rattle.fork_join.specs.Reported.{MayEnd, IsForkError, IsReported, IsReportedOf, with_end, reported}
 use Rattle.fork_join.proofs.Zips.{push_zip, zip_zip, zip_length}
 
 -- the reported error after the end of one more thread
@@ -23,7 +23,7 @@ module _ {A : Type 0} (P : A → Option WorkerError → Type 0) where
   one_more ys failed y end h p = (h.0 ++ end ∷ [], push_zip P ys h.0 y end h.1 p, reported_snoc None h.0 end ∙ ap (λ f. with_end f end) h.2)
 
 -- before a worker is started, only the fork can have failed
-pub own_alone : {W T : Type 0} (errs : W → T → WorkerError → Type 0) (work : W) (workers : List T) (own : WorkerError) → IsOwn (Some own)
+pub own_alone : {W T : Type 0} (errs : W → T → WorkerError → Type 0) (work : W) (workers : List T) (own : WorkerError) → IsForkError (Some own)
     → IsReported (errs work) workers own
 own_alone errs work workers own h = ([], Some own, tt, h, (λ none. absurd (cc)), refl)
 
@@ -47,7 +47,7 @@ module _ {A W T : Type 0} (errs : W → T → WorkerError → Type 0) (work : W)
   pub with_own : (workers first : List T) (handles : List (Handle A W T)) (own : Option WorkerError) (e : WorkerError) (joined : Option WorkerError)
       → first ≡ take (length first) workers → AllPromised work first handles
       → Ended (λ handle end. MayEnd (errs handle.promise.work.value handle.promise.worker.value) end) handles joined
-      → IsOwn own → (own ≡ None → length first ≡ length workers) → with_end joined own ≡ Some e
+      → IsForkError own → (own ≡ None → length first ≡ length workers) → with_end joined own ≡ Some e
       → IsReported (errs work) workers e
   with_own workers first handles own e joined prefix promised ended is_own all reported_is =
       let first_ends = ends_of_workers workers first handles ended.0 prefix promised ended.1 in (
@@ -61,7 +61,7 @@ module _ {A W T : Type 0} (errs : W → T → WorkerError → Type 0) (work : W)
 
   -- the fork failed after these threads
   pub after_fork : {V : Type 0} (workers first : List T) (handles : List (Handle A W T)) (own : WorkerError) (joined : Result V WorkerError)
-      → first ≡ take (length first) workers → AllPromised work first handles → IsOwn (Some own) → IfErr joined (IsReportedOf errs handles)
+      → first ≡ take (length first) workers → AllPromised work first handles → IsForkError (Some own) → IfErr joined (IsReportedOf errs handles)
       → IsReported (errs work) workers (gravest (result_err joined) own)
   after_fork workers first handles own (Ok v) prefix promised is_own reported_is = own_alone errs work workers own is_own
   after_fork workers first handles own (Err e) prefix promised is_own reported_is =

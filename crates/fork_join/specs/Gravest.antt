@@ -15,7 +15,7 @@ gravest None other = other
 gravest (Some first) other = graver first other
 
 -- the worker itself failed
-abbrev pub is_own : WorkerError → Bool
-is_own Memory = true
-is_own Thread = true
-is_own Stopped = false
+abbrev pub is_own_failure : WorkerError → Bool
+is_own_failure Memory = true
+is_own_failure Thread = true
+is_own_failure Stopped = false

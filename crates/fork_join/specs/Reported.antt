@@ -22,8 +22,8 @@ abbrev pub reported : List (Option WorkerError) → Option WorkerError
 reported ends = fold with_end None ends
 
 -- an error of the fork itself: a start failed, or there was no memory for a handle
-abbrev pub IsOwn : Option WorkerError → Type 0
-IsOwn own = IfSome own (λ e. (e ≡ Memory) ⊎ (e ≡ Thread))
+abbrev pub IsForkError : Option WorkerError → Type 0
+IsForkError own = IfSome own (λ e. (e ≡ Memory) ⊎ (e ≡ Thread))
 
 -- The error that is reported for the first workers, which were started, and the fork itself. If the fork has no error,
 -- all workers were started. A worker's own error takes precedence over `Stopped`. If there are several, that of the
@@ -32,7 +32,7 @@ abbrev pub IsReported : {T : Type 0} → (T → WorkerError → Type 0) → List
 IsReported errs workers e =
     (ends : List (Option WorkerError)) × (own : Option WorkerError)
     × AllZip (λ worker end. MayEnd (errs worker) end) (take (length ends) workers) ends
-    × IsOwn own × (own ≡ None → length ends ≡ length workers)
+    × IsForkError own × (own ≡ None → length ends ≡ length workers)
     × (reported (ends ++ own ∷ []) ≡ Some e)
 
 -- the error that is reported for the threads that were started

@@ -4,9 +4,9 @@ use Rattle.fork_join.specs.declared.work.WorkerError.{WorkerError}
 use Rattle.fork_join.specs.declared.work.WorkerError.TheVariants.{Memory, Thread, Stopped}
 
 -- the number of a worker's tokens: two, if it saw that the flag was set
-abbrev pub tokens_of : Bool → ℕ
-tokens_of false = 0
-tokens_of true = 2
+abbrev pub stop_tokens : Bool → ℕ
+stop_tokens false = 0
+stop_tokens true = 2
 
 -- The number of tokens of workers with this result, if none of them failed: it is even, and it isn't 0 if a worker
 -- stopped.

@@ -2,7 +2,7 @@
 
 ghost use Rattle.std.specs.Prelude.{◌≡◌, ◌+◌, suc, true, length, IfErr, IfOk};
 ghost use Rattle.std.specs.List.{AllZip, AllByRecursion as Each};
-ghost use Rattle.fork_join.specs.Gravest.{is_own};
+ghost use Rattle.fork_join.specs.Gravest.{is_own_failure};
 ghost use Rattle.fork_join.specs.Kept.{AllKept};
 ghost use Rattle.fork_join.specs.Reported.{IsReported, IsReportedOf};
 ghost use Rattle.fork_join.specs.Tokens.{HasTokens};
@@ -66,7 +66,7 @@ where
     requires ready { Each (W.ready work.now) workers.items }
     ensures makes { IfOk result (λ done. AllZip (W.makes work.now) workers.items done.items) }
     ensures reported { IfErr result (IsReported (W.errs work.now) workers.items) }
-    ensures failed { IfErr result (λ e. is_own e ≡ true) }
+    ensures failed { IfErr result (λ e. is_own_failure e ≡ true) }
 {
     let Some(parts) = (workers.len() as u64).checked_add(1) else {
         return Err(WorkerError::Memory);
@@ -93,7 +93,7 @@ where
     requires one_more { blank.parts ≡ suc (length workers.items) }
     ensures makes { IfOk result (λ done. AllZip (W.makes work.now) workers.items done.items) }
     ensures reported { IfErr result (IsReported (W.errs work.now) workers.items) }
-    ensures failed { IfErr result (λ e. is_own e ≡ true) }
+    ensures failed { IfErr result (λ e. is_own_failure e ≡ true) }
 {
     let (tokens, all) = blank.open::<L>();
     let flag = Flag::new(tokens);
@@ -120,7 +120,7 @@ where
     requires none { all.amount ≡ 0 }
     ensures makes { IfOk result (λ done. AllZip (W.makes work.now) workers.items done.items) }
     ensures reported { IfErr result (IsReported (W.errs work.now) workers.items) }
-    ensures failed { IfErr result (λ e. is_own e ≡ true) }
+    ensures failed { IfErr result (λ e. is_own_failure e ≡ true) }
 {
     thread::scope(
         thread::scope_env(),
@@ -132,7 +132,7 @@ where
             requires none { all.amount ≡ 0 }
             ensures makes { IfOk result (λ done. AllZip (W.makes work.entry.now) workers.items done.items) }
             ensures reported { IfErr result (IsReported (W.errs work.entry.now) workers.items) }
-            ensures failed { IfErr result (λ e. is_own e ≡ true) }
+            ensures failed { IfErr result (λ e. is_own_failure e ≡ true) }
         { fork_all(scope, rt, alloc, workers, work, flag, all) },
     )
 }
@@ -189,7 +189,7 @@ where
     requires none { all.amount ≡ 0 }
     ensures makes { IfOk result (λ done. AllZip (W.makes work.now) workers.items done.items) }
     ensures reported { IfErr result (IsReported (W.errs work.now) workers.items) }
-    ensures failed { IfErr result (λ e. is_own e ≡ true) }
+    ensures failed { IfErr result (λ e. is_own_failure e ≡ true) }
 {
     let mut all = all;
     let mut started = Vec::with_capacity(alloc, workers.len())?;
@@ -271,7 +271,7 @@ fn none_stopped<R: Wait, T: Drop, L: Ledger>(
     requires parts { all.parts ≡ L.parts }
     requires tokens { HasTokens done all.amount }
     ensures same { result ≡ done }
-    ensures failed { IfErr result (λ e. is_own e ≡ true) }
+    ensures failed { IfErr result (λ e. is_own_failure e ≡ true) }
 {
     match done {
         Err(WorkerError::Stopped) => {

@@ -3,7 +3,7 @@
 //! prove this.
 
 ghost use Rattle.std.specs.Prelude.{◌≡◌, ◌+◌, ◌%◌, ◌<◌, true, false, IsTrue};
-ghost use Rattle.fork_join.specs.Tokens.{tokens_of};
+ghost use Rattle.fork_join.specs.Tokens.{stop_tokens};
 
 use std::sync::atomic::{AtomicBool, Ordering};
 use std::sync::ledger::{Book, Ledger, Share};
@@ -43,7 +43,7 @@ impl<L: Ledger> Failure<L> {
     fn see(&mut self, share: &mut Share<L>) -> bool
         requires has_part { 0 < share.old.parts }
         ensures parts { share.new.parts ≡ share.old.parts }
-        ensures amount { share.new.amount ≡ share.old.amount + tokens_of result }
+        ensures amount { share.new.amount ≡ share.old.amount + stop_tokens result }
     {
         let Failure { is_set, tokens } = self;
         if *is_set {
@@ -93,7 +93,7 @@ impl<L: Ledger> Flag<L> {
     fn see<R: Wait>(&self, rt: &R, share: &mut Share<L>) -> bool
         requires has_part { 0 < share.old.parts }
         ensures parts { share.new.parts ≡ share.old.parts }
-        ensures amount { share.new.amount ≡ share.old.amount + tokens_of result }
+        ensures amount { share.new.amount ≡ share.old.amount + stop_tokens result }
     {
         self.failure.lock(rt).see(share)
     }
@@ -116,7 +116,7 @@ pub struct Watch<'a, L: Ledger> {
     /// Is `true` once the worker has seen that the flag is set.
     pub seen: bool,
     ghost part: { share.parts ≡ 1 },
-    ghost amount: { share.amount ≡ tokens_of seen },
+    ghost amount: { share.amount ≡ stop_tokens seen },
 }
 
 impl<'a, L: Ledger> Watch<'a, L> {
@@ -155,7 +155,7 @@ impl<'a, L: Ledger> Watch<'a, L> {
     /// Ends a worker's access to the flag after the worker has ended, and sets the flag if the worker failed.
     pub(crate) fn end<R: Wait>(self, rt: &R, failed: bool) -> Share<L>
         ensures part { result.parts ≡ 1 }
-        ensures amount { failed ≡ false → result.amount ≡ tokens_of self.entry.seen }
+        ensures amount { failed ≡ false → result.amount ≡ stop_tokens self.entry.seen }
     {
         let Watch {
             flag,

@@ -1,7 +1,7 @@
 //! The work of a worker in its thread.
 
 ghost use Rattle.std.specs.Prelude.{◌≡◌};
-ghost use Rattle.fork_join.specs.Gravest.{graver, gravest, is_own};
+ghost use Rattle.fork_join.specs.Gravest.{graver, gravest, is_own_failure};
 
 use crate::stop::Watch;
 use std::alloc::{AllocError, AllocFailed};
@@ -22,7 +22,7 @@ pub enum WorkerError {
 impl WorkerError {
     /// Returns whether the worker itself failed.
     pub(crate) fn is_own(self) -> bool
-        ensures value { result ≡ is_own self }
+        ensures value { result ≡ is_own_failure self }
     {
         match self {
             WorkerError::Memory | WorkerError::Thread => true,

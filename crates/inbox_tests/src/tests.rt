@@ -28,7 +28,7 @@ fn copy(sender: u16, number: u64) -> RadioCopy {
 
 /// A new inbox, with marks or without, and its taker.
 fn make(alloc: Global, marked: bool) -> Result<(Inbox, Taker), InboxError>
-    ensures inbox { IfOk result (λ made. made.1.inbox ≡ made.0) }
+    ensures of_inbox { IfOk result (λ made. made.1.inbox ≡ made.0) }
     ensures taker { IfOk result (λ made. made.1.state ≡ make_taker_state marked 0 [] []) }
 {
     if marked {
@@ -40,7 +40,8 @@ fn make(alloc: Global, marked: bool) -> Result<(Inbox, Taker), InboxError>
 
 /// A new inbox, with marks or without, its taker, and two senders.
 fn with_two(alloc: Global, marked: bool) -> Result<(Inbox, Taker, Sender, Sender), InboxError>
-    ensures inbox { IfOk result (λ made. (made.1.inbox ≡ made.0) × (made.2.inbox ≡ made.0) × (made.3.inbox ≡ made.0)) }
+    ensures of_inbox { IfOk result
+        (λ made. (made.1.inbox ≡ made.0) × (made.2.inbox ≡ made.0) × (made.3.inbox ≡ made.0)) }
     ensures taker { IfOk result (λ made. made.1.state ≡ make_taker_state marked 2 [] []) }
     ensures senders { IfOk result (λ made. (made.2.state ≡ make_sender_state marked 0 [])
         × (made.3.state ≡ make_sender_state marked 1 [])) }
@@ -58,7 +59,7 @@ fn push<R: Wait>(
     sender: &mut Sender,
     copied: RadioCopy,
 ) -> Result<(), InboxError>
-    requires inbox { sender.old.inbox ≡ inbox.now }
+    requires of_inbox { sender.old.inbox ≡ inbox.now }
     ensures sender { (sender.new.inbox ≡ inbox.now) × (sender.new.state.number ≡ sender.old.state.number)
         × (sender.new.state.marked ≡ sender.old.state.marked) }
 {
@@ -74,7 +75,7 @@ fn push_mark<R: Wait>(
     sender: &mut Sender,
     window: u64,
 ) -> Result<(), InboxError>
-    requires inbox { sender.old.inbox ≡ inbox.now }
+    requires of_inbox { sender.old.inbox ≡ inbox.now }
     requires marked { sender.old.state.marked ≡ true }
     ensures sender { (sender.new.inbox ≡ inbox.now) × (sender.new.state.number ≡ sender.old.state.number)
         × (sender.new.state.marked ≡ true) }
@@ -91,7 +92,7 @@ fn write_copy(text: &mut String, copied: RadioCopy) -> Result<(), AllocError> {
 
 /// Writes down how many items are known.
 fn write_known(text: &mut String, inbox: &Inbox, taker: &Taker) -> Result<(), AllocError>
-    requires inbox { taker.now.inbox ≡ inbox.now }
+    requires of_inbox { taker.now.inbox ≡ inbox.now }
 {
     write!(text, "known {}|", inbox.known(taker))
 }
@@ -103,7 +104,7 @@ fn write_rest<R: Wait>(
     inbox: Inbox,
     taker: Taker,
 ) -> Result<(), InboxError>
-    requires inbox { taker.inbox ≡ inbox }
+    requires of_inbox { taker.inbox ≡ inbox }
     requires gathered { AllGathered taker.state }
     requires packets { NoMarkLeft taker.state }
 {

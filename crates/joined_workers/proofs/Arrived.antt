@@ -34,17 +34,17 @@ module _ (P : RadioCopy → Type 0) where
       (subst (Each P) collects.adds (every_same (taken_by new.taker) (gathered_by old.taker) collects.in_order h))
 
 -- the copies that a worker gathered are for its motes, and come from motes of other workers
-module _ (n : NetModel) (of : List ℕ) (motes : Motes) (v : ℕ) (gathered : List RadioCopy) (matches : GatheredCopies (system_of n) of motes v gathered) where
-  foreign_of : (s : ℕ) → Each (λ (c : RadioCopy). (is_own of v c.to ≡ true) × (is_own of v c.sender ≡ false)) (filter (is_from_sender s) gathered)
-  foreign_of s = of_case (cases_Bool (is_own of v s))
+module _ (n : NetModel) (owners : List ℕ) (motes : Motes) (v : ℕ) (gathered : List RadioCopy) (matches : GatheredCopies (system_of n) owners motes v gathered) where
+  foreign_of : (s : ℕ) → Each (λ (c : RadioCopy). (is_own owners v c.to ≡ true) × (is_own owners v c.sender ≡ false)) (filter (is_from_sender s) gathered)
+  foreign_of s = of_case (cases_Bool (is_own owners v s))
     where
-      of_case : (is_own of v s ≡ true) ⊎ (is_own of v s ≡ false) → Each (λ (c : RadioCopy). (is_own of v c.to ≡ true) × (is_own of v c.sender ≡ false)) (filter (is_from_sender s) gathered)
-      of_case (inl e) = let t = matches s in let u = rw e at t in subst (Each (λ (c : RadioCopy). (is_own of v c.to ≡ true) × (is_own of v c.sender ≡ false))) (sym u) tt
+      of_case : (is_own owners v s ≡ true) ⊎ (is_own owners v s ≡ false) → Each (λ (c : RadioCopy). (is_own owners v c.to ≡ true) × (is_own owners v c.sender ≡ false)) (filter (is_from_sender s) gathered)
+      of_case (inl e) = let t = matches s in let u = rw e at t in subst (Each (λ (c : RadioCopy). (is_own owners v c.to ≡ true) × (is_own owners v c.sender ≡ false))) (sym u) tt
       of_case (inr e) =
           let t = matches s in
           let u = rw e at t in
-          every_weaker _ _ (λ c g. (g.0, ap (is_own of v) (eqb-true c.sender s g.1) ∙ e)) _
-          (every_both (λ (c : RadioCopy). is_to of v c ≡ true) (λ (c : RadioCopy). is_from_sender s c ≡ true) (filter (is_from_sender s) gathered) (subst (Each (λ (c : RadioCopy). is_to of v c ≡ true)) (sym u) (every_passes (is_to of v) _)) (every_passes (is_from_sender s) gathered))
+          every_weaker _ _ (λ c g. (g.0, ap (is_own owners v) (eqb-true c.sender s g.1) ∙ e)) _
+          (every_both (λ (c : RadioCopy). is_to owners v c ≡ true) (λ (c : RadioCopy). is_from_sender s c ≡ true) (filter (is_from_sender s) gathered) (subst (Each (λ (c : RadioCopy). is_to owners v c ≡ true)) (sym u) (every_passes (is_to owners v) _)) (every_passes (is_from_sender s) gathered))
 
-  pub foreign : Each (λ (c : RadioCopy). (is_own of v c.to ≡ true) × (is_own of v c.sender ≡ false)) gathered
-  foreign = every_of_each (λ (c : RadioCopy). (is_own of v c.to ≡ true) × (is_own of v c.sender ≡ false)) gathered foreign_of
+  pub foreign : Each (λ (c : RadioCopy). (is_own owners v c.to ≡ true) × (is_own owners v c.sender ≡ false)) gathered
+  foreign = every_of_each (λ (c : RadioCopy). (is_own owners v c.to ≡ true) × (is_own owners v c.sender ≡ false)) gathered foreign_of

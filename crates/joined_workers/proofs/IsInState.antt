@@ -56,7 +56,7 @@ by_some : (workers : ℕ) (A : ℕ → RadioCopy → Type 0) (Q : RadioCopy → 
 by_some workers A Q [] h k = tt
 by_some workers A Q (x ∷ xs) h k = ((h k.0.0 k.0.1).0 k.0.2, by_some workers A Q xs (λ v l. (h v l).1) k.1)
 
-module _ (n : NetModel) (fine : RunsForward (system_of n)) (of : List ℕ) (from moment : ℕ) (group : WorkerGroup) (next : Option ℕ) (at : IsAt n of from group) (is : IsNextOfAll group.first_out group.shares.items next) (le : from ≤ moment) (wakes : NoneBefore moment next) where
+module _ (n : NetModel) (fine : RunsForward (system_of n)) (owners : List ℕ) (from moment : ℕ) (group : WorkerGroup) (next : Option ℕ) (at : IsAt n owners from group) (is : IsNextOfAll group.first_out group.shares.items next) (le : from ≤ moment) (wakes : NoneBefore moment next) where
   abbrev workers : ℕ
   workers = length group.inboxes.items
 
@@ -66,7 +66,7 @@ module _ (n : NetModel) (fine : RunsForward (system_of n)) (of : List ℕ) (from
     taker : TakerView
     share_at : slice_get group.shares.items v ≡ Some share
     taker_at : slice_get group.takers.items v ≡ Some taker
-    here : IsWorkerAt n of from at.motes group.first_out v share taker
+    here : IsWorkerAt n owners from at.motes group.first_out v share taker
     first : Option ℕ
     tells : TellsNext share first
     later : NoneBefore moment first
@@ -84,49 +84,49 @@ module _ (n : NetModel) (fine : RunsForward (system_of n)) (of : List ℕ) (from
         taker = t.0;
         share_at = s.1;
         taker_at = t.1;
-        here = subst (λ x. IsWorkerAt n of from at.motes group.first_out v x t.0) (read group.shares.items v s.0 s.0 s.1)
-            (subst (λ x. IsWorkerAt n of from at.motes group.first_out v (get_or group.shares.items v s.0) x) (read group.takers.items v t.0 t.0 t.1) (at.each v h s.0 t.0));
+        here = subst (λ x. IsWorkerAt n owners from at.motes group.first_out v x t.0) (read group.shares.items v s.0 s.0 s.1)
+            (subst (λ x. IsWorkerAt n owners from at.motes group.first_out v (get_or group.shares.items v s.0) x) (read group.takers.items v t.0 t.0 t.1) (at.each v h s.0 t.0));
         first = f.0;
         tells = f.1;
         later = f.2 moment wakes;
       }
 
-  keeps_on : (v : ℕ) → (p : Piece v) → IsWholeShare n of v moment at.motes (taken_by p.taker) p.share
-  keeps_on v p = (p.tells n of v from at.motes (taken_by p.taker) p.here.keeps).idle moment le p.later
+  keeps_on : (v : ℕ) → (p : Piece v) → IsWholeShare n owners v moment at.motes (taken_by p.taker) p.share
+  keeps_on v p = (p.tells n owners v from at.motes (taken_by p.taker) p.here.keeps).idle moment le p.later
 
   no_wake : (k : ℕ) → k < length n.motes → NoneBefore moment (at.motes k).wake
   no_wake k h =
-      let w = some_worker (length n.motes) workers of at.cut k h in
-      (keeps_on w.0 (piece w.0 w.2)).quiet k (own_by of w.0 k w.1)
+      let w = some_worker (length n.motes) workers owners at.cut k h in
+      (keeps_on w.0 (piece w.0 w.2)).quiet k (own_by owners w.0 k w.1)
 
   -- no copy for a mote of this worker arrives before the moment
-  no_copy_to : (s v : ℕ) → Piece v → Each (λ (c : RadioCopy). is_own of v c.to ≡ true → (from ≤ c.at → moment ≤ c.at)) (copies_by (system_of n) at.motes s)
-  no_copy_to s v p = of_case (cases_Bool (is_own of v s))
+  no_copy_to : (s v : ℕ) → Piece v → Each (λ (c : RadioCopy). is_own owners v c.to ≡ true → (from ≤ c.at → moment ≤ c.at)) (copies_by (system_of n) at.motes s)
+  no_copy_to s v p = of_case (cases_Bool (is_own owners v s))
     where
-      known : Each (λ (c : RadioCopy). moment ≤ c.at) (filter (is_to_come (is_own of v) from) (copies_seen (system_of n) (is_own of v) at.motes (taken_by p.taker) s))
-      known = (p.tells n of v from at.motes (taken_by p.taker) p.here.keeps).no_copies moment p.later s
+      known : Each (λ (c : RadioCopy). moment ≤ c.at) (filter (is_to_come (is_own owners v) from) (copies_seen (system_of n) (is_own owners v) at.motes (taken_by p.taker) s))
+      known = (p.tells n owners v from at.motes (taken_by p.taker) p.here.keeps).no_copies moment p.later s
 
-      of_case : (is_own of v s ≡ true) ⊎ (is_own of v s ≡ false) → Each (λ (c : RadioCopy). is_own of v c.to ≡ true → (from ≤ c.at → moment ≤ c.at)) (copies_by (system_of n) at.motes s)
+      of_case : (is_own owners v s ≡ true) ⊎ (is_own owners v s ≡ false) → Each (λ (c : RadioCopy). is_own owners v c.to ≡ true → (from ≤ c.at → moment ≤ c.at)) (copies_by (system_of n) at.motes s)
       of_case (inl e) =
           let k = rw e at known in
-          every_weaker (λ (c : RadioCopy). is_own of v c.to ≡ true → not (ltb c.at from) ≡ true → moment ≤ c.at) (λ (c : RadioCopy). is_own of v c.to ≡ true → (from ≤ c.at → moment ≤ c.at)) (λ c g a l. g a (not_late c.at from l)) _ (unfiltered (λ (c : RadioCopy). moment ≤ c.at) (λ c. is_own of v c.to) (λ c. not (ltb c.at from)) _ k)
+          every_weaker (λ (c : RadioCopy). is_own owners v c.to ≡ true → not (ltb c.at from) ≡ true → moment ≤ c.at) (λ (c : RadioCopy). is_own owners v c.to ≡ true → (from ≤ c.at → moment ≤ c.at)) (λ c g a l. g a (not_late c.at from l)) _ (unfiltered (λ (c : RadioCopy). moment ≤ c.at) (λ c. is_own owners v c.to) (λ c. not (ltb c.at from)) _ k)
       of_case (inr e) =
           let k = rw e at known in
           let matches = p.here.gathered s in
           let crossed_is = rw e at matches in
-          let taken = every_weaker (λ (c : RadioCopy). is_own of v c.to ≡ true → not (ltb c.at from) ≡ true → moment ≤ c.at) (λ (c : RadioCopy). is_own of v c.to ≡ true → (from ≤ c.at → moment ≤ c.at)) (λ c g a l. g a (not_late c.at from l)) _ (unfiltered (λ (c : RadioCopy). moment ≤ c.at) (λ c. is_own of v c.to) (λ c. not (ltb c.at from)) _ k) in
-          let rest = every_weaker (IsNotBefore group.first_out) (λ (c : RadioCopy). is_own of v c.to ≡ true → (from ≤ c.at → moment ≤ c.at)) (λ c g a l. not_sooner moment group.first_out c (is.out moment wakes) g) _ (p.here.waits s).later in
-          let both = every_append (λ (c : RadioCopy). is_own of v c.to ≡ true → (from ≤ c.at → moment ≤ c.at)) _ _ taken rest in
-          let gathered = subst (Each (λ (c : RadioCopy). is_own of v c.to ≡ true → (from ≤ c.at → moment ≤ c.at))) (sym (p.here.waits s).all ∙ crossed_is) both in
-          every_weaker (λ (c : RadioCopy). is_to of v c ≡ true → is_own of v c.to ≡ true → (from ≤ c.at → moment ≤ c.at)) (λ (c : RadioCopy). is_own of v c.to ≡ true → (from ≤ c.at → moment ≤ c.at)) (λ c g a. g a a) _ (passed (λ (c : RadioCopy). is_own of v c.to ≡ true → (from ≤ c.at → moment ≤ c.at)) (is_to of v) _ gathered)
+          let taken = every_weaker (λ (c : RadioCopy). is_own owners v c.to ≡ true → not (ltb c.at from) ≡ true → moment ≤ c.at) (λ (c : RadioCopy). is_own owners v c.to ≡ true → (from ≤ c.at → moment ≤ c.at)) (λ c g a l. g a (not_late c.at from l)) _ (unfiltered (λ (c : RadioCopy). moment ≤ c.at) (λ c. is_own owners v c.to) (λ c. not (ltb c.at from)) _ k) in
+          let rest = every_weaker (IsNotBefore group.first_out) (λ (c : RadioCopy). is_own owners v c.to ≡ true → (from ≤ c.at → moment ≤ c.at)) (λ c g a l. not_sooner moment group.first_out c (is.out moment wakes) g) _ (p.here.waits s).later in
+          let both = every_append (λ (c : RadioCopy). is_own owners v c.to ≡ true → (from ≤ c.at → moment ≤ c.at)) _ _ taken rest in
+          let gathered = subst (Each (λ (c : RadioCopy). is_own owners v c.to ≡ true → (from ≤ c.at → moment ≤ c.at))) (sym (p.here.waits s).all ∙ crossed_is) both in
+          every_weaker (λ (c : RadioCopy). is_to owners v c ≡ true → is_own owners v c.to ≡ true → (from ≤ c.at → moment ≤ c.at)) (λ (c : RadioCopy). is_own owners v c.to ≡ true → (from ≤ c.at → moment ≤ c.at)) (λ c g a. g a a) _ (passed (λ (c : RadioCopy). is_own owners v c.to ≡ true → (from ≤ c.at → moment ≤ c.at)) (is_to owners v) _ gathered)
 
   no_copy : (s : ℕ) → Each (λ (c : RadioCopy). from ≤ c.at → moment ≤ c.at) (copies_by (system_of n) at.motes s)
   unfolding system_of
   no_copy s =
-      by_some workers (λ v (c : RadioCopy). is_own of v c.to ≡ true) (λ (c : RadioCopy). from ≤ c.at → moment ≤ c.at) _ (λ v h. no_copy_to s v (piece v h))
-      (every_weaker (λ (c : RadioCopy). c.to < length n.motes) (λ (c : RadioCopy). (v : ℕ) × (v < workers) × (is_own of v c.to ≡ true)) (λ c h. let w = some_worker (length n.motes) workers of at.cut c.to h in (w.0, w.2, own_by of w.0 c.to w.1)) _ (receivers (system_of n) fine at.motes s))
+      by_some workers (λ v (c : RadioCopy). is_own owners v c.to ≡ true) (λ (c : RadioCopy). from ≤ c.at → moment ≤ c.at) _ (λ v h. no_copy_to s v (piece v h))
+      (every_weaker (λ (c : RadioCopy). c.to < length n.motes) (λ (c : RadioCopy). (v : ℕ) × (v < workers) × (is_own owners v c.to ≡ true)) (λ c h. let w = some_worker (length n.motes) workers owners at.cut c.to h in (w.0, w.2, own_by owners w.0 c.to w.1)) _ (receivers (system_of n) fine at.motes s))
 
-  pub in_state : IsAt n of moment group
+  pub in_state : IsAt n owners moment group
   unfolding system_of
   in_state = record {
     motes = at.motes;
@@ -138,12 +138,12 @@ module _ (n : NetModel) (fine : RunsForward (system_of n)) (of : List ℕ) (from
     each = λ v h share taker. one v (piece v h) share taker;
   }
     where
-      one : (v : ℕ) → Piece v → (share : Share) (taker : TakerView) → IsWorkerAt n of moment at.motes group.first_out v (get_or group.shares.items v share) (get_or group.takers.items v taker)
+      one : (v : ℕ) → Piece v → (share : Share) (taker : TakerView) → IsWorkerAt n owners moment at.motes group.first_out v (get_or group.shares.items v share) (get_or group.takers.items v taker)
       one v p share taker =
-          subst (λ x. IsWorkerAt n of moment at.motes group.first_out v x (get_or group.takers.items v taker)) (sym (read group.shares.items v p.share share p.share_at))
-          (subst (λ x. IsWorkerAt n of moment at.motes group.first_out v p.share x) (sym (read group.takers.items v p.taker taker p.taker_at)) (record { keeps = keeps_on v p; gathered = p.here.gathered; waits = p.here.waits }))
+          subst (λ x. IsWorkerAt n owners moment at.motes group.first_out v x (get_or group.takers.items v taker)) (sym (read group.shares.items v p.share share p.share_at))
+          (subst (λ x. IsWorkerAt n owners moment at.motes group.first_out v p.share x) (sym (read group.takers.items v p.taker taker p.taker_at)) (record { keeps = keeps_on v p; gathered = p.here.gathered; waits = p.here.waits }))
 
-module _ (n : NetModel) (of : List ℕ) (from : ℕ) (group : WorkerGroup) (next : Option ℕ) (at : IsAt n of from group) (is : IsNextOfAll group.first_out group.shares.items next) where
+module _ (n : NetModel) (owners : List ℕ) (from : ℕ) (group : WorkerGroup) (next : Option ℕ) (at : IsAt n owners from group) (is : IsNextOfAll group.first_out group.shares.items next) where
   takers_here : length group.takers.items ≡ length group.inboxes.items
   takers_here = as_long _ group.inboxes.items group.takers.items at.settled
 
@@ -154,6 +154,6 @@ module _ (n : NetModel) (of : List ℕ) (from : ℕ) (group : WorkerGroup) (next
       from_share v s e first tells =
           let h : v < length group.inboxes.items = subst (λ l. v < l) at.shares (inside group.shares.items v s e) in
           let t = there group.takers.items v (subst (λ l. v < l) (sym takers_here) h) in
-          let here : IsWorkerAt n of from at.motes group.first_out v s t.0 = subst (λ x. IsWorkerAt n of from at.motes group.first_out v x t.0) (read group.shares.items v s s e)
-          (subst (λ x. IsWorkerAt n of from at.motes group.first_out v (get_or group.shares.items v s) x) (read group.takers.items v t.0 t.0 t.1) (at.each v h s t.0)) in
-          (tells n of v from at.motes (taken_by t.0) here.keeps).wakes
+          let here : IsWorkerAt n owners from at.motes group.first_out v s t.0 = subst (λ x. IsWorkerAt n owners from at.motes group.first_out v x t.0) (read group.shares.items v s s e)
+          (subst (λ x. IsWorkerAt n owners from at.motes group.first_out v (get_or group.shares.items v s) x) (read group.takers.items v t.0 t.0 t.1) (at.each v h s t.0)) in
+          (tells n owners v from at.motes (taken_by t.0) here.keeps).wakes

@@ -42,19 +42,19 @@ record OnRecord : Type 0 where
   gathered : List RadioCopy
   outgoing : List RadioCopy
 
-module _ (n : NetModel) (fine : RunsForward (system_of n)) (of : List ℕ) (from until : ℕ) (old new : WorkerGroup) (at : IsAt n of from old) (up : from < until) (short : until ≤ from + (system_of n).lookahead) (all : GroupRunsUntil n of until old new) where
+module _ (n : NetModel) (fine : RunsForward (system_of n)) (owners : List ℕ) (from until : ℕ) (old new : WorkerGroup) (at : IsAt n owners from old) (up : from < until) (short : until ≤ from + (system_of n).lookahead) (all : GroupRunsUntil n owners until old new) where
   abbrev workers : ℕ
   workers = length old.inboxes.items
 
   record IsPart (v : ℕ) (z : OnRecord) : Type 0 where
-    matches : GatheredCopies (system_of n) of at.motes v z.gathered
+    matches : GatheredCopies (system_of n) owners at.motes v z.gathered
     took : (s : ℕ) → filter (is_from_sender s) z.taken ≡ filter (is_from_sender s) z.gathered
-    runs : (k : ℕ) → is_own of v k ≡ true → RunsOwnMote n (is_own of v) from until at.motes z.next z.taken k
-    out : (s : ℕ) → outgoing_by n (is_own of v) z.next s ≡ outgoing_by n (is_own of v) at.motes s ++ filter (is_from_sender s) z.outgoing
-    goes : Each (IsOutgoing n of v) z.outgoing
+    runs : (k : ℕ) → is_own owners v k ≡ true → RunsOwnMote n (is_own owners v) from until at.motes z.next z.taken k
+    out : (s : ℕ) → outgoing_by n (is_own owners v) z.next s ≡ outgoing_by n (is_own owners v) at.motes s ++ filter (is_from_sender s) z.outgoing
+    goes : Each (IsOutgoing n owners v) z.outgoing
     first : (d : Worker) → slice_get all.done v ≡ Some d → IsFirstOf z.outgoing d.first_out
-    to : (d : Worker) → slice_get all.done v ≡ Some d → (u : ℕ) → delivered d.endpoint u ≡ filter (is_to of u) z.outgoing
-    keeps : (d : Worker) → slice_get all.done v ≡ Some d → IsWholeShare n of v until z.next z.taken d.share
+    to : (d : Worker) → slice_get all.done v ≡ Some d → (u : ℕ) → delivered d.endpoint u ≡ filter (is_to owners u) z.outgoing
+    keeps : (d : Worker) → slice_get all.done v ≡ Some d → IsWholeShare n owners v until z.next z.taken d.share
     taken_after : (t : TakerView) → slice_get new.takers.items v ≡ Some t → taken_by t ≡ z.taken
     gathering : (t : TakerView) → slice_get new.takers.items v ≡ Some t → gathered_by t ≡ z.gathered ++ delivered_to (map (λ (w : Worker). w.endpoint) all.done) v
 
@@ -62,11 +62,11 @@ module _ (n : NetModel) (fine : RunsForward (system_of n)) (of : List ℕ) (from
   up_to = omega arith
 
   part : (v : ℕ) → v < workers → (z : OnRecord) × IsPart v z
-  part v h = of_piece (piece n of from until old new at all v h)
+  part v h = of_piece (piece n owners from until old new at all v h)
     where
-      of_piece : Piece n of from until old new at all v → (z : OnRecord) × IsPart v z
+      of_piece : Piece n owners from until old new at all v → (z : OnRecord) × IsPart v z
       of_piece p =
-          let w = window n of from until old new at all short up_to v p in
+          let w = window n owners from until old new at all short up_to v p in
           let gathered_is : gathered_by p.endpoint.taker ≡ gathered_by p.taker = ap copies_gathered p.starts.same_gathered in (
             record { next = w.next; taken = taken_by p.done.endpoint.taker; gathered = gathered_by p.taker; outgoing = p.ran.outgoing },
             record {
@@ -75,12 +75,12 @@ module _ (n : NetModel) (fine : RunsForward (system_of n)) (of : List ℕ) (from
                   ap (λ t. filter (is_from_sender s) (taken_by t)) p.ran.delivers.taker ∙ (p.ran.collects.in_order s ∙ ap (filter (is_from_sender s)) gathered_is);
               runs = w.runs;
               out = w.out;
-              goes = subst (λ k. Each (IsOutgoing n of k) p.ran.outgoing) p.number p.ran.out;
+              goes = subst (λ k. Each (IsOutgoing n owners k) p.ran.outgoing) p.number p.ran.out;
               first = λ d e. subst (λ x. IsFirstOf p.ran.outgoing x.first_out) (same_found _ p.done d p.done_at e) p.ran.first;
               to = λ d e u.
                   ap (λ x. delivered x.endpoint u) (sym (same_found _ p.done d p.done_at e))
-                  ∙ (p.ran.delivers.adds u ∙ ap (λ l. l ++ filter (is_to of u) p.ran.outgoing) (p.ran.collects.delivers_none u ∙ p.starts.nothing u));
-              keeps = λ d e. subst (λ x. IsWholeShare n of v until w.next (taken_by p.done.endpoint.taker) x.share) (same_found _ p.done d p.done_at e) w.keeps;
+                  ∙ (p.ran.delivers.adds u ∙ ap (λ l. l ++ filter (is_to owners u) p.ran.outgoing) (p.ran.collects.delivers_none u ∙ p.starts.nothing u));
+              keeps = λ d e. subst (λ x. IsWholeShare n owners v until w.next (taken_by p.done.endpoint.taker) x.share) (same_found _ p.done d p.done_at e) w.keeps;
               taken_after = λ t e. ap taken_by (sym (same_found _ p.gathering t p.gathering_at e)) ∙ ap copies_of p.came.same_taken;
               gathering = λ t e.
                   ap gathered_by (sym (same_found _ p.gathering t p.gathering_at e))
@@ -112,7 +112,7 @@ module _ (n : NetModel) (fine : RunsForward (system_of n)) (of : List ℕ) (from
   is_part : (v : ℕ) → v < workers → IsPart v (parts.0 v)
   is_part v h = parts.1 v h
 
-  matches : (v : ℕ) → v < workers → GatheredCopies (system_of n) of at.motes v (gathered v)
+  matches : (v : ℕ) → v < workers → GatheredCopies (system_of n) owners at.motes v (gathered v)
   unfolding gathered
   matches v h = (is_part v h).matches
 
@@ -120,26 +120,26 @@ module _ (n : NetModel) (fine : RunsForward (system_of n)) (of : List ℕ) (from
   unfolding taken gathered
   took v h = (is_part v h).took
 
-  runs : (v : ℕ) → v < workers → (k : ℕ) → is_own of v k ≡ true → RunsOwnMote n (is_own of v) from until at.motes (nexts v) (taken v) k
+  runs : (v : ℕ) → v < workers → (k : ℕ) → is_own owners v k ≡ true → RunsOwnMote n (is_own owners v) from until at.motes (nexts v) (taken v) k
   unfolding nexts taken
   runs v h = (is_part v h).runs
 
-  out : (v : ℕ) → v < workers → (s : ℕ) → outgoing_by n (is_own of v) (nexts v) s ≡ outgoing_by n (is_own of v) at.motes s ++ filter (is_from_sender s) (outgoing v)
+  out : (v : ℕ) → v < workers → (s : ℕ) → outgoing_by n (is_own owners v) (nexts v) s ≡ outgoing_by n (is_own owners v) at.motes s ++ filter (is_from_sender s) (outgoing v)
   unfolding nexts outgoing
   out v h = (is_part v h).out
 
-  goes : (v : ℕ) → v < workers → Each (IsOutgoing n of v) (outgoing v)
+  goes : (v : ℕ) → v < workers → Each (IsOutgoing n owners v) (outgoing v)
   unfolding outgoing
   goes v h = (is_part v h).goes
 
   abbrev after : Motes
-  after = next n fine of workers at.cut from until at.motes up short taken gathered outgoing nexts matches took runs out goes
+  after = next n fine owners workers at.cut from until at.motes up short taken gathered outgoing nexts matches took runs out goes
 
   abbrev out_to : (v s : ℕ) → List RadioCopy
-  out_to = out_of n fine of workers at.cut from until at.motes up short taken gathered outgoing nexts matches took runs out goes
+  out_to = out_of n fine owners workers at.cut from until at.motes up short taken gathered outgoing nexts matches took runs out goes
 
   late : (v : ℕ) → v < workers → Each (λ (copy : RadioCopy). until ≤ copy.at) (outgoing v)
-  late = sent_late n fine of workers at.cut from until at.motes up short taken gathered outgoing nexts matches took runs out goes at.led
+  late = sent_late n fine owners workers at.cut from until at.motes up short taken gathered outgoing nexts matches took runs out goes at.led
 
   endpoints_long : length all.endpoints ≡ length old.shares.items
   endpoints_long =
@@ -153,7 +153,7 @@ module _ (n : NetModel) (fine : RunsForward (system_of n)) (of : List ℕ) (from
   -- among the copies delivered to a worker, those that one mote sent
   to_one : (v s : ℕ) → filter (is_from_sender s) (delivered_to (map (λ (w : Worker). w.endpoint) all.done) v) ≡ out_to v s
   unfolding outgoing
-  to_one v s = by_endpoint ∙ of_worker (slice_get of s) refl
+  to_one v s = by_endpoint ∙ of_worker (slice_get owners s) refl
     where
       by_endpoint : filter (is_from_sender s) (delivered_to (map (λ (w : Worker). w.endpoint) all.done) v) ≡ filter (is_from_sender s) (flat_map (λ (w : Worker). delivered w.endpoint v) all.done)
       by_endpoint = ap (filter (is_from_sender s)) (flat_mapped all.done)
@@ -165,20 +165,20 @@ module _ (n : NetModel) (fine : RunsForward (system_of n)) (of : List ℕ) (from
       there_is : (i : ℕ) (d : Worker) → slice_get all.done i ≡ Some d → i < workers
       there_is i d e = subst (λ l. i < l) done_long (inside all.done i d e)
 
-      its_copies : (i : ℕ) (d : Worker) → slice_get all.done i ≡ Some d → filter (is_from_sender s) (delivered d.endpoint v) ≡ filter (is_from_sender s) (filter (is_to of v) (outgoing i))
+      its_copies : (i : ℕ) (d : Worker) → slice_get all.done i ≡ Some d → filter (is_from_sender s) (delivered d.endpoint v) ≡ filter (is_from_sender s) (filter (is_to owners v) (outgoing i))
       its_copies i d e =
           ap (filter (is_from_sender s)) ((is_part i (there_is i d e)).to d e v)
 
-      not_its : (i : ℕ) (d : Worker) → slice_get all.done i ≡ Some d → is_own of i s ≡ false → filter (is_from_sender s) (delivered d.endpoint v) ≡ []
+      not_its : (i : ℕ) (d : Worker) → slice_get all.done i ≡ Some d → is_own owners i s ≡ false → filter (is_from_sender s) (delivered d.endpoint v) ≡ []
       not_its i d e f =
           its_copies i d e
-          ∙ (filter_filter (is_from_sender s) (is_to of v) (outgoing i)
-          ∙ ap (filter (is_to of v)) (let o = out i (there_is i d e) s in let p = rw f at o in sym p))
+          ∙ (filter_filter (is_from_sender s) (is_to owners v) (outgoing i)
+          ∙ ap (filter (is_to owners v)) (let o = out i (there_is i d e) s in let p = rw f at o in sym p))
 
-      of_worker : (o : Option ℕ) → slice_get of s ≡ o → filter (is_from_sender s) (flat_map (λ (w : Worker). delivered w.endpoint v) all.done) ≡ option_map_or (λ u. filter (is_from_sender s) (filter (is_to of v) (outgoing u))) o []
+      of_worker : (o : Option ℕ) → slice_get owners s ≡ o → filter (is_from_sender s) (flat_map (λ (w : Worker). delivered w.endpoint v) all.done) ≡ option_map_or (λ u. filter (is_from_sender s) (filter (is_to owners v) (outgoing u))) o []
       of_worker None e = none_of (is_from_sender s) (λ (w : Worker). delivered w.endpoint v) all.done (λ i d f. not_its i d f (ap (λ o. option_map_or (λ w. eqb w i) o false) e))
       of_worker (Some u) e =
-          let inside_of : u < workers = each_at (λ w. w < workers) of s u at.cut.there e in
+          let inside_of : u < workers = each_at (λ w. w < workers) owners s u at.cut.there e in
           let d = there all.done u (subst (λ l. u < l) (sym done_long) inside_of) in
           one_of (is_from_sender s) (λ (w : Worker). delivered w.endpoint v) all.done u d.0 d.1 (λ i x f ne.
           not_its i x f (ap (λ o. option_map_or (λ w. eqb w i) o false) e ∙ ne_eqb u i (λ q. ne (sym q))))
@@ -190,7 +190,7 @@ module _ (n : NetModel) (fine : RunsForward (system_of n)) (of : List ℕ) (from
       let d = there all.done v (subst (λ l. v < l) (sym done_long) h) in
       every_weaker _ _ (λ c g. each_at _ all.done v d.0 all.first.none_before d.1 c g) (outgoing v) ((is_part v h).first d.0 d.1).none_before
 
-  worker_after : (v : ℕ) → v < workers → (share : Share) (taker : TakerView) → IsWorkerAt n of until after new.first_out v (get_or new.shares.items v share) (get_or new.takers.items v taker)
+  worker_after : (v : ℕ) → v < workers → (share : Share) (taker : TakerView) → IsWorkerAt n owners until after new.first_out v (get_or new.shares.items v share) (get_or new.takers.items v taker)
   unfolding nexts taken gathered
   worker_after v h share taker =
       let d = there all.done v (subst (λ l. v < l) (sym done_long) h) in
@@ -199,32 +199,32 @@ module _ (n : NetModel) (fine : RunsForward (system_of n)) (of : List ℕ) (from
       let is_share : get_or new.shares.items v share ≡ d.0.share = ap (λ l. get_or l v share) all.shares ∙ read _ v d.0.share share (mapped (λ (w : Worker). w.share) all.done v d.0 d.1) in
       let is_taker : get_or new.takers.items v taker ≡ t.0 = read new.takers.items v t.0 taker t.1 in
       let gathers : (s : ℕ) → filter (is_from_sender s) (gathered_by t.0) ≡ filter (is_from_sender s) (gathered v) ++ out_to v s = λ s. ap (filter (is_from_sender s)) (p.gathering t.0 t.1) ∙ (filter-append (is_from_sender s) (gathered v) _ ∙ ap (λ l. filter (is_from_sender s) (gathered v) ++ l) (to_one v s)) in
-      subst (λ x. IsWorkerAt n of until after new.first_out v x (get_or new.takers.items v taker)) (sym is_share)
-      (subst (λ x. IsWorkerAt n of until after new.first_out v d.0.share x) (sym is_taker) (record {
-        keeps = subst (λ x. IsWholeShare n of v until after x d.0.share) (sym (p.taken_after t.0 t.1))
-            (keeps_same n of v (nexts v) after (λ k m. next_is n fine of workers at.cut from until at.motes up short taken gathered outgoing nexts matches took runs out goes v k m) until (taken v) d.0.share (p.keeps d.0 d.1));
-        gathered = traced_next n fine of workers at.cut from until at.motes up short taken gathered outgoing nexts matches took runs out goes v h (gathered_by t.0) gathers;
+      subst (λ x. IsWorkerAt n owners until after new.first_out v x (get_or new.takers.items v taker)) (sym is_share)
+      (subst (λ x. IsWorkerAt n owners until after new.first_out v d.0.share x) (sym is_taker) (record {
+        keeps = subst (λ x. IsWholeShare n owners v until after x d.0.share) (sym (p.taken_after t.0 t.1))
+            (keeps_same n owners v (nexts v) after (λ k m. next_is n fine owners workers at.cut from until at.motes up short taken gathered outgoing nexts matches took runs out goes v k m) until (taken v) d.0.share (p.keeps d.0 d.1));
+        gathered = traced_next n fine owners workers at.cut from until at.motes up short taken gathered outgoing nexts matches took runs out goes v h (gathered_by t.0) gathers;
         waits = λ s. record {
           rest = out_to v s;
           all = gathers s ∙ ap (λ l. l ++ out_to v s) (sym (took v h s) ∙ ap (filter (is_from_sender s)) (sym (p.taken_after t.0 t.1)));
-          later = out_later v s (slice_get of s) refl;
+          later = out_later v s (slice_get owners s) refl;
         };
       }))
     where
       takers_long : length new.takers.items ≡ workers
       takers_long = as_long _ new.inboxes.items new.takers.items all.settled ∙ ap length all.inboxes
 
-      out_later : (v s : ℕ) (o : Option ℕ) → slice_get of s ≡ o → Each (IsNotBefore new.first_out) (option_map_or (λ u. filter (is_from_sender s) (filter (is_to of v) (outgoing u))) o [])
+      out_later : (v s : ℕ) (o : Option ℕ) → slice_get owners s ≡ o → Each (IsNotBefore new.first_out) (option_map_or (λ u. filter (is_from_sender s) (filter (is_to owners v) (outgoing u))) o [])
       out_later v s None e = tt
       out_later v s (Some u) e =
-          each_of_every _ (filter (is_to of v) (outgoing u)) (is_from_sender s) (each_of_every _ (outgoing u) (is_to of v) (first_out u (each_at (λ w. w < workers) of s u at.cut.there e)))
+          each_of_every _ (filter (is_to owners v) (outgoing u)) (is_from_sender s) (each_of_every _ (outgoing u) (is_to owners v) (first_out u (each_at (λ w. w < workers) owners s u at.cut.there e)))
 
-  pub moved : IsAt n of until new
+  pub moved : IsAt n owners until new
   unfolding outgoing
   moved = record {
     motes = after;
-    led = led_next n fine of workers at.cut from until at.motes up short taken gathered outgoing nexts matches took runs out goes at.led;
-    cut = subst (λ l. IsCut (length n.motes) (length l) of) (sym all.inboxes) at.cut;
+    led = led_next n fine owners workers at.cut from until at.motes up short taken gathered outgoing nexts matches took runs out goes at.led;
+    cut = subst (λ l. IsCut (length n.motes) (length l) owners) (sym all.inboxes) at.cut;
     shares = ap length all.shares ∙ (map_long (λ (w : Worker). w.share) all.done ∙ (done_long ∙ sym (ap length all.inboxes)));
     settled = all.settled;
     first = all.first.greatest until (each_from _ all.done (λ i d e.

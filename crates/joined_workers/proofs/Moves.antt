@@ -22,7 +22,7 @@ use Rattle.all_workers.proofs.Lookups.{there, read, mapped, paired, beside, as_l
 use Rattle.all_workers.proofs.Numbered.{numbered}
 use Rattle.joined_workers.proofs.Ready.{arrived_come}
 
-module _ (n : NetModel) (of : List ℕ) (from until : ℕ) (old new : WorkerGroup) (at : IsAt n of from old) (all : GroupRunsUntil n of until old new) where
+module _ (n : NetModel) (owners : List ℕ) (from until : ℕ) (old new : WorkerGroup) (at : IsAt n owners from old) (all : GroupRunsUntil n owners until old new) where
   -- one worker in the window: its old state and its new one
   pub record Piece (v : ℕ) : Type 0 where
     pub share : Share
@@ -32,10 +32,10 @@ module _ (n : NetModel) (of : List ℕ) (from until : ℕ) (old new : WorkerGrou
     pub gathering : TakerView
     pub done_at : slice_get all.done v ≡ Some done
     pub gathering_at : slice_get new.takers.items v ≡ Some gathering
-    pub here : IsWorkerAt n of from at.motes old.first_out v share taker
+    pub here : IsWorkerAt n owners from at.motes old.first_out v share taker
     pub starts : StartsAs taker endpoint
     pub number : endpoint.worker ≡ v
-    pub ran : RunsWorker n of old.inboxes.items until (make_worker (share, endpoint)) done
+    pub ran : RunsWorker n owners old.inboxes.items until (make_worker (share, endpoint)) done
     pub came : GathersDelivered (map (λ (worker : Worker). worker.endpoint) all.done) done.endpoint gathering
 
   takers_long : length old.takers.items ≡ length old.inboxes.items
@@ -58,7 +58,7 @@ module _ (n : NetModel) (of : List ℕ) (from until : ℕ) (old new : WorkerGrou
         gathering = g.0;
         done_at = d.1;
         gathering_at = g.1;
-        here = subst (λ x. IsWorkerAt n of from at.motes old.first_out v x t.0) is_share (subst (λ x. IsWorkerAt n of from at.motes old.first_out v (get_or old.shares.items v s.0) x) is_taker (at.each v h s.0 t.0));
+        here = subst (λ x. IsWorkerAt n owners from at.motes old.first_out v x t.0) is_share (subst (λ x. IsWorkerAt n owners from at.motes old.first_out v (get_or old.shares.items v s.0) x) is_taker (at.each v h s.0 t.0));
         starts = c.2;
         number = numbered (length old.inboxes.items) all.endpoints all.together.workers v h c.0 c.1;
         ran = d.2;
@@ -69,13 +69,13 @@ module _ (n : NetModel) (of : List ℕ) (from until : ℕ) (old new : WorkerGrou
     taken_same : taken_by p.endpoint.taker ≡ taken_by p.taker
     taken_same = ap copies_of p.starts.same_taken
 
-    pub comes : Each (IsExpected of v from) p.ran.arrived
-    comes = arrived_come n of from at.motes old.first_out v p.share p.taker p.here at.first p.endpoint p.starts p.ran.between p.ran.arrived p.ran.collects
+    pub comes : Each (IsExpected owners v from) p.ran.arrived
+    comes = arrived_come n owners from at.motes old.first_out v p.share p.taker p.here at.first p.endpoint p.starts p.ran.between p.ran.arrived p.ran.collects
 
-    pub window : RunsWindow n of v from until at.motes (taken_by p.done.endpoint.taker) p.done.share p.ran.outgoing
+    pub window : RunsWindow n owners v from until at.motes (taken_by p.done.endpoint.taker) p.done.share p.ran.outgoing
     window =
-        subst (λ w. RunsWindow n of w from until at.motes (taken_by p.done.endpoint.taker) p.done.share p.ran.outgoing) p.number
+        subst (λ w. RunsWindow n owners w from until at.motes (taken_by p.done.endpoint.taker) p.done.share p.ran.outgoing) p.number
         (p.ran.runs from at.motes
-        (subst (λ w. IsWholeShare n of w from at.motes (taken_by p.endpoint.taker) p.share) (sym p.number) (subst (λ t. IsWholeShare n of v from at.motes t p.share) (sym taken_same) p.here.keeps))
+        (subst (λ w. IsWholeShare n owners w from at.motes (taken_by p.endpoint.taker) p.share) (sym p.number) (subst (λ t. IsWholeShare n owners v from at.motes t p.share) (sym taken_same) p.here.keeps))
         up short
-        (subst (λ w. Each (IsExpected of w from) p.ran.arrived) (sym p.number) comes))
+        (subst (λ w. Each (IsExpected owners w from) p.ran.arrived) (sym p.number) comes))

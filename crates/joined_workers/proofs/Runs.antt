@@ -18,12 +18,12 @@ quiet : (end : ℕ) (next : Option ℕ) → NoneBefore (start_of_window end next
 quiet end None = tt
 quiet end (Some moment) = min-le_left moment (end + 1)
 
-module _ (n : NetModel) (of : List ℕ) (reached end : ℕ) (group : WorkerGroup) (from : ℕ) (at : IsAt n of reached group) (low : reached ≤ end + 1) (begins : BeginsAt end group from) where
+module _ (n : NetModel) (owners : List ℕ) (reached end : ℕ) (group : WorkerGroup) (from : ℕ) (at : IsAt n owners reached group) (low : reached ≤ end + 1) (begins : BeginsAt end group from) where
   pub begins_later : reached ≤ from
-  begins_later = subst (λ m. reached ≤ m) (sym begins.start) (no_sooner reached end begins.next (comes_no_sooner n of reached group begins.next at begins.is) low)
+  begins_later = subst (λ m. reached ≤ m) (sym begins.start) (no_sooner reached end begins.next (comes_no_sooner n owners reached group begins.next at begins.is) low)
 
-  pub in_state_there : RunsForward (system_of n) → IsAt n of from group
-  in_state_there fine = in_state n fine of reached from group begins.next at begins.is begins_later (subst (λ m. NoneBefore m begins.next) (sym begins.start) (quiet end begins.next))
+  pub in_state_there : RunsForward (system_of n) → IsAt n owners from group
+  in_state_there fine = in_state n fine owners reached from group begins.next at begins.is begins_later (subst (λ m. NoneBefore m begins.next) (sym begins.start) (quiet end begins.next))
 
 pub short_enough : (from width lookahead matches until : ℕ) → until ≤ from + width → width ≤ lookahead → lookahead ≡ matches → until ≤ from + matches
 short_enough from width lookahead matches until short within value = omega arith

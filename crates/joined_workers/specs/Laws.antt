@@ -17,12 +17,13 @@ use Rattle.joined_workers.specs.Worker.{RunsWorker}
 
 -- The senders of all workers were made together, each worker ran through the window with its own senders, and then all
 -- senders were gathered.
-pub record GroupRunsUntil (n : NetModel) (of : List ℕ) (until : ℕ) (old new : WorkerGroup) : Type 0 where
+pub record GroupRunsUntil (model : NetModel) (owners : List ℕ) (until : ℕ) (old new : WorkerGroup) : Type 0 where
   pub endpoints : List Endpoint
   pub done : List Worker
   pub together : Together old.inboxes.items endpoints
   pub starts : AllZip StartsAs old.takers.items endpoints
-  pub ran : AllZip (RunsWorker n of old.inboxes.items until) (map make_worker (zip old.shares.items endpoints)) done
+  pub ran : AllZip (RunsWorker model owners old.inboxes.items until)
+      (map make_worker (zip old.shares.items endpoints)) done
   pub shares : new.shares.items ≡ map (λ worker. worker.share) done
   pub gathering : AllZip (GathersDelivered (map (λ (worker : Worker). worker.endpoint) done))
       (map (λ (worker : Worker). worker.endpoint) done) new.takers.items
@@ -32,13 +33,14 @@ pub record GroupRunsUntil (n : NetModel) (of : List ℕ) (until : ℕ) (old new 
 
 -- a window that begins at the moment of the workers, and isn't longer than the lookahead, leads the workers to its end
 abbrev pub WindowMovesOn : Type 0
-WindowMovesOn = (n : NetModel) → RunsForward (system_of n) → (of : List ℕ) (from until : ℕ) (old new : WorkerGroup)
-    → IsAt n of from old → from < until → until ≤ from + (system_of n).lookahead
-    → GroupRunsUntil n of until old new → IsAt n of until new
+WindowMovesOn = (model : NetModel) → RunsForward (system_of model)
+    → (owners : List ℕ) (from until : ℕ) (old new : WorkerGroup)
+    → IsAt model owners from old → from < until → until ≤ from + (system_of model).lookahead
+    → GroupRunsUntil model owners until old new → IsAt model owners until new
 
 -- the first pending event isn't before the moment of the workers; at each moment up to this event, the workers are in
 -- the state of that moment
 abbrev pub StaysUntilNext : Type 0
-StaysUntilNext = (n : NetModel) → RunsForward (system_of n) → (of : List ℕ) (from : ℕ) (group : WorkerGroup)
-    → (next : Option ℕ) → IsAt n of from group → IsNextOfAll group.first_out group.shares.items next
-    → NoneBefore from next × ((moment : ℕ) → from ≤ moment → NoneBefore moment next → IsAt n of moment group)
+StaysUntilNext = (model : NetModel) → RunsForward (system_of model) → (owners : List ℕ) (from : ℕ) (group : WorkerGroup)
+    → (next : Option ℕ) → IsAt model owners from group → IsNextOfAll group.first_out group.shares.items next
+    → NoneBefore from next × ((moment : ℕ) → from ≤ moment → NoneBefore moment next → IsAt model owners moment group)

@@ -18,22 +18,23 @@ pub record BeginsAt (end : ℕ) (group : WorkerGroup) (from : ℕ) : Type 0 wher
   pub start : from ≡ start_of_window end next
 
 -- one window of all workers, which begins at the first pending event and isn't longer than `width`
-pub record GroupRunsNext (n : NetModel) (of : List ℕ) (width : ℕ) (old new : WorkerGroup) : Type 0 where
+pub record GroupRunsNext (model : NetModel) (owners : List ℕ) (width : ℕ) (old new : WorkerGroup) : Type 0 where
   pub from : ℕ
-  pub begins : BeginsAt n.end old from
-  pub there : from ≤ n.end
-  pub runs : GroupRunsUntil n of (end_of_window n.end width from) old new
+  pub begins : BeginsAt model.end old from
+  pub there : from ≤ model.end
+  pub runs : GroupRunsUntil model owners (end_of_window model.end width from) old new
 
 -- this many such windows, one after another
 abbrev pub GroupRunsWindows : NetModel → List ℕ → (width windows : ℕ) → (old new : WorkerGroup) → Type 0
-GroupRunsWindows n of width zero old new = new ≡ old
-GroupRunsWindows n of width (suc k) old new =
-    (between : WorkerGroup) × GroupRunsWindows n of width k old between × GroupRunsNext n of width between new
+GroupRunsWindows model owners width zero old new = new ≡ old
+GroupRunsWindows model owners width (suc k) old new =
+    (between : WorkerGroup) × GroupRunsWindows model owners width k old between
+    × GroupRunsNext model owners width between new
 
 -- all windows: after them, nothing is pending up to the end
-pub record GroupRunsToEnd (n : NetModel) (of : List ℕ) (width : ℕ) (old new : WorkerGroup) : Type 0 where
+pub record GroupRunsToEnd (model : NetModel) (owners : List ℕ) (width : ℕ) (old new : WorkerGroup) : Type 0 where
   pub windows : ℕ
-  pub runs : GroupRunsWindows n of width windows old new
+  pub runs : GroupRunsWindows model owners width windows old new
   pub next : ℕ
-  pub begins : BeginsAt n.end new next
-  pub over : n.end < next
+  pub begins : BeginsAt model.end new next
+  pub over : model.end < next

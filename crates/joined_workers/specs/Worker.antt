@@ -9,7 +9,7 @@ use Rattle.copy_inbox.specs.Handles.{InboxId}
 use Rattle.copy_exchange.specs.declared.endpoint.Endpoint.{Endpoint}
 use Rattle.copy_exchange.specs.Endpoints.{IsEndpoint, Collects, Delivers}
 use Rattle.copy_exchange.specs.Takers.{taken_by, gathered_by}
-use Rattle.copy_exchange.specs.Inboxes.{IsPlain}
+use Rattle.copy_exchange.specs.Inboxes.{HasNoMarks}
 use Rattle.worker_cut.specs.Crossed.{is_own, IsExpected}
 use Rattle.worker_window.specs.Share.{Motes, IsWholeShare}
 use Rattle.worker_window.specs.Window.{CanRun, RunsWindow, IsOutgoing}
@@ -19,15 +19,16 @@ use Rattle.all_workers.specs.declared.worker.Worker.{Worker}
 -- A worker that can run through a window that ends at 2^40 or earlier. The partition fits, and the share and the
 -- endpoint are those of one worker. The worker's inbox has no marks, all gathered copies are for its motes, and each
 -- copy that it takes in is expected.
-pub record IsReady (n : NetModel) (of : List ℕ) (inboxes : List InboxId) (until : ℕ) (worker : Worker) : Type 0 where
+pub record IsReadyWorker (model : NetModel) (owners : List ℕ) (inboxes : List InboxId) (until : ℕ)
+    (worker : Worker) : Type 0 where
   pub early : until ≤ 2 ^ 40
-  pub cut : IsCut (length n.motes) (length inboxes) of
+  pub cut : IsCut (length model.motes) (length inboxes) owners
   pub takes_in : (between : Endpoint) (arrived : List RadioCopy) → Collects worker.endpoint between arrived
-      → CanRun n of until worker.share arrived
+      → CanRun model owners until worker.share arrived
   pub same : worker.share.worker ≡ worker.endpoint.worker
   pub endpoint : IsEndpoint inboxes worker.endpoint
-  pub plain : IsPlain worker.endpoint.taker
-  pub own : Each (λ (copy : RadioCopy). is_own of worker.endpoint.worker copy.to ≡ true)
+  pub plain : HasNoMarks worker.endpoint.taker
+  pub own : Each (λ (copy : RadioCopy). is_own owners worker.endpoint.worker copy.to ≡ true)
       (gathered_by worker.endpoint.taker)
 
 -- the moment at which the first of these copies arrives, if there are any
@@ -38,24 +39,24 @@ pub record IsFirstOf (copies : List RadioCopy) (first : Option ℕ) : Type 0 whe
 -- Suppose that the share was at a moment that isn't after the window's end, that the window isn't longer than the
 -- lookahead, and that each copy that arrived is expected. Then the new share is the result of the window, on all
 -- copies that the worker has taken by then, and these are the outgoing copies.
-abbrev pub RunsItsMotes : NetModel → (of : List ℕ) → (until : ℕ) → (arrived outgoing : List RadioCopy)
+abbrev pub RunsItsMotes : NetModel → (owners : List ℕ) → (until : ℕ) → (arrived outgoing : List RadioCopy)
     → (old new : Worker) → Type 0
-RunsItsMotes n of until arrived outgoing old new = (from : ℕ) (motes : Motes)
-    → IsWholeShare n of old.endpoint.worker from motes (taken_by old.endpoint.taker) old.share
-    → from ≤ until → until ≤ from + (system_of n).lookahead
-    → Each (IsExpected of old.endpoint.worker from) arrived
-    → RunsWindow n of old.endpoint.worker from until motes (taken_by new.endpoint.taker) new.share outgoing
+RunsItsMotes model owners until arrived outgoing old new = (from : ℕ) (motes : Motes)
+    → IsWholeShare model owners old.endpoint.worker from motes (taken_by old.endpoint.taker) old.share
+    → from ≤ until → until ≤ from + (system_of model).lookahead
+    → Each (IsExpected owners old.endpoint.worker from) arrived
+    → RunsWindow model owners old.endpoint.worker from until motes (taken_by new.endpoint.taker) new.share outgoing
 
 -- The worker took in all copies that it had gathered and not yet taken, ran its motes, and delivered the outgoing
 -- copies.
-pub record RunsWorker (n : NetModel) (of : List ℕ) (inboxes : List InboxId) (until : ℕ) (old new : Worker)
+pub record RunsWorker (model : NetModel) (owners : List ℕ) (inboxes : List InboxId) (until : ℕ) (old new : Worker)
     : Type 0 where
   pub arrived : List RadioCopy
   pub outgoing : List RadioCopy
   pub between : Endpoint
   pub collects : Collects old.endpoint between arrived
-  pub delivers : Delivers of between new.endpoint outgoing
+  pub delivers : Delivers owners between new.endpoint outgoing
   pub endpoint : IsEndpoint inboxes new.endpoint
-  pub runs : RunsItsMotes n of until arrived outgoing old new
-  pub out : Each (IsOutgoing n of old.endpoint.worker) outgoing
+  pub runs : RunsItsMotes model owners until arrived outgoing old new
+  pub out : Each (IsOutgoing model owners old.endpoint.worker) outgoing
   pub first : IsFirstOf outgoing new.first_out

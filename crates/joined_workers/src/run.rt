@@ -1,15 +1,15 @@
 //! The run of all workers, window by window.
 
 ghost use Rattle.std.specs.Prelude.{◌≡◌, ◌+◌, ◌≤◌, suc, true, length, IfErr, IfOk};
-ghost use Rattle.fork_join.specs.Gravest.{is_own};
+ghost use Rattle.fork_join.specs.Gravest.{is_own_failure};
 ghost use Rattle.mote_net.specs.Limits.{latest_end};
 ghost use Rattle.mote_net.specs.Meaning.{net_of};
 ghost use Rattle.net_agenda.specs.NetSystem.{system_of};
 ghost use Rattle.std.specs.List.{AllByRecursion as Each};
-ghost use Rattle.copy_exchange.specs.Inboxes.{IsPlain};
+ghost use Rattle.copy_exchange.specs.Inboxes.{HasNoMarks};
 ghost use Rattle.all_workers.specs.WorkerGroup.{IsAt};
 ghost use Rattle.joined_workers.specs.Run.{BeginsAt, GroupRunsToEnd};
-ghost use Rattle.all_workers.specs.WindowLength.{IsSound, length_of_window};
+ghost use Rattle.all_workers.specs.WindowLength.{HasSoundMedium, length_of_window};
 
 use crate::next::next_moment;
 use crate::window::run_window;
@@ -38,7 +38,7 @@ fn window_start(group: &WorkerGroup, end: u64) -> u64
 
 /// Runs all workers to the end of the net, window by window. Each window begins at the moment of the first pending
 /// event. Its length is the lookahead, or `longest` if that is above 0 and below the lookahead. No window goes past
-/// the net's end. `of` is the worker of each mote. The inboxes have no marks.
+/// the net's end. `owners` is the worker of each mote. The inboxes have no marks.
 ///
 /// # Errors
 /// `Memory` if an allocation fails; `Thread` if a thread couldn't be started, the gate refused a start, or the
@@ -48,7 +48,7 @@ pub fn run_by_joins<R, G>(
     rt: &R,
     alloc: Global,
     net: &Net,
-    of: &[u16],
+    owners: &[u16],
     longest: u32,
     gate: &G,
     group: WorkerGroup,
@@ -57,14 +57,14 @@ where
     R: Threads + Wait + RandomSource + AllocGlobal + Sync,
     G: Gate + Sync,
     requires inboxes_bounded { length group.inboxes.items ≤ 16 }
-    requires at { IsAt (net_of net.now) of.now 0 group }
-    requires plain { Each IsPlain group.takers.items }
-    ensures at { let n = net_of net.now in IfOk result (λ done. IsAt n of.now (suc n.end) done) }
+    requires at_moment { IsAt (net_of net.now) owners.now 0 group }
+    requires plain { Each HasNoMarks group.takers.items }
+    ensures at_moment { let model = net_of net.now in IfOk result (λ done. IsAt model owners.now (suc model.end) done) }
     ensures inboxes { IfOk result (λ done. done.inboxes.items ≡ group.inboxes.items) }
-    ensures windows { let n = net_of net.now in
-        IfOk result (GroupRunsToEnd n of.now (length_of_window (system_of n).lookahead longest) group) }
-    ensures failed { IfErr result (λ e. is_own e ≡ true) }
-    ensures sound { IsSound (net_of net.now) }
+    ensures windows { let model = net_of net.now in
+        IfOk result (GroupRunsToEnd model owners.now (length_of_window (system_of model).lookahead longest) group) }
+    ensures failed { IfErr result (λ e. is_own_failure e ≡ true) }
+    ensures sound { HasSoundMedium (net_of net.now) }
 {
     let end = net.end();
     let width = window_length(lookahead_of(net), longest);
@@ -72,7 +72,7 @@ where
     let mut from = window_start(&group, end);
     'windows: while from <= end {
         let until = window_end(from, width, end);
-        group = run_window(rt, alloc, net, of, until, gate, group)?;
+        group = run_window(rt, alloc, net, owners, until, gate, group)?;
         from = window_start(&group, end);
     }
     Ok(group)

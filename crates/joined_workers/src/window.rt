@@ -2,9 +2,9 @@
 
 ghost use Rattle.std.specs.Prelude.{◌≡◌, ℕ, ◌^◌, ◌≤◌, true, length, IfErr, IfOk};
 ghost use Rattle.std.specs.List.{AllByRecursion as Each};
-ghost use Rattle.fork_join.specs.Gravest.{is_own};
+ghost use Rattle.fork_join.specs.Gravest.{is_own_failure};
 ghost use Rattle.mote_net.specs.Meaning.{net_of};
-ghost use Rattle.copy_exchange.specs.Inboxes.{IsPlain};
+ghost use Rattle.copy_exchange.specs.Inboxes.{HasNoMarks};
 ghost use Rattle.all_workers.specs.WorkerGroup.{IsAt};
 ghost use Rattle.joined_workers.specs.Laws.{GroupRunsUntil};
 
@@ -30,7 +30,7 @@ pub(crate) fn run_window<'a, R, G>(
     rt: &'a R,
     alloc: Global,
     net: &'a Net,
-    of: &'a [u16],
+    owners: &'a [u16],
     until: u64,
     gate: &'a G,
     group: WorkerGroup,
@@ -40,11 +40,11 @@ where
     G: Gate + Sync,
     requires until_bounded { until ≤ 2 ^ 40 }
     requires inboxes_bounded { length group.inboxes.items ≤ 16 }
-    requires in_state { (from : ℕ) × IsAt (net_of net.now) of.now from group × (from ≤ until) }
-    requires plain { Each IsPlain group.takers.items }
-    ensures runs { IfOk result (GroupRunsUntil (net_of net.now) of.now until group) }
-    ensures plain { IfOk result (λ done. Each IsPlain done.takers.items) }
-    ensures failed { IfErr result (λ e. is_own e ≡ true) }
+    requires in_state { (from : ℕ) × IsAt (net_of net.now) owners.now from group × (from ≤ until) }
+    requires plain { Each HasNoMarks group.takers.items }
+    ensures runs { IfOk result (GroupRunsUntil (net_of net.now) owners.now until group) }
+    ensures plain { IfOk result (λ done. Each HasNoMarks done.takers.items) }
+    ensures failed { IfErr result (λ e. is_own_failure e ≡ true) }
 {
     let WorkerGroup {
         shares,
@@ -54,7 +54,7 @@ where
     } = group;
     let window = WorkersWindow {
         net,
-        of,
+        owners,
         inboxes: &inboxes,
         until,
     };

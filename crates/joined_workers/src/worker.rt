@@ -5,7 +5,7 @@ ghost use Rattle.fork_join.specs.declared.work.WorkerError.TheVariants.{Stopped}
 ghost use Rattle.mote_net.specs.Meaning.{net_of};
 ghost use Rattle.radio_packet.specs.declared.copy.RadioCopy.{RadioCopy};
 ghost use Rattle.window_laws.specs.Windows.{NoneBefore};
-ghost use Rattle.joined_workers.specs.Worker.{IsReady, RunsWorker, IsFirstOf};
+ghost use Rattle.joined_workers.specs.Worker.{IsReadyWorker, RunsWorker, IsFirstOf};
 ghost use Rattle.all_workers.specs.WorkerGroup.{IsNotBefore};
 
 use all_workers::Worker;
@@ -23,7 +23,7 @@ use worker_window::Gate;
 pub struct WorkersWindow<'a> {
     pub net: &'a Net,
     /// The worker of each mote.
-    pub of: &'a [u16],
+    pub owners: &'a [u16],
     /// The inbox of each worker.
     pub inboxes: &'a [Inbox],
     /// The window ends before this moment.
@@ -82,10 +82,11 @@ fn run_worker<R: Wait + RandomSource + AllocGlobal, G: Gate>(
     window: &WorkersWindow<'_>,
     worker: Worker,
 ) -> Result<Worker, WorkerError>
-    requires ready { IsReady (net_of window.now.net.now) window.now.of.now window.now.inboxes.now window.now.until
+    requires ready { IsReadyWorker
+        (net_of window.now.net.now) window.now.owners.now window.now.inboxes.now window.now.until
         worker }
     ensures runs { IfOk result (RunsWorker
-        (net_of window.now.net.now) window.now.of.now window.now.inboxes.now window.now.until worker) }
+        (net_of window.now.net.now) window.now.owners.now window.now.inboxes.now window.now.until worker) }
     // No worker waits for another within a window.
     ensures refused { IfErr result (λ reason. reason ≢ Stopped) }
 {
@@ -97,9 +98,9 @@ fn run_worker<R: Wait + RandomSource + AllocGlobal, G: Gate>(
     let Ok(arrived) = endpoint.collect(rt, window.inboxes) else {
         return Err(WorkerError::Memory);
     };
-    let outgoing = share.run_window(rt, window.net, window.of, arrived, window.until, gate)?;
+    let outgoing = share.run_window(rt, window.net, window.owners, arrived, window.until, gate)?;
     let first_out = first_of(&outgoing);
-    let Ok(()) = endpoint.deliver(rt, window.inboxes, window.of, &outgoing) else {
+    let Ok(()) = endpoint.deliver(rt, window.inboxes, window.owners, &outgoing) else {
         return Err(WorkerError::Memory);
     };
     Ok(Worker {
@@ -110,11 +111,11 @@ fn run_worker<R: Wait + RandomSource + AllocGlobal, G: Gate>(
 }
 
 impl<R: Wait + RandomSource + AllocGlobal, G: Gate> Work<Worker> for Runner<'_, R, G> {
-    ghost ready = { λ w worker. IsReady
-        (net_of w.window.net.now) w.window.of.now w.window.inboxes.now w.window.until worker };
+    ghost ready = { λ w worker. IsReadyWorker
+        (net_of w.window.net.now) w.window.owners.now w.window.inboxes.now w.window.until worker };
 
     ghost makes = { λ w old new. RunsWorker
-        (net_of w.window.net.now) w.window.of.now w.window.inboxes.now w.window.until old new };
+        (net_of w.window.net.now) w.window.owners.now w.window.inboxes.now w.window.until old new };
 
     // No worker waits for another within a window.
     ghost errs = { λ _ _ e. e ≢ Stopped };

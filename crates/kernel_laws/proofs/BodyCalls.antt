@@ -24,7 +24,7 @@ use Rattle.trace_lines.specs.declared.line.What.TheVariants as what
 use Rattle.process_kernel.specs.declared.process.ProcessState.TheVariants.{Off, Running, Called}
 use Rattle.process_kernel.specs.declared.process.Member.{Member}
 use Rattle.process_kernel.specs.Members.{place_of, is_same}
-use Rattle.process_kernel.specs.State.{State, Outcome, Ends, Goes, ◌>>=◌}
+use Rattle.process_kernel.specs.State.{KernelState, Outcome, Ends, Goes, ◌>>=◌}
 use Rattle.process_kernel.specs.Processes.{is_running_state, has_process, is_busy, is_listed, is_running, with_state}
 use Rattle.process_kernel.specs.ProcessList.{put_remainder, with_fresh_body, enlist_of, exiting_of, leave_of}
 use Rattle.process_kernel.specs.Posts.{post_of}
@@ -43,7 +43,7 @@ use Rattle.kernel_laws.specs.Printed.{IsQuietApart, LivesSoFar, OnRecord, HasSta
 use Rattle.kernel_laws.specs.Telling as telling
 use Rattle.kernel_laws.specs.Telling.{ProcessInMote, process_in_mote, IsOut, Next, AtStart, AtCall, CanCome}
 use Rattle.kernel_laws.proofs.EachStep as each
-use Rattle.kernel_laws.proofs.EachStep.{Whoever, Lead, AreJoined, AreRingSteps, lead_from, lead_bind, lead_if}
+use Rattle.kernel_laws.proofs.EachStep.{AnyProcess, Lead, AreJoined, AreRingSteps, lead_from, lead_bind, lead_if}
 use Rattle.kernel_laws.proofs.EachStep.{lead_goes, lead_still, bind_twice}
 use Rattle.kernel_laws.proofs.Tables.{is_equal}
 use Rattle.kernel_laws.proofs.Lives.{at_first}
@@ -85,37 +85,37 @@ module _ (program : Tree) (mote p : ℕ) (code : Code) (earlier : List Line) whe
     pub so_far : SoFar program mote p code earlier v.lines_so_far
 
   -- a process that is away is unchanged, and if a process is at rest, the lines are still those of its lives
-  pub record Keeps (s t : State) : Type 0 where
+  pub record Keeps (s t : KernelState) : Type 0 where
     pub away : IsAway program mote (process_in_mote p s) → IsQuiet p s t
     pub in_state : IsInState (process_in_mote p s) → IsInState (process_in_mote p t)
 
-  pub quiet_keeps : (s t : State) → IsQuiet p s t → Keeps s t
+  pub quiet_keeps : (s t : KernelState) → IsQuiet p s t → Keeps s t
   quiet_keeps s t e = record { away = λ a. e; in_state = λ h. subst (λ x. IsInState x) (sym e) h }
 
-  keeps_joined : (a b c : State) → Keeps a b → Keeps b c → Keeps a c
+  keeps_joined : (a b c : KernelState) → Keeps a b → Keeps b c → Keeps a c
   keeps_joined a b c h i = record {
     away = λ x. i.away (subst (λ v. IsAway program mote v) (sym (h.away x)) x) ∙ h.away x;
     in_state = λ x. i.in_state (h.in_state x);
   }
 
   -- if the mote halts, the lines are those of the lives so far
-  abbrev pub Stopped : State → Type 0
+  abbrev pub Stopped : KernelState → Type 0
   Stopped t = SoFar program mote p code earlier (process_in_mote p t).lines_so_far
 
-  pub record Stops (s t : State) : Type 0 where
+  pub record Stops (s t : KernelState) : Type 0 where
     pub away : IsAway program mote (process_in_mote p s) → Stopped s → Stopped t
     pub in_state : IsInState (process_in_mote p s) → Stopped t
 
-  in_state_so_far : (s : State) → IsInState (process_in_mote p s) → Stopped s
+  in_state_so_far : (s : KernelState) → IsInState (process_in_mote p s) → Stopped s
   in_state_so_far s h = OnRecord h.lived
 
-  quiet_stopped : (s t : State) → IsQuiet p s t → Stopped s → Stopped t
+  quiet_stopped : (s t : KernelState) → IsQuiet p s t → Stopped s → Stopped t
   quiet_stopped s t e h = subst (λ v. SoFar program mote p code earlier v.lines_so_far) (sym e) h
 
-  quiet_stops : (s t : State) → IsQuiet p s t → Stops s t
+  quiet_stops : (s t : KernelState) → IsQuiet p s t → Stops s t
   quiet_stops s t e = record { away = λ a h. quiet_stopped s t e h; in_state = λ h. quiet_stopped s t e (in_state_so_far s h) }
 
-  keeps_stops : (a b c : State) → Keeps a b → Stops b c → Stops a c
+  keeps_stops : (a b c : KernelState) → Keeps a b → Stops b c → Stops a c
   keeps_stops a b c h i = record {
     away = λ x so. i.away (subst (λ v. IsAway program mote v) (sym (h.away x)) x) (quiet_stopped a b (h.away x) so);
     in_state = λ x. i.in_state (h.in_state x);
@@ -124,33 +124,33 @@ module _ (program : Tree) (mote p : ℕ) (code : Code) (earlier : List Line) whe
   pub chain : AreJoined Keeps Stops
   chain = record { same = λ s. quiet_keeps s s refl; joined = keeps_joined; ended = keeps_stops }
 
-  abbrev pub Leads : (A : Type 0) → State → Outcome A → Type 0
+  abbrev pub Leads : (A : Type 0) → KernelState → Outcome A → Type 0
   Leads A s o = Lead Keeps Stops A s o
 
   -- chains of steps
 
-  pub from : {A : Type 0} (s t : State) (o : Outcome A) → IsQuiet p s t → Leads A t o → Leads A s o
+  pub from : {A : Type 0} (s t : KernelState) (o : Outcome A) → IsQuiet p s t → Leads A t o → Leads A s o
   from {A} s t o e h = lead_from Keeps Stops chain A s t o (quiet_keeps s t e) h
 
-  pub bind : {A B : Type 0} (s : State) (o : Outcome A) (f : A → State → Outcome B) → Leads A s o → ((a : A) (t : State) → Leads B t (f a t)) → Leads B s (o >>= f)
+  pub bind : {A B : Type 0} (s : KernelState) (o : Outcome A) (f : A → KernelState → Outcome B) → Leads A s o → ((a : A) (t : KernelState) → Leads B t (f a t)) → Leads B s (o >>= f)
   bind {A} {B} s o f h go = lead_bind Keeps Stops chain A B s o f h go
 
-  pub either : {A : Type 0} (s : State) (b : Bool) (o q : Outcome A) → Leads A s o → Leads A s q → Leads A s (if b then o else q)
+  pub either : {A : Type 0} (s : KernelState) (b : Bool) (o q : Outcome A) → Leads A s o → Leads A s q → Leads A s (if b then o else q)
   either {A} s b o q h i = lead_if Keeps Stops chain A s b o q h i
 
-  pub goes : {A : Type 0} (s : State) (a : A) (t : State) → IsQuiet p s t → Leads A s (Goes a t)
+  pub goes : {A : Type 0} (s : KernelState) (a : A) (t : KernelState) → IsQuiet p s t → Leads A s (Goes a t)
   goes {A} s a t e = lead_goes Keeps Stops chain A s a t (quiet_keeps s t e)
 
-  pub still : {A : Type 0} (s : State) (a : A) → Leads A s (Goes a s)
+  pub still : {A : Type 0} (s : KernelState) (a : A) → Leads A s (Goes a s)
   still {A} s a = lead_still Keeps Stops chain A s a
 
-  pub ends : {A : Type 0} (s t : State) → IsQuiet p s t → Leads A s (Ends t)
+  pub ends : {A : Type 0} (s t : KernelState) → IsQuiet p s t → Leads A s (Ends t)
   ends {A} s t e = record { leads = quiet_stops s t e }
 
-  pub halts : {A : Type 0} (s : State) → Leads A s (Ends (halted_of s))
+  pub halts : {A : Type 0} (s : KernelState) → Leads A s (Ends (halted_of s))
   halts {A} s = ends s (halted_of s) (halted_quiet p s)
 
-  pub quietly : {A : Type 0} (s : State) (o : Outcome A) → Always (λ t. IsQuiet p s t) o → Leads A s o
+  pub quietly : {A : Type 0} (s : KernelState) (o : Outcome A) → Always (λ t. IsQuiet p s t) o → Leads A s o
   quietly {A} s (Ends t) h = ends s t h
   quietly {A} s (Goes a t) h = goes s a t h
 
@@ -159,31 +159,31 @@ module _ (program : Tree) (mote p : ℕ) (code : Code) (earlier : List Line) whe
   Settles {A} o = IfGives Stopped (λ a t. IsInState (process_in_mote p t)) o
 
   -- a step for the two cases: the process is away, or it is at rest
-  pub lead_of : {A : Type 0} (s : State) (o : Outcome A) → (IsAway program mote (process_in_mote p s) → Always (λ t. IsQuiet p s t) o) → (IsInState (process_in_mote p s) → Settles o) → Leads A s o
+  pub lead_of : {A : Type 0} (s : KernelState) (o : Outcome A) → (IsAway program mote (process_in_mote p s) → Always (λ t. IsQuiet p s t) o) → (IsInState (process_in_mote p s) → Settles o) → Leads A s o
   lead_of {A} s (Ends t) h i = record { leads = record { away = λ a so. quiet_stopped s t (h a) so; in_state = i } }
   lead_of {A} s (Goes a t) h i = record { leads = record { away = h; in_state = i } }
 
   -- a step for the case in which the program is this one
-  pub knowing : {A : Type 0} (s : State) (o : Outcome A) → ((process_in_mote p s).program ≡ program → Leads A s o) → Leads A s o
+  pub knowing : {A : Type 0} (s : KernelState) (o : Outcome A) → ((process_in_mote p s).program ≡ program → Leads A s o) → Leads A s o
   knowing {A} s (Ends t) h = record { leads = record { away = λ x. (h x.of_program).leads.away x; in_state = λ x. (h x.of_program).leads.in_state x } }
   knowing {A} s (Goes a t) h = record { leads = record { away = λ x. (h x.of_program).leads.away x; in_state = λ x. (h x.of_program).leads.in_state x } }
 
-  pub lead_away : {A : Type 0} (s : State) (o : Outcome A) → Leads A s o → IsAway program mote (process_in_mote p s) → Stopped s → IfGives Stopped (λ a t. IsQuiet p s t) o
+  pub lead_away : {A : Type 0} (s : KernelState) (o : Outcome A) → Leads A s o → IsAway program mote (process_in_mote p s) → Stopped s → IfGives Stopped (λ a t. IsQuiet p s t) o
   lead_away {A} s (Ends t) h a so = h.leads.away a so
   lead_away {A} s (Goes x t) h a so = h.leads.away a
 
   -- small steps that are quiet
 
-  pub spend_quiet : (s : State) → Always (λ t. IsQuiet p s t) (spend_of s)
+  pub spend_quiet : (s : KernelState) → Always (λ t. IsQuiet p s t) (spend_of s)
   unfolding spend_of
   spend_quiet s = always_if (λ t. IsQuiet p s t) (s.units == 0) _ _ (halted_quiet p s) refl
 
   -- if a unit is spent, the position of the process doesn't change
-  spent : (v : ProcessInMote) (s : State) → process_in_mote p s ≡ v → SoFar program mote p code earlier v.lines_so_far → IfGives Stopped (λ a t. process_in_mote p t ≡ v) (spend_of s)
+  spent : (v : ProcessInMote) (s : KernelState) → process_in_mote p s ≡ v → SoFar program mote p code earlier v.lines_so_far → IfGives Stopped (λ a t. process_in_mote p t ≡ v) (spend_of s)
   spent v s e so =
       from_always (Unit {0}) Stopped (λ t. IsQuiet p s t) (λ t. process_in_mote p t ≡ v) (spend_of s) (spend_quiet s) (λ t same. subst (λ w. SoFar program mote p code earlier w.lines_so_far) (sym (same ∙ e)) so) (λ t same. same ∙ e)
 
-  writes : (s : State) (w : What) → IsQuiet p s (with_line s w) → Leads (Unit {0}) s (write_of s w)
+  writes : (s : KernelState) (w : What) → IsQuiet p s (with_line s w) → Leads (Unit {0}) s (write_of s w)
   unfolding write_of
   writes s w e = goes s tt _ e
 
@@ -200,23 +200,23 @@ module _ (program : Tree) (mote p : ℕ) (code : Code) (earlier : List Line) whe
   abbrev Others : ℕ → Type 0
   Others q = q ≡ p → ⊥
 
-  is_other : (q : Proc) → each.IsOurs Keeps Stops chain Whoever Others q → IsOther p q
+  is_other : (q : Proc) → each.IsOurs Keeps Stops chain AnyProcess Others q → IsOther p q
   is_other (Own q) n = own_other p q n
   is_other Etimer n = etimer_other p
   is_other Ctimer n = ctimer_other p
   is_other Radio n = radio_other p
 
-  is_ours : (q : Proc) → IsOther p q → each.IsOurs Keeps Stops chain Whoever Others q
+  is_ours : (q : Proc) → IsOther p q → each.IsOurs Keeps Stops chain AnyProcess Others q
   is_ours (Own q) n = λ k. other_own p q n (sym k)
   is_ours Etimer n = tt
   is_ours Ctimer n = tt
   is_ours Radio n = tt
 
-  pub steps : each.AreSteps Keeps Stops chain Whoever Others
+  pub steps : each.AreSteps Keeps Stops chain AnyProcess Others
   unfolding leave_of write_of
   steps = record {
     own = λ q own. tt;
-    brackets = each.brackets_of Keeps Stops chain Whoever Others (λ s q o. quiet_keeps s _ (state_quiet p s q Called (is_other q o))) (λ s q o. quiet_keeps s _ (state_quiet p s q Running (is_other q o)))
+    brackets = each.brackets_of Keeps Stops chain AnyProcess Others (λ s q o. quiet_keeps s _ (state_quiet p s q Called (is_other q o))) (λ s q o. quiet_keeps s _ (state_quiet p s q Running (is_other q o)))
         (λ s q o l. quiet_keeps s _ (exiting_quiet p s q (is_other q o))) (λ s q o l. quiet_keeps s _ (leave_quiet p s q (is_other q o)));
     halts = λ s. quiet_stops s _ (halted_quiet p s);
     units = λ s n l. quiet_keeps s _ refl;
@@ -241,11 +241,11 @@ module _ (program : Tree) (mote p : ℕ) (code : Code) (earlier : List Line) whe
   -- an invariant of the calls of a process and the runs of a thread: threads of other processes, of the process's
   -- body, and of its other blocks
   pub record AreTraced (calls : Calls) : Type 0 where
-    pub call : (s : State) (q : Proc) (e : Event) → Leads (Unit {0}) s (calls.call s q e)
-    pub ready : (s : State) (e : Event) → IsReady (process_in_mote p s) e → Settles (calls.call s (Own p) e)
-    pub run : (s : State) (c : Code) (r : Remainder) (q : ℕ) (e : Event) → (q ≡ p → ⊥) → Leads Answer s (calls.run s c r q e)
+    pub call : (s : KernelState) (q : Proc) (e : Event) → Leads (Unit {0}) s (calls.call s q e)
+    pub ready : (s : KernelState) (e : Event) → IsReady (process_in_mote p s) e → Settles (calls.call s (Own p) e)
+    pub run : (s : KernelState) (c : Code) (r : Remainder) (q : ℕ) (e : Event) → (q ≡ p → ⊥) → Leads Answer s (calls.run s c r q e)
     pub body : BodyRuns program mote p code earlier calls
-    pub beside : (s : State) (r : Remainder) (e : Event) → IsQuietRest code r → Leads Answer s (calls.run s code r p e)
+    pub beside : (s : KernelState) (r : Remainder) (e : Event) → IsQuietRest code r → Leads Answer s (calls.run s code r p e)
 
   -- the body has run, or only the parts that run before the body
   record Reacted (v : ProcessInMote) (a : PtState) (w : ProcessInMote) : Type 0 where
@@ -285,30 +285,30 @@ module _ (program : Tree) (mote p : ℕ) (code : Code) (earlier : List Line) whe
   some_is x y e = ap (λ o. unwrap_or o x) e
 
   -- the process has this position in this state
-  abbrev At : ProcessInMote → State → Type 0
+  abbrev At : ProcessInMote → KernelState → Type 0
   At v t = process_in_mote p t ≡ v
 
   module _ (is_code : slice_get program.codes p ≡ Some code) (apart : IsQuietApart code) where
-    code_there : (s : State) → (process_in_mote p s).program ≡ program → slice_get s.program.codes p ≡ Some code
+    code_there : (s : KernelState) → (process_in_mote p s).program ≡ program → slice_get s.program.codes p ≡ Some code
     code_there s e = ap (λ t. slice_get t.codes p) e ∙ is_code
 
     module _ (calls : Calls) (are : AreTraced calls) where
-      walk_led : (e : Event) (q : Proc) (ms : List Member) (s : State) → Leads (Unit {0}) s (walk_of calls e q ms s)
+      walk_led : (e : Event) (q : Proc) (ms : List Member) (s : KernelState) → Leads (Unit {0}) s (walk_of calls e q ms s)
       walk_led e q [] s = still s tt
       walk_led e q (m ∷ ms) s = bind s _ _ (either s _ _ _ (are.call s m.process e) (still s tt)) (λ a t. walk_led e q ms t)
 
-      own_callback : (s : State) (c : Code) (e : Event) → slice_get s.program.codes p ≡ Some c → (process_in_mote p s).program ≡ program → Leads Answer s (calls.run s c (fresh_of c (Callback e.word)) p e)
+      own_callback : (s : KernelState) (c : Code) (e : Event) → slice_get s.program.codes p ≡ Some c → (process_in_mote p s).program ≡ program → Leads Answer s (calls.run s c (fresh_of c (Callback e.word)) p e)
       own_callback s c e is of_program =
           let same : c ≡ code = some_is c code (sym is ∙ code_there s of_program) in
           subst (λ c. Leads Answer s (calls.run s c (fresh_of c (Callback e.word)) p e)) (sym same) (are.beside s _ e (fresh_quiet code (Callback e.word) (callback_quiet code e.word apart)))
 
-      callback_led : (s : State) (c : Code) (q : ℕ) (e : Event) → slice_get s.program.codes q ≡ Some c → (q ≡ p) ⊎ (q ≡ p → ⊥) → Leads Answer s (calls.run s c (fresh_of c (Callback e.word)) q e)
+      callback_led : (s : KernelState) (c : Code) (q : ℕ) (e : Event) → slice_get s.program.codes q ≡ Some c → (q ≡ p) ⊎ (q ≡ p → ⊥) → Leads Answer s (calls.run s c (fresh_of c (Callback e.word)) q e)
       callback_led s c q e is (inl same) =
           subst (λ k. slice_get s.program.codes k ≡ Some c → Leads Answer s (calls.run s c (fresh_of c (Callback e.word)) k e)) (sym same) (λ i. knowing s _ (own_callback s c e i)) is
       callback_led s c q e is (inr n) = are.run s c _ q e n
 
       -- the calls of other processes
-      led : each.AreLed Keeps Stops chain Whoever Others calls
+      led : each.AreLed Keeps Stops chain AnyProcess Others calls
       led = record {
         call = λ s q e f. are.call s q e;
         run = λ s c r q e n. are.run s c r q e n;
@@ -317,13 +317,13 @@ module _ (program : Tree) (mote p : ℕ) (code : Code) (earlier : List Line) whe
 
       -- the process itself
 
-      handled : (s : State) (e : Event) → Leads (Unit {0}) s (handler_of calls s code p e)
+      handled : (s : KernelState) (e : Event) → Leads (Unit {0}) s (handler_of calls s code p e)
       unfolding handler_of
       handled s e =
           either s (is_system_event Poll e) _ _ (bind s _ _ (are.beside s _ e (fresh_quiet code OnPoll (on_poll_quiet code apart))) (λ a t. still t tt))
           (either s (is_system_event Exit e) _ _ (bind s _ _ (are.beside s _ e (fresh_quiet code OnExit (on_exit_quiet code apart))) (λ a t. still t tt)) (still s tt))
 
-      resumed : (s : State) (r : Remainder) (vars : List ℕ) (e : Event) (coming : Next) → IsAway program mote (process_in_mote p s) → (process_in_mote p s).vars ≡ Some vars → (process_in_mote p s).rest ≡ Some r → CanCome coming e s.moment → ComesHere program mote p code earlier (process_in_mote p s).lines_so_far coming r vars → Stopped s
+      resumed : (s : KernelState) (r : Remainder) (vars : List ℕ) (e : Event) (coming : Next) → IsAway program mote (process_in_mote p s) → (process_in_mote p s).vars ≡ Some vars → (process_in_mote p s).rest ≡ Some r → CanCome coming e s.moment → ComesHere program mote p code earlier (process_in_mote p s).lines_so_far coming r vars → Stopped s
           → IfGives Stopped (λ a t. Reacted (process_in_mote p s) a (process_in_mote p t)) (resume_of calls s code p e)
       unfolding resume_of put_remainder
       resumed s r vars e coming away has rest can here so =
@@ -340,7 +340,7 @@ module _ (program : Tree) (mote p : ℕ) (code : Code) (earlier : List Line) whe
             comes = ran.comes;
           })
 
-      reacts : (s : State) (r : Remainder) (vars : List ℕ) (e : Event) (coming : Next) → IsAway program mote (process_in_mote p s) → (process_in_mote p s).vars ≡ Some vars → (process_in_mote p s).rest ≡ Some r → CanCome coming e s.moment → ComesHere program mote p code earlier (process_in_mote p s).lines_so_far coming r vars → Stopped s
+      reacts : (s : KernelState) (r : Remainder) (vars : List ℕ) (e : Event) (coming : Next) → IsAway program mote (process_in_mote p s) → (process_in_mote p s).vars ≡ Some vars → (process_in_mote p s).rest ≡ Some r → CanCome coming e s.moment → ComesHere program mote p code earlier (process_in_mote p s).lines_so_far coming r vars → Stopped s
           → IfGives Stopped (λ a t. Reacted (process_in_mote p s) a (process_in_mote p t)) (react_of calls s (Own p) e)
       unfolding react_of own_of
       reacts s r vars e coming away has rest can here so =
@@ -351,11 +351,11 @@ module _ (program : Tree) (mote p : ℕ) (code : Code) (earlier : List Line) whe
 
       -- the process leaves
 
-      gone : (s : State) → IsGone (process_in_mote p s) → Settles (leave_of s (Own p))
+      gone : (s : KernelState) → IsGone (process_in_mote p s) → Settles (leave_of s (Own p))
       gone s h =
           from_always (Unit {0}) Stopped (λ t. At (record (process_in_mote p s) { exiting = false; listed = false }) t) (λ t. IsInState (process_in_mote p t)) (leave_of s (Own p)) (leave_in_mote p s h.room) (λ t same. in_state_so_far t (left_list t same)) left_list
         where
-          left_list : (t : State) → At (record (process_in_mote p s) { exiting = false; listed = false }) t → IsInState (process_in_mote p t)
+          left_list : (t : KernelState) → At (record (process_in_mote p s) { exiting = false; listed = false }) t → IsInState (process_in_mote p t)
           left_list t same = subst (λ x. IsInState x) (sym same) (record {
             of_program = h.of_program;
             of_mote = h.of_mote;
@@ -376,7 +376,7 @@ module _ (program : Tree) (mote p : ℕ) (code : Code) (earlier : List Line) whe
       way_is_away : (v : ProcessInMote) → v.program ≡ program → v.mote ≡ mote → IsAway program mote (on_its_way v)
       way_is_away v e f = record { of_program = e; of_mote = f; not_running = refl; busy = refl }
 
-      walked : (s : State) (b : Bool) (e : Event) (ms : List Member) → IsLeaving (process_in_mote p s) b → IfGives Stopped (λ a t. At (on_its_way (process_in_mote p s)) t) (walk_of calls e (Own p) ms (exiting_of s (Own p)))
+      walked : (s : KernelState) (b : Bool) (e : Event) (ms : List Member) → IsLeaving (process_in_mote p s) b → IfGives Stopped (λ a t. At (on_its_way (process_in_mote p s)) t) (walk_of calls e (Own p) ms (exiting_of s (Own p)))
       walked s b e ms h =
           let same = exiting_in_mote p s h.has h.room in
           subst (λ v. IfGives Stopped (λ a t. At v t) (walk_of calls e (Own p) ms (exiting_of s (Own p)))) same
@@ -396,7 +396,7 @@ module _ (program : Tree) (mote p : ℕ) (code : Code) (earlier : List Line) whe
         lived = r.lived;
       }
 
-      last_runs : (s t : State) → IsLeaving (process_in_mote p s) false → At (on_its_way (process_in_mote p s)) t → IfGives Stopped (λ a u. IsGone (process_in_mote p u)) (last_run_of calls t (Own p))
+      last_runs : (s t : KernelState) → IsLeaving (process_in_mote p s) false → At (on_its_way (process_in_mote p s)) t → IfGives Stopped (λ a u. IsGone (process_in_mote p u)) (last_run_of calls t (Own p))
       unfolding last_run_of
       last_runs s t h same =
           gives_bind (Unit {0}) (Unit {0}) Stopped (λ a u. At (on_its_way (process_in_mote p s)) u) (λ a u. IsGone (process_in_mote p u)) (spend_of t) _ (spent (on_its_way (process_in_mote p s)) t same (OnRecord h.lived)) (λ a u there.
@@ -404,11 +404,11 @@ module _ (program : Tree) (mote p : ℕ) (code : Code) (earlier : List Line) whe
           (reacts u h.now h.left (own_event Exit 0) AtCall (subst (λ v. IsAway program mote v) (sym there) (way_is_away (process_in_mote p s) h.of_program h.of_mote)) (ap (λ v. v.vars) there ∙ h.vars) (ap (λ v. v.rest) there ∙ h.rest) tt (subst (λ v. ComesHere program mote p code earlier v.lines_so_far AtCall h.now h.left) (sym there) (h.comes refl)) (subst (λ v. SoFar program mote p code earlier v.lines_so_far) (sym there) (OnRecord h.lived)))
           (λ a w r. last_gone (process_in_mote p u) a (process_in_mote p w) (ap (λ v. v.program) there ∙ h.of_program) (ap (λ v. v.mote) there ∙ h.of_mote) (ap (λ v. v.has) there ∙ h.has) (ap (λ v. v.room) there ∙ h.room) (ap (λ v. v.state) there) r))
 
-      last : (s t : State) (b : Bool) → IsLeaving (process_in_mote p s) b → At (on_its_way (process_in_mote p s)) t → IfGives Stopped (λ a u. IsGone (process_in_mote p u)) (if b then Goes tt t else last_run_of calls t (Own p))
+      last : (s t : KernelState) (b : Bool) → IsLeaving (process_in_mote p s) b → At (on_its_way (process_in_mote p s)) t → IfGives Stopped (λ a u. IsGone (process_in_mote p u)) (if b then Goes tt t else last_run_of calls t (Own p))
       last s t true h same = subst (λ v. IsGone v) (sym same) (record { of_program = h.of_program; of_mote = h.of_mote; has = h.has; room = h.room; state = refl; now = h.now; rest = h.rest; left = h.left; vars = h.vars; lived = h.lived })
       last s t false h same = last_runs s t h same
 
-      exits : (s : State) (f : Proc) → IsLeaving (process_in_mote p s) (is_same (Own p) f) → Settles (exit_of calls s (Own p) f)
+      exits : (s : KernelState) (f : Proc) → IsLeaving (process_in_mote p s) (is_same (Own p) f) → Settles (exit_of calls s (Own p) f)
       unfolding exit_of
       exits s f h =
           subst (λ b. Settles (if b then (walk_of calls (own_event Exited (process_number (Own p))) (Own p) s.members (exiting_of s (Own p)) >>= λ _ s1. (if is_same (Own p) f then Goes tt s1 else last_run_of calls s1 (Own p)) >>= λ _ s2. leave_of s2 (Own p)) else Goes tt s)) (sym h.listed)
@@ -417,7 +417,7 @@ module _ (program : Tree) (mote p : ℕ) (code : Code) (earlier : List Line) whe
 
       -- the process is called
 
-      answers_so : (s : State) (v : ProcessInMote) (e : Event) (a : PtState) (exit : Bool) → IsReady v e → Reacted (record v { state = Called }) a (process_in_mote p s) → Settles (answered calls s (Own p) (has_ended a || exit))
+      answers_so : (s : KernelState) (v : ProcessInMote) (e : Event) (a : PtState) (exit : Bool) → IsReady v e → Reacted (record v { state = Called }) a (process_in_mote p s) → Settles (answered calls s (Own p) (has_ended a || exit))
       unfolding answered
       answers_so s v e a exit h r = by (has_ended a || exit) refl
         where
@@ -454,7 +454,7 @@ module _ (program : Tree) (mote p : ℕ) (code : Code) (earlier : List Line) whe
                 where_it_is = inr (record { has = has; state = refl; listed = ap (λ x. x.listed) r.same ∙ h.is_in.listed; comes = r.comes (not_ended (has_ended a) exit e) });
               })
 
-      is_called : (s : State) (e : Event) → IsReady (process_in_mote p s) e → Settles (call_of calls s (Own p) e)
+      is_called : (s : KernelState) (e : Event) → IsReady (process_in_mote p s) e → Settles (call_of calls s (Own p) e)
       unfolding call_of
       is_called s e h =
           let runs : is_running s (Own p) ≡ true = ap is_running_state h.is_in.state in
@@ -498,13 +498,13 @@ module _ (program : Tree) (mote p : ℕ) (code : Code) (earlier : List Line) whe
         so_far = subst (λ l. LivesSoFar code (Own p) mote code.starts l) (append_assoc earlier v.lines_so_far (record { at = v.moment; what = what.Start (Own p) } ∷ [])) (HasStarted h.lived v.moment);
       })
 
-      starts_up : (s : State) → IsInState (process_in_mote p s) → has_process s (Own p) ≡ true → Settles (enlist_of s (Own p) >>= λ _ s1. calls.call s1 (Own p) (own_event Init 0))
+      starts_up : (s : KernelState) → IsInState (process_in_mote p s) → has_process s (Own p) ≡ true → Settles (enlist_of s (Own p) >>= λ _ s1. calls.call s1 (Own p) (own_event Init 0))
       starts_up s h has =
           gives_bind (Unit {0}) (Unit {0}) Stopped (λ a t. IsReady (process_in_mote p t) (own_event Init 0)) (λ a t. IsInState (process_in_mote p t)) (enlist_of s (Own p)) _
           (from_always (Unit {0}) Stopped _ (λ t. IsReady (process_in_mote p t) (own_event Init 0)) (enlist_of s (Own p)) (enlist_in_mote p s code h.still (code_there s h.of_program) has h.rest) (λ t same. (ready_first (process_in_mote p s) (process_in_mote p t) h has same).so_far) (λ t same. ready_first (process_in_mote p s) (process_in_mote p t) h has same))
           (λ a t ready. are.ready t (own_event Init 0) ready)
 
-      own_start_if : (s : State) (b : Bool) → IsInState (process_in_mote p s) → (has_process s (Own p) && not (is_listed s (Own p))) ≡ b
+      own_start_if : (s : KernelState) (b : Bool) → IsInState (process_in_mote p s) → (has_process s (Own p) && not (is_listed s (Own p))) ≡ b
           → Settles (if b then (enlist_of s (Own p) >>= λ _ s1. calls.call s1 (Own p) (own_event Init 0)) else Goes tt s)
       own_start_if s true h e = starts_up s h (has (has_process s (Own p)) _ e)
         where
@@ -513,10 +513,10 @@ module _ (program : Tree) (mote p : ℕ) (code : Code) (earlier : List Line) whe
           has false c e = absurd (cc)
       own_start_if s false h e = h
 
-      busy_away : (s : State) → IsAway program mote (process_in_mote p s) → is_busy s (Own p) ≡ false → ⊥
+      busy_away : (s : KernelState) → IsAway program mote (process_in_mote p s) → is_busy s (Own p) ≡ false → ⊥
       busy_away s a e = let f : true ≡ false = sym a.busy ∙ e in cc
 
-      own_start : (s : State) → Leads (Unit {0}) s (start_of calls s (Own p))
+      own_start : (s : KernelState) → Leads (Unit {0}) s (start_of calls s (Own p))
       unfolding start_of
       own_start s = by (is_busy s (Own p)) refl
         where
@@ -524,11 +524,11 @@ module _ (program : Tree) (mote p : ℕ) (code : Code) (earlier : List Line) whe
           by true e = writes s _ (line_quiet p s (what.Busy (Own p)) refl)
           by false e = lead_of s _ (λ a. absurd (busy_away s a e)) (λ h. own_start_if s _ h refl)
 
-      unlisted_exit : (s : State) (f : Proc) → IsInState (process_in_mote p s) → is_listed s (Own p) ≡ false → Settles (exit_of calls s (Own p) f)
+      unlisted_exit : (s : KernelState) (f : Proc) → IsInState (process_in_mote p s) → is_listed s (Own p) ≡ false → Settles (exit_of calls s (Own p) f)
       unfolding exit_of
       unlisted_exit s f h e = rw e h
 
-      own_exit : (s : State) (f : Proc) → IsInState (process_in_mote p s) → Settles (exit_of calls s (Own p) f)
+      own_exit : (s : KernelState) (f : Proc) → IsInState (process_in_mote p s) → Settles (exit_of calls s (Own p) f)
       own_exit s f h = by h.where_it_is
         where
           by : IsOut (process_in_mote p s) ⊎ IsIn AtCall (process_in_mote p s) h.still h.left → Settles (exit_of calls s (Own p) f)
@@ -547,7 +547,7 @@ module _ (program : Tree) (mote p : ℕ) (code : Code) (earlier : List Line) whe
             comes = λ q. is_in.comes;
           })
 
-      own_kill : (s : State) (current : ℕ) → Leads (Unit {0}) s (kill_of calls s (Own p) current)
+      own_kill : (s : KernelState) (current : ℕ) → Leads (Unit {0}) s (kill_of calls s (Own p) current)
       unfolding kill_of
       own_kill s current = by (is_busy s (Own p)) refl
         where
@@ -555,63 +555,63 @@ module _ (program : Tree) (mote p : ℕ) (code : Code) (earlier : List Line) whe
           by true e = writes s _ (line_quiet p s (what.Busy (Own p)) refl)
           by false e = lead_of s _ (λ a. absurd (busy_away s a e)) (λ h. own_exit s (Own current) h)
 
-      pub start_led : (s : State) (q : Proc) → Leads (Unit {0}) s (start_of calls s q)
+      pub start_led : (s : KernelState) (q : Proc) → Leads (Unit {0}) s (start_of calls s q)
       start_led s q = by (which p q)
         where
           by : (q ≡ Own p) ⊎ IsOther p q → Leads (Unit {0}) s (start_of calls s q)
           by (inl e) = subst (λ k. Leads (Unit {0}) s (start_of calls s k)) (sym e) (own_start s)
-          by (inr n) = each.start_led Keeps Stops chain Whoever Others steps calls led s q (is_ours q n)
+          by (inr n) = each.start_led Keeps Stops chain AnyProcess Others steps calls led s q (is_ours q n)
 
-      kill_led : (s : State) (q : Proc) (current : ℕ) → Leads (Unit {0}) s (kill_of calls s q current)
+      kill_led : (s : KernelState) (q : Proc) (current : ℕ) → Leads (Unit {0}) s (kill_of calls s q current)
       kill_led s q current = by (which p q)
         where
           by : (q ≡ Own p) ⊎ IsOther p q → Leads (Unit {0}) s (kill_of calls s q current)
           by (inl e) = subst (λ k. Leads (Unit {0}) s (kill_of calls s k current)) (sym e) (own_kill s current)
-          by (inr n) = each.kill_led Keeps Stops chain Whoever Others steps calls led s q current (is_ours q n) tt
+          by (inr n) = each.kill_led Keeps Stops chain AnyProcess Others steps calls led s q current (is_ours q n) tt
 
       -- operations, except for prints
 
-      allowed : (current : ℕ) (x : Op) → IsNoPrint x → each.Allowed Keeps Stops chain Whoever Others current x
+      allowed : (current : ℕ) (x : Op) → IsNoPrint x → each.Allowed Keeps Stops chain AnyProcess Others current x
       allowed current (op.Synch q e w) f = λ z. tt
       allowed current (op.Print v) f = absurd f
       allowed current x f = tt
 
-      act_led : (s : State) (current : ℕ) (x : Op) → IsNoPrint x → Leads (Unit {0}) s (act_of calls s current x)
-      act_led s current x f = each.act_led Keeps Stops chain Whoever Others steps calls led start_led (λ t q k l. kill_led t q k) s current x (allowed current x f)
+      act_led : (s : KernelState) (current : ℕ) (x : Op) → IsNoPrint x → Leads (Unit {0}) s (act_of calls s current x)
+      act_led s current x f = each.act_led Keeps Stops chain AnyProcess Others steps calls led start_led (λ t q k l. kill_led t q k) s current x (allowed current x f)
 
-      run_led : (s : State) (c : Code) (r : Remainder) (q : ℕ) (e : Event) → (q ≡ p → ⊥) → Leads Answer s (run_of calls s c r q e)
-      run_led s c r q e n = each.one_run_led Keeps Stops chain Whoever Others steps calls led start_led (λ t k current l. kill_led t k current) s c r q e n
+      run_led : (s : KernelState) (c : Code) (r : Remainder) (q : ℕ) (e : Event) → (q ≡ p → ⊥) → Leads Answer s (run_of calls s c r q e)
+      run_led s c r q e n = each.one_run_led Keeps Stops chain AnyProcess Others steps calls led start_led (λ t k current l. kill_led t k current) s c r q e n
 
-      body_runs : (s : State) (r : Remainder) (vars : List ℕ) (e : Event) (coming : Next) → IsAway program mote (process_in_mote p s) → (process_in_mote p s).vars ≡ Some vars → CanCome coming e s.moment → ComesHere program mote p code earlier (process_in_mote p s).lines_so_far coming r vars → Stopped s
+      body_runs : (s : KernelState) (r : Remainder) (vars : List ℕ) (e : Event) (coming : Next) → IsAway program mote (process_in_mote p s) → (process_in_mote p s).vars ≡ Some vars → CanCome coming e s.moment → ComesHere program mote p code earlier (process_in_mote p s).lines_so_far coming r vars → Stopped s
           → IfGives Stopped (RanFrom program mote p code earlier (process_in_mote p s)) (run_of calls s code r p e)
       body_runs s r vars e coming away has can here so =
           runs_on program mote p code earlier calls s r vars e coming away has can here so are.body (λ t o f a so. lead_away t _ (act_led t p o f) a so)
 
       -- a block other than the body
 
-      answered_beside : (u : State) (r : Remainder) (e : Event) (answer : ℕ) (variables : Option (List ℕ)) → slice_get u.variables p ≡ variables → IsQuietRest code r
+      answered_beside : (u : KernelState) (r : Remainder) (e : Event) (answer : ℕ) (variables : Option (List ℕ)) → slice_get u.variables p ≡ variables → IsQuietRest code r
           → Leads Answer u (answered_with variables u r p answer >>= λ r1 s1. calls.run s1 code r1 p e)
       answered_beside u r e answer None there h = are.beside u r e h
       answered_beside u r e answer (Some vs) there h =
           let a = answered_quietly code r vs answer h in
           from u _ _ (ap (λ o. record (process_in_mote p u) { vars = o }) (get_set u.variables p (answered_of r vs answer).variables vs there ∙ ap Some a.1 ∙ sym there)) (are.beside _ _ e a.0)
 
-      traced_next_to : (u : State) (r : Remainder) (e : Event) (full : Bool) → IsQuietRest code r → Leads Answer u (answer_of u r p full >>= λ r1 s1. calls.run s1 code r1 p e)
+      traced_next_to : (u : KernelState) (r : Remainder) (e : Event) (full : Bool) → IsQuietRest code r → Leads Answer u (answer_of u r p full >>= λ r1 s1. calls.run s1 code r1 p e)
       unfolding answer_of
       traced_next_to u r e full h = answered_beside u r e _ (slice_get u.variables p) refl h
 
-      performed_beside : (s : State) (r : Remainder) (e : Event) (o : Op) → IsNoPrint o → IsQuietRest code r → Leads Answer s (perform_of calls s r p o >>= λ r1 s1. calls.run s1 code r1 p e)
+      performed_beside : (s : KernelState) (r : Remainder) (e : Event) (o : Op) → IsNoPrint o → IsQuietRest code r → Leads Answer s (perform_of calls s r p o >>= λ r1 s1. calls.run s1 code r1 p e)
       unfolding perform_of
       performed_beside s r e (op.Post t number word) f h =
           bind_twice Keeps Stops chain _ _ _ s (post_of s t (posted number word)) _ _ (bind s _ _ (quietly s _ (post_quiet p s t (posted number word))) (λ full u. traced_next_to u r e full h))
       performed_beside s r e o f h = bind_twice Keeps Stops chain _ _ _ s (act_of calls s p o) _ _ (bind s _ _ (act_led s p o f) (λ a u. are.beside u r e h))
 
-      after_beside : (s : State) (r : Remainder) (e : Event) (x : Step) → IsNoPrintStep x → IsQuietRest code r → Leads Answer s (after_step calls code p e x r s)
+      after_beside : (s : KernelState) (r : Remainder) (e : Event) (x : Step) → IsNoPrintStep x → IsQuietRest code r → Leads Answer s (after_step calls code p e x r s)
       after_beside s r e (step.Op o) f h = performed_beside s r e o f h
       after_beside s r e (step.Done a) f h = still s _
       after_beside s r e step.Runaway f h = halts s
 
-      stepped_beside : (s : State) (r : Remainder) (e : Event) (variables : Option (List ℕ)) → slice_get s.variables p ≡ variables → IsQuietRest code r
+      stepped_beside : (s : KernelState) (r : Remainder) (e : Event) (variables : Option (List ℕ)) → slice_get s.variables p ≡ variables → IsQuietRest code r
           → Leads Answer s (let m = stepped_with variables s code r p e in after_step calls code p e m.step m.remainder m.state)
       stepped_beside s r e None there h = still s _
       stepped_beside s r e (Some vs) there h =
@@ -619,29 +619,29 @@ module _ (program : Tree) (mote p : ℕ) (code : Code) (earlier : List Line) whe
           let next = advanced_of code e (looks_of s) r vs s.units in
           from s _ _ (ap (λ o. record (process_in_mote p s) { vars = o }) (get_set s.variables p next.variables vs there ∙ ap Some a.variables ∙ sym there)) (after_beside _ next.remainder e next.step a.step a.rest)
 
-      runs_beside : (s : State) (r : Remainder) (e : Event) → IsQuietRest code r → Leads Answer s (run_of calls s code r p e)
+      runs_beside : (s : KernelState) (r : Remainder) (e : Event) → IsQuietRest code r → Leads Answer s (run_of calls s code r p e)
       unfolding run_of stepped_of
       runs_beside s r e h = stepped_beside s r e (slice_get s.variables p) refl h
 
       -- a call
 
-      lost : (s : State) (e : Event) → is_running s (Own p) ≡ false → call_of calls s (Own p) e ≡ Goes tt s
+      lost : (s : KernelState) (e : Event) → is_running s (Own p) ≡ false → call_of calls s (Own p) e ≡ Goes tt s
       unfolding call_of
       lost s e r = rw r refl
 
-      own_called : (s : State) (e : Event) → Leads (Unit {0}) s (call_of calls s (Own p) e)
+      own_called : (s : KernelState) (e : Event) → Leads (Unit {0}) s (call_of calls s (Own p) e)
       own_called s e = lead_of s _ (λ a. subst (λ o. Always (λ t. IsQuiet p s t) o) (sym (lost s e a.not_running)) refl) (λ h. by h h.where_it_is)
         where
           by : (h : IsInState (process_in_mote p s)) → IsOut (process_in_mote p s) ⊎ IsIn AtCall (process_in_mote p s) h.still h.left → Settles (call_of calls s (Own p) e)
           by h (inl out) = subst (λ o. Settles o) (sym (lost s e (ap is_running_state out.state))) h
           by h (inr is_in) = is_called s e (record { of_program = h.of_program; of_mote = h.of_mote; tables = h.tables; free = h.free; still = h.still; rest = h.rest; left = h.left; vars = h.vars; coming = AtCall; can = tt; is_in = is_in; so_far = OnRecord h.lived })
 
-      call_led : (s : State) (q : Proc) (e : Event) → Leads (Unit {0}) s (call_of calls s q e)
+      call_led : (s : KernelState) (q : Proc) (e : Event) → Leads (Unit {0}) s (call_of calls s q e)
       call_led s q e = by (which p q)
         where
           by : (q ≡ Own p) ⊎ IsOther p q → Leads (Unit {0}) s (call_of calls s q e)
           by (inl i) = subst (λ k. Leads (Unit {0}) s (call_of calls s k e)) (sym i) (own_called s e)
-          by (inr n) = each.call_led Keeps Stops chain Whoever Others steps calls led s q e (is_ours q n) (λ z. tt)
+          by (inr n) = each.call_led Keeps Stops chain AnyProcess Others steps calls led s q e (is_ours q n) (λ z. tt)
 
     pub all_calls_traced : (k : ℕ) → AreTraced (calls_of k)
     unfolding calls_of

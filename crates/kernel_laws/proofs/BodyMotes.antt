@@ -16,16 +16,16 @@ use Rattle.trace_lines.specs.declared.line.What.TheVariants as what
 use Rattle.process_kernel.specs.declared.process.ProcessState.{ProcessState}
 use Rattle.process_kernel.specs.declared.process.ProcessState.TheVariants.{Off, Running, Called}
 use Rattle.process_kernel.specs.Members.{place_of}
-use Rattle.process_kernel.specs.State.{State, Outcome, Ends, Goes}
+use Rattle.process_kernel.specs.State.{KernelState, Outcome, Ends, Goes}
 use Rattle.process_kernel.specs.Calls.{Calls, own_event}
 use Rattle.process_kernel.specs.Call.{calls_of}
 use Rattle.process_kernel.specs.Run.{begun_of, kernel_of, most_units}
 use Rattle.process_kernel.specs.Boot.{boot_of}
-use Rattle.process_kernel.specs.Mote.{Mote, unbooted, with_poll, with_packet}
+use Rattle.process_kernel.specs.KernelModel.{KernelModel, unbooted, with_poll, with_packet}
 use Rattle.process_kernel.specs.Given.{given, begun, boot_given, run_given}
 use Rattle.kernel_laws.specs.Going.{IsNote}
 use Rattle.kernel_laws.specs.InStep.{AreInStep, state_at_place, exiting_at, listed_in}
-use Rattle.kernel_laws.specs.Traces.{KernelCall, RunAt, PollOf, Accepts, Notes, Traced, after_call, after_calls}
+use Rattle.kernel_laws.specs.Traces.{KernelCall, RunAt, PollOf, Accepts, Notes, Traced, traced_after_call, traced_after_calls}
 use Rattle.kernel_laws.specs.Traces.{booted_at}
 use Rattle.kernel_laws.specs.Printed.{IsQuietApart, starts_or_prints, starts_and_prints, Unborn, LivesSoFar, OnRecord}
 use Rattle.kernel_laws.specs.Printed.{PrintsAreTheReading, PrintsSoFarAreTheReading}
@@ -40,13 +40,13 @@ use Rattle.kernel_laws.proofs.BodyCalls.{Keeps, Stops, chain, quiet_keeps, Leads
 module _ (program : Tree) (mote p : ℕ) (code : Code) (is_code : slice_get program.codes p ≡ Some code) (apart : IsQuietApart code) where
   -- boots and kernel runs
   module _ (earlier : List Line) (calls : Calls) (are : AreTraced program mote p code earlier calls) where
-    abbrev K : State → State → Type 0
+    abbrev K : KernelState → KernelState → Type 0
     K s t = Keeps program mote p code earlier s t
 
-    abbrev S : State → State → Type 0
+    abbrev S : KernelState → KernelState → Type 0
     S s t = Stops program mote p code earlier s t
 
-    quietly : (s t : State) → IsQuiet p s t → K s t
+    quietly : (s t : KernelState) → IsQuiet p s t → K s t
     quietly s t e = quiet_keeps program mote p code earlier s t e
 
     run_steps : AreRunSteps K S (chain program mote p code earlier)
@@ -58,10 +58,10 @@ module _ (program : Tree) (mote p : ℕ) (code : Code) (is_code : slice_get prog
       drops = λ s n q. quietly s _ (line_quiet p s (what.Drop n q) refl);
     }
 
-    run_leads : (s : State) → Lead K S ℕ s (kernel_of calls s)
+    run_leads : (s : KernelState) → Lead K S ℕ s (kernel_of calls s)
     run_leads s = kernel_led K S (chain program mote p code earlier) calls run_steps are.call s
 
-    boot_leads : (s : State) → Lead K S ℕ s (boot_of calls s)
+    boot_leads : (s : KernelState) → Lead K S ℕ s (boot_of calls s)
     boot_leads s = boot_led K S (chain program mote p code earlier) calls (start_led program mote p code earlier is_code apart calls are) s
 
 -- between the calls of a kernel
@@ -85,18 +85,18 @@ module _ (program : Tree) (mote p : ℕ) (code : Code) where
     where_it_is = elim h.where_it_is [ inl out ↦ inl (record { state = out.state; listed = out.listed }) | inr here ↦ inr (record { has = here.has; state = here.state; listed = here.listed; comes = here.comes }) ];
   }
 
-  begun_in_state : (m : Mote) (moment : ℕ) (before : List Line) (sends : List Sent) → process_in_mote p (begun m moment before sends) ≡ record (process_in_mote p m.state) { moment = moment; lines_so_far = starts_and_prints (Own p) before }
+  begun_in_state : (m : KernelModel) (moment : ℕ) (before : List Line) (sends : List Sent) → process_in_mote p (begun m moment before sends) ≡ record (process_in_mote p m.state) { moment = moment; lines_so_far = starts_and_prints (Own p) before }
   unfolding begun_of
   begun_in_state m moment before sends = ap (λ b. record (process_in_mote p m.state) { moment = moment; listed = b; lines_so_far = starts_and_prints (Own p) before }) (numbered_listed 0 m.state.members (place_of (Own p)))
 
-  begins : (earlier : List Line) (m : Mote) (moment : ℕ) (before : List Line) (sends : List Sent) → RestsAsTraced program mote p code (starts_and_prints (Own p) (earlier ++ before)) (process_in_mote p m.state)
+  begins : (earlier : List Line) (m : KernelModel) (moment : ℕ) (before : List Line) (sends : List Sent) → RestsAsTraced program mote p code (starts_and_prints (Own p) (earlier ++ before)) (process_in_mote p m.state)
       → let s = begun m moment before sends in RestsAsTraced program mote p code (starts_and_prints (Own p) earlier ++ (process_in_mote p s).lines_so_far) (process_in_mote p s)
   begins earlier m moment before sends h =
       subst (λ v. RestsAsTraced program mote p code (starts_and_prints (Own p) earlier ++ v.lines_so_far) v) (sym (begun_in_state m moment before sends))
       (subst (λ l. RestsAsTraced program mote p code l (record (process_in_mote p m.state) { moment = moment; lines_so_far = starts_and_prints (Own p) before })) (traced_twice earlier before) (traced_again _ (process_in_mote p m.state) moment _ h))
 
   -- the lines that a boot or a run adds if it continues
-  given_traced : (earlier : List Line) (m : Mote) (moment : ℕ) (before : List Line) (sends : List Sent) (o : Outcome ℕ) → RestsAsTraced program mote p code (starts_and_prints (Own p) (earlier ++ before)) (process_in_mote p m.state)
+  given_traced : (earlier : List Line) (m : KernelModel) (moment : ℕ) (before : List Line) (sends : List Sent) (o : Outcome ℕ) → RestsAsTraced program mote p code (starts_and_prints (Own p) (earlier ++ before)) (process_in_mote p m.state)
       → Leads program mote p code (starts_and_prints (Own p) earlier) ℕ (begun m moment before sends) o → TellsSoFar program mote p code (earlier ++ (given o).lines) (given o).mote
   given_traced earlier m moment before sends (Ends t) h leads = record {
     going = λ on. absurd (cc);
@@ -201,7 +201,7 @@ module _ (program : Tree) (mote p : ℕ) (code : Code) (is : IsProcess program p
   abbrev Tells : Traced → Type 0
   Tells t = TellsSoFar program mote p code t.lines t.mote
 
-  call_tells : (t : Traced) (c : KernelCall) → Tells t → Tells (after_call t c)
+  call_tells : (t : Traced) (c : KernelCall) → Tells t → Tells (traced_after_call t c)
   call_tells t (RunAt moment) h = run_tells program mote p code t.lines t.mote moment [] [] is (subst (λ l. TellsSoFar program mote p code l t.mote) (sym (append-nil t.lines)) h)
   call_tells t (PollOf q) h = poll_tells program mote p code t.lines t.mote q h
   call_tells t (Accepts a) h = packet_tells program mote p code t.lines t.mote a h
@@ -211,9 +211,9 @@ module _ (program : Tree) (mote p : ℕ) (code : Code) (is : IsProcess program p
       noted true = h
       noted false = note_tells program mote p code t.lines t.mote l n h
 
-  calls_tell : (cs : List KernelCall) (t : Traced) → Tells t → Tells (after_calls t cs)
+  calls_tell : (cs : List KernelCall) (t : Traced) → Tells t → Tells (traced_after_calls t cs)
   calls_tell [] t h = h
-  calls_tell (c ∷ cs) t h = calls_tell cs (after_call t c) (call_tells t c h)
+  calls_tell (c ∷ cs) t h = calls_tell cs (traced_after_call t c) (call_tells t c h)
 
   booted_tells : (queue moment : ℕ) → Tells (booted_at program mote queue moment)
   booted_tells queue moment = boot_tells program mote p code [] (unbooted program mote queue) moment [] [] is (no_lines_tell_first program mote p code queue is)
@@ -222,12 +222,12 @@ pub prints_are_the_reading : PrintsAreTheReading
 prints_are_the_reading program p code mote queue moment calls is_code quiet on =
     let is : IsProcess program p code = record { is_code = is_code; quiet = quiet } in
     let first = booted_at program mote queue moment in
-    let t = after_calls first calls in
+    let t = traced_after_calls first calls in
     telling_is_of_lives program mote p code t.lines t.mote (calls_tell program mote p code is calls first (booted_tells program mote p code is queue moment)) on
 
 pub prints_so_far_are_the_reading : PrintsSoFarAreTheReading
 prints_so_far_are_the_reading program p code mote queue moment calls is_code quiet =
     let is : IsProcess program p code = record { is_code = is_code; quiet = quiet } in
     let first = booted_at program mote queue moment in
-    let t = after_calls first calls in
+    let t = traced_after_calls first calls in
     telling_is_of_lives_so_far program mote p code t.lines t.mote (calls_tell program mote p code is calls first (booted_tells program mote p code is queue moment))

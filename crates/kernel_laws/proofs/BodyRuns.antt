@@ -21,7 +21,7 @@ use Rattle.protothread.specs.Reading.{Sight, operates, Completion, in_state}
 use Rattle.protothread.specs.Runs.{Steps}
 use Rattle.trace_lines.specs.declared.line.Line.{Line}
 use Rattle.trace_lines.specs.declared.line.What.TheVariants as what
-use Rattle.process_kernel.specs.State.{State, Outcome, Ends, Goes, ◌>>=◌}
+use Rattle.process_kernel.specs.State.{KernelState, Outcome, Ends, Goes, ◌>>=◌}
 use Rattle.process_kernel.specs.Processes.{is_running_state, is_called_state}
 use Rattle.process_kernel.specs.Looks.{looks_of}
 use Rattle.process_kernel.specs.Posts.{post_of}
@@ -30,7 +30,7 @@ use Rattle.process_kernel.specs.Calls.{Calls, Answer}
 use Rattle.process_kernel.specs.Call.{has_ended}
 use Rattle.process_kernel.specs.Thread.{stepped_with, stepped_of}
 use Rattle.process_kernel.specs.Operation.{posted, act_of, answered_with, answer_of, perform_of, after_step, run_of}
-use Rattle.kernel_laws.specs.Printed.{printed, left_by, starts_and_prints, starts_or_prints, lines_of, Lives}
+use Rattle.kernel_laws.specs.Printed.{printed, left_by, starts_and_prints, starts_or_prints, lines_of_life, Lives}
 use Rattle.kernel_laws.specs.Printed.{LivesAgain, LivesSoFar, OnRecord}
 use Rattle.kernel_laws.specs.Telling as telling
 use Rattle.kernel_laws.specs.Telling.{ProcessInMote, process_in_mote, Next, AtStart, InCall, AtCall, CanCome, IsAnswered}
@@ -41,19 +41,19 @@ use Rattle.kernel_laws.proofs.ProcessInMote.{Always, get_set, traced_more, halte
 
 -- a property of the result and the state of an outcome that continues, and a property of the last state of an outcome
 -- that ends
-abbrev pub IfGives : {A : Type 0} → (State → Type 0) → (A → State → Type 0) → Outcome A → Type 0
+abbrev pub IfGives : {A : Type 0} → (KernelState → Type 0) → (A → KernelState → Type 0) → Outcome A → Type 0
 IfGives E P (Ends t) = E t
 IfGives E P (Goes a t) = P a t
 
-pub gives_bind : (A B : Type 0) (E : State → Type 0) (P : A → State → Type 0) (Q : B → State → Type 0) (o : Outcome A) (f : A → State → Outcome B) → IfGives E P o → ((a : A) (t : State) → P a t → IfGives E Q (f a t)) → IfGives E Q (o >>= f)
+pub gives_bind : (A B : Type 0) (E : KernelState → Type 0) (P : A → KernelState → Type 0) (Q : B → KernelState → Type 0) (o : Outcome A) (f : A → KernelState → Outcome B) → IfGives E P o → ((a : A) (t : KernelState) → P a t → IfGives E Q (f a t)) → IfGives E Q (o >>= f)
 gives_bind A B E P Q (Ends t) f h go = h
 gives_bind A B E P Q (Goes a t) f h go = go a t h
 
-pub gives_weaker : (A : Type 0) (E : State → Type 0) (P Q : A → State → Type 0) (o : Outcome A) → IfGives E P o → ((a : A) (t : State) → P a t → Q a t) → IfGives E Q o
+pub gives_weaker : (A : Type 0) (E : KernelState → Type 0) (P Q : A → KernelState → Type 0) (o : Outcome A) → IfGives E P o → ((a : A) (t : KernelState) → P a t → Q a t) → IfGives E Q o
 gives_weaker A E P Q (Ends t) h go = h
 gives_weaker A E P Q (Goes a t) h go = go a t h
 
-pub from_always : (A : Type 0) (E P Q : State → Type 0) (o : Outcome A) → Always P o → ((t : State) → P t → E t) → ((t : State) → P t → Q t) → IfGives E (λ a t. Q t) o
+pub from_always : (A : Type 0) (E P Q : KernelState → Type 0) (o : Outcome A) → Always P o → ((t : KernelState) → P t → E t) → ((t : KernelState) → P t → Q t) → IfGives E (λ a t. Q t) o
 from_always A E P Q (Ends t) h i j = i t h
 from_always A E P Q (Goes a t) h i j = j t h
 
@@ -93,7 +93,7 @@ module _ (program : Tree) (mote p : ℕ) (code : Code) (earlier : List Line) whe
   abbrev pub SoFar : List Line → Type 0
   SoFar lines_so_far = LivesSoFar code (Own p) mote code.starts (earlier ++ lines_so_far)
 
-  abbrev pub Stopped : State → Type 0
+  abbrev pub Stopped : KernelState → Type 0
   Stopped t = SoFar (process_in_mote p t).lines_so_far
 
   -- A run of the body has ended. Only the variables of the process and the lines about it have changed.
@@ -103,19 +103,19 @@ module _ (program : Tree) (mote p : ℕ) (code : Code) (earlier : List Line) whe
     pub lived : HasLived w.lines_so_far left
     pub comes : has_ended a ≡ false → ComesHere w.lines_so_far AtCall r left
 
-  abbrev pub RanFrom : ProcessInMote → Answer → State → Type 0
+  abbrev pub RanFrom : ProcessInMote → Answer → KernelState → Type 0
   RanFrom v a t = Ran v a.0 a.1 (process_in_mote p t)
 
   -- the body runs
   abbrev pub BodyRuns : Calls → Type 0
   BodyRuns calls =
-      (s : State) (r : Remainder) (vars : List ℕ) (e : Event) (next : Next) → IsAway program mote (process_in_mote p s) → (process_in_mote p s).vars ≡ Some vars → CanCome next e s.moment → ComesHere (process_in_mote p s).lines_so_far next r vars → Stopped s
+      (s : KernelState) (r : Remainder) (vars : List ℕ) (e : Event) (next : Next) → IsAway program mote (process_in_mote p s) → (process_in_mote p s).vars ≡ Some vars → CanCome next e s.moment → ComesHere (process_in_mote p s).lines_so_far next r vars → Stopped s
       → IfGives Stopped (RanFrom (process_in_mote p s)) (calls.run s code r p e)
 
   -- while the process is away, its operations, except for prints, don't change it
   abbrev pub ActsAside : Calls → Type 0
   ActsAside calls =
-      (s : State) (o : Op) → IsNoPrint o → IsAway program mote (process_in_mote p s) → Stopped s → IfGives Stopped (λ a t. process_in_mote p t ≡ process_in_mote p s) (act_of calls s p o)
+      (s : KernelState) (o : Op) → IsNoPrint o → IsAway program mote (process_in_mote p s) → Stopped s → IfGives Stopped (λ a t. process_in_mote p t ≡ process_in_mote p s) (act_of calls s p o)
 
   traced_next : (lines_so_far before lines more : List Line) → earlier ++ lines_so_far ≡ before ++ lines → earlier ++ (lines_so_far ++ more) ≡ before ++ (lines ++ more)
   traced_next lines_so_far before lines more e = sym (append_assoc earlier lines_so_far more) ∙ ap (λ l. l ++ more) e ∙ append_assoc before lines more
@@ -124,9 +124,9 @@ module _ (program : Tree) (mote p : ℕ) (code : Code) (earlier : List Line) whe
       → HasLived lines_so_far (left_by out)
   lived_more lines_so_far before start lines out lived h e =
       subst (λ l. Lives code (Own p) mote code.starts l (left_by out)) (ap (λ l. before ++ l) h.has_lines ∙ sym e)
-      (subst (λ o. Lives code (Own p) mote code.starts (before ++ lines_of (Own p) h.life) (left_by o)) h.became_so (LivesAgain lived h.life))
+      (subst (λ o. Lives code (Own p) mote code.starts (before ++ lines_of_life (Own p) h.life) (left_by o)) h.became_so (LivesAgain lived h.life))
 
-  module _ (calls : Calls) (s : State) (r : Remainder) (vars : List ℕ) (e : Event) (next : Next) (away : IsAway program mote (process_in_mote p s)) (has : (process_in_mote p s).vars ≡ Some vars) (can : CanCome next e s.moment) (here : ComesHere (process_in_mote p s).lines_so_far next r vars) (so_far : Stopped s) where
+  module _ (calls : Calls) (s : KernelState) (r : Remainder) (vars : List ℕ) (e : Event) (next : Next) (away : IsAway program mote (process_in_mote p s)) (has : (process_in_mote p s).vars ≡ Some vars) (can : CanCome next e s.moment) (here : ComesHere (process_in_mote p s).lines_so_far next r vars) (so_far : Stopped s) where
     -- the sight of the process
     abbrev now : Sight
     now = record { answer = answer_in next; event = e; looks = looks_of s }
@@ -171,13 +171,13 @@ module _ (program : Tree) (mote p : ℕ) (code : Code) (earlier : List Line) whe
         ends Ended after changed _ (ends_there p code mote here.start here.lines next r after vars changed now can (is_answered next) away.of_mote here.comes takes) refl refl w same
 
     -- an operation was performed, and the run continues
-    abbrev IsBehind : Op → List ℕ → State → Type 0
+    abbrev IsBehind : Op → List ℕ → KernelState → Type 0
     IsBehind o changed t = process_in_mote p t ≡ record (process_in_mote p s) { vars = Some changed; lines_so_far = (process_in_mote p s).lines_so_far ++ printed (Own p) now (operates o) }
 
-    still_away : (o : Op) (changed : List ℕ) (t : State) → IsBehind o changed t → IsAway program mote (process_in_mote p t)
+    still_away : (o : Op) (changed : List ℕ) (t : KernelState) → IsBehind o changed t → IsAway program mote (process_in_mote p t)
     still_away o changed t same = subst (λ v. IsAway program mote v) (sym same) (record { of_program = away.of_program; of_mote = away.of_mote; not_running = away.not_running; busy = away.busy })
 
-    ran_on : (o : Op) (changed : List ℕ) (t : State) → IsBehind o changed t → (a : Answer) (u : State) → RanFrom (process_in_mote p t) a u → RanFrom (process_in_mote p s) a u
+    ran_on : (o : Op) (changed : List ℕ) (t : KernelState) → IsBehind o changed t → (a : Answer) (u : KernelState) → RanFrom (process_in_mote p t) a u → RanFrom (process_in_mote p s) a u
     ran_on o changed t same a u ran = record {
       left = ran.left;
       same = ran.same ∙ ap {A = ProcessInMote} (λ v. record v { vars = Some ran.left; lines_so_far = (process_in_mote p u).lines_so_far }) same;
@@ -187,7 +187,7 @@ module _ (program : Tree) (mote p : ℕ) (code : Code) (earlier : List Line) whe
 
     module _ (runs : BodyRuns calls) where
       goes_on : (o : Op) (after : Remainder) (changed : List ℕ) (lines_so_far : ℕ) → lines_so_far < 2 → Takes (step.Op o) after changed
-          → (t : State) → IsBehind o (answered_of after changed lines_so_far).variables t
+          → (t : KernelState) → IsBehind o (answered_of after changed lines_so_far).variables t
           → IfGives Stopped (RanFrom (process_in_mote p s)) (calls.run t code (answered_of after changed lines_so_far).remainder p e)
       goes_on o after changed lines_so_far small takes t same =
           gives_weaker _ Stopped _ _ _ (runs t (answered_of after changed lines_so_far).remainder (answered_of after changed lines_so_far).variables e (InCall lines_so_far e s.moment) (still_away o _ t same) (ap (λ v. v.vars) same) (refl, ap (λ v. v.moment) same) (record {
@@ -204,13 +204,13 @@ module _ (program : Tree) (mote p : ℕ) (code : Code) (earlier : List Line) whe
 
       -- the thread gets no result of the operation
       goes_unanswered : (o : Op) (after : Remainder) (changed : List ℕ) → Takes (step.Op o) after changed → after.mark ≡ UnderWay None
-          → (t : State) → IsBehind o changed t → IfGives Stopped (RanFrom (process_in_mote p s)) (calls.run t code after p e)
+          → (t : KernelState) → IsBehind o changed t → IfGives Stopped (RanFrom (process_in_mote p s)) (calls.run t code after p e)
       goes_unanswered o after changed takes mark t same =
           let unanswered = answer_is_unused after changed 0 mark in
           subst (λ x. IfGives Stopped (RanFrom (process_in_mote p s)) (calls.run t code x p e)) unanswered.0 (goes_on o after changed 0 (omega arith) takes t (subst (λ vs. IsBehind o vs t) (sym unanswered.1) same))
 
       -- the state after a step
-      abbrev stepped : (changed : List ℕ) → (left : ℕ) → State
+      abbrev stepped : (changed : List ℕ) → (left : ℕ) → KernelState
       stepped changed left = record s { variables = slice_set s.variables p changed; units = left }
 
       stepped_in_mote : (changed : List ℕ) (left : ℕ) → process_in_mote p (stepped changed left) ≡ record (process_in_mote p s) { vars = Some changed }
@@ -219,11 +219,11 @@ module _ (program : Tree) (mote p : ℕ) (code : Code) (earlier : List Line) whe
       stepped_away : (changed : List ℕ) (left : ℕ) → IsAway program mote (process_in_mote p (stepped changed left))
       stepped_away changed left = subst (λ v. IsAway program mote v) (sym (stepped_in_mote changed left)) (record { of_program = away.of_program; of_mote = away.of_mote; not_running = away.not_running; busy = away.busy })
 
-      stepped_so_far : (changed : List ℕ) (left : ℕ) (t : State) → process_in_mote p t ≡ process_in_mote p (stepped changed left) → Stopped t
+      stepped_so_far : (changed : List ℕ) (left : ℕ) (t : KernelState) → process_in_mote p t ≡ process_in_mote p (stepped changed left) → Stopped t
       stepped_so_far changed left t same = subst (λ v. SoFar v.lines_so_far) (sym (same ∙ stepped_in_mote changed left)) so_far
 
       -- the thread was informed whether the queue was full
-      abbrev IsFirstFault : Remainder → List ℕ → Remainder → State → Type 0
+      abbrev IsFirstFault : Remainder → List ℕ → Remainder → KernelState → Type 0
       IsFirstFault after changed r1 t =
           (lines_so_far : ℕ) × (lines_so_far < 2) × (r1 ≡ (answered_of after changed lines_so_far).remainder) × (process_in_mote p t ≡ record (process_in_mote p s) { vars = Some (answered_of after changed lines_so_far).variables })
 
@@ -231,7 +231,7 @@ module _ (program : Tree) (mote p : ℕ) (code : Code) (earlier : List Line) whe
       is_small true = omega arith
       is_small false = omega arith
 
-      answer_passed : (after : Remainder) (changed : List ℕ) (u : State) (full : Bool) → process_in_mote p u ≡ record (process_in_mote p s) { vars = Some changed } → IfGives Stopped (IsFirstFault after changed) (answer_of u after p full)
+      answer_passed : (after : Remainder) (changed : List ℕ) (u : KernelState) (full : Bool) → process_in_mote p u ≡ record (process_in_mote p s) { vars = Some changed } → IfGives Stopped (IsFirstFault after changed) (answer_of u after p full)
       unfolding answer_of
       answer_passed after changed u full same =
           let there : slice_get u.variables p ≡ Some changed = ap (λ v. v.vars) same in

@@ -20,7 +20,7 @@ use Rattle.trace_lines.specs.declared.line.Line.{Line}
 use Rattle.trace_lines.specs.declared.line.What.TheVariants as what
 use Rattle.process_kernel.specs.declared.process.Member.{Member}
 use Rattle.process_kernel.specs.Members.{place_of, holds_member, is_found_in}
-use Rattle.process_kernel.specs.State.{State, Outcome, Ends, Goes, ◌>>=◌}
+use Rattle.process_kernel.specs.State.{KernelState, Outcome, Ends, Goes, ◌>>=◌}
 use Rattle.process_kernel.specs.Processes.{with_needs_poll, has_process, is_busy, is_listed, is_on_list}
 use Rattle.process_kernel.specs.ProcessList.{numbered_from, enlist_of}
 use Rattle.process_kernel.specs.Writes.{with_line, write_of}
@@ -30,7 +30,7 @@ use Rattle.process_kernel.specs.Delivery.{give_of, visit_of, walk_broadcast, del
 use Rattle.process_kernel.specs.Run.{begun_of, deliver_front, kernel_of}
 use Rattle.process_kernel.specs.Start.{start_of}
 use Rattle.process_kernel.specs.Boot.{starts_of, boot_of}
-use Rattle.kernel_laws.specs.Own.{IsOwn, FitsTarget}
+use Rattle.kernel_laws.specs.Own.{IsOwnProcess, FitsTarget}
 use Rattle.kernel_laws.specs.Seen.{seen_lines, seen_member, seen_posted, view_of}
 use Rattle.kernel_laws.specs.Going.{SystemStays}
 use Rattle.kernel_laws.proofs.EachStep.{Every, enlist_led, start_all, polls_due_led}
@@ -38,29 +38,29 @@ use Rattle.kernel_laws.proofs.Steps.{GoesOn, Stops, Reach, chain, quiet, steps, 
 
 -- the kernel as a delivery machine in the middle of a walk, with the serial of the walk's event and the members that
 -- are still to come
-abbrev pub machine_of : State → ℕ → List Member → DeliveryMachine
+abbrev pub machine_of : KernelState → ℕ → List Member → DeliveryMachine
 machine_of s walked coming = machine_at (view_of s) walked (map seen_member coming)
 
 -- from this machine and this state on, the lines are a run to a machine without a walk in progress, and the state is
 -- sound
-pub record Rests (m : DeliveryMachine) (s t : State) : Type 0 where
+pub record Rests (m : DeliveryMachine) (s t : KernelState) : Type 0 where
   pub added : List Line
   pub wrote : t.lines ≡ s.lines ++ added
   pub walked : ℕ
   pub runs : DeliveryRuns m (seen_lines added) (machine_of t walked [])
   pub sound : SystemStays t
 
-pub record HaltsAt (m : DeliveryMachine) (s t : State) : Type 0 where
+pub record HaltsAt (m : DeliveryMachine) (s t : KernelState) : Type 0 where
   pub added : List Line
   pub wrote : t.lines ≡ s.lines ++ added
   pub halts : Halts m (seen_lines added)
 
-abbrev pub RestsAt : {A : Type 0} → DeliveryMachine → State → Outcome A → Type 0
+abbrev pub RestsAt : {A : Type 0} → DeliveryMachine → KernelState → Outcome A → Type 0
 RestsAt m s (Ends t) = HaltsAt m s t
 RestsAt m s (Goes a t) = Rests m s t
 
 -- some lines are written first
-pub rests_behind : (A : Type 0) (m : DeliveryMachine) (s u : State) (m' : DeliveryMachine) (o : Outcome A) (added : List Line) → u.lines ≡ s.lines ++ added → DeliveryRuns m (seen_lines added) m' → RestsAt m' u o → RestsAt m s o
+pub rests_behind : (A : Type 0) (m : DeliveryMachine) (s u : KernelState) (m' : DeliveryMachine) (o : Outcome A) (added : List Line) → u.lines ≡ s.lines ++ added → DeliveryRuns m (seen_lines added) m' → RestsAt m' u o → RestsAt m s o
 rests_behind A m s u m' (Ends t) added w r h = record {
   added = added ++ h.added;
   wrote = lines_joined s.lines u.lines t.lines added h.added w h.wrote;
@@ -75,19 +75,19 @@ rests_behind A m s u m' (Goes a t) added w r h = record {
 }
 
 -- first the steps of calls, in the middle of a walk, if their outcome is known
-rests_first : (A B : Type 0) (s : State) (walked : ℕ) (coming : List Member) (o : Outcome A) (g : A → State → Outcome B) → Reach A s o →
-    ((a : A) (t : State) → o ≡ Goes a t → (SystemStays s → SystemStays t) → RestsAt (machine_of t walked coming) t (g a t)) → RestsAt (machine_of s walked coming) s (o >>= g)
+rests_first : (A B : Type 0) (s : KernelState) (walked : ℕ) (coming : List Member) (o : Outcome A) (g : A → KernelState → Outcome B) → Reach A s o →
+    ((a : A) (t : KernelState) → o ≡ Goes a t → (SystemStays s → SystemStays t) → RestsAt (machine_of t walked coming) t (g a t)) → RestsAt (machine_of s walked coming) s (o >>= g)
 rests_first A B s walked coming (Ends t) g r f = let e = r.leads in record { added = e.added; wrote = e.wrote; halts = e.halts walked (map seen_member coming) }
 rests_first A B s walked coming (Goes a t) g r f =
     let e = r.leads in rests_behind B (machine_of s walked coming) s t (machine_of t walked coming) (g a t) e.added e.wrote (e.moves walked (map seen_member coming)) (f a t refl e.sound)
 
 -- first the steps of calls, from a sound state
-rests_after : (A B : Type 0) (s : State) (walked : ℕ) (coming : List Member) (o : Outcome A) (g : A → State → Outcome B) → Reach A s o → SystemStays s →
-    ((a : A) (t : State) → SystemStays t → RestsAt (machine_of t walked coming) t (g a t)) → RestsAt (machine_of s walked coming) s (o >>= g)
+rests_after : (A B : Type 0) (s : KernelState) (walked : ℕ) (coming : List Member) (o : Outcome A) (g : A → KernelState → Outcome B) → Reach A s o → SystemStays s →
+    ((a : A) (t : KernelState) → SystemStays t → RestsAt (machine_of t walked coming) t (g a t)) → RestsAt (machine_of s walked coming) s (o >>= g)
 rests_after A B s walked coming o g r h f = rests_first A B s walked coming o g r (λ a t q i. f a t (i h))
 
 -- one part of a run after another
-rests_then : (A B : Type 0) (m : DeliveryMachine) (s : State) (o : Outcome A) (g : A → State → Outcome B) → RestsAt m s o → ((a : A) (t : State) (walked : ℕ) → SystemStays t → RestsAt (machine_of t walked []) t (g a t)) → RestsAt m s (o >>= g)
+rests_then : (A B : Type 0) (m : DeliveryMachine) (s : KernelState) (o : Outcome A) (g : A → KernelState → Outcome B) → RestsAt m s o → ((a : A) (t : KernelState) (walked : ℕ) → SystemStays t → RestsAt (machine_of t walked []) t (g a t)) → RestsAt m s (o >>= g)
 rests_then A B m s (Ends t) g r f = r
 rests_then A B m s (Goes a t) g r f = rests_behind B m s t (machine_of t r.walked []) (g a t) r.added r.wrote r.runs (f a t r.walked r.sound)
 
@@ -95,14 +95,14 @@ on_alike : (ms : List Member) (x : Member) → holds_member ms x ≡ is_on (map 
 on_alike [] x = refl
 on_alike (m ∷ ms) x = grind (arith, nat_tests, on_alike ms x)
 
-pub rests_now : (s : State) (walked : ℕ) → SystemStays s → Rests (machine_of s walked []) s s
+pub rests_now : (s : KernelState) (walked : ℕ) → SystemStays s → Rests (machine_of s walked []) s s
 rests_now s walked h = record { added = []; wrote = sym (append-nil s.lines); walked = walked; runs = stays; sound = h }
 
-rests_twice : (A B C : Type 0) (m : DeliveryMachine) (s : State) (o : Outcome A) (h : A → State → Outcome B) (g : B → State → Outcome C) → RestsAt m s (o >>= λ a t. (h a t >>= g)) → RestsAt m s ((o >>= h) >>= g)
+rests_twice : (A B C : Type 0) (m : DeliveryMachine) (s : KernelState) (o : Outcome A) (h : A → KernelState → Outcome B) (g : B → KernelState → Outcome C) → RestsAt m s (o >>= λ a t. (h a t >>= g)) → RestsAt m s ((o >>= h) >>= g)
 rests_twice A B C m s (Ends t) h g r = r
 rests_twice A B C m s (Goes a t) h g r = r
 
-rests_unit : (A : Type 0) (m : DeliveryMachine) (s : State) (o : Outcome A) → RestsAt m s (o >>= λ a t. Goes a t) → RestsAt m s o
+rests_unit : (A : Type 0) (m : DeliveryMachine) (s : KernelState) (o : Outcome A) → RestsAt m s (o >>= λ a t. Goes a t) → RestsAt m s o
 rests_unit A m s (Ends t) r = r
 rests_unit A m s (Goes a t) r = r
 
@@ -124,28 +124,28 @@ pub listed_again : (k : ℕ) (ms : List Member) (p : Proc) → is_found_in (numb
 listed_again k [] p = refl
 listed_again k (m ∷ ms) p = rw (listed_again (k + 1) ms p) refl
 
-pub begun_run : (s : State) (moment walked : ℕ) → DeliveryRuns (machine_of s walked []) [] (machine_of (begun_of s moment) walked [])
+pub begun_run : (s : KernelState) (moment walked : ℕ) → DeliveryRuns (machine_of s walked []) [] (machine_of (begun_of s moment) walked [])
 unfolding begun_of
 begun_run s moment walked = numbers (view_of s) walked (map seen_member (numbered_from 0 s.members)) (length s.members) (same_processes 0 s.members) (small_numbers 0 (length s.members) s.members (omega arith))
 
-pub begun_lines : (s : State) (moment : ℕ) → (begun_of s moment).lines ≡ s.lines ++ []
+pub begun_lines : (s : KernelState) (moment : ℕ) → (begun_of s moment).lines ≡ s.lines ++ []
 unfolding begun_of
 begun_lines s moment = sym (append-nil s.lines)
 
-pub begun_sound : (s : State) (moment : ℕ) → SystemStays s → SystemStays (begun_of s moment)
+pub begun_sound : (s : KernelState) (moment : ℕ) → SystemStays s → SystemStays (begun_of s moment)
 unfolding begun_of
 begun_sound s moment h = record { stays = listed_again 0 s.members Etimer ∙ h.stays; fits = h.fits }
 
 module _ (calls : Calls) (are : AreRuns calls) where
-  pub polls_due_run : (s : State) → Reach (Unit {0}) s (polls_due_of calls s)
+  pub polls_due_run : (s : KernelState) → Reach (Unit {0}) s (polls_due_of calls s)
   unfolding with_needs_poll
   polls_due_run s =
       polls_due_led GoesOn Stops chain calls (λ t. quiet t _ (record { lines = refl; members = refl; started = refl; queue = refl })) (λ t p. quiet t _ (record { lines = refl; members = refl; started = refl; queue = refl }))
       (λ t p. are.call t p _ (fits_other p _ refl)) s
 
   -- the line of an event that reaches a process, and the call that follows it
-  given_run : (A : Type 0) (m : DeliveryMachine) (s : State) (x : Posted) (p : Proc) (there : Bool) (walked : ℕ) (coming : List Member) (g : Unit {0} → State → Outcome A) → FitsTarget (One p) x.event.number → SystemStays s →
-      DeliveryRuns m (take_or_drop there x.serial (place_of p) ∷ []) (machine_of s walked coming) → ((t : State) → SystemStays t → RestsAt (machine_of t walked coming) t (g tt t)) → RestsAt m s (give_of calls s x p there >>= g)
+  given_run : (A : Type 0) (m : DeliveryMachine) (s : KernelState) (x : Posted) (p : Proc) (there : Bool) (walked : ℕ) (coming : List Member) (g : Unit {0} → KernelState → Outcome A) → FitsTarget (One p) x.event.number → SystemStays s →
+      DeliveryRuns m (take_or_drop there x.serial (place_of p) ∷ []) (machine_of s walked coming) → ((t : KernelState) → SystemStays t → RestsAt (machine_of t walked coming) t (g tt t)) → RestsAt m s (give_of calls s x p there >>= g)
   unfolding give_of write_of
   given_run A m s x p true walked coming g f h r k =
       let s1 = with_line s (what.Take x.serial p) in
@@ -155,7 +155,7 @@ module _ (calls : Calls) (are : AreRuns calls) where
       rests_behind A m s s1 (machine_of s walked coming) _ _ refl r (k s1 (record { stays = h.stays; fits = h.fits }))
 
   -- the walk of an event for all processes, from the members that are still to come
-  walk_run : (x : Posted) (ms : List Member) (s : State) → (x.event.number ≡ system_number Exit → ⊥) → SystemStays s → RestsAt (machine_of s x.serial ms) s (walk_broadcast calls x ms s)
+  walk_run : (x : Posted) (ms : List Member) (s : KernelState) → (x.event.number ≡ system_number Exit → ⊥) → SystemStays s → RestsAt (machine_of s x.serial ms) s (walk_broadcast calls x ms s)
   unfolding visit_of
   walk_run x [] s f h = rests_now s x.serial h
   walk_run x (m ∷ ms) s f h =
@@ -163,7 +163,7 @@ module _ (calls : Calls) (are : AreRuns calls) where
       given_run (Unit {0}) (machine_of t x.serial (m ∷ ms)) t x m.process (is_on_list t m) x.serial ms _ (λ q. absurd (f q)) i (walks (view_of t) x.serial (seen_member m) (map seen_member ms) (is_on_list t m) (on_alike t.members m)) (λ u j. walk_run x ms u f j)))
 
   -- the front event was taken, and is delivered
-  target_run : (target : Target) (x : Posted) (q : List Posted) (s s' : State) (walked : ℕ) → x.target ≡ target → s.queue.events ≡ x ∷ q → s' ≡ record s { queue = record { events = q; accepted = s.queue.accepted; capacity = s.queue.capacity } } → SystemStays s →
+  target_run : (target : Target) (x : Posted) (q : List Posted) (s s' : KernelState) (walked : ℕ) → x.target ≡ target → s.queue.events ≡ x ∷ q → s' ≡ record s { queue = record { events = q; accepted = s.queue.accepted; capacity = s.queue.capacity } } → SystemStays s →
       RestsAt (machine_of s walked []) s (deliver_to target calls s' x)
   target_run (One p) x q s s' walked e w a h =
       let fits = subst (λ l. All (λ y. FitsTarget y.target y.event.number) l) w h.fits in
@@ -182,35 +182,35 @@ module _ (calls : Calls) (are : AreRuns calls) where
       (begins (view_of s) walked x.serial (map seen_posted q) queue (some_listed s.members h.stays))
       (walk_run x s.members u (subst (λ t. FitsTarget t x.event.number) e first) (record { stays = h.stays; fits = All-tail (λ y. FitsTarget y.target y.event.number) x q fits })))
 
-  front_run : (q : List Posted) (s : State) (walked : ℕ) → s.queue.events ≡ q → SystemStays s → RestsAt (machine_of s walked []) s (deliver_front calls q s)
+  front_run : (q : List Posted) (s : KernelState) (walked : ℕ) → s.queue.events ≡ q → SystemStays s → RestsAt (machine_of s walked []) s (deliver_front calls q s)
   unfolding deliver_of
   front_run [] s walked e h = rests_now s walked h
   front_run (x ∷ q) s walked e h = target_run x.target x q s _ walked refl e (rw e refl) h
 
   -- a kernel run, from any moment when no walk is in progress
-  pub kernel_run : (s : State) (walked : ℕ) → SystemStays s → RestsAt (machine_of s walked []) s (kernel_of calls s)
+  pub kernel_run : (s : KernelState) (walked : ℕ) → SystemStays s → RestsAt (machine_of s walked []) s (kernel_of calls s)
   unfolding kernel_of
   kernel_run s walked h =
       rests_after (Unit {0}) ℕ s walked [] (polls_due_of calls s) _ (polls_due_run s) h (λ a t i. rests_then (Unit {0}) ℕ _ t _ _ (front_run t.queue.events t walked refl i) (λ b u w j. rests_now u w j))
 
-  starts_run : (ps : List Proc) (s : State) (walked : ℕ) → SystemStays s → RestsAt (machine_of s walked []) s (starts_of calls ps s)
+  starts_run : (ps : List Proc) (s : KernelState) (walked : ℕ) → SystemStays s → RestsAt (machine_of s walked []) s (starts_of calls ps s)
   starts_run [] s walked h = rests_now s walked h
-  starts_run (p ∷ ps) s walked h = rests_after (Unit {0}) (Unit {0}) s walked [] _ _ (start_all GoesOn Stops chain IsOwn steps calls are s p) h (λ a t i. starts_run ps t walked i)
+  starts_run (p ∷ ps) s walked h = rests_after (Unit {0}) (Unit {0}) s walked [] _ _ (start_all GoesOn Stops chain IsOwnProcess steps calls are s p) h (λ a t i. starts_run ps t walked i)
 
   -- the etimer process starts on an empty list
-  pub first_start : (s : State) → is_busy s Etimer ≡ false → has_process s Etimer ≡ true → is_listed s Etimer ≡ false → start_of calls s Etimer ≡ (enlist_of s Etimer >>= λ _ s1. calls.call s1 Etimer (own_event Init 0))
+  pub first_start : (s : KernelState) → is_busy s Etimer ≡ false → has_process s Etimer ≡ true → is_listed s Etimer ≡ false → start_of calls s Etimer ≡ (enlist_of s Etimer >>= λ _ s1. calls.call s1 Etimer (own_event Init 0))
   unfolding start_of
   first_start s b t n = rw (b, t, n) refl
 
   -- a boot, from a state in which no process was started and no event posted
-  pub boot_run : (s : State) (walked : ℕ) → s.members ≡ [] → s.queue.events ≡ [] → is_busy s Etimer ≡ false → has_process s Etimer ≡ true → RestsAt (machine_of s walked []) s (boot_of calls s)
+  pub boot_run : (s : KernelState) (walked : ℕ) → s.members ≡ [] → s.queue.events ≡ [] → is_busy s Etimer ≡ false → has_process s Etimer ≡ true → RestsAt (machine_of s walked []) s (boot_of calls s)
   unfolding boot_of
   boot_run s walked m q b t =
       let l : is_listed s Etimer ≡ false = rw m refl in
       let f = first_start s b t l in
       let others = Ctimer ∷ Radio ∷ map Own s.program.autostart in
       let r : RestsAt (machine_of s walked []) s ((enlist_of s Etimer >>= λ _ s1. calls.call s1 Etimer (own_event Init 0)) >>= λ _ s1. starts_of calls others s1) =
-      rests_twice (Unit {0}) (Unit {0}) (Unit {0}) (machine_of s walked []) s (enlist_of s Etimer) _ _ (rests_first (Unit {0}) (Unit {0}) s walked [] (enlist_of s Etimer) _ (enlist_led GoesOn Stops chain IsOwn Every steps s Etimer tt b t l) (λ a t g i.
+      rests_twice (Unit {0}) (Unit {0}) (Unit {0}) (machine_of s walked []) s (enlist_of s Etimer) _ _ (rests_first (Unit {0}) (Unit {0}) s walked [] (enlist_of s Etimer) _ (enlist_led GoesOn Stops chain IsOwnProcess Every steps s Etimer tt b t l) (λ a t g i.
       rests_after (Unit {0}) (Unit {0}) t walked [] _ _ (are.call t Etimer (own_event Init 0) (fits_other Etimer _ refl)) (first_sound s a t q g) (λ b u j. starts_run others u walked j))) in
       let r' : RestsAt (machine_of s walked []) s (start_of calls s Etimer >>= λ _ s1. starts_of calls others s1) = rw f r in
       rests_then (Unit {0}) ℕ (machine_of s walked []) s _ _ r' (λ a t w i. rests_now t w i)

@@ -9,7 +9,7 @@ use Rattle.protothread.specs.declared.step.Step.TheVariants as step
 use Rattle.protothread.specs.Step.{PaysFor}
 use Rattle.protothread.specs.Remainder.{Remainder}
 use Rattle.protothread.proofs.Units.{costs}
-use Rattle.process_kernel.specs.State.{State, Outcome, Ends, Goes, ◌>>=◌}
+use Rattle.process_kernel.specs.State.{KernelState, Outcome, Ends, Goes, ◌>>=◌}
 use Rattle.process_kernel.specs.declared.process.ProcessState.TheVariants.{Called}
 use Rattle.process_kernel.specs.Processes.{is_running, with_state, with_exiting, with_needs_poll}
 use Rattle.process_kernel.specs.ProcessList.{put_remainder, exiting_of, unlisted_of}
@@ -27,25 +27,25 @@ use Rattle.process_kernel.specs.Run.{begun_of, most_units}
 use Rattle.process_kernel.specs.Given.{begun, given, unless_halted, boot_given, run_given}
 use Rattle.kernel_laws.specs.Depth.{CallsAreAnyDepth, ThreadsAreAnyDepth, BootsAreAnyDepth, RunsAreAnyDepth}
 use Rattle.kernel_laws.proofs.Fits.{FitsStep}
-use Rattle.kernel_laws.proofs.EachStep.{Every, Whoever, Whatever, AreJoined, AreSteps, AreRunSteps, AreBoth, Both, brackets_of, keeps_poll, keeps_set, ours, start_both, kill_both, called_both, step_both, all_fits, kernel_both, boot_both, calls_led}
+use Rattle.kernel_laws.proofs.EachStep.{Every, AnyProcess, Whatever, AreJoined, AreSteps, AreRunSteps, AreBoth, Both, brackets_of, keeps_poll, keeps_set, ours, start_both, kill_both, called_both, step_both, all_fits, kernel_both, boot_both, calls_led}
 
 -- the later state has at most as many units left
-abbrev Less : State → State → Type 0
+abbrev Less : KernelState → KernelState → Type 0
 Less s t = t.units ≤ s.units
 
 chain : AreJoined Less Whatever
 chain = record { same = λ s. omega arith; joined = λ a b c h i. omega (arith, h, i); ended = λ a b c h i. tt }
 
-polled : (s : State) (p : Proc) → Less s (poll_of s p)
+polled : (s : KernelState) (p : Proc) → Less s (poll_of s p)
 unfolding with_needs_poll
 polled s p = keeps_poll Less Whatever chain s p (omega arith)
 
 -- no small step adds units of work
-steps : AreSteps Less Whatever chain Whoever Every
+steps : AreSteps Less Whatever chain AnyProcess Every
 unfolding put_remainder with_state exiting_of with_exiting unlisted_of
 steps = record {
   own = λ p own. tt;
-  brackets = brackets_of Less Whatever chain Whoever Every (λ s p o. omega arith) (λ s p o. omega arith) (λ s p o l. omega arith) (λ s p o l. omega arith);
+  brackets = brackets_of Less Whatever chain AnyProcess Every (λ s p o. omega arith) (λ s p o. omega arith) (λ s p o l. omega arith) (λ s p o l. omega arith);
   halts = λ s. tt;
   units = λ s n l. l;
   busy = λ s p. omega arith;
@@ -77,29 +77,29 @@ run_steps = record { unrequested = λ s. omega arith; cleared = λ s p. omega ar
 
 -- Calls from states with at most this many units have the same outcomes.
 
-abbrev Within : ℕ → State → Type 0
+abbrev Within : ℕ → KernelState → Type 0
 Within n s = s.units ≤ n
 
 abbrev Agree : ℕ → Calls → Calls → Type 0
-Agree n a b = AreBoth Less Whatever chain Whoever Every (Within n) a b
+Agree n a b = AreBoth Less Whatever chain AnyProcess Every (Within n) a b
 
-within : (n : ℕ) (s t : State) → Less s t → Within n s → Within n t
+within : (n : ℕ) (s t : KernelState) → Less s t → Within n s → Within n t
 within n s t h l = omega (arith, h, l)
 
-opens : (n : ℕ) (s : State) (p : Proc) → Within n s → Within n (with_state s p Called)
+opens : (n : ℕ) (s : KernelState) (p : Proc) → Within n s → Within n (with_state s p Called)
 unfolding with_state
 opens n s p l = l
 
-exits : (n : ℕ) (s : State) (p : Proc) → Within n s → Within n (exiting_of s p)
+exits : (n : ℕ) (s : KernelState) (p : Proc) → Within n s → Within n (exiting_of s p)
 unfolding exiting_of with_exiting with_state
 exits n s p l = l
 
 module _ (n : ℕ) (a b : Calls) (agree : Agree n a b) where
-  starts : (s : State) (p : Proc) → Both Less Whatever chain (Within n) (Unit {0}) s (start_of a s p) (start_of b s p)
-  starts s p = start_both Less Whatever chain Whoever Every steps (Within n) (within n) (opens n) (exits n) a b agree s p (ours Less Whatever chain Whoever steps p)
+  starts : (s : KernelState) (p : Proc) → Both Less Whatever chain (Within n) (Unit {0}) s (start_of a s p) (start_of b s p)
+  starts s p = start_both Less Whatever chain AnyProcess Every steps (Within n) (within n) (opens n) (exits n) a b agree s p (ours Less Whatever chain AnyProcess steps p)
 
-  kills : (s : State) (p : Proc) (current : ℕ) → Whoever p → Both Less Whatever chain (Within n) (Unit {0}) s (kill_of a s p current) (kill_of b s p current)
-  kills s p current l = kill_both Less Whatever chain Whoever Every steps (Within n) (within n) (opens n) (exits n) a b agree s p current (ours Less Whatever chain Whoever steps p) l
+  kills : (s : KernelState) (p : Proc) (current : ℕ) → AnyProcess p → Both Less Whatever chain (Within n) (Unit {0}) s (kill_of a s p current) (kill_of b s p current)
+  kills s p current l = kill_both Less Whatever chain AnyProcess Every steps (Within n) (within n) (opens n) (exits n) a b agree s p current (ours Less Whatever chain AnyProcess steps p) l
 
 -- After a unit of work is spent, fewer units are left.
 
@@ -111,37 +111,37 @@ same_if : {A : Type 0} (c : Bool) (o q p : Outcome A) → (c ≡ true → o ≡ 
 same_if true o q p h = h refl
 same_if false o q p h = refl
 
-pays : (variables : Option (List ℕ)) (s : State) (code : Code) (r : Remainder) (p : ℕ) (e : Event)
+pays : (variables : Option (List ℕ)) (s : KernelState) (code : Code) (r : Remainder) (p : ℕ) (e : Event)
     → let m = stepped_with variables s code r p e in PaysFor m.step s.units m.state.units
 pays (Some variables) s code r p e = costs code e (looks_of s) r variables s.units
 pays None s code r p e = omega arith
 
-step_pays : (s : State) (code : Code) (r : Remainder) (p : ℕ) (e : Event) → let m = stepped_of s code r p e in PaysFor m.step s.units m.state.units
+step_pays : (s : KernelState) (code : Code) (r : Remainder) (p : ℕ) (e : Event) → let m = stepped_of s code r p e in PaysFor m.step s.units m.state.units
 unfolding stepped_of
 step_pays s code r p e = pays _ s code r p e
 
 module _ (n : ℕ) (a b : Calls) (below : (j : ℕ) → j < n → Agree j a b) where
-  spent : (s : State) (p : Proc) (e : Event) (none : Bool) → (none ≡ false → s.units - 1 < n) → is_running s p ≡ true
+  spent : (s : KernelState) (p : Proc) (e : Event) (none : Bool) → (none ≡ false → s.units - 1 < n) → is_running s p ≡ true
       → ((if none then Ends (halted_of s) else Goes (tt {0}) (record s { units = s.units - 1 })) >>= λ _ t. react_of a (with_state t p Called) p e >>= λ answer u. answered a u p (has_ended answer || is_system_event Exit e))
       ≡ ((if none then Ends (halted_of s) else Goes (tt {0}) (record s { units = s.units - 1 })) >>= λ _ t. react_of b (with_state t p Called) p e >>= λ answer u. answered b u p (has_ended answer || is_system_event Exit e))
   spent s p e true few r = refl
   spent s p e false few r =
       let j = s.units - 1 in
-      (called_both Less Whatever chain Whoever Every steps (Within j) (within j) (opens j) (exits j) a b (below j (few refl)) (record s { units = j }) p e (ours Less Whatever chain Whoever steps p) r (λ q. tt)).same (omega arith)
+      (called_both Less Whatever chain AnyProcess Every steps (Within j) (within j) (opens j) (exits j) a b (below j (few refl)) (record s { units = j }) p e (ours Less Whatever chain AnyProcess steps p) r (λ q. tt)).same (omega arith)
 
-  same_call : (s : State) (p : Proc) (e : Event) → s.units ≤ n → call_of a s p e ≡ call_of b s p e
+  same_call : (s : KernelState) (p : Proc) (e : Event) → s.units ≤ n → call_of a s p e ≡ call_of b s p e
   unfolding call_of spend_of
   same_call s p e l = same_if (is_running s p) _ _ _ (λ r. spent s p e (s.units == 0) (λ z. one_fewer s.units n z l) r)
 
-  after : (code : Code) (p : ℕ) (e : Event) (x : Step) (r : Remainder) (t : State) (units : ℕ) → units ≤ n → FitsStep x → PaysFor x units t.units → after_step a code p e x r t ≡ after_step b code p e x r t
+  after : (code : Code) (p : ℕ) (e : Event) (x : Step) (r : Remainder) (t : KernelState) (units : ℕ) → units ≤ n → FitsStep x → PaysFor x units t.units → after_step a code p e x r t ≡ after_step b code p e x r t
   after code p e (step.Op o) r t units l f c =
       let j = t.units in
       let agree = below j (omega (arith, l, c)) in
-      (step_both Less Whatever chain Whoever Every steps (Within j) (within j) (opens j) (exits j) a b agree (starts j a b agree) (kills j a b agree) code p e (step.Op o) r t f tt).same (omega arith)
+      (step_both Less Whatever chain AnyProcess Every steps (Within j) (within j) (opens j) (exits j) a b agree (starts j a b agree) (kills j a b agree) code p e (step.Op o) r t f tt).same (omega arith)
   after code p e (step.Done answer) r t units l f c = refl
   after code p e step.Runaway r t units l f c = refl
 
-  same_run : (s : State) (code : Code) (r : Remainder) (p : ℕ) (e : Event) → s.units ≤ n → run_of a s code r p e ≡ run_of b s code r p e
+  same_run : (s : KernelState) (code : Code) (r : Remainder) (p : ℕ) (e : Event) → s.units ≤ n → run_of a s code r p e ≡ run_of b s code r p e
   unfolding run_of
   same_run s code r p e l = after code p e _ _ _ s.units l (all_fits s code r p e) (step_pays s code r p e)
 
@@ -151,7 +151,7 @@ same_calls zero n m h i = absurd (omega (arith, h))
 same_calls (suc k) n zero h i = absurd (omega (arith, i))
 same_calls (suc k) n (suc m) h i =
     let below : (j : ℕ) → j < n → Agree j (calls_of k) (calls_of m) = λ j d. same_calls k j m (omega (arith, h, d)) (omega (arith, i, d)) in
-    let led = calls_led Less Whatever chain Whoever steps (suc k) in
+    let led = calls_led Less Whatever chain AnyProcess steps (suc k) in
     record {
       call = λ s p e f. record { leads = (led.call s p e f).leads; same = λ l. same_call n (calls_of k) (calls_of m) below s p e l };
       run = λ s code r p e o. record { leads = (led.run s code r p e o).leads; same = λ l. same_run n (calls_of k) (calls_of m) below s code r p e l };

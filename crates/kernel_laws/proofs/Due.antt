@@ -12,16 +12,16 @@ use Rattle.program_tree.specs.Events.{system_number}
 use Rattle.mote_timers.specs.TimerLists.{new_timers}
 use Rattle.trace_lines.specs.declared.line.Line.{Line}
 use Rattle.radio_packet.specs.declared.sent.Sent.{Sent}
-use Rattle.process_kernel.specs.State.{State, Outcome, Ends, Goes, ◌>>=◌}
+use Rattle.process_kernel.specs.State.{KernelState, Outcome, Ends, Goes, ◌>>=◌}
 use Rattle.process_kernel.specs.Processes.{process_needs_poll, is_listed, has_process, with_needs_poll}
 use Rattle.process_kernel.specs.Calls.{Calls, own_event}
 use Rattle.process_kernel.specs.Call.{calls_of}
 use Rattle.process_kernel.specs.Polls.{walk_polls}
 use Rattle.process_kernel.specs.Run.{begun_of, kernel_of, most_units}
 use Rattle.process_kernel.specs.Boot.{boot_of}
-use Rattle.process_kernel.specs.Mote.{Mote, unbooted}
+use Rattle.process_kernel.specs.KernelModel.{KernelModel, unbooted}
 use Rattle.process_kernel.specs.Given.{Given, given, begun, unless_halted, boot_given, run_given}
-use Rattle.kernel_laws.specs.Own.{IsOwn}
+use Rattle.kernel_laws.specs.Own.{IsOwnProcess}
 use Rattle.kernel_laws.specs.Going.{SystemStays}
 use Rattle.kernel_laws.specs.InStep.{IsInStep, IsIdle}
 use Rattle.kernel_laws.specs.Polled.{TellsOfPost}
@@ -47,7 +47,7 @@ use Rattle.kernel_laws.proofs.WatchedRuns.{IsInState, unrequested, Good, AreWatc
 are_watched : (k : ℕ) → AreWatched (calls_of (suc k))
 unfolding calls_of
 are_watched k = record {
-  led = calls_led (Watches Etimer) Whatever (chain Etimer) IsOwn (steps Etimer) (suc k);
+  led = calls_led (Watches Etimer) Whatever (chain Etimer) IsOwnProcess (steps Etimer) (suc k);
   kept = tables.calls_kept (suc k);
   reach = calls_run (suc k);
   serves = call_serves (calls_of k);
@@ -59,7 +59,7 @@ all_watched = subst (λ n. AreWatched (calls_of n)) (omega arith) (are_watched m
 
 -- the beginning of a boot or a run
 
-module _ (m : Mote) (moment : ℕ) (lines : List Line) (sends : List Sent) where
+module _ (m : KernelModel) (moment : ℕ) (lines : List Line) (sends : List Sent) where
   first_rests : IsInStep m.state → IsIdle m.state → resting.Rests (record m.state { lines = lines; sends = sends })
   first_rests step idle = record {
     step = (tables.keeps_still m.state _ (record { states = refl; exiting = refl; members = refl }) step).step;
@@ -108,7 +108,7 @@ module _ (m : Mote) (moment : ℕ) (lines : List Line) (sends : List Sent) where
 
 -- the state that a boot or a run leaves
 
-leaves_good : (moment walked : ℕ) (s b : State) (o : Outcome ℕ) → IfGoes (Good true moment) o → RestsAt (machine_of s walked []) b o → (given o).mote.halted ≡ false → IsAtRest (given o).mote.state × ForgetsNone moment (given o).mote.state
+leaves_good : (moment walked : ℕ) (s b : KernelState) (o : Outcome ℕ) → IfGoes (Good true moment) o → RestsAt (machine_of s walked []) b o → (given o).mote.halted ≡ false → IsAtRest (given o).mote.state × ForgetsNone moment (given o).mote.state
 leaves_good moment walked s b (Ends t) g r h = absurd (cc)
 leaves_good moment walked s b (Goes a t) g r h = (
   record {
@@ -129,7 +129,7 @@ leaves_good moment walked s b (Goes a t) g r h = (
 abbrev LeavesGood : (moment : ℕ) → Given → Type 0
 LeavesGood moment g = g.mote.halted ≡ false → IsAtRest g.mote.state × ForgetsNone moment g.mote.state
 
-unless_good : (moment : ℕ) (m : Mote) (lines : List Line) (sends : List Sent) (g : Given) → LeavesGood moment g → LeavesGood moment (unless_halted m lines sends g)
+unless_good : (moment : ℕ) (m : KernelModel) (lines : List Line) (sends : List Sent) (g : Given) → LeavesGood moment g → LeavesGood moment (unless_halted m lines sends g)
 unless_good moment m lines sends g h = unless_halts (LeavesGood moment) m lines sends g (λ e f. absurd (cc)) (λ e. h)
 
 pub run_forgets_none : RunForgetsNone
@@ -172,25 +172,25 @@ boot_forgets_none program mote queue moment lines sends =
 -- the lines of a run
 
 -- a chain of steps that continued, continued at each step
-pub record Through (A B : Type 0) (o : Outcome A) (f : A → State → Outcome B) (b : B) (t : State) : Type 0 where
+pub record Through (A B : Type 0) (o : Outcome A) (f : A → KernelState → Outcome B) (b : B) (t : KernelState) : Type 0 where
   pub answer : A
-  pub midst : State
+  pub midst : KernelState
   pub first : o ≡ Goes answer midst
   pub second : f answer midst ≡ Goes b t
 
-pub through : (A B : Type 0) (o : Outcome A) (f : A → State → Outcome B) (b : B) (t : State) → (o >>= f) ≡ Goes b t → Through A B o f b t
+pub through : (A B : Type 0) (o : Outcome A) (f : A → KernelState → Outcome B) (b : B) (t : KernelState) → (o >>= f) ≡ Goes b t → Through A B o f b t
 through A B (Ends u) f b t e = absurd (cc)
 through A B (Goes a u) f b t e = record { answer = a; midst = u; first = refl; second = e }
 
-record Adds (s t : State) : Type 0 where
+record Adds (s t : KernelState) : Type 0 where
   more : List Line
   wrote : t.lines ≡ s.lines ++ more
 
-adds_by : (A : Type 0) (s t : State) (a : A) (o : Outcome A) → o ≡ Goes a t → stamps.Kept s o → Adds s t
+adds_by : (A : Type 0) (s t : KernelState) (a : A) (o : Outcome A) → o ≡ Goes a t → stamps.Kept s o → Adds s t
 adds_by A s t a o e k = let h : stamps.Kept s (Goes a t) = subst (λ (x : Outcome A). stamps.Kept s x) e k in record { more = h.leads.stamped.lines; wrote = h.leads.stamped.wrote }
 
 -- the lines before and after those of etimer's pass
-tells_within : (moment : ℕ) (s u v t : State) (h : Adds s u) (i : Adds u v) (j : Adds v t) → ((timer : ℕ) (owner : Proc) → IsDueFor moment u.timers timer owner → HasTelling moment i.more (One owner) (system_number Timer) timer) → TellsDue moment u s.lines t.lines
+tells_within : (moment : ℕ) (s u v t : KernelState) (h : Adds s u) (i : Adds u v) (j : Adds v t) → ((timer : ℕ) (owner : Proc) → IsDueFor moment u.timers timer owner → HasTelling moment i.more (One owner) (system_number Timer) timer) → TellsDue moment u s.lines t.lines
 tells_within moment s u v t h i j tells = record {
   added = h.more ++ (i.more ++ j.more);
   wrote = j.wrote ∙ ap (λ l. l ++ j.more) (i.wrote ∙ ap (λ l. l ++ i.more) h.wrote) ∙ joined s.lines h.more i.more j.more;
@@ -209,7 +209,7 @@ tells_within moment s u v t h i j tells = record {
       split = rw (k.split) (ap (λ l. h.more ++ l) (append_assoc k.before _ j.more) ∙ sym (append_assoc h.more k.before _));
     }
 
-telling_of : (moment : ℕ) (u v : State) (lines more : List Line) (target : Target) (number word : ℕ) → u.lines ≡ lines → u.moment ≡ moment → v.lines ≡ lines ++ more → TellsOfPost u v target number word → HasTelling moment more target number word
+telling_of : (moment : ℕ) (u v : KernelState) (lines more : List Line) (target : Target) (number word : ℕ) → u.lines ≡ lines → u.moment ≡ moment → v.lines ≡ lines ++ more → TellsOfPost u v target number word → HasTelling moment more target number word
 telling_of moment u v lines more target number word same now wrote k = record {
   telling = k.telling;
   tells = k.tells;
@@ -219,20 +219,20 @@ telling_of moment u v lines more target number word same now wrote k = record {
 }
 
 -- the result of the polls of a run
-record Polled (calls : Calls) (moment : ℕ) (s t : State) : Type 0 where
-  at_turn : State
+record Polled (calls : Calls) (moment : ℕ) (s t : KernelState) : Type 0 where
+  at_turn : KernelState
   comes : walk_polls calls (members_before Etimer s.members) s ≡ Goes tt at_turn
   tells : TellsDue moment at_turn s.lines t.lines
 
 module _ (calls : Calls) (are : AreWatched calls) (written : stamps.AreKept calls) where
-  still_needs_poll : (s u : State) → walk_polls calls (members_before Etimer s.members) s ≡ Goes tt u → process_needs_poll s Etimer ≡ true → process_needs_poll u Etimer ≡ true
+  still_needs_poll : (s u : KernelState) → walk_polls calls (members_before Etimer s.members) s ≡ Goes tt u → process_needs_poll s Etimer ≡ true → process_needs_poll u Etimer ≡ true
   still_needs_poll s u e m = let h : Lead (Watches Etimer) Whatever (Unit {0}) s (Goes tt u) = subst (λ o. Lead (Watches Etimer) Whatever (Unit {0}) s o) e (before_led Etimer calls are.led s.members s) in h.leads.needs_poll m
 
-  cleared_lines : (u : State) → ((with_needs_poll u Etimer false).lines ≡ u.lines) × ((with_needs_poll u Etimer false).timers ≡ u.timers)
+  cleared_lines : (u : KernelState) → ((with_needs_poll u Etimer false).lines ≡ u.lines) × ((with_needs_poll u Etimer false).timers ≡ u.timers)
   unfolding with_needs_poll
   cleared_lines u = (refl, refl)
 
-  served : (moment : ℕ) (u v : State) → u.moment ≡ moment → IsInState true u → calls.call (with_needs_poll u Etimer false) Etimer (own_event Poll 0) ≡ Goes tt v → (i : Adds u v)
+  served : (moment : ℕ) (u v : KernelState) → u.moment ≡ moment → IsInState true u → calls.call (with_needs_poll u Etimer false) Etimer (own_event Poll 0) ≡ Goes tt v → (i : Adds u v)
       → (timer : ℕ) (owner : Proc) → IsDueFor moment u.timers timer owner → HasTelling moment i.more (One owner) (system_number Timer) timer
   served moment u v e h goes i timer owner d =
       let u' = with_needs_poll u Etimer false in
@@ -243,7 +243,7 @@ module _ (calls : Calls) (are : AreWatched calls) (written : stamps.AreKept call
       let due : IsDueFor u'.moment u'.timers timer owner = subst (λ l. IsDueFor u'.moment l timer owner) (sym same.1) (subst (λ n. IsDueFor n u.timers timer owner) (sym now) d) in
       telling_of moment u' v u.lines i.more (One owner) (system_number Timer) timer same.0 now i.wrote (k.tells timer owner due)
 
-  polled : (moment : ℕ) (s t : State) → s.moment ≡ moment → IsInState true s → process_needs_poll s Etimer ≡ true → walk_polls calls s.members s ≡ Goes tt t → Polled calls moment s t
+  polled : (moment : ℕ) (s t : KernelState) → s.moment ≡ moment → IsInState true s → process_needs_poll s Etimer ≡ true → walk_polls calls s.members s ≡ Goes tt t → Polled calls moment s t
   polled moment s t e h needs_poll goes =
       let k = splits Etimer s.members h.listed in
       let a = through _ _ _ _ _ _ (sym (walk_splits Etimer calls s.members k.member k.after s k.split) ∙ goes) in
@@ -259,7 +259,7 @@ module _ (calls : Calls) (are : AreWatched calls) (written : stamps.AreKept call
             (adds_by _ b.midst t tt _ b.second (polls_led stamps.Keeps stamps.Keeps stamps.chain calls stamps.run_steps.unrequested stamps.run_steps.cleared (λ v q. written.call v q _ (λ x. tt)) k.after b.midst)) (served moment a.midst b.midst c.now_is c.in_state call i);
       }
 
-  tells_on : (moment : ℕ) (u s t v : State) → TellsDue moment u s.lines t.lines → Adds t v → TellsDue moment u s.lines v.lines
+  tells_on : (moment : ℕ) (u s t v : KernelState) → TellsDue moment u s.lines t.lines → Adds t v → TellsDue moment u s.lines v.lines
   tells_on moment u s t v h i = record {
     added = h.added ++ i.more;
     wrote = i.wrote ∙ ap (λ l. l ++ i.more) h.wrote ∙ append_assoc s.lines h.added i.more;
@@ -268,7 +268,7 @@ module _ (calls : Calls) (are : AreWatched calls) (written : stamps.AreKept call
         record { telling = k.telling; tells = k.tells; before = k.before; after = k.after ++ i.more; split = rw (k.split) (append_assoc k.before _ i.more) };
   }
 
-  run_polled : (moment : ℕ) (s t : State) (n : ℕ) → s.moment ≡ moment → IsInState true s → PollWaits Etimer s → kernel_of calls s ≡ Goes n t → Polled calls moment (record s { poll_requested = false }) t
+  run_polled : (moment : ℕ) (s t : KernelState) (n : ℕ) → s.moment ≡ moment → IsInState true s → PollWaits Etimer s → kernel_of calls s ≡ Goes n t → Polled calls moment (record s { poll_requested = false }) t
   unfolding kernel_of
   run_polled moment s t n e h w goes =
       let a = through _ _ _ _ _ _ goes in
@@ -280,7 +280,7 @@ module _ (calls : Calls) (are : AreWatched calls) (written : stamps.AreKept call
 
 -- a run
 
-given_polled : (moment : ℕ) (m : Mote) (lines : List Line) (sends : List Sent) (o : Outcome ℕ) → IsAtRest m.state → PollWaits Etimer m.state → kernel_of (calls_of (most_units + 1)) (begun m moment lines sends) ≡ o → (given o).mote.halted ≡ false → PollsEtimer moment (begun m moment lines sends) lines (given o).lines
+given_polled : (moment : ℕ) (m : KernelModel) (lines : List Line) (sends : List Sent) (o : Outcome ℕ) → IsAtRest m.state → PollWaits Etimer m.state → kernel_of (calls_of (most_units + 1)) (begun m moment lines sends) ≡ o → (given o).mote.halted ≡ false → PollsEtimer moment (begun m moment lines sends) lines (given o).lines
 unfolding begun_of
 given_polled moment m lines sends (Ends t) rest w e h = absurd (cc)
 given_polled moment m lines sends (Goes n t) rest w e h =

@@ -30,7 +30,7 @@ use Rattle.trace_lines.specs.declared.line.What.TheVariants as what
 use Rattle.process_kernel.specs.declared.process.ProcessState.TheVariants.{Running, Called}
 use Rattle.process_kernel.specs.declared.process.Member.{Member}
 use Rattle.process_kernel.specs.Members.{is_same}
-use Rattle.process_kernel.specs.State.{State, Outcome, Went, Ends, Goes, ◌>>=◌}
+use Rattle.process_kernel.specs.State.{KernelState, Outcome, Went, Ends, Goes, ◌>>=◌}
 use Rattle.process_kernel.specs.Processes.{is_alive, process_state, has_process, is_busy, is_listed, is_running, is_on_list, with_state, with_exiting, with_needs_poll}
 use Rattle.process_kernel.specs.ProcessList.{put_remainder, fresh_at, with_fresh_body, enlist_of, exiting_of, unlisted_of, leave_of}
 use Rattle.process_kernel.specs.Posts.{post_of, poll_of, send_of}
@@ -53,70 +53,70 @@ use Rattle.process_kernel.specs.Polls.{walk_polls, polls_of, polls_due_of, poll_
 use Rattle.process_kernel.specs.Delivery.{give_of, visit_of, walk_broadcast, deliver_to, deliver_of}
 use Rattle.process_kernel.specs.Run.{deliver_front, kernel_of}
 use Rattle.process_kernel.specs.Boot.{starts_of, boot_of}
-use Rattle.process_kernel.specs.Mote.{Mote}
+use Rattle.process_kernel.specs.KernelModel.{KernelModel}
 use Rattle.process_kernel.specs.Given.{Given, unless_halted}
 use Rattle.process_kernel.specs.declared.kernel.Ran.TheVariants as ran
 use Rattle.trace_lines.specs.declared.line.Line.{Line}
 use Rattle.radio_packet.specs.declared.sent.Sent.{Sent}
-use Rattle.kernel_laws.specs.Own.{IsOwn, FitsTarget}
+use Rattle.kernel_laws.specs.Own.{IsOwnProcess, FitsTarget}
 use Rattle.kernel_laws.proofs.Packets.{IfGoes, Handed, hand_tells}
 use Rattle.kernel_laws.proofs.Fits.{FitsOp, FitsStep, fits_advanced}
 
 -- any process may be exited
-abbrev pub Whoever : Proc → Type 0
-Whoever p = Unit {0}
+abbrev pub AnyProcess : Proc → Type 0
+AnyProcess p = Unit {0}
 
 -- all processes of the program
 abbrev pub Every : ℕ → Type 0
 Every p = Unit {0}
 
 -- nothing is claimed about motes that have halted
-abbrev pub Whatever : State → State → Type 0
+abbrev pub Whatever : KernelState → KernelState → Type 0
 Whatever s t = Unit {0}
 
 -- the states after an accepted post, a sent packet, a start, and the end of an exit
 
-abbrev pub with_event : State → Target → Event → State
+abbrev pub with_event : KernelState → Target → Event → KernelState
 with_event s t e = with_line (record s { queue = with_posted s.queue t e }) (what.Post s.queue.accepted t e.number e.word)
 
-abbrev pub with_sent : State → (value : ℕ) → State
+abbrev pub with_sent : KernelState → (value : ℕ) → KernelState
 with_sent s value =
     with_line (record s {
       sends = s.sends ++ record { at = s.moment; sender = s.mote; number = s.sent; value = value } ∷ [];
       sent = s.sent + 1;
     }) (what.Send s.sent value)
 
-abbrev pub fresh_remainders : State → Proc → List Remainder
+abbrev pub fresh_remainders : KernelState → Proc → List Remainder
 fresh_remainders s (Own p) = fresh_at s.program.codes s.remainders p
 fresh_remainders s p = s.remainders
 
-abbrev pub with_started : State → Proc → State
+abbrev pub with_started : KernelState → Proc → KernelState
 with_started s p =
     with_line (record (with_state (record s {
       members = record { process = p; incarnation = s.started } ∷ s.members;
       started = s.started + 1;
     }) p Running) { remainders = fresh_remainders s p }) (what.Start p)
 
-abbrev pub without_process : State → Proc → State
+abbrev pub without_process : KernelState → Proc → KernelState
 without_process s p = with_line (unlisted_of (with_exiting s p false) p) (what.Leave p)
 
-pub enlist_is : (s : State) (p : Proc) → enlist_of s p ≡ Goes tt (with_started s p)
+pub enlist_is : (s : KernelState) (p : Proc) → enlist_of s p ≡ Goes tt (with_started s p)
 unfolding enlist_of write_of with_state
 enlist_is s (Own p) = refl
 enlist_is s Etimer = refl
 enlist_is s Ctimer = refl
 enlist_is s Radio = refl
 
-stepped_fits : (variables : Option (List ℕ)) (s : State) (code : Code) (r : Remainder) (p : ℕ) (e : Event) → FitsStep (stepped_with variables s code r p e).step
+stepped_fits : (variables : Option (List ℕ)) (s : KernelState) (code : Code) (r : Remainder) (p : ℕ) (e : Event) → FitsStep (stepped_with variables s code r p e).step
 stepped_fits (Some variables) s code r p e = fits_advanced code e (looks_of s) r variables s.units
 stepped_fits None s code r p e = tt
 
-pub all_fits : (s : State) (code : Code) (r : Remainder) (p : ℕ) (e : Event) → FitsStep (stepped_of s code r p e).step
+pub all_fits : (s : KernelState) (code : Code) (r : Remainder) (p : ℕ) (e : Event) → FitsStep (stepped_of s code r p e).step
 unfolding stepped_of
 all_fits s code r p e = stepped_fits _ s code r p e
 
 -- a poll is requested, or nothing happens
-pub polled_or_not : (P : State → Type 0) (s : State) (p : Proc) → P (record (with_needs_poll s p true) { poll_requested = true }) → P s → P (poll_of s p)
+pub polled_or_not : (P : KernelState → Type 0) (s : KernelState) (p : Proc) → P (record (with_needs_poll s p true) { poll_requested = true }) → P s → P (poll_of s p)
 unfolding poll_of
 polled_or_not P s p h i = by (is_alive (process_state s p))
   where
@@ -125,7 +125,7 @@ polled_or_not P s p h i = by (is_alive (process_state s p))
     by false = i
 
 -- A boot or a kernel run of a mote that has halted changes nothing.
-pub unless_halts : (P : Given → Type 0) (m : Mote) (lines : List Line) (sends : List Sent) (g : Given) → (m.halted ≡ true → P (record { ran = ran.Halted; mote = m; lines = lines; sends = sends })) → (m.halted ≡ false → P g) → P (unless_halted m lines sends g)
+pub unless_halts : (P : Given → Type 0) (m : KernelModel) (lines : List Line) (sends : List Sent) (g : Given) → (m.halted ≡ true → P (record { ran = ran.Halted; mote = m; lines = lines; sends = sends })) → (m.halted ≡ false → P g) → P (unless_halted m lines sends g)
 unless_halts P m lines sends g h i = by m.halted refl
   where
     by : (b : Bool) → m.halted ≡ b → P (if b then record { ran = ran.Halted; mote = m; lines = lines; sends = sends } else g)
@@ -133,114 +133,114 @@ unless_halts P m lines sends g h i = by m.halted refl
     by false e = i e
 
 -- Two relations from a state to a later one: the first if the kernel continues, and the second if the mote has halted.
-module _ (Keeps Stops : State → State → Type 0) where
-  abbrev pub Leads : {A : Type 0} → State → Outcome A → Type 0
+module _ (Keeps Stops : KernelState → KernelState → Type 0) where
+  abbrev pub Leads : {A : Type 0} → KernelState → Outcome A → Type 0
   Leads s (Ends t) = Stops s t
   Leads s (Goes a t) = Keeps s t
 
   -- an outcome that continues or ends
-  pub record Lead (A : Type 0) (s : State) (o : Outcome A) : Type 0 where
+  pub record Lead (A : Type 0) (s : KernelState) (o : Outcome A) : Type 0 where
     pub leads : Leads s o
 
   -- two steps in a row
   pub record AreJoined : Type 0 where
-    pub same : (s : State) → Keeps s s
-    pub joined : (a b c : State) → Keeps a b → Keeps b c → Keeps a c
-    pub ended : (a b c : State) → Keeps a b → Stops b c → Stops a c
+    pub same : (s : KernelState) → Keeps s s
+    pub joined : (a b c : KernelState) → Keeps a b → Keeps b c → Keeps a c
+    pub ended : (a b c : KernelState) → Keeps a b → Stops b c → Stops a c
 
   module _ (chain : AreJoined) where
     -- chains of steps
 
-    from_leads : (A : Type 0) (s t : State) (o : Outcome A) → Keeps s t → Leads t o → Leads s o
+    from_leads : (A : Type 0) (s t : KernelState) (o : Outcome A) → Keeps s t → Leads t o → Leads s o
     from_leads A s t (Ends u) h i = chain.ended s t u h i
     from_leads A s t (Goes a u) h i = chain.joined s t u h i
 
-    pub lead_from : (A : Type 0) (s t : State) (o : Outcome A) → Keeps s t → Lead A t o → Lead A s o
+    pub lead_from : (A : Type 0) (s t : KernelState) (o : Outcome A) → Keeps s t → Lead A t o → Lead A s o
     lead_from A s t o h i = record { leads = from_leads A s t o h i.leads }
 
-    bind_leads : (A B : Type 0) (s : State) (o : Outcome A) (f : A → State → Outcome B) → Leads s o → ((a : A) (t : State) → Lead B t (f a t)) → Leads s (o >>= f)
+    bind_leads : (A B : Type 0) (s : KernelState) (o : Outcome A) (f : A → KernelState → Outcome B) → Leads s o → ((a : A) (t : KernelState) → Lead B t (f a t)) → Leads s (o >>= f)
     bind_leads A B s (Ends t) f h go = h
     bind_leads A B s (Goes a t) f h go = from_leads B s t (f a t) h (go a t).leads
 
-    pub lead_bind : (A B : Type 0) (s : State) (o : Outcome A) (f : A → State → Outcome B) → Lead A s o → ((a : A) (t : State) → Lead B t (f a t)) → Lead B s (o >>= f)
+    pub lead_bind : (A B : Type 0) (s : KernelState) (o : Outcome A) (f : A → KernelState → Outcome B) → Lead A s o → ((a : A) (t : KernelState) → Lead B t (f a t)) → Lead B s (o >>= f)
     lead_bind A B s o f h go = record { leads = bind_leads A B s o f h.leads go }
 
     -- a step, if more is known of the state from which it continues
-    pub lead_knowing : (A B : Type 0) (P : State → Type 0) (s : State) (o : Outcome A) (f : A → State → Outcome B) → Lead A s o → IfGoes P o → ((a : A) (t : State) → P t → Lead B t (f a t)) → Lead B s (o >>= f)
+    pub lead_knowing : (A B : Type 0) (P : KernelState → Type 0) (s : KernelState) (o : Outcome A) (f : A → KernelState → Outcome B) → Lead A s o → IfGoes P o → ((a : A) (t : KernelState) → P t → Lead B t (f a t)) → Lead B s (o >>= f)
     lead_knowing A B P s (Ends t) f h k go = record { leads = h.leads }
     lead_knowing A B P s (Goes a t) f h k go = lead_from B s t (f a t) h.leads (go a t k)
 
-    pub bind_twice : (A B C : Type 0) (s : State) (o : Outcome A) (h : A → State → Outcome B) (g : B → State → Outcome C) → Lead C s (o >>= λ a t. (h a t >>= g)) → Lead C s ((o >>= h) >>= g)
+    pub bind_twice : (A B C : Type 0) (s : KernelState) (o : Outcome A) (h : A → KernelState → Outcome B) (g : B → KernelState → Outcome C) → Lead C s (o >>= λ a t. (h a t >>= g)) → Lead C s ((o >>= h) >>= g)
     bind_twice A B C s (Ends t) h g r = r
     bind_twice A B C s (Goes a t) h g r = r
 
-    pub lead_if : (A : Type 0) (s : State) (b : Bool) (o p : Outcome A) → Lead A s o → Lead A s p → Lead A s (if b then o else p)
+    pub lead_if : (A : Type 0) (s : KernelState) (b : Bool) (o p : Outcome A) → Lead A s o → Lead A s p → Lead A s (if b then o else p)
     lead_if A s true o p h i = h
     lead_if A s false o p h i = i
 
-    pub lead_goes : (A : Type 0) (s : State) (a : A) (t : State) → Keeps s t → Lead A s (Goes a t)
+    pub lead_goes : (A : Type 0) (s : KernelState) (a : A) (t : KernelState) → Keeps s t → Lead A s (Goes a t)
     lead_goes A s a t h = record { leads = h }
 
-    pub lead_still : (A : Type 0) (s : State) (a : A) → Lead A s (Goes a s)
+    pub lead_still : (A : Type 0) (s : KernelState) (a : A) → Lead A s (Goes a s)
     lead_still A s a = record { leads = chain.same s }
 
-    pub keeps_if : (s : State) (b : Bool) (t u : State) → Keeps s t → Keeps s u → Keeps s (if b then t else u)
+    pub keeps_if : (s : KernelState) (b : Bool) (t u : KernelState) → Keeps s t → Keeps s u → Keeps s (if b then t else u)
     keeps_if s true t u h i = h
     keeps_if s false t u h i = i
 
-    pub keeps_cases : (s : State) (b : Bool) (t u : State) → (b ≡ true → Keeps s t) → (b ≡ false → Keeps s u) → Keeps s (if b then t else u)
+    pub keeps_cases : (s : KernelState) (b : Bool) (t u : KernelState) → (b ≡ true → Keeps s t) → (b ≡ false → Keeps s u) → Keeps s (if b then t else u)
     keeps_cases s true t u h i = h refl
     keeps_cases s false t u h i = i refl
 
     -- a property of all states
-    abbrev Anywhere : State → Type 0
+    abbrev Anywhere : KernelState → Type 0
     Anywhere s = Unit {0}
 
-    anywhere : (s t : State) → Keeps s t → Anywhere s → Anywhere t
+    anywhere : (s t : KernelState) → Keeps s t → Anywhere s → Anywhere t
     anywhere s t k x = tt
 
-    single : (A : Type 0) (s : State) (o : Outcome A) → Leads s o → Lead A s o
+    single : (A : Type 0) (s : KernelState) (o : Outcome A) → Leads s o → Lead A s o
     single A s o h = record { leads = h }
 
     -- A rule with two sets of calls: with each set it is made of steps, and from a state with the property `Holds`
     -- both outcomes are the same.
-    module _ (Holds : State → Type 0) where
-      pub record Both (A : Type 0) (s : State) (o q : Outcome A) : Type 0 where
+    module _ (Holds : KernelState → Type 0) where
+      pub record Both (A : Type 0) (s : KernelState) (o q : Outcome A) : Type 0 where
         pub leads : Leads s o
         pub same : Holds s → o ≡ q
 
-      pub both_plain : (A : Type 0) (s : State) (o : Outcome A) → Lead A s o → Both A s o o
+      pub both_plain : (A : Type 0) (s : KernelState) (o : Outcome A) → Lead A s o → Both A s o o
       both_plain A s o h = record { leads = h.leads; same = λ x. refl }
 
-      both_still : (A : Type 0) (s : State) (a : A) → Both A s (Goes a s) (Goes a s)
+      both_still : (A : Type 0) (s : KernelState) (a : A) → Both A s (Goes a s) (Goes a s)
       both_still A s a = both_plain A s (Goes a s) (lead_still A s a)
 
-      both_goes : (A : Type 0) (s : State) (a : A) (t : State) → Keeps s t → Both A s (Goes a t) (Goes a t)
+      both_goes : (A : Type 0) (s : KernelState) (a : A) (t : KernelState) → Keeps s t → Both A s (Goes a t) (Goes a t)
       both_goes A s a t h = both_plain A s (Goes a t) (lead_goes A s a t h)
 
-      both_if : (A : Type 0) (s : State) (b : Bool) (o p o' p' : Outcome A) → Both A s o o' → Both A s p p' → Both A s (if b then o else p) (if b then o' else p')
+      both_if : (A : Type 0) (s : KernelState) (b : Bool) (o p o' p' : Outcome A) → Both A s o o' → Both A s p p' → Both A s (if b then o else p) (if b then o' else p')
       both_if A s true o p o' p' h i = h
       both_if A s false o p o' p' h i = i
 
-      both_cases : (A : Type 0) (s : State) (b : Bool) (o p o' p' : Outcome A) → (b ≡ true → Both A s o o') → (b ≡ false → Both A s p p') → Both A s (if b then o else p) (if b then o' else p')
+      both_cases : (A : Type 0) (s : KernelState) (b : Bool) (o p o' p' : Outcome A) → (b ≡ true → Both A s o o') → (b ≡ false → Both A s p p') → Both A s (if b then o else p) (if b then o' else p')
       both_cases A s true o p o' p' h i = h refl
       both_cases A s false o p o' p' h i = i refl
 
-      both_option : (A X : Type 0) (s : State) (x : Option X) (o o' : Outcome A) (f g : X → Outcome A) → Both A s o o' → ((y : X) → Both A s (f y) (g y)) → Both A s (elim x [ None ↦ o | Some y ↦ f y ]) (elim x [ None ↦ o' | Some y ↦ g y ])
+      both_option : (A X : Type 0) (s : KernelState) (x : Option X) (o o' : Outcome A) (f g : X → Outcome A) → Both A s o o' → ((y : X) → Both A s (f y) (g y)) → Both A s (elim x [ None ↦ o | Some y ↦ f y ]) (elim x [ None ↦ o' | Some y ↦ g y ])
       both_option A X s None o o' f g h i = h
       both_option A X s (Some y) o o' f g h i = i y
 
-      both_nested : (A B C : Type 0) (s : State) (o q : Outcome A) (f f' : A → State → Outcome B) (g g' : B → State → Outcome C) → Both C s ((o >>= f) >>= g) ((q >>= f') >>= g') → Both C s (o >>= λ a t. (f a t >>= g)) (q >>= λ a t. (f' a t >>= g'))
+      both_nested : (A B C : Type 0) (s : KernelState) (o q : Outcome A) (f f' : A → KernelState → Outcome B) (g g' : B → KernelState → Outcome C) → Both C s ((o >>= f) >>= g) ((q >>= f') >>= g') → Both C s (o >>= λ a t. (f a t >>= g)) (q >>= λ a t. (f' a t >>= g'))
       both_nested A B C s (Ends t) (Ends u) f f' g g' r = r
       both_nested A B C s (Ends t) (Goes b u) f f' g g' r = r
       both_nested A B C s (Goes a t) (Ends u) f f' g g' r = r
       both_nested A B C s (Goes a t) (Goes b u) f f' g g' r = r
 
-      module _ (on : (s t : State) → Keeps s t → Holds s → Holds t) where
-        both_from : (A : Type 0) (s t : State) (o q : Outcome A) → Keeps s t → Both A t o q → Both A s o q
+      module _ (on : (s t : KernelState) → Keeps s t → Holds s → Holds t) where
+        both_from : (A : Type 0) (s t : KernelState) (o q : Outcome A) → Keeps s t → Both A t o q → Both A s o q
         both_from A s t o q h i = record { leads = from_leads A s t o h i.leads; same = λ x. i.same (on s t h x) }
 
-        both_bind : (A B : Type 0) (s : State) (o q : Outcome A) (f g : A → State → Outcome B) → Both A s o q → ((a : A) (t : State) → Both B t (f a t) (g a t)) → Both B s (o >>= f) (q >>= g)
+        both_bind : (A B : Type 0) (s : KernelState) (o q : Outcome A) (f g : A → KernelState → Outcome B) → Both A s o q → ((a : A) (t : KernelState) → Both B t (f a t) (g a t)) → Both B s (o >>= f) (q >>= g)
         both_bind A B s (Ends t) q f g h go = record { leads = h.leads; same = λ x. ap (λ y. y >>= g) (h.same x) }
         both_bind A B s (Goes a t) q f g h go = record {
           leads = from_leads B s t (f a t) h.leads (go a t).leads;
@@ -249,33 +249,33 @@ module _ (Keeps Stops : State → State → Type 0) where
 
     -- A post, a packet, and a timer that is set, if each of their parts is a step.
 
-    pub lead_post : (s : State) (t : Target) (e : Event) → Stops s (halted_of s) → Keeps s (with_line s (what.Full t e.number e.word)) → Keeps s (with_event s t e) → Lead Bool s (post_of s t e)
+    pub lead_post : (s : KernelState) (t : Target) (e : Event) → Stops s (halted_of s) → Keeps s (with_line s (what.Full t e.number e.word)) → Keeps s (with_event s t e) → Lead Bool s (post_of s t e)
     unfolding post_of write_of
     lead_post s t e halts full accepted =
         lead_if _ s (nat_le (2 ^ 62) s.queue.accepted) _ _ (record { leads = halts })
         (lead_if _ s (nat_le s.queue.capacity (length s.queue.events)) _ _ (record { leads = full }) (record { leads = accepted }))
 
-    pub lead_send : (s : State) (v : ℕ) → Stops s (halted_of s) → Keeps s (with_sent s v) → Lead (Unit {0}) s (send_of s v)
+    pub lead_send : (s : KernelState) (v : ℕ) → Stops s (halted_of s) → Keeps s (with_sent s v) → Lead (Unit {0}) s (send_of s v)
     unfolding send_of write_of
     lead_send s v halts sent = lead_if _ s (nat_le (2 ^ 62) s.sent) _ _ (record { leads = halts }) (record { leads = sent })
 
-    pub keeps_poll : (s : State) (p : Proc) → Keeps s (record (with_needs_poll s p true) { poll_requested = true }) → Keeps s (poll_of s p)
+    pub keeps_poll : (s : KernelState) (p : Proc) → Keeps s (record (with_needs_poll s p true) { poll_requested = true }) → Keeps s (poll_of s p)
     keeps_poll s p polled = polled_or_not (Keeps s) s p polled (chain.same s)
 
-    pub keeps_set : (s : State) (timers : TimerLists) (timer : ℕ) → ((callbacks : List ℕ) → Keeps s (record s { timers = timers; callbacks = callbacks })) → ((t : State) → Keeps t (poll_of t Etimer))
+    pub keeps_set : (s : KernelState) (timers : TimerLists) (timer : ℕ) → ((callbacks : List ℕ) → Keeps s (record s { timers = timers; callbacks = callbacks })) → ((t : KernelState) → Keeps t (poll_of t Etimer))
         → Keeps s (timer_is_set (record s { timers = timers }) timer)
     unfolding timer_is_set
     keeps_set s timers timer changed polled = chain.joined s _ _ (changed _) (polled _)
 
     -- the radio's poll: the packet in front leaves the ring, and its line is written
     pub record AreRingSteps : Type 0 where
-      pub accepted : (s : State) (a : Arrival) (later : List Arrival) (p : ℕ) → s.ring ≡ a ∷ later → s.program.receiver ≡ Some p → Keeps s (with_event (record s { ring = later }) (One (Own p)) (packet_of a))
-      pub refused : (s : State) (a : Arrival) (later : List Arrival) (p : ℕ) → s.ring ≡ a ∷ later → s.program.receiver ≡ Some p → Keeps s (with_line (record s { ring = later }) (what.Full (One (Own p)) (system_number Packet) a.value))
-      pub deaf : (s : State) (a : Arrival) (later : List Arrival) → s.ring ≡ a ∷ later → s.program.receiver ≡ None → Keeps s (with_line (record s { ring = later }) (what.Deaf a.sender a.number))
-      pub halts : (s : State) (later : List Arrival) → Stops s (halted_of (record s { ring = later }))
+      pub accepted : (s : KernelState) (a : Arrival) (later : List Arrival) (p : ℕ) → s.ring ≡ a ∷ later → s.program.receiver ≡ Some p → Keeps s (with_event (record s { ring = later }) (One (Own p)) (packet_of a))
+      pub refused : (s : KernelState) (a : Arrival) (later : List Arrival) (p : ℕ) → s.ring ≡ a ∷ later → s.program.receiver ≡ Some p → Keeps s (with_line (record s { ring = later }) (what.Full (One (Own p)) (system_number Packet) a.value))
+      pub deaf : (s : KernelState) (a : Arrival) (later : List Arrival) → s.ring ≡ a ∷ later → s.program.receiver ≡ None → Keeps s (with_line (record s { ring = later }) (what.Deaf a.sender a.number))
+      pub halts : (s : KernelState) (later : List Arrival) → Stops s (halted_of (record s { ring = later }))
 
     module _ (steps : AreRingSteps) where
-      hand_led : (receiver : Option ℕ) (a : Arrival) (later : List Arrival) (s : State) → s.ring ≡ a ∷ later → s.program.receiver ≡ receiver → Lead (Unit {0}) s (hand_to receiver (record s { ring = later }) a)
+      hand_led : (receiver : Option ℕ) (a : Arrival) (later : List Arrival) (s : KernelState) → s.ring ≡ a ∷ later → s.program.receiver ≡ receiver → Lead (Unit {0}) s (hand_to receiver (record s { ring = later }) a)
       unfolding hand_to post_of write_of
       hand_led (Some p) a later s ring r =
           lead_bind _ _ s _ _ (lead_if Bool s (nat_le (2 ^ 62) s.queue.accepted) _ _ (record { leads = steps.halts s later })
@@ -283,97 +283,97 @@ module _ (Keeps Stops : State → State → Type 0) where
           (record { leads = steps.accepted s a later p ring r }))) (λ full t. lead_still _ t tt)
       hand_led None a later s ring r = record { leads = steps.deaf s a later ring r }
 
-      pub empty_led : (receiver : Option ℕ) (packets : List Arrival) (s : State) → s.ring ≡ packets → s.program.receiver ≡ receiver → Lead (Unit {0}) s (empty_ring receiver packets s)
+      pub empty_led : (receiver : Option ℕ) (packets : List Arrival) (s : KernelState) → s.ring ≡ packets → s.program.receiver ≡ receiver → Lead (Unit {0}) s (empty_ring receiver packets s)
       empty_led receiver [] s ring r = lead_still _ s tt
       empty_led receiver (a ∷ later) s ring r =
           lead_knowing _ _ (Handed receiver (record s { ring = later }) a) s _ _ (hand_led receiver a later s ring r) (hand_tells receiver (record s { ring = later }) a)
           (λ u t h. empty_led receiver later t h.0.ring (ap (λ p. p.receiver) h.0.program ∙ r))
 
     -- the polls, if a call with POLL consists of steps
-    module _ (Holds : State → Type 0) (on : (s t : State) → Keeps s t → Holds s → Holds t) (unrequested : (s : State) → Keeps s (record s { poll_requested = false })) (cleared : (s : State) (p : Proc) → Keeps s (with_needs_poll s p false))
-        (a b : Calls) (polled : (s : State) (p : Proc) → Both Holds (Unit {0}) s (a.call s p (own_event Poll 0)) (b.call s p (own_event Poll 0))) where
-      pub polls_both : (ms : List Member) (s : State) → Both Holds (Unit {0}) s (walk_polls a ms s) (walk_polls b ms s)
+    module _ (Holds : KernelState → Type 0) (on : (s t : KernelState) → Keeps s t → Holds s → Holds t) (unrequested : (s : KernelState) → Keeps s (record s { poll_requested = false })) (cleared : (s : KernelState) (p : Proc) → Keeps s (with_needs_poll s p false))
+        (a b : Calls) (polled : (s : KernelState) (p : Proc) → Both Holds (Unit {0}) s (a.call s p (own_event Poll 0)) (b.call s p (own_event Poll 0))) where
+      pub polls_both : (ms : List Member) (s : KernelState) → Both Holds (Unit {0}) s (walk_polls a ms s) (walk_polls b ms s)
       unfolding poll_turn_of
       polls_both [] s = both_still Holds _ s tt
       polls_both (m ∷ ms) s =
           both_bind Holds on _ _ s _ _ _ _ (both_if Holds _ s _ _ _ _ _ (both_from Holds on _ s _ _ _ (cleared s m.process) (polled _ m.process)) (both_still Holds _ s tt)) (λ a t. polls_both ms t)
 
-      pub polls_due_both : (s : State) → Both Holds (Unit {0}) s (polls_due_of a s) (polls_due_of b s)
+      pub polls_due_both : (s : KernelState) → Both Holds (Unit {0}) s (polls_due_of a s) (polls_due_of b s)
       unfolding polls_due_of polls_of
       polls_due_both s = both_if Holds _ s s.poll_requested _ _ _ _ (both_from Holds on _ s _ _ _ (unrequested s) (polls_both s.members _)) (both_still Holds _ s tt)
 
     -- the steps of boots and kernel runs outside of calls
     pub record AreRunSteps : Type 0 where
-      pub unrequested : (s : State) → Keeps s (record s { poll_requested = false })
-      pub cleared : (s : State) (p : Proc) → Keeps s (with_needs_poll s p false)
-      pub front : (s : State) → Keeps s (record s { queue = without_front s.queue })
-      pub takes : (s : State) (serial : ℕ) (p : Proc) → Keeps s (with_line s (what.Take serial p))
-      pub drops : (s : State) (serial : ℕ) (p : Proc) → Keeps s (with_line s (what.Drop serial p))
+      pub unrequested : (s : KernelState) → Keeps s (record s { poll_requested = false })
+      pub cleared : (s : KernelState) (p : Proc) → Keeps s (with_needs_poll s p false)
+      pub front : (s : KernelState) → Keeps s (record s { queue = without_front s.queue })
+      pub takes : (s : KernelState) (serial : ℕ) (p : Proc) → Keeps s (with_line s (what.Take serial p))
+      pub drops : (s : KernelState) (serial : ℕ) (p : Proc) → Keeps s (with_line s (what.Drop serial p))
 
     -- boots and kernel runs, if each call consists of steps
-    module _ (Holds : State → Type 0) (on : (s t : State) → Keeps s t → Holds s → Holds t) (steps : AreRunSteps) (a b : Calls)
-        (called : (s : State) (p : Proc) (e : Event) → Both Holds (Unit {0}) s (a.call s p e) (b.call s p e)) where
-      due_polls_both : (s : State) → Both Holds (Unit {0}) s (polls_due_of a s) (polls_due_of b s)
+    module _ (Holds : KernelState → Type 0) (on : (s t : KernelState) → Keeps s t → Holds s → Holds t) (steps : AreRunSteps) (a b : Calls)
+        (called : (s : KernelState) (p : Proc) (e : Event) → Both Holds (Unit {0}) s (a.call s p e) (b.call s p e)) where
+      due_polls_both : (s : KernelState) → Both Holds (Unit {0}) s (polls_due_of a s) (polls_due_of b s)
       due_polls_both s = polls_due_both Holds on steps.unrequested steps.cleared a b (λ t p. called t p _) s
 
-      pub give_both : (s : State) (x : Posted) (p : Proc) (there : Bool) → Both Holds (Unit {0}) s (give_of a s x p there) (give_of b s x p there)
+      pub give_both : (s : KernelState) (x : Posted) (p : Proc) (there : Bool) → Both Holds (Unit {0}) s (give_of a s x p there) (give_of b s x p there)
       unfolding give_of write_of
       give_both s x p there =
           both_if Holds _ s there _ _ _ _ (both_from Holds on _ s _ _ _ (steps.takes s x.serial p) (called _ p x.event)) (both_goes Holds _ s tt _ (steps.drops s x.serial p))
 
-      walk_broadcast_both : (x : Posted) (ms : List Member) (s : State) → Both Holds (Unit {0}) s (walk_broadcast a x ms s) (walk_broadcast b x ms s)
+      walk_broadcast_both : (x : Posted) (ms : List Member) (s : KernelState) → Both Holds (Unit {0}) s (walk_broadcast a x ms s) (walk_broadcast b x ms s)
       unfolding visit_of
       walk_broadcast_both x [] s = both_still Holds _ s tt
       walk_broadcast_both x (m ∷ ms) s =
           both_bind Holds on _ _ s _ _ _ _ (both_bind Holds on _ _ s _ _ _ _ (due_polls_both s) (λ a t. give_both t x m.process (is_on_list t m))) (λ a t. walk_broadcast_both x ms t)
 
-      target_both : (target : Target) (s : State) (x : Posted) → Both Holds (Unit {0}) s (deliver_to target a s x) (deliver_to target b s x)
+      target_both : (target : Target) (s : KernelState) (x : Posted) → Both Holds (Unit {0}) s (deliver_to target a s x) (deliver_to target b s x)
       target_both (One p) s x = give_both s x p (is_listed s p)
       target_both ToEach s x = walk_broadcast_both x s.members s
 
-      pub front_both : (q : List Posted) (s : State) → Both Holds (Unit {0}) s (deliver_front a q s) (deliver_front b q s)
+      pub front_both : (q : List Posted) (s : KernelState) → Both Holds (Unit {0}) s (deliver_front a q s) (deliver_front b q s)
       unfolding deliver_of
       front_both [] s = both_still Holds _ s tt
       front_both (x ∷ q) s = both_from Holds on _ s _ _ _ (steps.front s) (target_both x.target _ x)
 
-      pub kernel_both : (s : State) → Both Holds ℕ s (kernel_of a s) (kernel_of b s)
+      pub kernel_both : (s : KernelState) → Both Holds ℕ s (kernel_of a s) (kernel_of b s)
       unfolding kernel_of
       kernel_both s =
           both_bind Holds on _ _ s _ _ _ _ (due_polls_both s) (λ a t. both_bind Holds on _ _ t _ _ _ _ (front_both t.queue.events t) (λ b u. both_still Holds _ u _))
 
-    module _ (Holds : State → Type 0) (on : (s t : State) → Keeps s t → Holds s → Holds t) (a b : Calls) (started : (s : State) (p : Proc) → Both Holds (Unit {0}) s (start_of a s p) (start_of b s p)) where
-      starts_both : (ps : List Proc) (s : State) → Both Holds (Unit {0}) s (starts_of a ps s) (starts_of b ps s)
+    module _ (Holds : KernelState → Type 0) (on : (s t : KernelState) → Keeps s t → Holds s → Holds t) (a b : Calls) (started : (s : KernelState) (p : Proc) → Both Holds (Unit {0}) s (start_of a s p) (start_of b s p)) where
+      starts_both : (ps : List Proc) (s : KernelState) → Both Holds (Unit {0}) s (starts_of a ps s) (starts_of b ps s)
       starts_both [] s = both_still Holds _ s tt
       starts_both (p ∷ ps) s = both_bind Holds on _ _ s _ _ _ _ (started s p) (λ u t. starts_both ps t)
 
-      pub boot_both : (s : State) → Both Holds ℕ s (boot_of a s) (boot_of b s)
+      pub boot_both : (s : KernelState) → Both Holds ℕ s (boot_of a s) (boot_of b s)
       unfolding boot_of
       boot_both s = both_bind Holds on _ _ s _ _ _ _ (starts_both (Etimer ∷ Ctimer ∷ Radio ∷ map Own s.program.autostart) s) (λ u t. both_still Holds _ t _)
 
     -- the same with one set of calls
     module _ (calls : Calls) where
-      pub polls_led : ((s : State) → Keeps s (record s { poll_requested = false })) → ((s : State) (p : Proc) → Keeps s (with_needs_poll s p false)) → ((s : State) (p : Proc) → Lead (Unit {0}) s (calls.call s p (own_event Poll 0)))
-          → (ms : List Member) (s : State) → Lead (Unit {0}) s (walk_polls calls ms s)
+      pub polls_led : ((s : KernelState) → Keeps s (record s { poll_requested = false })) → ((s : KernelState) (p : Proc) → Keeps s (with_needs_poll s p false)) → ((s : KernelState) (p : Proc) → Lead (Unit {0}) s (calls.call s p (own_event Poll 0)))
+          → (ms : List Member) (s : KernelState) → Lead (Unit {0}) s (walk_polls calls ms s)
       polls_led unrequested cleared polled ms s = single _ s _ (polls_both Anywhere anywhere unrequested cleared calls calls (λ t p. both_plain Anywhere _ t _ (polled t p)) ms s).leads
 
-      pub polls_due_led : ((s : State) → Keeps s (record s { poll_requested = false })) → ((s : State) (p : Proc) → Keeps s (with_needs_poll s p false)) → ((s : State) (p : Proc) → Lead (Unit {0}) s (calls.call s p (own_event Poll 0)))
-          → (s : State) → Lead (Unit {0}) s (polls_due_of calls s)
+      pub polls_due_led : ((s : KernelState) → Keeps s (record s { poll_requested = false })) → ((s : KernelState) (p : Proc) → Keeps s (with_needs_poll s p false)) → ((s : KernelState) (p : Proc) → Lead (Unit {0}) s (calls.call s p (own_event Poll 0)))
+          → (s : KernelState) → Lead (Unit {0}) s (polls_due_of calls s)
       polls_due_led unrequested cleared polled s = single _ s _ (polls_due_both Anywhere anywhere unrequested cleared calls calls (λ t p. both_plain Anywhere _ t _ (polled t p)) s).leads
 
-      pub boot_led : ((s : State) (p : Proc) → Lead (Unit {0}) s (start_of calls s p)) → (s : State) → Lead ℕ s (boot_of calls s)
+      pub boot_led : ((s : KernelState) (p : Proc) → Lead (Unit {0}) s (start_of calls s p)) → (s : KernelState) → Lead ℕ s (boot_of calls s)
       boot_led started s = single _ s _ (boot_both Anywhere anywhere calls calls (λ t p. both_plain Anywhere _ t _ (started t p)) s).leads
 
-      module _ (steps : AreRunSteps) (called : (s : State) (p : Proc) (e : Event) → Lead (Unit {0}) s (calls.call s p e)) where
-        called_twice : (s : State) (p : Proc) (e : Event) → Both Anywhere (Unit {0}) s (calls.call s p e) (calls.call s p e)
+      module _ (steps : AreRunSteps) (called : (s : KernelState) (p : Proc) (e : Event) → Lead (Unit {0}) s (calls.call s p e)) where
+        called_twice : (s : KernelState) (p : Proc) (e : Event) → Both Anywhere (Unit {0}) s (calls.call s p e) (calls.call s p e)
         called_twice s p e = both_plain Anywhere _ s _ (called s p e)
 
-        pub give_led : (s : State) (x : Posted) (p : Proc) (there : Bool) → Lead (Unit {0}) s (give_of calls s x p there)
+        pub give_led : (s : KernelState) (x : Posted) (p : Proc) (there : Bool) → Lead (Unit {0}) s (give_of calls s x p there)
         give_led s x p there = single _ s _ (give_both Anywhere anywhere steps calls calls called_twice s x p there).leads
 
-        pub front_led : (q : List Posted) (s : State) → Lead (Unit {0}) s (deliver_front calls q s)
+        pub front_led : (q : List Posted) (s : KernelState) → Lead (Unit {0}) s (deliver_front calls q s)
         front_led q s = single _ s _ (front_both Anywhere anywhere steps calls calls called_twice q s).leads
 
-        pub kernel_led : (s : State) → Lead ℕ s (kernel_of calls s)
+        pub kernel_led : (s : KernelState) → Lead ℕ s (kernel_of calls s)
         kernel_led s = single _ s _ (kernel_both Anywhere anywhere steps calls calls called_twice s).leads
 
     -- the processes that may be exited, and the processes of the program that are observed
@@ -386,17 +386,17 @@ module _ (Keeps Stops : State → State → Type 0) where
       -- The brackets of a call, of an exit, and of the exit of a process that its own call ends. With steps between
       -- the two sides, brackets are a step.
       pub record AreBrackets : Type 0 where
-        pub call : (s t : State) (p : Proc) → IsOurs p → is_running s p ≡ true → Keeps (with_state s p Called) t → Keeps s (with_state t p Running)
-        pub call_stops : (s t : State) (p : Proc) → IsOurs p → is_running s p ≡ true → Stops (with_state s p Called) t → Stops s t
-        pub exit : (s t : State) (p : Proc) → IsOurs p → Leaves p → is_busy s p ≡ false → is_listed s p ≡ true → Keeps (exiting_of s p) t → Keeps s (without_process t p)
-        pub exit_stops : (s t : State) (p : Proc) → IsOurs p → Leaves p → is_busy s p ≡ false → is_listed s p ≡ true → Stops (exiting_of s p) t → Stops s t
-        pub last : (s t u : State) (p : Proc) → IsOurs p → Leaves p → is_running s p ≡ true → Keeps (with_state s p Called) t → is_listed t p ≡ true → Keeps (exiting_of t p) u → Keeps s (without_process u p)
-        pub last_stops : (s t u : State) (p : Proc) → IsOurs p → Leaves p → is_running s p ≡ true → Keeps (with_state s p Called) t → is_listed t p ≡ true → Stops (exiting_of t p) u → Stops s u
-        pub gone : (s t : State) (p : Proc) → IsOurs p → is_running s p ≡ true → Keeps (with_state s p Called) t → is_listed t p ≡ false → Keeps s t
+        pub call : (s t : KernelState) (p : Proc) → IsOurs p → is_running s p ≡ true → Keeps (with_state s p Called) t → Keeps s (with_state t p Running)
+        pub call_stops : (s t : KernelState) (p : Proc) → IsOurs p → is_running s p ≡ true → Stops (with_state s p Called) t → Stops s t
+        pub exit : (s t : KernelState) (p : Proc) → IsOurs p → Leaves p → is_busy s p ≡ false → is_listed s p ≡ true → Keeps (exiting_of s p) t → Keeps s (without_process t p)
+        pub exit_stops : (s t : KernelState) (p : Proc) → IsOurs p → Leaves p → is_busy s p ≡ false → is_listed s p ≡ true → Stops (exiting_of s p) t → Stops s t
+        pub last : (s t u : KernelState) (p : Proc) → IsOurs p → Leaves p → is_running s p ≡ true → Keeps (with_state s p Called) t → is_listed t p ≡ true → Keeps (exiting_of t p) u → Keeps s (without_process u p)
+        pub last_stops : (s t u : KernelState) (p : Proc) → IsOurs p → Leaves p → is_running s p ≡ true → Keeps (with_state s p Called) t → is_listed t p ≡ true → Stops (exiting_of t p) u → Stops s u
+        pub gone : (s t : KernelState) (p : Proc) → IsOurs p → is_running s p ≡ true → Keeps (with_state s p Called) t → is_listed t p ≡ false → Keeps s t
 
       -- brackets of which both sides are steps
-      pub brackets_of : ((s : State) (p : Proc) → IsOurs p → Keeps s (with_state s p Called)) → ((s : State) (p : Proc) → IsOurs p → Keeps s (with_state s p Running)) → ((s : State) (p : Proc) → IsOurs p → Leaves p → Keeps s (exiting_of s p))
-          → ((s : State) (p : Proc) → IsOurs p → Leaves p → Keeps s (without_process s p)) → AreBrackets
+      pub brackets_of : ((s : KernelState) (p : Proc) → IsOurs p → Keeps s (with_state s p Called)) → ((s : KernelState) (p : Proc) → IsOurs p → Keeps s (with_state s p Running)) → ((s : KernelState) (p : Proc) → IsOurs p → Leaves p → Keeps s (exiting_of s p))
+          → ((s : KernelState) (p : Proc) → IsOurs p → Leaves p → Keeps s (without_process s p)) → AreBrackets
       brackets_of called runs exiting leaves = record {
         call = λ s t p o r k. chain.joined s _ _ (called s p o) (chain.joined _ t _ k (runs t p o));
         call_stops = λ s t p o r k. chain.ended s _ t (called s p o) k;
@@ -409,26 +409,26 @@ module _ (Keeps Stops : State → State → Type 0) where
 
       -- all small steps and the brackets
       pub record AreSteps : Type 0 where
-        pub own : (p : Proc) → IsOwn p → Leaves p
+        pub own : (p : Proc) → IsOwnProcess p → Leaves p
         pub brackets : AreBrackets
-        pub halts : (s : State) → Stops s (halted_of s)
-        pub units : (s : State) (n : ℕ) → n ≤ s.units → Keeps s (record s { units = n })
-        pub busy : (s : State) (p : Proc) → Keeps s (with_line s (what.Busy p))
-        pub prints : (s : State) (p v : ℕ) → Ours p → Keeps s (with_line s (what.Print (Own p) v))
-        pub polled : (s : State) (p : Proc) → Keeps s (poll_of s p)
-        pub remainder : (s : State) (p : ℕ) (r : Remainder) → Ours p → Keeps s (put_remainder s p r)
-        pub fresh : (s : State) (p : ℕ) → Ours p → Keeps s (with_fresh_body s p)
-        pub variables : (s : State) (p : ℕ) (vs : List ℕ) (units : ℕ) → Ours p → units ≤ s.units → Keeps s (record s { variables = slice_set s.variables p vs; units = units })
-        pub sets : (s : State) (timer start interval : ℕ) (owner : Proc) → has_timer s timer ≡ true
+        pub halts : (s : KernelState) → Stops s (halted_of s)
+        pub units : (s : KernelState) (n : ℕ) → n ≤ s.units → Keeps s (record s { units = n })
+        pub busy : (s : KernelState) (p : Proc) → Keeps s (with_line s (what.Busy p))
+        pub prints : (s : KernelState) (p v : ℕ) → Ours p → Keeps s (with_line s (what.Print (Own p) v))
+        pub polled : (s : KernelState) (p : Proc) → Keeps s (poll_of s p)
+        pub remainder : (s : KernelState) (p : ℕ) (r : Remainder) → Ours p → Keeps s (put_remainder s p r)
+        pub fresh : (s : KernelState) (p : ℕ) → Ours p → Keeps s (with_fresh_body s p)
+        pub variables : (s : KernelState) (p : ℕ) (vs : List ℕ) (units : ℕ) → Ours p → units ≤ s.units → Keeps s (record s { variables = slice_set s.variables p vs; units = units })
+        pub sets : (s : KernelState) (timer start interval : ℕ) (owner : Proc) → has_timer s timer ≡ true
             → Keeps s (timer_is_set (record s { timers = with_timer s.timers timer (record { start = start; interval = interval; owner = Some owner }) }) timer)
-        pub stops : (s : State) (timer : ℕ) → Keeps s (record s { timers = stop_timer s.timers timer })
-        pub purges : (s : State) (p : Proc) → Keeps s (record s { timers = purge_timers s.timers p })
-        pub callbacks : (s : State) (ts : List ℕ) → Keeps s (record s { callbacks = ts })
-        pub semaphores : (s : State) (ns : List ℕ) → Keeps s (record s { semaphores = ns })
-        pub full : (s : State) (t : Target) (e : Event) → Keeps s (with_line s (what.Full t e.number e.word))
-        pub posts : (s : State) (t : Target) (e : Event) → FitsTarget t e.number → Keeps s (with_event s t e)
-        pub sends : (s : State) (v : ℕ) → Keeps s (with_sent s v)
-        pub starts : (s : State) (p : Proc) → IsOurs p → is_busy s p ≡ false → has_process s p ≡ true → is_listed s p ≡ false → Keeps s (with_started s p)
+        pub stops : (s : KernelState) (timer : ℕ) → Keeps s (record s { timers = stop_timer s.timers timer })
+        pub purges : (s : KernelState) (p : Proc) → Keeps s (record s { timers = purge_timers s.timers p })
+        pub callbacks : (s : KernelState) (ts : List ℕ) → Keeps s (record s { callbacks = ts })
+        pub semaphores : (s : KernelState) (ns : List ℕ) → Keeps s (record s { semaphores = ns })
+        pub full : (s : KernelState) (t : Target) (e : Event) → Keeps s (with_line s (what.Full t e.number e.word))
+        pub posts : (s : KernelState) (t : Target) (e : Event) → FitsTarget t e.number → Keeps s (with_event s t e)
+        pub sends : (s : KernelState) (v : ℕ) → Keeps s (with_sent s v)
+        pub starts : (s : KernelState) (p : Proc) → IsOurs p → is_busy s p ≡ false → has_process s p ≡ true → is_listed s p ≡ false → Keeps s (with_started s p)
         pub ring : AreRingSteps
 
       -- an event that may reach this process: an exit, only if the process may leave
@@ -440,15 +440,15 @@ module _ (Keeps Stops : State → State → Type 0) where
 
       -- the calls of a process, and the runs of a thread
       pub record AreLed (calls : Calls) : Type 0 where
-        pub call : (s : State) (p : Proc) (e : Event) → Fits p e.number → Lead (Unit {0}) s (calls.call s p e)
-        pub run : (s : State) (code : Code) (r : Remainder) (p : ℕ) (e : Event) → Ours p → Lead Answer s (calls.run s code r p e)
-        pub callback : (s : State) (code : Code) (p : ℕ) (e : Event) → slice_get s.program.codes p ≡ Some code → Lead Answer s (calls.run s code (fresh_of code (Callback e.word)) p e)
+        pub call : (s : KernelState) (p : Proc) (e : Event) → Fits p e.number → Lead (Unit {0}) s (calls.call s p e)
+        pub run : (s : KernelState) (code : Code) (r : Remainder) (p : ℕ) (e : Event) → Ours p → Lead Answer s (calls.run s code r p e)
+        pub callback : (s : KernelState) (code : Code) (p : ℕ) (e : Event) → slice_get s.program.codes p ≡ Some code → Lead Answer s (calls.run s code (fresh_of code (Callback e.word)) p e)
 
       -- the same with two sets of calls
-      pub record AreBoth (Holds : State → Type 0) (a b : Calls) : Type 0 where
-        pub call : (s : State) (p : Proc) (e : Event) → Fits p e.number → Both Holds (Unit {0}) s (a.call s p e) (b.call s p e)
-        pub run : (s : State) (code : Code) (r : Remainder) (p : ℕ) (e : Event) → Ours p → Both Holds Answer s (a.run s code r p e) (b.run s code r p e)
-        pub callback : (s : State) (code : Code) (p : ℕ) (e : Event) → slice_get s.program.codes p ≡ Some code → Both Holds Answer s (a.run s code (fresh_of code (Callback e.word)) p e) (b.run s code (fresh_of code (Callback e.word)) p e)
+      pub record AreBoth (Holds : KernelState → Type 0) (a b : Calls) : Type 0 where
+        pub call : (s : KernelState) (p : Proc) (e : Event) → Fits p e.number → Both Holds (Unit {0}) s (a.call s p e) (b.call s p e)
+        pub run : (s : KernelState) (code : Code) (r : Remainder) (p : ℕ) (e : Event) → Ours p → Both Holds Answer s (a.run s code r p e) (b.run s code r p e)
+        pub callback : (s : KernelState) (code : Code) (p : ℕ) (e : Event) → slice_get s.program.codes p ≡ Some code → Both Holds Answer s (a.run s code (fresh_of code (Callback e.word)) p e) (b.run s code (fresh_of code (Callback e.word)) p e)
 
       -- the conditions of an operation of the current process
       abbrev pub Allowed : (current : ℕ) → Op → Type 0
@@ -458,57 +458,57 @@ module _ (Keeps Stops : State → State → Type 0) where
       Allowed current o = Unit {0}
 
       module _ (steps : AreSteps) where
-        lead_halts : (A : Type 0) (s : State) → Lead A s (Ends (halted_of s))
+        lead_halts : (A : Type 0) (s : KernelState) → Lead A s (Ends (halted_of s))
         lead_halts A s = record { leads = steps.halts s }
 
         -- small steps, as the rules have them
 
-        busy_led : (s : State) (p : Proc) → Lead (Unit {0}) s (write_of s (what.Busy p))
+        busy_led : (s : KernelState) (p : Proc) → Lead (Unit {0}) s (write_of s (what.Busy p))
         unfolding write_of
         busy_led s p = record { leads = steps.busy s p }
 
-        pub spend_led : (s : State) → Lead (Unit {0}) s (spend_of s)
+        pub spend_led : (s : KernelState) → Lead (Unit {0}) s (spend_of s)
         unfolding spend_of
         spend_led s = lead_if _ s (s.units == 0) _ _ (lead_halts _ s) (lead_goes _ s tt _ (steps.units s _ (omega arith)))
 
-        pub post_led : (s : State) (t : Target) (e : Event) → FitsTarget t e.number → Lead Bool s (post_of s t e)
+        pub post_led : (s : KernelState) (t : Target) (e : Event) → FitsTarget t e.number → Lead Bool s (post_of s t e)
         post_led s t e f = lead_post s t e (steps.halts s) (steps.full s t e) (steps.posts s t e f)
 
-        pub send_led : (s : State) (v : ℕ) → Lead (Unit {0}) s (send_of s v)
+        pub send_led : (s : KernelState) (v : ℕ) → Lead (Unit {0}) s (send_of s v)
         send_led s v = lead_send s v (steps.halts s) (steps.sends s v)
 
-        pub enlist_led : (s : State) (p : Proc) → IsOurs p → is_busy s p ≡ false → has_process s p ≡ true → is_listed s p ≡ false → Lead (Unit {0}) s (enlist_of s p)
+        pub enlist_led : (s : KernelState) (p : Proc) → IsOurs p → is_busy s p ≡ false → has_process s p ≡ true → is_listed s p ≡ false → Lead (Unit {0}) s (enlist_of s p)
         enlist_led s p o b h l = subst (λ o. Lead (Unit {0}) s o) (sym (enlist_is s p)) (lead_goes _ s tt _ (steps.starts s p o b h l))
 
-        sets_kept : (s : State) (t n p : ℕ) → Keeps s (set_of s t n p)
+        sets_kept : (s : KernelState) (t n p : ℕ) → Keeps s (set_of s t n p)
         unfolding set_of set_timer
         sets_kept s t n p = keeps_cases s (has_timer s t) _ s (λ there. steps.sets s t _ _ _ there) (λ none. chain.same s)
 
-        resets_kept : (s : State) (t p : ℕ) → Keeps s (reset_of s t p)
+        resets_kept : (s : KernelState) (t p : ℕ) → Keeps s (reset_of s t p)
         unfolding reset_of reset_timer
         resets_kept s t p = keeps_cases s (has_timer s t) _ s (λ there. steps.sets s t _ _ _ there) (λ none. chain.same s)
 
-        restarts_kept : (s : State) (t p : ℕ) → Keeps s (restart_of s t p)
+        restarts_kept : (s : KernelState) (t p : ℕ) → Keeps s (restart_of s t p)
         unfolding restart_of restart_timer
         restarts_kept s t p = keeps_cases s (has_timer s t) _ s (λ there. steps.sets s t _ _ _ there) (λ none. chain.same s)
 
-        stops_kept : (s : State) (t : ℕ) → Keeps s (stop_of s t)
+        stops_kept : (s : KernelState) (t : ℕ) → Keeps s (stop_of s t)
         unfolding stop_of
         stops_kept s t = keeps_if s (has_timer s t) _ s (chain.joined s _ _ (steps.stops s t) (steps.callbacks _ _)) (chain.same s)
 
-        fired_kept : (s : State) (t : ℕ) → Keeps s (fired_of s t)
+        fired_kept : (s : KernelState) (t : ℕ) → Keeps s (fired_of s t)
         unfolding fired_of
         fired_kept s t = steps.stops s t
 
-        purged_kept : (s : State) (p : ℕ) → Keeps s (purge_of s p)
+        purged_kept : (s : KernelState) (p : ℕ) → Keeps s (purge_of s p)
         unfolding purge_of
         purged_kept s p = keeps_if s (nat_lt p 256) _ s (steps.purges s (Own p)) (chain.same s)
 
-        taken_kept : (s : State) (k : ℕ) → Keeps s (take_of s k)
+        taken_kept : (s : KernelState) (k : ℕ) → Keeps s (take_of s k)
         unfolding take_of
         taken_kept s k = steps.semaphores s _
 
-        signalled_kept : (s : State) (k : ℕ) → Keeps s (signal_of s k)
+        signalled_kept : (s : KernelState) (k : ℕ) → Keeps s (signal_of s k)
         unfolding signal_of
         signalled_kept s k = steps.semaphores s _
 
@@ -517,113 +517,113 @@ module _ (Keeps Stops : State → State → Type 0) where
         pays_less (step.Done a) before after h = h
         pays_less step.Runaway before after h = h
 
-        stepped_as : (variables : Option (List ℕ)) (s : State) (code : Code) (r : Remainder) (p : ℕ) (e : Event) → Ours p → Keeps s (stepped_with variables s code r p e).state
+        stepped_as : (variables : Option (List ℕ)) (s : KernelState) (code : Code) (r : Remainder) (p : ℕ) (e : Event) → Ours p → Keeps s (stepped_with variables s code r p e).state
         stepped_as (Some variables) s code r p e o = steps.variables s p _ _ o (pays_less _ _ _ (costs code e (looks_of s) r variables s.units))
         stepped_as None s code r p e o = chain.same s
 
-        stepped_kept : (s : State) (code : Code) (r : Remainder) (p : ℕ) (e : Event) → Ours p → Keeps s (stepped_of s code r p e).state
+        stepped_kept : (s : KernelState) (code : Code) (r : Remainder) (p : ℕ) (e : Event) → Ours p → Keeps s (stepped_of s code r p e).state
         unfolding stepped_of
         stepped_kept s code r p e o = stepped_as _ s code r p e o
 
-        answered_as : (variables : Option (List ℕ)) (s : State) (r : Remainder) (p answer : ℕ) → Ours p → Lead Remainder s (answered_with variables s r p answer)
+        answered_as : (variables : Option (List ℕ)) (s : KernelState) (r : Remainder) (p answer : ℕ) → Ours p → Lead Remainder s (answered_with variables s r p answer)
         answered_as (Some variables) s r p answer o = lead_goes _ s _ _ (steps.variables s p _ s.units o (omega arith))
         answered_as None s r p answer o = lead_still _ s r
 
-        answers_led : (s : State) (r : Remainder) (p : ℕ) (full : Bool) → Ours p → Lead Remainder s (answer_of s r p full)
+        answers_led : (s : KernelState) (r : Remainder) (p : ℕ) (full : Bool) → Ours p → Lead Remainder s (answer_of s r p full)
         unfolding answer_of
         answers_led s r p full o = answered_as _ s r p _ o
 
         -- the etimer process
 
-        due_led : (again on : State → Went) → ((s : State) → Lead (Unit {0}) s (again s)) → ((s : State) → Lead (Unit {0}) s (on s)) → (s : State) (timer : ℕ) (owner : Option Proc) → Lead (Unit {0}) s (post_due again on s timer owner)
+        due_led : (again on : KernelState → Went) → ((s : KernelState) → Lead (Unit {0}) s (again s)) → ((s : KernelState) → Lead (Unit {0}) s (on s)) → (s : KernelState) (timer : ℕ) (owner : Option Proc) → Lead (Unit {0}) s (post_due again on s timer owner)
         due_led again on h i s timer None = i s
         due_led again on h i s timer (Some owner) =
             lead_bind _ _ s _ _ (post_led s _ (own_event Timer timer) (λ q. absurd (grind (arith, nat_tests)))) (λ full t. lead_if _ t full _ _ (lead_from _ t _ _ (steps.polled t Etimer) (i _)) (lead_from _ t _ _ (fired_kept t timer) (h _)))
 
-        pub walk_timers_led : (again : State → Went) → ((s : State) → Lead (Unit {0}) s (again s)) → (ts : List ℕ) (s : State) → Lead (Unit {0}) s (walk_timers again ts s)
+        pub walk_timers_led : (again : KernelState → Went) → ((s : KernelState) → Lead (Unit {0}) s (again s)) → (ts : List ℕ) (s : KernelState) → Lead (Unit {0}) s (walk_timers again ts s)
         walk_timers_led again h [] s = lead_still _ s tt
         walk_timers_led again h (t ∷ ts) s =
             lead_if _ s (is_due s.moment (timer_at s.timers.timers t)) _ _ (due_led again (walk_timers again ts) h (walk_timers_led again h ts) s t _) (walk_timers_led again h ts s)
 
-        pub walks_led : (k : ℕ) (s : State) → Lead (Unit {0}) s (walks_of k s)
+        pub walks_led : (k : ℕ) (s : KernelState) → Lead (Unit {0}) s (walks_of k s)
         walks_led zero s = lead_still _ s tt
         walks_led (suc k) s = walk_timers_led (walks_of k) (walks_led k) s.timers.listed s
 
-        pub etimer_led : (s : State) (e : Event) → Lead (Unit {0}) s (etimer_of s e)
+        pub etimer_led : (s : KernelState) (e : Event) → Lead (Unit {0}) s (etimer_of s e)
         unfolding etimer_of pass_of
         etimer_led s e =
             lead_if _ s (is_system_event Poll e) _ _ (walks_led _ s) (lead_if _ s (is_system_event Exited e) _ _ (lead_goes _ s tt _ (purged_kept s e.word)) (lead_still _ s tt))
 
         -- the radio process
-        pub radio_led : (s : State) (e : Event) → Lead (Unit {0}) s (radio_of s e)
+        pub radio_led : (s : KernelState) (e : Event) → Lead (Unit {0}) s (radio_of s e)
         unfolding radio_of
         radio_led s e = lead_if _ s (is_system_event Poll e) _ _ (empty_led steps.ring s.program.receiver s.ring s refl refl) (lead_still _ s tt)
 
-        module _ (Holds : State → Type 0) (on : (s t : State) → Keeps s t → Holds s → Holds t) (opens : (s : State) (p : Proc) → Holds s → Holds (with_state s p Called)) (exits : (s : State) (p : Proc) → Holds s → Holds (exiting_of s p))
+        module _ (Holds : KernelState → Type 0) (on : (s t : KernelState) → Keeps s t → Holds s → Holds t) (opens : (s : KernelState) (p : Proc) → Holds s → Holds (with_state s p Called)) (exits : (s : KernelState) (p : Proc) → Holds s → Holds (exiting_of s p))
             (a b : Calls) (are : AreBoth Holds a b) where
-          walk_both : (e : Event) → (is_system_event Exit e) ≡ false → (p : Proc) (ms : List Member) (s : State) → Both Holds (Unit {0}) s (walk_of a e p ms s) (walk_of b e p ms s)
+          walk_both : (e : Event) → (is_system_event Exit e) ≡ false → (p : Proc) (ms : List Member) (s : KernelState) → Both Holds (Unit {0}) s (walk_of a e p ms s) (walk_of b e p ms s)
           walk_both e f p [] s = both_still Holds _ s tt
           walk_both e f p (m ∷ ms) s =
               both_bind Holds on _ _ s _ _ _ _ (both_if Holds _ s _ _ _ _ _ (are.call s m.process e (fits_no_exit m.process e.number f)) (both_still Holds _ s tt)) (λ a t. walk_both e f p ms t)
 
-          handler_both : (s : State) (code : Code) (p : ℕ) (e : Event) → Ours p → Both Holds (Unit {0}) s (handler_of a s code p e) (handler_of b s code p e)
+          handler_both : (s : KernelState) (code : Code) (p : ℕ) (e : Event) → Ours p → Both Holds (Unit {0}) s (handler_of a s code p e) (handler_of b s code p e)
           unfolding handler_of
           handler_both s code p e o =
               both_if Holds _ s (is_system_event Poll e) _ _ _ _ (both_bind Holds on _ _ s _ _ _ _ (are.run s code (fresh_of code OnPoll) p e o) (λ a t. both_still Holds _ t tt))
               (both_if Holds _ s (is_system_event Exit e) _ _ _ _ (both_bind Holds on _ _ s _ _ _ _ (are.run s code (fresh_of code OnExit) p e o) (λ a t. both_still Holds _ t tt)) (both_still Holds _ s tt))
 
-          resume_both : (s : State) (code : Code) (p : ℕ) (e : Event) → Ours p → Both Holds PtState s (resume_of a s code p e) (resume_of b s code p e)
+          resume_both : (s : KernelState) (code : Code) (p : ℕ) (e : Event) → Ours p → Both Holds PtState s (resume_of a s code p e) (resume_of b s code p e)
           unfolding resume_of
           resume_both s code p e o =
               both_bind Holds on _ _ s _ _ _ _ (both_from Holds on _ s (with_fresh_body s p) _ _ (steps.fresh s p o) (are.run _ code _ p e o)) (λ a t. both_goes Holds _ t _ _ (steps.remainder t p _ o))
 
-          own_both : (s : State) (p : ℕ) (e : Event) → Ours p → Both Holds PtState s (own_of a s p e) (own_of b s p e)
+          own_both : (s : KernelState) (p : ℕ) (e : Event) → Ours p → Both Holds PtState s (own_of a s p e) (own_of b s p e)
           unfolding own_of
           own_both s p e o =
               both_option Holds PtState Code s (slice_get s.program.codes p) (Goes Ended s) (Goes Ended s) (λ code. handler_of a s code p e >>= λ u t. resume_of a t code p e) (λ code. handler_of b s code p e >>= λ u t. resume_of b t code p e) (both_still Holds _ s Ended) (λ code. both_bind Holds on _ _ s _ _ _ _ (handler_both s code p e o) (λ u t. resume_both t code p e o))
 
-          code_both : (s : State) (e : Event) (p : ℕ) (code : Option Code) → slice_get s.program.codes p ≡ code → Both Holds (Unit {0}) s (elim code [ None ↦ Goes tt s | Some c ↦ a.run s c (fresh_of c (Callback e.word)) p e >>= λ _ s1. Goes tt s1 ]) (elim code [ None ↦ Goes tt s | Some c ↦ b.run s c (fresh_of c (Callback e.word)) p e >>= λ _ s1. Goes tt s1 ])
+          code_both : (s : KernelState) (e : Event) (p : ℕ) (code : Option Code) → slice_get s.program.codes p ≡ code → Both Holds (Unit {0}) s (elim code [ None ↦ Goes tt s | Some c ↦ a.run s c (fresh_of c (Callback e.word)) p e >>= λ _ s1. Goes tt s1 ]) (elim code [ None ↦ Goes tt s | Some c ↦ b.run s c (fresh_of c (Callback e.word)) p e >>= λ _ s1. Goes tt s1 ])
           code_both s e p None is = both_still Holds _ s tt
           code_both s e p (Some c) is = both_bind Holds on _ _ s _ _ _ _ (are.callback s c p e is) (λ a t. both_still Holds _ t tt)
 
-          callback_both : (s : State) (e : Event) → Both Holds (Unit {0}) s (callback_of a s e) (callback_of b s e)
+          callback_both : (s : KernelState) (e : Event) → Both Holds (Unit {0}) s (callback_of a s e) (callback_of b s e)
           unfolding callback_of
           callback_both s e =
               both_option Holds (Unit {0}) TimerOfProgram s (slice_get s.program.timers e.word) (Goes tt s) (Goes tt s) _ _ (both_still Holds _ s tt) (λ t. code_both s e t.process (slice_get s.program.codes t.process) refl)
 
-          ctimer_both : (s : State) (e : Event) → Both Holds (Unit {0}) s (ctimer_of a s e) (ctimer_of b s e)
+          ctimer_both : (s : KernelState) (e : Event) → Both Holds (Unit {0}) s (ctimer_of a s e) (ctimer_of b s e)
           unfolding ctimer_of
           ctimer_both s e =
               both_if Holds _ s (is_system_event Timer e && waits_for s e.word) _ _ _ _ (both_from Holds on _ s _ _ _ (steps.callbacks s _) (callback_both _ e)) (both_still Holds _ s tt)
 
-          react_both : (s : State) (p : Proc) (e : Event) → IsOurs p → Both Holds PtState s (react_of a s p e) (react_of b s p e)
+          react_both : (s : KernelState) (p : Proc) (e : Event) → IsOurs p → Both Holds PtState s (react_of a s p e) (react_of b s p e)
           unfolding react_of
           react_both s (Own p) e o = own_both s p e o
           react_both s Etimer e o = both_bind Holds on _ _ s _ _ _ _ (both_plain Holds _ _ _ (etimer_led s e)) (λ u t. both_still Holds _ t Yielded)
           react_both s Ctimer e o = both_bind Holds on _ _ s _ _ _ _ (ctimer_both s e) (λ u t. both_still Holds _ t Yielded)
           react_both s Radio e o = both_bind Holds on _ _ s _ _ _ _ (both_plain Holds _ _ _ (radio_led s e)) (λ u t. both_still Holds _ t Yielded)
 
-          last_run_both : (s : State) (p : Proc) → IsOurs p → Both Holds (Unit {0}) s (last_run_of a s p) (last_run_of b s p)
+          last_run_both : (s : KernelState) (p : Proc) → IsOurs p → Both Holds (Unit {0}) s (last_run_of a s p) (last_run_of b s p)
           unfolding last_run_of
           last_run_both s p o = both_bind Holds on _ _ s _ _ _ _ (both_plain Holds _ _ _ (spend_led s)) (λ u t. both_bind Holds on _ _ t _ _ _ _ (react_both t p _ o) (λ a v. both_still Holds _ v tt))
 
           -- the walk and the last run of a process that is being exited
-          exiting_both : (s : State) (p f : Proc) (ms : List Member) → IsOurs p → Both Holds (Unit {0}) s (walk_of a (own_event Exited (process_number p)) p ms s >>= λ _ t. if is_same p f then Goes tt t else last_run_of a t p) (walk_of b (own_event Exited (process_number p)) p ms s >>= λ _ t. if is_same p f then Goes tt t else last_run_of b t p)
+          exiting_both : (s : KernelState) (p f : Proc) (ms : List Member) → IsOurs p → Both Holds (Unit {0}) s (walk_of a (own_event Exited (process_number p)) p ms s >>= λ _ t. if is_same p f then Goes tt t else last_run_of a t p) (walk_of b (own_event Exited (process_number p)) p ms s >>= λ _ t. if is_same p f then Goes tt t else last_run_of b t p)
           exiting_both s p f ms o = both_bind Holds on _ _ s _ _ _ _ (walk_both (own_event Exited (process_number p)) refl p ms s) (λ a t. both_if Holds _ t (is_same p f) _ _ _ _ (both_still Holds _ t tt) (last_run_both t p o))
 
-          left_led : (s t : State) (p : Proc) (o : Went) → Leads t o → ((u : State) → Keeps t u → Keeps s (without_process u p)) → ((u : State) → Stops t u → Stops s u) → Leads s (o >>= λ _ u. leave_of u p)
+          left_led : (s t : KernelState) (p : Proc) (o : Went) → Leads t o → ((u : KernelState) → Keeps t u → Keeps s (without_process u p)) → ((u : KernelState) → Stops t u → Stops s u) → Leads s (o >>= λ _ u. leave_of u p)
           unfolding leave_of write_of
           left_led s t p (Ends u) h kept stopped = stopped u h
           left_led s t p (Goes a u) h kept stopped = kept u h
 
           -- an exit that began in a state t and is a step from s on
-          leaves_both : (s t : State) (p f : Proc) (ms : List Member) → IsOurs p → (Holds s → Holds t) → ((u : State) → Keeps t u → Keeps s (without_process u p)) → ((u : State) → Stops t u → Stops s u)
+          leaves_both : (s t : KernelState) (p f : Proc) (ms : List Member) → IsOurs p → (Holds s → Holds t) → ((u : KernelState) → Keeps t u → Keeps s (without_process u p)) → ((u : KernelState) → Stops t u → Stops s u)
               → Both Holds (Unit {0}) s (walk_of a (own_event Exited (process_number p)) p ms t >>= λ _ u. ((if is_same p f then Goes tt u else last_run_of a u p) >>= λ _ v. leave_of v p)) (walk_of b (own_event Exited (process_number p)) p ms t >>= λ _ u. ((if is_same p f then Goes tt u else last_run_of b u p) >>= λ _ v. leave_of v p))
           leaves_both s t p f ms o holds kept stopped =
               both_nested Holds (Unit {0}) (Unit {0}) (Unit {0}) s (walk_of a (own_event Exited (process_number p)) p ms t) (walk_of b (own_event Exited (process_number p)) p ms t) (λ _ u. if is_same p f then Goes tt u else last_run_of a u p) (λ _ u. if is_same p f then Goes tt u else last_run_of b u p) (λ _ v. leave_of v p) (λ _ v. leave_of v p)
               (let h = exiting_both t p f ms o in record { leads = left_led s t p _ h.leads kept stopped; same = λ x. ap (λ y. y >>= λ _ v. leave_of v p) (h.same (holds x)) })
 
-          pub exit_both : (s : State) (p f : Proc) → IsOurs p → Leaves p → is_busy s p ≡ false → Both Holds (Unit {0}) s (exit_of a s p f) (exit_of b s p f)
+          pub exit_both : (s : KernelState) (p f : Proc) → IsOurs p → Leaves p → is_busy s p ≡ false → Both Holds (Unit {0}) s (exit_of a s p f) (exit_of b s p f)
           unfolding exit_of
           exit_both s p f o l b =
               both_cases Holds _ s (is_listed s p) _ _ _ _ (λ i. leaves_both s (exiting_of s p) p f s.members o (exits s p) (λ u k. steps.brackets.exit s u p o l b i k) (λ u k. steps.brackets.exit_stops s u p o l b i k)) (λ i. both_still Holds _ s tt)
@@ -633,20 +633,20 @@ module _ (Keeps Stops : State → State → Type 0) where
           parts true true e = absurd (cc)
           parts false c e = absurd (cc)
 
-          pub start_both : (s : State) (p : Proc) → IsOurs p → Both Holds (Unit {0}) s (start_of a s p) (start_of b s p)
+          pub start_both : (s : KernelState) (p : Proc) → IsOurs p → Both Holds (Unit {0}) s (start_of a s p) (start_of b s p)
           unfolding start_of
           start_both s p o =
               both_cases Holds _ s (is_busy s p) _ _ _ _ (λ b. both_plain Holds _ s _ (busy_led s p)) (λ b. both_cases Holds _ s (has_process s p && not (is_listed s p)) _ _ _ _ (λ l.
               let h = parts (has_process s p) _ l in
               both_bind Holds on _ _ s _ _ _ _ (both_plain Holds _ _ _ (enlist_led s p o b h.0 h.1)) (λ a t. are.call t p _ (fits_no_exit p _ refl))) (λ l. both_still Holds _ s tt))
 
-          pub kill_both : (s : State) (p : Proc) (current : ℕ) → IsOurs p → Leaves p → Both Holds (Unit {0}) s (kill_of a s p current) (kill_of b s p current)
+          pub kill_both : (s : KernelState) (p : Proc) (current : ℕ) → IsOurs p → Leaves p → Both Holds (Unit {0}) s (kill_of a s p current) (kill_of b s p current)
           unfolding kill_of
           kill_both s p current o l = both_cases Holds _ s (is_busy s p) _ _ _ _ (λ b. both_plain Holds _ s _ (busy_led s p)) (λ b. exit_both s p (Own current) o l b)
 
           -- the operations of a thread, if each start and each kill consists of steps
-          module _ (started : (s : State) (p : Proc) → Both Holds (Unit {0}) s (start_of a s p) (start_of b s p)) (killed : (s : State) (p : Proc) (current : ℕ) → Leaves p → Both Holds (Unit {0}) s (kill_of a s p current) (kill_of b s p current)) where
-            pub act_both : (s : State) (current : ℕ) (o : Op) → Allowed current o → Both Holds (Unit {0}) s (act_of a s current o) (act_of b s current o)
+          module _ (started : (s : KernelState) (p : Proc) → Both Holds (Unit {0}) s (start_of a s p) (start_of b s p)) (killed : (s : KernelState) (p : Proc) (current : ℕ) → Leaves p → Both Holds (Unit {0}) s (kill_of a s p current) (kill_of b s p current)) where
+            pub act_both : (s : KernelState) (current : ℕ) (o : Op) → Allowed current o → Both Holds (Unit {0}) s (act_of a s current o) (act_of b s current o)
             unfolding act_of write_of
             act_both s current (op.Post t e w) f = both_still Holds _ s tt
             act_both s current (op.Synch p e w) f = are.call s p _ f
@@ -668,22 +668,22 @@ module _ (Keeps Stops : State → State → Type 0) where
             allowed current (op.Print v) f o = o
             allowed current x f o = tt
 
-            perform_both : (s : State) (code : Code) (r : Remainder) (current : ℕ) (x : Op) → FitsOp x → Ours current → Both Holds Remainder s (perform_of a s r current x) (perform_of b s r current x)
+            perform_both : (s : KernelState) (code : Code) (r : Remainder) (current : ℕ) (x : Op) → FitsOp x → Ours current → Both Holds Remainder s (perform_of a s r current x) (perform_of b s r current x)
             unfolding perform_of
             perform_both s code r current (op.Post to e w) f o = both_bind Holds on _ _ s _ _ _ _ (both_plain Holds _ _ _ (post_led s to _ f)) (λ full t. both_plain Holds _ t _ (answers_led t r current full o))
             perform_both s code r current x f o = both_bind Holds on _ _ s _ _ _ _ (act_both s current x (allowed current x f o)) (λ a t. both_still Holds _ t r)
 
-            pub step_both : (code : Code) (p : ℕ) (e : Event) (x : Step) (r : Remainder) (s : State) → FitsStep x → Ours p → Both Holds Answer s (after_step a code p e x r s) (after_step b code p e x r s)
+            pub step_both : (code : Code) (p : ℕ) (e : Event) (x : Step) (r : Remainder) (s : KernelState) → FitsStep x → Ours p → Both Holds Answer s (after_step a code p e x r s) (after_step b code p e x r s)
             step_both code p e (step.Op x) r s f o = both_bind Holds on _ _ s _ _ _ _ (perform_both s code r p x f o) (λ r1 t. are.run t code r1 p e o)
             step_both code p e (step.Done answer) r s f o = both_still Holds _ s _
             step_both code p e step.Runaway r s f o = both_plain Holds _ s _ (lead_halts _ s)
 
-            pub one_run_both : (s : State) (code : Code) (r : Remainder) (p : ℕ) (e : Event) → Ours p → Both Holds Answer s (run_of a s code r p e) (run_of b s code r p e)
+            pub one_run_both : (s : KernelState) (code : Code) (r : Remainder) (p : ℕ) (e : Event) → Ours p → Both Holds Answer s (run_of a s code r p e) (run_of b s code r p e)
             unfolding run_of
             one_run_both s code r p e o = both_from Holds on _ s _ _ _ (stepped_kept s code r p e o) (step_both code p e _ _ _ (all_fits s code r p e) o)
 
           -- a call that has led from s to t
-          answered_both : (s t : State) (p : Proc) (ends : Bool) → IsOurs p → is_running s p ≡ true → (ends ≡ true → Leaves p) → Keeps (with_state s p Called) t → Both Holds (Unit {0}) s (answered a t p ends) (answered b t p ends)
+          answered_both : (s t : KernelState) (p : Proc) (ends : Bool) → IsOurs p → is_running s p ≡ true → (ends ≡ true → Leaves p) → Keeps (with_state s p Called) t → Both Holds (Unit {0}) s (answered a t p ends) (answered b t p ends)
           unfolding answered exit_of
           answered_both s t p true o r l k =
               both_cases Holds _ s (is_listed t p) _ _ _ _ (λ i. leaves_both s (exiting_of t p) p p t.members o (λ x. exits t p (on _ t k (opens s p x))) (λ u h. steps.brackets.last s t u p o (l refl) r k i h) (λ u h. steps.brackets.last_stops s t u p o (l refl) r k i h))
@@ -691,7 +691,7 @@ module _ (Keeps Stops : State → State → Type 0) where
           answered_both s t p false o r l k = both_goes Holds _ s tt _ (steps.brackets.call s t p o r k)
 
           -- a process of the program reacts, and its answer determines the next step
-          reacted_both : (s : State) (p : ℕ) (e : Event) (x y : Outcome PtState) → Ours p → is_running s (Own p) ≡ true → Both Holds PtState (with_state s (Own p) Called) x y
+          reacted_both : (s : KernelState) (p : ℕ) (e : Event) (x y : Outcome PtState) → Ours p → is_running s (Own p) ≡ true → Both Holds PtState (with_state s (Own p) Called) x y
               → Both Holds (Unit {0}) s (x >>= λ answer t. answered a t (Own p) (has_ended answer || is_system_event Exit e)) (y >>= λ answer t. answered b t (Own p) (has_ended answer || is_system_event Exit e))
           reacted_both s p e (Ends t) y o r h = record { leads = steps.brackets.call_stops s t (Own p) o r h.leads; same = λ z. ap (λ w. w >>= λ answer t. answered b t (Own p) (has_ended answer || is_system_event Exit e)) (h.same (opens s (Own p) z)) }
           reacted_both s p e (Goes c t) y o r h =
@@ -702,13 +702,13 @@ module _ (Keeps Stops : State → State → Type 0) where
           abbrev yields : Calls → Proc → Event → Went → Went
           yields calls p e x = (x >>= λ _ t. Goes Yielded t) >>= λ answer t. answered calls t p (has_ended answer || is_system_event Exit e)
 
-          system_both : (s : State) (p : Proc) (e : Event) (x y : Went) → IsOurs p → is_running s p ≡ true → Fits p e.number → Both Holds (Unit {0}) (with_state s p Called) x y → Both Holds (Unit {0}) s (yields a p e x) (yields b p e y)
+          system_both : (s : KernelState) (p : Proc) (e : Event) (x y : Went) → IsOurs p → is_running s p ≡ true → Fits p e.number → Both Holds (Unit {0}) (with_state s p Called) x y → Both Holds (Unit {0}) s (yields a p e x) (yields b p e y)
           system_both s p e (Ends t) y o r f h = record { leads = steps.brackets.call_stops s t p o r h.leads; same = λ z. ap (yields b p e) (h.same (opens s p z)) }
           system_both s p e (Goes c t) y o r f h =
               let k = answered_both s t p (is_system_event Exit e) o r (λ q. f (grind (arith, nat_tests))) h.leads in
               record { leads = k.leads; same = λ z. k.same z ∙ ap (yields b p e) (h.same (opens s p z)) }
 
-          pub called_both : (s : State) (p : Proc) (e : Event) → IsOurs p → is_running s p ≡ true → Fits p e.number
+          pub called_both : (s : KernelState) (p : Proc) (e : Event) → IsOurs p → is_running s p ≡ true → Fits p e.number
               → Both Holds (Unit {0}) s (react_of a (with_state s p Called) p e >>= λ answer t. answered a t p (has_ended answer || is_system_event Exit e)) (react_of b (with_state s p Called) p e >>= λ answer t. answered b t p (has_ended answer || is_system_event Exit e))
           unfolding react_of
           called_both s (Own p) e o r f = reacted_both s p e _ _ o r (own_both _ p e o)
@@ -716,12 +716,12 @@ module _ (Keeps Stops : State → State → Type 0) where
           called_both s Ctimer e o r f = system_both s Ctimer e _ _ o r f (ctimer_both _ e)
           called_both s Radio e o r f = system_both s Radio e _ _ o r f (both_plain Holds _ _ _ (radio_led _ e))
 
-          spent_both : (s : State) (p : Proc) (e : Event) (none : Bool) → IsOurs p → is_running s p ≡ true → Fits p e.number
+          spent_both : (s : KernelState) (p : Proc) (e : Event) (none : Bool) → IsOurs p → is_running s p ≡ true → Fits p e.number
               → Both Holds (Unit {0}) s ((if none then Ends (halted_of s) else Goes (tt {0}) (record s { units = s.units - 1 })) >>= λ _ t. react_of a (with_state t p Called) p e >>= λ answer u. answered a u p (has_ended answer || is_system_event Exit e)) ((if none then Ends (halted_of s) else Goes (tt {0}) (record s { units = s.units - 1 })) >>= λ _ t. react_of b (with_state t p Called) p e >>= λ answer u. answered b u p (has_ended answer || is_system_event Exit e))
           spent_both s p e true o r f = both_plain Holds _ s _ (lead_halts _ s)
           spent_both s p e false o r f = both_from Holds on _ s _ _ _ (steps.units s _ (omega arith)) (called_both _ p e o r f)
 
-          pub call_both : (s : State) (p : Proc) (e : Event) → IsOurs p → Fits p e.number → Both Holds (Unit {0}) s (call_of a s p e) (call_of b s p e)
+          pub call_both : (s : KernelState) (p : Proc) (e : Event) → IsOurs p → Fits p e.number → Both Holds (Unit {0}) s (call_of a s p e) (call_of b s p e)
           unfolding call_of spend_of
           call_both s p e o f = both_cases Holds _ s (is_running s p) _ _ _ _ (λ r. spent_both s p e _ o r f) (λ r. both_still Holds _ s tt)
 
@@ -734,26 +734,26 @@ module _ (Keeps Stops : State → State → Type 0) where
             callback = λ s code p e is. both_plain Anywhere _ s _ (are.callback s code p e is);
           }
 
-          pub start_led : (s : State) (p : Proc) → IsOurs p → Lead (Unit {0}) s (start_of calls s p)
+          pub start_led : (s : KernelState) (p : Proc) → IsOurs p → Lead (Unit {0}) s (start_of calls s p)
           start_led s p o = single _ s _ (start_both Anywhere anywhere (λ t q x. tt) (λ t q x. tt) calls calls twice s p o).leads
 
-          pub kill_led : (s : State) (p : Proc) (current : ℕ) → IsOurs p → Leaves p → Lead (Unit {0}) s (kill_of calls s p current)
+          pub kill_led : (s : KernelState) (p : Proc) (current : ℕ) → IsOurs p → Leaves p → Lead (Unit {0}) s (kill_of calls s p current)
           kill_led s p current o l = single _ s _ (kill_both Anywhere anywhere (λ t q x. tt) (λ t q x. tt) calls calls twice s p current o l).leads
 
-          pub call_led : (s : State) (p : Proc) (e : Event) → IsOurs p → Fits p e.number → Lead (Unit {0}) s (call_of calls s p e)
+          pub call_led : (s : KernelState) (p : Proc) (e : Event) → IsOurs p → Fits p e.number → Lead (Unit {0}) s (call_of calls s p e)
           call_led s p e o f = single _ s _ (call_both Anywhere anywhere (λ t q x. tt) (λ t q x. tt) calls calls twice s p e o f).leads
 
-          module _ (started : (s : State) (p : Proc) → Lead (Unit {0}) s (start_of calls s p)) (killed : (s : State) (p : Proc) (current : ℕ) → Leaves p → Lead (Unit {0}) s (kill_of calls s p current)) where
-            starts_twice : (s : State) (p : Proc) → Both Anywhere (Unit {0}) s (start_of calls s p) (start_of calls s p)
+          module _ (started : (s : KernelState) (p : Proc) → Lead (Unit {0}) s (start_of calls s p)) (killed : (s : KernelState) (p : Proc) (current : ℕ) → Leaves p → Lead (Unit {0}) s (kill_of calls s p current)) where
+            starts_twice : (s : KernelState) (p : Proc) → Both Anywhere (Unit {0}) s (start_of calls s p) (start_of calls s p)
             starts_twice s p = both_plain Anywhere _ s _ (started s p)
 
-            kills_twice : (s : State) (p : Proc) (current : ℕ) → Leaves p → Both Anywhere (Unit {0}) s (kill_of calls s p current) (kill_of calls s p current)
+            kills_twice : (s : KernelState) (p : Proc) (current : ℕ) → Leaves p → Both Anywhere (Unit {0}) s (kill_of calls s p current) (kill_of calls s p current)
             kills_twice s p current l = both_plain Anywhere _ s _ (killed s p current l)
 
-            pub act_led : (s : State) (current : ℕ) (x : Op) → Allowed current x → Lead (Unit {0}) s (act_of calls s current x)
+            pub act_led : (s : KernelState) (current : ℕ) (x : Op) → Allowed current x → Lead (Unit {0}) s (act_of calls s current x)
             act_led s current x f = single _ s _ (act_both Anywhere anywhere (λ t q y. tt) (λ t q y. tt) calls calls twice starts_twice kills_twice s current x f).leads
 
-            pub one_run_led : (s : State) (code : Code) (r : Remainder) (p : ℕ) (e : Event) → Ours p → Lead Answer s (run_of calls s code r p e)
+            pub one_run_led : (s : KernelState) (code : Code) (r : Remainder) (p : ℕ) (e : Event) → Ours p → Lead Answer s (run_of calls s code r p e)
             one_run_led s code r p e o = single _ s _ (one_run_both Anywhere anywhere (λ t q y. tt) (λ t q y. tt) calls calls twice starts_twice kills_twice s code r p e o).leads
 
     -- the case in which all processes are observed
@@ -764,10 +764,10 @@ module _ (Keeps Stops : State → State → Type 0) where
       ours Ctimer = tt
       ours Radio = tt
 
-      pub start_all : (calls : Calls) → AreLed Leaves Every calls → (s : State) (p : Proc) → Lead (Unit {0}) s (start_of calls s p)
+      pub start_all : (calls : Calls) → AreLed Leaves Every calls → (s : KernelState) (p : Proc) → Lead (Unit {0}) s (start_of calls s p)
       start_all calls are s p = start_led Leaves Every steps calls are s p (ours p)
 
-      run_all : (calls : Calls) → AreLed Leaves Every calls → (s : State) (code : Code) (r : Remainder) (p : ℕ) (e : Event) → Lead Answer s (run_of calls s code r p e)
+      run_all : (calls : Calls) → AreLed Leaves Every calls → (s : KernelState) (code : Code) (r : Remainder) (p : ℕ) (e : Event) → Lead Answer s (run_of calls s code r p e)
       run_all calls are s code r p e = one_run_led Leaves Every steps calls are (start_all calls are) (λ t q current l. kill_led Leaves Every steps calls are t q current (ours q) l) s code r p e tt
 
       pub calls_led : (k : ℕ) → AreLed Leaves Every (calls_of k)
@@ -780,12 +780,12 @@ module _ (Keeps Stops : State → State → Type 0) where
       }
 
     -- boots and kernel runs at any depth, if any process may be exited
-    module _ (steps : AreSteps Whoever Every) (run_steps : AreRunSteps) (depth : ℕ) where
-      called_at : (s : State) (p : Proc) (e : Event) → Lead (Unit {0}) s ((calls_of depth).call s p e)
-      called_at s p e = (calls_led Whoever steps depth).call s p e (λ q. tt)
+    module _ (steps : AreSteps AnyProcess Every) (run_steps : AreRunSteps) (depth : ℕ) where
+      called_at : (s : KernelState) (p : Proc) (e : Event) → Lead (Unit {0}) s ((calls_of depth).call s p e)
+      called_at s p e = (calls_led AnyProcess steps depth).call s p e (λ q. tt)
 
-      pub runs_led : (s : State) → Lead ℕ s (kernel_of (calls_of depth) s)
+      pub runs_led : (s : KernelState) → Lead ℕ s (kernel_of (calls_of depth) s)
       runs_led s = kernel_led (calls_of depth) run_steps called_at s
 
-      pub boots_led : (s : State) → Lead ℕ s (boot_of (calls_of depth) s)
-      boots_led s = boot_led (calls_of depth) (start_all Whoever steps (calls_of depth) (calls_led Whoever steps depth)) s
+      pub boots_led : (s : KernelState) → Lead ℕ s (boot_of (calls_of depth) s)
+      boots_led s = boot_led (calls_of depth) (start_all AnyProcess steps (calls_of depth) (calls_led AnyProcess steps depth)) s

@@ -9,7 +9,7 @@ use Rattle.radio_packet.specs.declared.arrival.Arrival.{Arrival}
 use Rattle.trace_lines.specs.declared.line.Line.{Line}
 use Rattle.radio_packet.specs.declared.sent.Sent.{Sent}
 use Rattle.process_kernel.specs.declared.kernel.Ran.TheVariants as ran
-use Rattle.process_kernel.specs.State.{State, Outcome, Went, Ends, Goes, ◌>>=◌}
+use Rattle.process_kernel.specs.State.{KernelState, Outcome, Went, Ends, Goes, ◌>>=◌}
 use Rattle.process_kernel.specs.Processes.{is_running, process_needs_poll, process_state, with_state, with_needs_poll}
 use Rattle.process_kernel.specs.Calls.{Calls, own_event, is_system_event}
 use Rattle.process_kernel.specs.Radio.{radio_of}
@@ -18,16 +18,16 @@ use Rattle.process_kernel.specs.Call.{has_ended, answered, call_of, calls_of}
 use Rattle.process_kernel.specs.Polls.{walk_polls}
 use Rattle.process_kernel.specs.Run.{begun_of, kernel_of, most_units}
 use Rattle.process_kernel.specs.Writes.{spend_of}
-use Rattle.process_kernel.specs.Mote.{Mote}
+use Rattle.process_kernel.specs.KernelModel.{KernelModel}
 use Rattle.process_kernel.specs.Given.{given, begun, run_given}
-use Rattle.kernel_laws.specs.Own.{IsOwn}
+use Rattle.kernel_laws.specs.Own.{IsOwnProcess}
 use Rattle.kernel_laws.specs.Going.{IsNote}
 use Rattle.kernel_laws.specs.Poll.{PollWaits, members_before}
 use Rattle.kernel_laws.specs.Due.{IsAtRest}
 use Rattle.kernel_laws.specs.Ring.{RingRuns, NoneMore, Receives, Loses, Hands, Passes, RingGoes, RingHalts, RunEmptiesRing}
 use Rattle.kernel_laws.proofs.InStep as tables
 use Rattle.kernel_laws.proofs.Packets.{IfGoes, Empties, ring_empties}
-use Rattle.kernel_laws.proofs.EachStep.{Every, Whatever, Whoever, Lead, AreLed, calls_led, polls_led, front_led}
+use Rattle.kernel_laws.proofs.EachStep.{Every, Whatever, AnyProcess, Lead, AreLed, calls_led, polls_led, front_led}
 use Rattle.kernel_laws.proofs.Ring as ring
 use Rattle.kernel_laws.proofs.Ring.{HearsNone, run_tells_packets}
 use Rattle.kernel_laws.proofs.Watch.{Watches, chain, steps}
@@ -45,17 +45,17 @@ empty_stays receiver packets left lines e (Loses {lines = more} none r) h = absu
 empty_stays receiver packets left lines e (Hands tells r) h = absurd (cc)
 empty_stays receiver packets left lines e (Passes {lines = more} apart r) h = empty_stays receiver packets left more e r (All-tail (λ l. IsNote l.what → ⊥) _ more h)
 
-empty_by : (A : Type 0) (s t : State) (a : A) (o : Outcome A) → o ≡ Goes a t → Lead RingGoes RingHalts A s o → s.ring ≡ [] → t.ring ≡ []
+empty_by : (A : Type 0) (s t : KernelState) (a : A) (o : Outcome A) → o ≡ Goes a t → Lead RingGoes RingHalts A s o → s.ring ≡ [] → t.ring ≡ []
 empty_by A s t a o e k none =
     let h : Lead RingGoes RingHalts A s (Goes a t) = subst (λ (x : Outcome A). Lead RingGoes RingHalts A s x) e k in empty_stays s.program.receiver s.ring t.ring h.leads.added none h.leads.runs h.leads.hears_none
 
 -- a call that polls the radio process
 
-emptied_by : (s : State) (o : Went) → IfGoes (Empties s.program.receiver s.ring s) o → IfGoes (λ t. t.ring ≡ []) o
+emptied_by : (s : KernelState) (o : Went) → IfGoes (Empties s.program.receiver s.ring s) o → IfGoes (λ t. t.ring ≡ []) o
 emptied_by s (Ends t) h = tt
 emptied_by s (Goes a t) h = h.empty
 
-radio_empties : (s : State) → IfGoes (λ t. t.ring ≡ []) (radio_of s (own_event Poll 0))
+radio_empties : (s : KernelState) → IfGoes (λ t. t.ring ≡ []) (radio_of s (own_event Poll 0))
 unfolding radio_of
 radio_empties s = emptied_by s _ (ring_empties s.program.receiver s.ring s refl)
 
@@ -64,7 +64,7 @@ unfolding answered with_state
 answers_empty calls (Ends t) h = tt
 answers_empty calls (Goes a t) h = h
 
-call_empties : (calls : Calls) (s : State) → is_running s Radio ≡ true → IfGoes (λ t. t.ring ≡ []) (call_of calls s Radio (own_event Poll 0))
+call_empties : (calls : Calls) (s : KernelState) → is_running s Radio ≡ true → IfGoes (λ t. t.ring ≡ []) (call_of calls s Radio (own_event Poll 0))
 unfolding call_of spend_of react_of
 call_empties calls s running = rw running (by (s.units == 0))
   where
@@ -74,17 +74,17 @@ call_empties calls s running = rw running (by (s.units == 0))
 
 -- the properties of the calls that nest one less deep
 record AreHeard (calls : Calls) : Type 0 where
-  led : AreLed (Watches Radio) Whatever (chain Radio) IsOwn Every calls
+  led : AreLed (Watches Radio) Whatever (chain Radio) IsOwnProcess Every calls
   kept : tables.AreKept calls
-  rings : AreLed RingGoes RingHalts ring.chain Whoever Every calls
-  empties : (s : State) → is_running s Radio ≡ true → IfGoes (λ t. t.ring ≡ []) (calls.call s Radio (own_event Poll 0))
+  rings : AreLed RingGoes RingHalts ring.chain AnyProcess Every calls
+  empties : (s : KernelState) → is_running s Radio ≡ true → IfGoes (λ t. t.ring ≡ []) (calls.call s Radio (own_event Poll 0))
 
 are_heard : (k : ℕ) → AreHeard (calls_of (suc k))
 unfolding calls_of
 are_heard k = record {
-  led = calls_led (Watches Radio) Whatever (chain Radio) IsOwn (steps Radio) (suc k);
+  led = calls_led (Watches Radio) Whatever (chain Radio) IsOwnProcess (steps Radio) (suc k);
   kept = tables.calls_kept (suc k);
-  rings = calls_led RingGoes RingHalts ring.chain Whoever ring.steps (suc k);
+  rings = calls_led RingGoes RingHalts ring.chain AnyProcess ring.steps (suc k);
   empties = call_empties (calls_of k);
 }
 
@@ -94,17 +94,17 @@ all_heard = subst (λ n. AreHeard (calls_of n)) (omega arith) (are_heard most_un
 -- a kernel run
 
 module _ (calls : Calls) (are : AreHeard calls) where
-  comes : (s u : State) → walk_polls calls (members_before Radio s.members) s ≡ Goes tt u → Watches Radio s u
+  comes : (s u : KernelState) → walk_polls calls (members_before Radio s.members) s ≡ Goes tt u → Watches Radio s u
   comes s u e = let h : Lead (Watches Radio) Whatever (Unit {0}) s (Goes tt u) = subst (λ (o : Went). Lead (Watches Radio) Whatever (Unit {0}) s o) e (before_led Radio calls are.led s.members s) in h.leads
 
-  kept : (s u : State) → walk_polls calls (members_before Radio s.members) s ≡ Goes tt u → IsInState true s → tables.Keeps s u
+  kept : (s u : KernelState) → walk_polls calls (members_before Radio s.members) s ≡ Goes tt u → IsInState true s → tables.Keeps s u
   kept s u e h = let k : tables.Kept (Unit {0}) s (Goes tt u) = subst (λ (o : Went). tables.Kept (Unit {0}) s o) e (tables.polls_kept calls are.kept (members_before Radio s.members) s) in k.leads.kept h.step
 
-  cleared_runs : (u : State) → is_running u Radio ≡ true → is_running (with_needs_poll u Radio false) Radio ≡ true
+  cleared_runs : (u : KernelState) → is_running u Radio ≡ true → is_running (with_needs_poll u Radio false) Radio ≡ true
   unfolding with_needs_poll
   cleared_runs u h = h
 
-  polled : (s t : State) → IsInState true s → process_needs_poll s Radio ≡ true → walk_polls calls s.members s ≡ Goes tt t → t.ring ≡ []
+  polled : (s t : KernelState) → IsInState true s → process_needs_poll s Radio ≡ true → walk_polls calls s.members s ≡ Goes tt t → t.ring ≡ []
   polled s t h needs_poll goes =
       let q = h.radio refl in
       let k = splits Radio s.members q.listed in
@@ -118,7 +118,7 @@ module _ (calls : Calls) (are : AreHeard calls) where
       let none : b.midst.ring ≡ [] = subst (IfGoes (λ v. v.ring ≡ [])) call (are.empties (with_needs_poll u Radio false) running) in
       empty_by _ b.midst t tt _ b.second (polls_led RingGoes RingHalts ring.chain calls ring.run_steps.unrequested ring.run_steps.cleared (λ v q. are.rings.call v q _ (λ x. tt)) k.after b.midst) none
 
-  run_emptied : (s t : State) (n : ℕ) → IsInState true s → PollWaits Radio s → kernel_of calls s ≡ Goes n t → t.ring ≡ []
+  run_emptied : (s t : KernelState) (n : ℕ) → IsInState true s → PollWaits Radio s → kernel_of calls s ≡ Goes n t → t.ring ≡ []
   unfolding kernel_of
   run_emptied s t n h w goes =
       let a = through _ _ _ _ _ _ goes in
@@ -127,17 +127,17 @@ module _ (calls : Calls) (are : AreHeard calls) where
       let last : b.midst.ring ≡ t.ring = cc in
       sym last ∙ empty_by _ a.midst b.midst tt _ b.first (front_led RingGoes RingHalts ring.chain calls ring.run_steps (λ v q e. are.rings.call v q e (λ x. tt)) a.midst.queue.events a.midst) none
 
-given_emptied : (moment : ℕ) (m : Mote) (lines : List Line) (sends : List Sent) (o : Outcome ℕ) → IsAtRest m.state → PollWaits Radio m.state → kernel_of (calls_of (most_units + 1)) (begun m moment lines sends) ≡ o → (given o).mote.halted ≡ false → (given o).mote.state.ring ≡ []
+given_emptied : (moment : ℕ) (m : KernelModel) (lines : List Line) (sends : List Sent) (o : Outcome ℕ) → IsAtRest m.state → PollWaits Radio m.state → kernel_of (calls_of (most_units + 1)) (begun m moment lines sends) ≡ o → (given o).mote.halted ≡ false → (given o).mote.state.ring ≡ []
 unfolding begun_of
 given_emptied moment m lines sends (Ends t) rest w e h = absurd (cc)
 given_emptied moment m lines sends (Goes n t) rest w e h =
     run_emptied (calls_of (most_units + 1)) all_heard (begun m moment lines sends) t n (begun_in_state m moment lines sends rest) (record { needs_poll = w.needs_poll; poll_requested = w.poll_requested }) e
 
-polled_emptied : (moment : ℕ) (m : Mote) (lines : List Line) (sends : List Sent) → m.halted ≡ false → IsAtRest m.state → PollWaits Radio m.state → let g = run_given moment m lines sends in g.mote.halted ≡ false → g.mote.state.ring ≡ []
+polled_emptied : (moment : ℕ) (m : KernelModel) (lines : List Line) (sends : List Sent) → m.halted ≡ false → IsAtRest m.state → PollWaits Radio m.state → let g = run_given moment m lines sends in g.mote.halted ≡ false → g.mote.state.ring ≡ []
 unfolding run_given
 polled_emptied moment m lines sends running rest w = rw running (λ h. given_emptied moment m lines sends _ rest w refl h)
 
-still_running : (moment : ℕ) (m : Mote) (lines : List Line) (sends : List Sent) → (run_given moment m lines sends).mote.halted ≡ false → m.halted ≡ false
+still_running : (moment : ℕ) (m : KernelModel) (lines : List Line) (sends : List Sent) → (run_given moment m lines sends).mote.halted ≡ false → m.halted ≡ false
 unfolding run_given
 still_running moment m lines sends = by m.halted refl
   where

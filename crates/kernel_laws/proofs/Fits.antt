@@ -15,13 +15,13 @@ use Rattle.protothread.specs.Remainder.{Remainder}
 use Rattle.protothread.specs.Step.{advanced_of}
 use Rattle.protothread.proofs.Own as thread
 use Rattle.protothread.proofs.Own.{NamesOwn, StepNamesOwn, step_names_own}
-use Rattle.kernel_laws.specs.Own.{IsOwn, FitsTarget}
+use Rattle.kernel_laws.specs.Own.{IsOwnProcess, FitsTarget}
 
 -- if the operation posts or sends an exit event, or kills, its target is a process of the program
 abbrev pub FitsOp : Op → Type 0
 FitsOp (op.Post t e w) = FitsTarget t e
 FitsOp (op.Synch p e w) = FitsTarget (One p) e
-FitsOp (op.Kill p) = IsOwn p
+FitsOp (op.Kill p) = IsOwnProcess p
 FitsOp o = Unit {0}
 
 abbrev pub FitsStep : Step → Type 0
@@ -29,7 +29,7 @@ FitsStep (step.Op o) = FitsOp o
 FitsStep (step.Done a) = Unit {0}
 FitsStep step.Runaway = Unit {0}
 
-own_is : (p : Proc) → thread.IsOwn p → IsOwn p
+own_is : (p : Proc) → thread.IsOwn p → IsOwnProcess p
 own_is (Own p) h = tt
 own_is Etimer h = absurd h
 own_is Ctimer h = absurd h

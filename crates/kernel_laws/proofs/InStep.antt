@@ -9,7 +9,7 @@ use Rattle.process_kernel.specs.declared.process.ProcessState.{ProcessState}
 use Rattle.process_kernel.specs.declared.process.ProcessState.TheVariants.{Off, Running, Called}
 use Rattle.process_kernel.specs.declared.process.Member.{Member}
 use Rattle.process_kernel.specs.Members.{place_of}
-use Rattle.process_kernel.specs.State.{State, Outcome}
+use Rattle.process_kernel.specs.State.{KernelState, Outcome}
 use Rattle.process_kernel.specs.Processes.{process_state, has_process, is_busy, is_running, is_running_state, is_called_state, at_process, with_state, with_exiting, with_needs_poll}
 use Rattle.process_kernel.specs.ProcessList.{put_remainder, exiting_of, unlisted_of}
 use Rattle.process_kernel.specs.Calls.{Calls}
@@ -18,34 +18,34 @@ use Rattle.process_kernel.specs.Polls.{walk_polls}
 use Rattle.process_kernel.specs.Delivery.{give_of}
 use Rattle.process_kernel.specs.Posts.{poll_of}
 use Rattle.kernel_laws.specs.InStep.{state_at_place, exiting_at, listed_in, AreInStep, IsInStep, IsAsBusy}
-use Rattle.kernel_laws.proofs.EachStep.{Every, Whoever, Whatever, Lead, AreJoined, AreBrackets, AreSteps, AreRunSteps, AreLed, with_started, without_process, keeps_set, calls_led, polls_led, give_led, polled_or_not}
+use Rattle.kernel_laws.proofs.EachStep.{Every, AnyProcess, Whatever, Lead, AreJoined, AreBrackets, AreSteps, AreRunSteps, AreLed, with_started, without_process, keeps_set, calls_led, polls_led, give_led, polled_or_not}
 use Rattle.kernel_laws.proofs.Tables.{set_same, set_other, is_entry, is_equal, left_out, left_in, first_listed, others_listed, DiffersAt, in_step_but, state_differs, exiting_differs, differs_twice, state_set, exiting_set, below_of}
 
 -- the later state is in step, and the same processes are busy
-pub record Keeps (s t : State) : Type 0 where
+pub record Keeps (s t : KernelState) : Type 0 where
   pub step : IsInStep t
   pub busy : IsAsBusy s t
 
 -- the same, if the earlier state is in step
-pub record KeepsStep (s t : State) : Type 0 where
+pub record KeepsStep (s t : KernelState) : Type 0 where
   pub kept : IsInStep s → Keeps s t
 
-pub as_busy : (s : State) → IsAsBusy s s
+pub as_busy : (s : KernelState) → IsAsBusy s s
 as_busy s = record { called = λ k. refl; exiting = λ k. refl }
 
-pub as_busy_twice : (s t u : State) → IsAsBusy s t → IsAsBusy t u → IsAsBusy s u
+pub as_busy_twice : (s t u : KernelState) → IsAsBusy s t → IsAsBusy t u → IsAsBusy s u
 as_busy_twice s t u h i = record { called = λ k. i.called k ∙ h.called k; exiting = λ k. i.exiting k ∙ h.exiting k }
 
 -- the process list and the states of the processes don't change
-pub record IsStill (s t : State) : Type 0 where
+pub record IsStill (s t : KernelState) : Type 0 where
   pub states : t.states ≡ s.states
   pub exiting : t.exiting ≡ s.exiting
   pub members : t.members ≡ s.members
 
-pub still : (s : State) → IsStill s s
+pub still : (s : KernelState) → IsStill s s
 still s = record { states = refl; exiting = refl; members = refl }
 
-pub keeps_still : (s t : State) → IsStill s t → IsInStep s → Keeps s t
+pub keeps_still : (s t : KernelState) → IsStill s t → IsInStep s → Keeps s t
 keeps_still s t q i = record {
   step = record { tables = rw (q.states, q.exiting) i.tables; each = λ k. rw (q.states, q.exiting, q.members) (i.each k) };
   busy = record { called = λ k. rw (q.states) refl; exiting = λ k. rw (q.exiting) refl };
@@ -58,10 +58,10 @@ chain = record {
   ended = λ a b c h i. tt;
 }
 
-steps_still : (s t : State) → IsStill s t → KeepsStep s t
+steps_still : (s t : KernelState) → IsStill s t → KeepsStep s t
 steps_still s t q = record { kept = keeps_still s t q }
 
-pub poll_still : (s : State) (p : Proc) → IsStill s (poll_of s p)
+pub poll_still : (s : KernelState) (p : Proc) → IsStill s (poll_of s p)
 unfolding with_needs_poll
 poll_still s p = polled_or_not (IsStill s) s p (record { states = refl; exiting = refl; members = refl }) (still s)
 
@@ -93,7 +93,7 @@ not_busy true e q = absurd (cc)
 not_busy false e q = (refl, q)
 
 -- A process that was neither called nor being exited is neither of them now, and the same other processes are busy.
-settles : (k : ℕ) (s t : State) → is_called_state (state_at_place s k) ≡ false → exiting_at s k ≡ false → IsInStep t → is_called_state (state_at_place t k) ≡ false → exiting_at t k ≡ false →
+settles : (k : ℕ) (s t : KernelState) → is_called_state (state_at_place s k) ≡ false → exiting_at s k ≡ false → IsInStep t → is_called_state (state_at_place t k) ≡ false → exiting_at t k ≡ false →
     ((j : ℕ) → (j ≡ k → ⊥) → is_called_state (state_at_place t j) ≡ is_called_state (state_at_place s j)) → ((j : ℕ) → (j ≡ k → ⊥) → exiting_at t j ≡ exiting_at s j) → Keeps s t
 settles k s t n m step c e f g = record {
   step = step;
@@ -104,13 +104,13 @@ settles k s t n m step c e f g = record {
 }
 
 -- the process is being exited
-record IsOnItsWay (p : ℕ) (s t : State) : Type 0 where
+record IsOnItsWay (p : ℕ) (s t : KernelState) : Type 0 where
   step : IsInStep t
   exiting : exiting_at t p ≡ true
   calls : (k : ℕ) → (k ≡ p → ⊥) → is_called_state (state_at_place t k) ≡ is_called_state (state_at_place s k)
   exits : (k : ℕ) → (k ≡ p → ⊥) → exiting_at t k ≡ exiting_at s k
 
-on_its_way : (s : State) (p : Proc) → IsInStep s → exiting_at s (place_of p) ≡ false → listed_in s.members (place_of p) ≡ true → IsOnItsWay (place_of p) s (exiting_of s p)
+on_its_way : (s : KernelState) (p : Proc) → IsInStep s → exiting_at s (place_of p) ≡ false → listed_in s.members (place_of p) ≡ true → IsOnItsWay (place_of p) s (exiting_of s p)
 unfolding exiting_of with_state with_exiting
 on_its_way s p i e l =
     let k = place_of p in
@@ -127,7 +127,7 @@ on_its_way s p i e l =
       exits = λ j n. d.exiting j n;
     }
 
-goes_its_way : (p : ℕ) (s t u : State) → IsOnItsWay p s t → Keeps t u → IsOnItsWay p s u
+goes_its_way : (p : ℕ) (s t u : KernelState) → IsOnItsWay p s t → Keeps t u → IsOnItsWay p s u
 goes_its_way p s t u h k = record {
   step = k.step;
   exiting = k.busy.exiting p ∙ h.exiting;
@@ -135,7 +135,7 @@ goes_its_way p s t u h k = record {
   exits = λ j n. k.busy.exiting j ∙ h.exits j n;
 }
 
-leaves_at_last : (s t : State) (p : Proc) → is_called_state (state_at_place s (place_of p)) ≡ false → exiting_at s (place_of p) ≡ false → IsOnItsWay (place_of p) s t → Keeps s (without_process t p)
+leaves_at_last : (s t : KernelState) (p : Proc) → is_called_state (state_at_place s (place_of p)) ≡ false → exiting_at s (place_of p) ≡ false → IsOnItsWay (place_of p) s t → Keeps s (without_process t p)
 unfolding unlisted_of with_exiting
 leaves_at_last s t p n e h =
     let k = place_of p in
@@ -148,7 +148,7 @@ leaves_at_last s t p n e h =
     settles k s u n e (in_step_but k t u h.step d (rw (is.0, x, left_out t.members p) refl)) (rw (is.0) refl) x (λ j n. ap is_called_state (d.states j n) ∙ h.calls j n) (λ j n. d.exiting j n ∙ h.exits j n)
 
 -- a process starts
-started_keeps : (s u : State) (p : Proc) (m : Member) → IsInStep s → m.process ≡ p → u.states ≡ slice_set s.states (place_of p) Running → u.exiting ≡ s.exiting → u.members ≡ m ∷ s.members → place_of p < length s.states →
+started_keeps : (s u : KernelState) (p : Proc) (m : Member) → IsInStep s → m.process ≡ p → u.states ≡ slice_set s.states (place_of p) Running → u.exiting ≡ s.exiting → u.members ≡ m ∷ s.members → place_of p < length s.states →
     is_called_state (state_at_place s (place_of p)) ≡ false → exiting_at s (place_of p) ≡ false → Keeps s u
 started_keeps s u p m i w a b c h n e =
     let k = place_of p in
@@ -170,21 +170,21 @@ started_keeps s u p m i w a b c h n e =
     }
 
 -- a process that was running is called now
-record IsCalled (p : ℕ) (s t : State) : Type 0 where
+record IsCalled (p : ℕ) (s t : KernelState) : Type 0 where
   step : IsInStep t
   called : is_called_state (state_at_place t p) ≡ true
   calls : (k : ℕ) → (k ≡ p → ⊥) → is_called_state (state_at_place t k) ≡ is_called_state (state_at_place s k)
   exits : (k : ℕ) → (k ≡ p → ⊥) → exiting_at t k ≡ exiting_at s k
 
-is_free : (s : State) (p : Proc) (x : ProcessState) → exiting_at s (place_of p) ≡ false → exiting_at (with_state s p x) (place_of p) ≡ false
+is_free : (s : KernelState) (p : Proc) (x : ProcessState) → exiting_at s (place_of p) ≡ false → exiting_at (with_state s p x) (place_of p) ≡ false
 unfolding with_state
 is_free s p x e = e
 
-is_there : (s : State) (p : Proc) (x : ProcessState) → listed_in s.members (place_of p) ≡ true → listed_in (with_state s p x).members (place_of p) ≡ true
+is_there : (s : KernelState) (p : Proc) (x : ProcessState) → listed_in s.members (place_of p) ≡ true → listed_in (with_state s p x).members (place_of p) ≡ true
 unfolding with_state
 is_there s p x e = e
 
-now_called : (s : State) (p : Proc) → IsInStep s → is_running_state (state_at_place s (place_of p)) ≡ true → IsCalled (place_of p) s (with_state s p Called)
+now_called : (s : KernelState) (p : Proc) → IsInStep s → is_running_state (state_at_place s (place_of p)) ≡ true → IsCalled (place_of p) s (with_state s p Called)
 now_called s p i r =
     let k = place_of p in
     let is : (state_at_place s k ≡ Running) × (exiting_at s k ≡ false) × (listed_in s.members k ≡ true) = running_is (state_at_place s k) (exiting_at s k) (listed_in s.members k) (i.each k) r in
@@ -198,7 +198,7 @@ now_called s p i r =
       exits = λ j n. d.exiting j n;
     }
 
-still_called : (p : ℕ) (s t u : State) → IsCalled p s t → Keeps t u → IsCalled p s u
+still_called : (p : ℕ) (s t u : KernelState) → IsCalled p s t → Keeps t u → IsCalled p s u
 still_called p s t u h k = record {
   step = k.step;
   called = k.busy.called p ∙ h.called;
@@ -207,24 +207,24 @@ still_called p s t u h k = record {
 }
 
 -- the state after a process was called
-called_to : (s t : State) (p : Proc) → IsInStep s → is_running s p ≡ true → KeepsStep (with_state s p Called) t → IsCalled (place_of p) s t
+called_to : (s t : KernelState) (p : Proc) → IsInStep s → is_running s p ≡ true → KeepsStep (with_state s p Called) t → IsCalled (place_of p) s t
 called_to s t p i r k = let now = now_called s p i r in still_called (place_of p) s (with_state s p Called) t now (k.kept now.step)
 
-record WasRunning (k : ℕ) (s : State) : Type 0 where
+record WasRunning (k : ℕ) (s : KernelState) : Type 0 where
   called : is_called_state (state_at_place s k) ≡ false
   exiting : exiting_at s k ≡ false
 
-was_running : (s : State) (p : Proc) → IsInStep s → is_running s p ≡ true → WasRunning (place_of p) s
+was_running : (s : KernelState) (p : Proc) → IsInStep s → is_running s p ≡ true → WasRunning (place_of p) s
 was_running s p i r =
     let k = place_of p in
     let is : (state_at_place s k ≡ Running) × (exiting_at s k ≡ false) × (listed_in s.members k ≡ true) = running_is (state_at_place s k) (exiting_at s k) (listed_in s.members k) (i.each k) r in
     record { called = rw (is.0) refl; exiting = is.1 }
 
-is_called : (s t : State) (p : Proc) → IsCalled (place_of p) s t → let k = place_of p in (state_at_place t k ≡ Called) × (exiting_at t k ≡ false) × (listed_in t.members k ≡ true)
+is_called : (s t : KernelState) (p : Proc) → IsCalled (place_of p) s t → let k = place_of p in (state_at_place t k ≡ Called) × (exiting_at t k ≡ false) × (listed_in t.members k ≡ true)
 is_called s t p h = let k = place_of p in called_is (state_at_place t k) (exiting_at t k) (listed_in t.members k) (h.step.each k) h.called
 
 -- the process is running again
-runs_again : (s u : State) (p : Proc) → WasRunning (place_of p) s → IsCalled (place_of p) s u → Keeps s (with_state u p Running)
+runs_again : (s u : KernelState) (p : Proc) → WasRunning (place_of p) s → IsCalled (place_of p) s u → Keeps s (with_state u p Running)
 unfolding with_state
 runs_again s u p was h =
     let k = place_of p in
@@ -235,20 +235,20 @@ runs_again s u p was h =
     settles k s (with_state u p Running) was.called was.exiting (in_step_but k u (with_state u p Running) h.step d (rw x (is.1, is.2))) (rw x refl) is.1 (λ j n. ap is_called_state (d.states j n) ∙ h.calls j n) (λ j n. d.exiting j n ∙ h.exits j n)
 
 -- the call of the process ends with its exit
-leaves_from : (s t u : State) (p : Proc) → WasRunning (place_of p) s → IsCalled (place_of p) s t → (listed_in t.members (place_of p)) ≡ true → KeepsStep (exiting_of t p) u → Keeps s (without_process u p)
+leaves_from : (s t u : KernelState) (p : Proc) → WasRunning (place_of p) s → IsCalled (place_of p) s t → (listed_in t.members (place_of p)) ≡ true → KeepsStep (exiting_of t p) u → Keeps s (without_process u p)
 leaves_from s t u p was c l h =
     let k = place_of p in
     let way = on_its_way t p c.step (is_called s t p c).1 l in
     let way' = goes_its_way k t (exiting_of t p) u way (h.kept way.step) in
     leaves_at_last s u p was.called was.exiting (record { step = way'.step; exiting = way'.exiting; calls = λ j n. way'.calls j n ∙ c.calls j n; exits = λ j n. way'.exits j n ∙ c.exits j n })
 
-leaves_free : (s t : State) (p : Proc) → IsInStep s → is_busy s p ≡ false → listed_in s.members (place_of p) ≡ true → KeepsStep (exiting_of s p) t → Keeps s (without_process t p)
+leaves_free : (s t : KernelState) (p : Proc) → IsInStep s → is_busy s p ≡ false → listed_in s.members (place_of p) ≡ true → KeepsStep (exiting_of s p) t → Keeps s (without_process t p)
 leaves_free s t p i b l h =
     let f = not_busy (is_called_state (process_state s p)) (at_process s.exiting p) b in
     let way = on_its_way s p i f.1 l in
     leaves_at_last s t p f.0 f.1 (goes_its_way (place_of p) s (exiting_of s p) t way (h.kept way.step))
 
-brackets : AreBrackets KeepsStep Whatever chain Whoever Every
+brackets : AreBrackets KeepsStep Whatever chain AnyProcess Every
 brackets = record {
   call = λ s t p o r k. record { kept = λ i. runs_again s t p (was_running s p i r) (called_to s t p i r k) };
   call_stops = λ s t p o r k. tt;
@@ -259,7 +259,7 @@ brackets = record {
   gone = λ s t p o r k l. record { kept = λ i. absurd (let f : true ≡ false = sym (is_called s t p (called_to s t p i r k)).2 ∙ l in cc) };
 }
 
-starts : (s : State) (p : Proc) → is_busy s p ≡ false → has_process s p ≡ true → KeepsStep s (with_started s p)
+starts : (s : KernelState) (p : Proc) → is_busy s p ≡ false → has_process s p ≡ true → KeepsStep s (with_started s p)
 unfolding with_state
 starts s p b h =
     let f = not_busy (is_called_state (process_state s p)) (at_process s.exiting p) b in
@@ -268,7 +268,7 @@ starts s p b h =
 
 -- all of them
 
-pub steps : AreSteps KeepsStep Whatever chain Whoever Every
+pub steps : AreSteps KeepsStep Whatever chain AnyProcess Every
 unfolding put_remainder
 steps = record {
   own = λ p own. tt;
@@ -310,17 +310,17 @@ run_steps = record {
 
 -- if the state before was in step, an outcome that continues leaves a state that is in step, with the same processes
 -- busy
-abbrev pub Kept : (A : Type 0) → State → Outcome A → Type 0
+abbrev pub Kept : (A : Type 0) → KernelState → Outcome A → Type 0
 Kept A s o = Lead KeepsStep Whatever A s o
 
 abbrev pub AreKept : Calls → Type 0
-AreKept calls = AreLed KeepsStep Whatever chain Whoever Every calls
+AreKept calls = AreLed KeepsStep Whatever chain AnyProcess Every calls
 
 pub calls_kept : (k : ℕ) → AreKept (calls_of k)
-calls_kept k = calls_led KeepsStep Whatever chain Whoever steps k
+calls_kept k = calls_led KeepsStep Whatever chain AnyProcess steps k
 
-pub polls_kept : (calls : Calls) → AreKept calls → (ms : List Member) (s : State) → Kept (Unit {0}) s (walk_polls calls ms s)
+pub polls_kept : (calls : Calls) → AreKept calls → (ms : List Member) (s : KernelState) → Kept (Unit {0}) s (walk_polls calls ms s)
 polls_kept calls are ms s = polls_led KeepsStep Whatever chain calls run_steps.unrequested run_steps.cleared (λ t p. are.call t p _ (λ q. tt)) ms s
 
-pub give_kept : (calls : Calls) → AreKept calls → (s : State) (x : Posted) (p : Proc) (there : Bool) → Kept (Unit {0}) s (give_of calls s x p there)
+pub give_kept : (calls : Calls) → AreKept calls → (s : KernelState) (x : Posted) (p : Proc) (there : Bool) → Kept (Unit {0}) s (give_of calls s x p there)
 give_kept calls are s x p there = give_led KeepsStep Whatever chain calls run_steps (λ t q e. are.call t q e (λ z. tt)) s x p there

@@ -12,27 +12,27 @@ use Rattle.mote_timers.specs.Timer.{unset, is_owned_by}
 use Rattle.mote_timers.specs.TimerLists.{TimerLists, timer_at, with_timer, stop_timer, purge_timers}
 use Rattle.trace_lines.specs.declared.line.Line.{Line}
 use Rattle.radio_packet.specs.declared.sent.Sent.{Sent}
-use Rattle.process_kernel.specs.State.{State, Outcome, Ends, Goes}
+use Rattle.process_kernel.specs.State.{KernelState, Outcome, Ends, Goes}
 use Rattle.process_kernel.specs.Processes.{with_state, with_exiting, with_needs_poll}
 use Rattle.process_kernel.specs.ProcessList.{put_remainder, exiting_of, unlisted_of}
 use Rattle.process_kernel.specs.Posts.{poll_of}
 use Rattle.process_kernel.specs.TimerOperations.{has_timer, timer_is_set}
 use Rattle.process_kernel.specs.Writes.{halted_of}
 use Rattle.process_kernel.specs.Run.{begun_of, most_units}
-use Rattle.process_kernel.specs.Mote.{Mote}
+use Rattle.process_kernel.specs.KernelModel.{KernelModel}
 use Rattle.process_kernel.specs.Given.{given, begun, boot_given, run_given}
 use Rattle.kernel_laws.specs.Due.{HaveOwners, BootKeepsOwners, RunKeepsOwners}
 use Rattle.kernel_laws.proofs.Timers.{further, other_timer}
 use Rattle.kernel_laws.proofs.Watch.{is_left}
-use Rattle.kernel_laws.proofs.EachStep.{Every, Whoever, Lead, AreJoined, AreSteps, AreRunSteps, keeps_set, brackets_of, boots_led, runs_led, unless_halts, polled_or_not}
+use Rattle.kernel_laws.proofs.EachStep.{Every, AnyProcess, Lead, AreJoined, AreSteps, AreRunSteps, keeps_set, brackets_of, boots_led, runs_led, unless_halts, polled_or_not}
 
-pub record Owns (s t : State) : Type 0 where
+pub record Owns (s t : KernelState) : Type 0 where
   pub owns : HaveOwners s.timers → HaveOwners t.timers
 
-owns_still : (s t : State) → t.timers ≡ s.timers → Owns s t
+owns_still : (s t : KernelState) → t.timers ≡ s.timers → Owns s t
 owns_still s t e = record { owns = λ h. subst HaveOwners (sym e) h }
 
-owns_joined : (a b c : State) → Owns a b → Owns b c → Owns a c
+owns_joined : (a b c : KernelState) → Owns a b → Owns b c → Owns a c
 owns_joined a b c h i = record { owns = λ x. i.owns (h.owns x) }
 
 chain : AreJoined Owns Owns
@@ -66,21 +66,21 @@ owned_purged : (l : TimerLists) (p : Proc) → HaveOwners l → HaveOwners (purg
 unfolding purge_timers
 owned_purged l p h j listed = h j (is_left (λ k. not (is_owned_by p (timer_at l.timers k))) j l.listed listed).0
 
-pub poll_timers : (s : State) (p : Proc) → (poll_of s p).timers ≡ s.timers
+pub poll_timers : (s : KernelState) (p : Proc) → (poll_of s p).timers ≡ s.timers
 unfolding with_needs_poll
 poll_timers s p = polled_or_not (λ t. t.timers ≡ s.timers) s p refl refl
 
-sets_own : (s : State) (timer start interval : ℕ) (owner : Proc) → has_timer s timer ≡ true → Owns s (timer_is_set (record s { timers = with_timer s.timers timer (record { start = start; interval = interval; owner = Some owner }) }) timer)
+sets_own : (s : KernelState) (timer start interval : ℕ) (owner : Proc) → has_timer s timer ≡ true → Owns s (timer_is_set (record s { timers = with_timer s.timers timer (record { start = start; interval = interval; owner = Some owner }) }) timer)
 sets_own s timer start interval owner there =
     keeps_set Owns Owns chain s _ timer (λ callbacks. record { owns = owned_with s.timers timer _ there refl }) (λ t. owns_still t _ (poll_timers t Etimer))
 
 -- the other steps
 
-steps : AreSteps Owns Owns chain Whoever Every
+steps : AreSteps Owns Owns chain AnyProcess Every
 unfolding put_remainder halted_of with_state exiting_of with_exiting unlisted_of
 steps = record {
   own = λ p own. tt;
-  brackets = brackets_of Owns Owns chain Whoever Every (λ s p o. owns_still s _ refl) (λ s p o. owns_still s _ refl) (λ s p o l. owns_still s _ refl) (λ s p o l. owns_still s _ refl);
+  brackets = brackets_of Owns Owns chain AnyProcess Every (λ s p o. owns_still s _ refl) (λ s p o. owns_still s _ refl) (λ s p o l. owns_still s _ refl) (λ s p o l. owns_still s _ refl);
   halts = λ s. owns_still s _ refl;
   units = λ s n l. owns_still s _ refl;
   busy = λ s p. owns_still s _ refl;
@@ -116,7 +116,7 @@ run_steps = record {
   drops = λ s n p. owns_still s _ refl;
 }
 
-given_owns : (moment : ℕ) (m : Mote) (lines : List Line) (sends : List Sent) (o : Outcome ℕ) → Lead Owns Owns ℕ (begun m moment lines sends) o → HaveOwners m.state.timers → HaveOwners (given o).mote.state.timers
+given_owns : (moment : ℕ) (m : KernelModel) (lines : List Line) (sends : List Sent) (o : Outcome ℕ) → Lead Owns Owns ℕ (begun m moment lines sends) o → HaveOwners m.state.timers → HaveOwners (given o).mote.state.timers
 unfolding begun_of
 given_owns moment m lines sends (Ends t) k h = k.leads.owns h
 given_owns moment m lines sends (Goes a t) k h = k.leads.owns h

@@ -19,7 +19,7 @@ use Rattle.trace_lines.specs.declared.line.What.TheVariants as what
 use Rattle.process_kernel.specs.declared.process.ProcessState.{ProcessState}
 use Rattle.process_kernel.specs.declared.process.ProcessState.TheVariants.{Off, Running}
 use Rattle.process_kernel.specs.Members.{place_of, is_same}
-use Rattle.process_kernel.specs.State.{State, Outcome, Ends, Goes}
+use Rattle.process_kernel.specs.State.{KernelState, Outcome, Ends, Goes}
 use Rattle.process_kernel.specs.Processes.{process_state, at_process, with_state, with_exiting, with_needs_poll}
 use Rattle.process_kernel.specs.ProcessList.{put_remainder, fresh_at, with_fresh_body, with_fresh_process, enlist_of}
 use Rattle.process_kernel.specs.ProcessList.{exiting_of, unlisted_of, leave_of}
@@ -96,90 +96,90 @@ which p Ctimer = inr (ctimer_other p)
 which p Radio = inr (radio_other p)
 
 -- a property of the last state, whether the outcome continues or ends
-abbrev pub Always : {A : Type 0} → (State → Type 0) → Outcome A → Type 0
+abbrev pub Always : {A : Type 0} → (KernelState → Type 0) → Outcome A → Type 0
 Always P (Ends t) = P t
 Always P (Goes a t) = P t
 
-pub always_if : {A : Type 0} (P : State → Type 0) (b : Bool) (o q : Outcome A) → Always P o → Always P q → Always P (if b then o else q)
+pub always_if : {A : Type 0} (P : KernelState → Type 0) (b : Bool) (o q : Outcome A) → Always P o → Always P q → Always P (if b then o else q)
 always_if {A} P true o q h i = h
 always_if {A} P false o q h i = i
 
 module _ (p : ℕ) where
   -- the process has the same position in both states
-  abbrev pub IsQuiet : State → State → Type 0
+  abbrev pub IsQuiet : KernelState → KernelState → Type 0
   IsQuiet s t = process_in_mote p t ≡ process_in_mote p s
 
-  pub line_quiet : (s : State) (w : What) → starts_or_prints (Own p) w ≡ false → IsQuiet s (with_line s w)
+  pub line_quiet : (s : KernelState) (w : What) → starts_or_prints (Own p) w ≡ false → IsQuiet s (with_line s w)
   line_quiet s w e =
       ap (λ l. record (process_in_mote p s) { lines_so_far = l }) (traced_more (Own p) s.lines (record { at = s.moment; what = w }) ∙ ap (λ l. starts_and_prints (Own p) s.lines ++ l) (traced_nothing (Own p) (record { at = s.moment; what = w }) e) ∙ append-nil _)
 
-  pub print_quiet : (s : State) (q v : ℕ) → (q ≡ p → ⊥) → IsQuiet s (with_line s (what.Print (Own q) v))
+  pub print_quiet : (s : KernelState) (q v : ℕ) → (q ≡ p → ⊥) → IsQuiet s (with_line s (what.Print (Own q) v))
   print_quiet s q v n = line_quiet s _ (other_differs p (Own q) (own_other p q n))
 
-  pub state_quiet : (s : State) (q : Proc) (x : ProcessState) → IsOther p q → IsQuiet s (with_state s q x)
+  pub state_quiet : (s : KernelState) (q : Proc) (x : ProcessState) → IsOther p q → IsQuiet s (with_state s q x)
   unfolding with_state
   state_quiet s q x n =
       ap (λ k. record (process_in_mote p s) { has = nat_lt (place_of (Own p)) k; state = process_state (with_state s q x) (Own p) }) (length-set s.states (place_of q) x) ∙ ap (λ k. record (process_in_mote p s) { state = k }) (set_other s.states (place_of q) (place_of (Own p)) x Off n)
 
-  pub exiting_set_quiet : (s : State) (q : Proc) (b : Bool) → IsOther p q → IsQuiet s (with_exiting s q b)
+  pub exiting_set_quiet : (s : KernelState) (q : Proc) (b : Bool) → IsOther p q → IsQuiet s (with_exiting s q b)
   unfolding with_exiting
   exiting_set_quiet s q b n =
       ap (λ k. record (process_in_mote p s) { room = nat_lt (place_of (Own p)) k; exiting = at_process (slice_set s.exiting (place_of q) b) (Own p) }) (length-set s.exiting (place_of q) b) ∙ ap (λ k. record (process_in_mote p s) { exiting = k }) (set_other s.exiting (place_of q) (place_of (Own p)) b false n)
 
-  pub exiting_quiet : (s : State) (q : Proc) → IsOther p q → IsQuiet s (exiting_of s q)
+  pub exiting_quiet : (s : KernelState) (q : Proc) → IsOther p q → IsQuiet s (exiting_of s q)
   unfolding exiting_of
   exiting_quiet s q n = exiting_set_quiet (with_state s q Off) q true n ∙ state_quiet s q Off n
 
-  pub needs_poll_quiet : (s : State) (q : Proc) (b : Bool) → IsQuiet s (with_needs_poll s q b)
+  pub needs_poll_quiet : (s : KernelState) (q : Proc) (b : Bool) → IsQuiet s (with_needs_poll s q b)
   unfolding with_needs_poll
   needs_poll_quiet s q b = refl
 
-  pub poll_quiet : (s : State) (q : Proc) → IsQuiet s (poll_of s q)
+  pub poll_quiet : (s : KernelState) (q : Proc) → IsQuiet s (poll_of s q)
   unfolding with_needs_poll
   poll_quiet s q = polled_or_not (λ t. IsQuiet s t) s q refl refl
 
-  pub variables_quiet : (s : State) (q : ℕ) (vs : List ℕ) (n : ℕ) → (q ≡ p → ⊥) → IsQuiet s (record s { variables = slice_set s.variables q vs; units = n })
+  pub variables_quiet : (s : KernelState) (q : ℕ) (vs : List ℕ) (n : ℕ) → (q ≡ p → ⊥) → IsQuiet s (record s { variables = slice_set s.variables q vs; units = n })
   variables_quiet s q vs n other = ap (λ k. record (process_in_mote p s) { vars = k }) (get_set_other s.variables q p vs (λ e. other (sym e)))
 
-  pub remainder_quiet : (s : State) (q : ℕ) (r : Remainder) → (q ≡ p → ⊥) → IsQuiet s (put_remainder s q r)
+  pub remainder_quiet : (s : KernelState) (q : ℕ) (r : Remainder) → (q ≡ p → ⊥) → IsQuiet s (put_remainder s q r)
   unfolding put_remainder
   remainder_quiet s q r other = ap (λ k. record (process_in_mote p s) { rest = k }) (get_set_other s.remainders q p r (λ e. other (sym e)))
 
-  pub body_quiet : (s : State) (q : ℕ) → (q ≡ p → ⊥) → IsQuiet s (with_fresh_body s q)
+  pub body_quiet : (s : KernelState) (q : ℕ) → (q ≡ p → ⊥) → IsQuiet s (with_fresh_body s q)
   body_quiet s q other = ap (λ k. record (process_in_mote p s) { rest = k }) (fresh_other s.program.codes s.remainders q p (λ e. other (sym e)))
 
-  pub process_quiet : (s : State) (q : Proc) → IsOther p q → IsQuiet s (with_fresh_process s q)
+  pub process_quiet : (s : KernelState) (q : Proc) → IsOther p q → IsQuiet s (with_fresh_process s q)
   process_quiet s (Own q) n = body_quiet s q (λ e. other_own p q n (sym e))
   process_quiet s Etimer n = refl
   process_quiet s Ctimer n = refl
   process_quiet s Radio n = refl
 
-  member_quiet : (s : State) (q : Proc) (k : ℕ) → IsOther p q → IsQuiet s (record s { members = record { process = q; incarnation = s.started } ∷ s.members; started = k })
+  member_quiet : (s : KernelState) (q : Proc) (k : ℕ) → IsOther p q → IsQuiet s (record s { members = record { process = q; incarnation = s.started } ∷ s.members; started = k })
   member_quiet s q k n =
       let e : is_same (Own p) q ≡ false = grind (arith, nat_tests, n) in
       rw e refl
 
-  pub enlist_quiet : (s : State) (q : Proc) → IsOther p q → Always (λ t. IsQuiet s t) (enlist_of s q)
+  pub enlist_quiet : (s : KernelState) (q : Proc) → IsOther p q → Always (λ t. IsQuiet s t) (enlist_of s q)
   unfolding enlist_of write_of
   enlist_quiet s q n =
       let s1 = record s { members = record { process = q; incarnation = s.started } ∷ s.members; started = s.started + 1 } in
       let s2 = with_state s1 q Running in
       line_quiet (with_fresh_process s2 q) (what.Start q) (other_differs p q n) ∙ process_quiet s2 q n ∙ state_quiet s1 q Running n ∙ member_quiet s q (s.started + 1) n
 
-  unlisted_quiet : (s : State) (q : Proc) → IsOther p q → IsQuiet s (unlisted_of s q)
+  unlisted_quiet : (s : KernelState) (q : Proc) → IsOther p q → IsQuiet s (unlisted_of s q)
   unfolding unlisted_of
   unlisted_quiet s q n = ap (λ b. record (process_in_mote p s) { listed = b }) (others_stay s.members q (Own p) (grind (arith, nat_tests, n)))
 
-  pub leave_quiet : (s : State) (q : Proc) → IsOther p q → Always (λ t. IsQuiet s t) (leave_of s q)
+  pub leave_quiet : (s : KernelState) (q : Proc) → IsOther p q → Always (λ t. IsQuiet s t) (leave_of s q)
   unfolding leave_of write_of
   leave_quiet s q n =
       line_quiet (unlisted_of (with_exiting s q false) q) (what.Leave q) refl ∙ unlisted_quiet (with_exiting s q false) q n ∙ exiting_set_quiet s q false n
 
-  pub halted_quiet : (s : State) → IsQuiet s (halted_of s)
+  pub halted_quiet : (s : KernelState) → IsQuiet s (halted_of s)
   unfolding halted_of
   halted_quiet s = line_quiet s what.Halt refl
 
-  pub post_quiet : (s : State) (t : Target) (e : Event) → Always (λ u. IsQuiet s u) (post_of s t e)
+  pub post_quiet : (s : KernelState) (t : Target) (e : Event) → Always (λ u. IsQuiet s u) (post_of s t e)
   unfolding post_of write_of
   post_quiet s t e =
       always_if (λ u. IsQuiet s u) (nat_le (2 ^ 62) s.queue.accepted) _ _ (halted_quiet s)

@@ -10,16 +10,16 @@ use Rattle.process_kernel.specs.declared.process.ProcessState.{ProcessState}
 use Rattle.process_kernel.specs.declared.process.ProcessState.TheVariants.{Off, Running, Called}
 use Rattle.process_kernel.specs.declared.process.Member.{Member}
 use Rattle.process_kernel.specs.Members.{place_of}
-use Rattle.process_kernel.specs.State.{State, Outcome, Went, Ends, Goes}
+use Rattle.process_kernel.specs.State.{KernelState, Outcome, Went, Ends, Goes}
 use Rattle.process_kernel.specs.Processes.{is_running, is_running_state, is_called_state}
 use Rattle.process_kernel.specs.ProcessList.{numbered_from}
 use Rattle.process_kernel.specs.Calls.{Calls}
 use Rattle.process_kernel.specs.Call.{call_of, calls_of}
 use Rattle.process_kernel.specs.Run.{begun_of, most_units}
-use Rattle.process_kernel.specs.Mote.{Mote, at_rest, unbooted, with_packet, with_poll}
+use Rattle.process_kernel.specs.KernelModel.{KernelModel, at_rest, unbooted, with_packet, with_poll}
 use Rattle.process_kernel.specs.Given.{given, begun, boot_given, run_given}
 use Rattle.kernel_laws.specs.InStep.{state_at_place, exiting_at, listed_in, AreInStep, IsInStep, IsIdle}
-use Rattle.kernel_laws.specs.Traces.{KernelCall, RunAt, PollOf, Accepts, Notes, Traced, after_call, after_calls, booted_at}
+use Rattle.kernel_laws.specs.Traces.{KernelCall, RunAt, PollOf, Accepts, Notes, Traced, traced_after_call, traced_after_calls, booted_at}
 use Rattle.kernel_laws.specs.Laws.{OnlyTheRunningAreCalled, CallsKeepStep, ListedAreRunning}
 use Rattle.kernel_laws.proofs.EachStep.{Whatever, runs_led, boots_led, unless_halts}
 use Rattle.kernel_laws.proofs.InStep.{Keeps, KeepsStep, Kept, IsStill, chain, keeps_still, poll_still, steps, run_steps, calls_kept}
@@ -27,24 +27,24 @@ use Rattle.kernel_laws.proofs.Tables.{dichotomy}
 
 -- at rest
 
-pub record Rests (s : State) : Type 0 where
+pub record Rests (s : KernelState) : Type 0 where
   pub step : IsInStep s
   pub idle : IsIdle s
 
-rests_keeps : (s t : State) → Rests s → Keeps s t → Rests t
+rests_keeps : (s t : KernelState) → Rests s → Keeps s t → Rests t
 rests_keeps s t r k = record {
   step = k.step;
   idle = record { called = λ j. k.busy.called j ∙ r.idle.called j; exiting = λ j. k.busy.exiting j ∙ r.idle.exiting j };
 }
 
-rests_still : (s t : State) → IsStill s t → Rests s → Rests t
+rests_still : (s t : KernelState) → IsStill s t → Rests s → Rests t
 rests_still s t q r = rests_keeps s t r (keeps_still s t q r.step)
 
 pub numbered_listed : (k : ℕ) (ms : List Member) (j : ℕ) → listed_in (numbered_from k ms) j ≡ listed_in ms j
 numbered_listed k [] j = refl
 numbered_listed k (m ∷ ms) j = ap (λ b. (j == place_of m.process) || b) (numbered_listed (k + 1) ms j)
 
-pub rests_begun : (s : State) (moment : ℕ) → Rests s → Rests (begun_of s moment)
+pub rests_begun : (s : KernelState) (moment : ℕ) → Rests s → Rests (begun_of s moment)
 unfolding begun_of
 rests_begun s moment r = record {
   step = record { tables = r.step.tables; each = λ j. rw (numbered_listed 0 s.members j) (r.step.each j) };
@@ -52,22 +52,22 @@ rests_begun s moment r = record {
 }
 
 -- a mote that has not halted is at rest
-abbrev MoteRests : Mote → Type 0
+abbrev MoteRests : KernelModel → Type 0
 MoteRests m = m.halted ≡ false → Rests m.state
 
-given_rests : (s : State) (o : Outcome ℕ) → Rests s → Kept ℕ s o → MoteRests (given o).mote
+given_rests : (s : KernelState) (o : Outcome ℕ) → Rests s → Kept ℕ s o → MoteRests (given o).mote
 given_rests s (Ends t) r k h = absurd (cc)
 given_rests s (Goes a t) r k h = rests_still t (at_rest t) (record { states = refl; exiting = refl; members = refl }) (rests_keeps s t r (k.leads.kept r.step))
 
-begun_rests : (m : Mote) (moment : ℕ) → Rests m.state → Rests (begun m moment [] [])
+begun_rests : (m : KernelModel) (moment : ℕ) → Rests m.state → Rests (begun m moment [] [])
 begun_rests m moment r = rests_begun _ moment (rests_still m.state _ (record { states = refl; exiting = refl; members = refl }) r)
 
-run_rests : (m : Mote) (moment : ℕ) → MoteRests m → MoteRests (run_given moment m [] []).mote
+run_rests : (m : KernelModel) (moment : ℕ) → MoteRests m → MoteRests (run_given moment m [] []).mote
 unfolding run_given
 run_rests m moment r =
     unless_halts (λ g. MoteRests g.mote) m [] [] _ (λ e. r) (λ e. given_rests (begun m moment [] []) _ (begun_rests m moment (r e)) (runs_led KeepsStep Whatever chain steps run_steps (most_units + 1) _))
 
-call_rests : (t : Traced) (c : KernelCall) → MoteRests t.mote → MoteRests (after_call t c).mote
+call_rests : (t : Traced) (c : KernelCall) → MoteRests t.mote → MoteRests (traced_after_call t c).mote
 unfolding with_poll with_packet
 call_rests t (RunAt moment) r = run_rests t.mote moment r
 call_rests t (PollOf p) r = λ h. rests_still t.mote.state _ (poll_still t.mote.state p) (r h)
@@ -78,9 +78,9 @@ call_rests t (Notes l n) r = noted t.mote.halted
     noted true = r
     noted false = r
 
-calls_rest : (cs : List KernelCall) (t : Traced) → MoteRests t.mote → MoteRests (after_calls t cs).mote
+calls_rest : (cs : List KernelCall) (t : Traced) → MoteRests t.mote → MoteRests (traced_after_calls t cs).mote
 calls_rest [] t r = r
-calls_rest (c ∷ cs) t r = calls_rest cs (after_call t c) (call_rests t c r)
+calls_rest (c ∷ cs) t r = calls_rest cs (traced_after_call t c) (call_rests t c r)
 
 -- an entry of a table whose values are all the same
 all_alike : {X : Type 0} (n k : ℕ) (x : X) → unwrap_or (slice_get (replicate n x) k) x ≡ x
@@ -115,16 +115,16 @@ idle_listed Called e l h c q = absurd (cc)
 pub listed_are_running : ListedAreRunning
 listed_are_running program mote queue moment calls h p =
     let r = calls_rest calls _ (boot_rests program mote queue moment) h in
-    let s = (after_calls (booted_at program mote queue moment) calls).mote.state in
+    let s = (traced_after_calls (booted_at program mote queue moment) calls).mote.state in
     idle_listed (state_at_place s (place_of p)) (exiting_at s (place_of p)) (listed_in s.members (place_of p)) (r.step.each (place_of p)) (r.idle.called (place_of p)) (r.idle.exiting (place_of p))
 
-out_of : (s t : State) (o : Went) → o ≡ Goes tt t → Kept (Unit {0}) s o → KeepsStep s t
+out_of : (s t : KernelState) (o : Went) → o ≡ Goes tt t → Kept (Unit {0}) s o → KeepsStep s t
 out_of s t o e k = let l : Kept (Unit {0}) s (Goes tt t) = subst (λ x. Kept (Unit {0}) s x) e k in l.leads
 
 pub calls_keep_step : CallsKeepStep
 calls_keep_step depth s t p e i q = let k = (out_of s t _ q ((calls_kept depth).call s p e (λ x. tt))).kept i in (k.step, k.busy)
 
-call_lost : (calls : Calls) (s : State) (p : Proc) (e : Event) → is_running s p ≡ false → call_of calls s p e ≡ Goes tt s
+call_lost : (calls : Calls) (s : KernelState) (p : Proc) (e : Event) → is_running s p ≡ false → call_of calls s p e ≡ Goes tt s
 unfolding call_of
 call_lost calls s p e r = rw r refl
 

@@ -9,14 +9,14 @@ use Rattle.trace_lines.specs.declared.line.Line.{Line}
 use Rattle.radio_packet.specs.declared.sent.Sent.{Sent}
 use Rattle.trace_lines.specs.declared.line.What.{What}
 use Rattle.trace_lines.specs.declared.line.What.TheVariants as what
-use Rattle.process_kernel.specs.State.{State, Outcome, Ends, Goes}
+use Rattle.process_kernel.specs.State.{KernelState, Outcome, Ends, Goes}
 use Rattle.process_kernel.specs.Processes.{with_state, with_exiting, with_needs_poll}
 use Rattle.process_kernel.specs.ProcessList.{put_remainder, exiting_of, unlisted_of}
 use Rattle.process_kernel.specs.Posts.{poll_of}
 use Rattle.process_kernel.specs.TimerOperations.{timer_is_set}
 use Rattle.process_kernel.specs.Writes.{with_line, halted_of}
 use Rattle.process_kernel.specs.Run.{begun_of, most_units}
-use Rattle.process_kernel.specs.Mote.{Mote}
+use Rattle.process_kernel.specs.KernelModel.{KernelModel}
 use Rattle.process_kernel.specs.Given.{given, begun, unless_halted, boot_given, run_given}
 use Rattle.std.specs.List.{All}
 use Rattle.std.proofs.lemmas.List.Elements.{All-nil, All-cons, All-append}
@@ -24,7 +24,7 @@ use Rattle.kernel_laws.specs.Going.{IsNote}
 use Rattle.kernel_laws.specs.Polled.{Accepted, Refused, TellsPacket}
 use Rattle.kernel_laws.specs.Ring.{IsApart, RingRuns, NoneMore, Receives, Loses, Hands, Passes, RingGoes, RingHalts, RingLeads, GivesPackets, CallsTellPackets, BootTellsPackets, RunTellsPackets}
 use Rattle.kernel_laws.proofs.Steps.{lines_joined}
-use Rattle.kernel_laws.proofs.EachStep.{Every, Whoever, Lead, AreJoined, AreSteps, AreRunSteps, keeps_poll, keeps_set, brackets_of, calls_led, runs_led, boots_led, unless_halts}
+use Rattle.kernel_laws.proofs.EachStep.{Every, AnyProcess, Lead, AreJoined, AreSteps, AreRunSteps, keeps_poll, keeps_set, brackets_of, calls_led, runs_led, boots_led, unless_halts}
 
 pub ring_runs_on : (receiver : Option ℕ) (a b c : List Arrival) (xs ys : List Line) → RingRuns receiver a xs b → RingRuns receiver b ys c → RingRuns receiver a (xs ++ ys) c
 ring_runs_on receiver a b c xs ys NoneMore r = r
@@ -47,10 +47,10 @@ one_unheard moment w n = All-cons (λ l. IsNote l.what → ⊥) (record { at = m
 both_unheard : (xs ys : List Line) → HearsNone xs → HearsNone ys → HearsNone (xs ++ ys)
 both_unheard xs ys h i = All-append (λ l. IsNote l.what → ⊥) xs ys h i
 
-ring_same : (s : State) → RingGoes s s
+ring_same : (s : KernelState) → RingGoes s s
 ring_same s = record { added = []; wrote = sym (append-nil s.lines); runs = NoneMore; hears_none = none_heard; program = refl }
 
-ring_joined : (a b c : State) → RingGoes a b → RingGoes b c → RingGoes a c
+ring_joined : (a b c : KernelState) → RingGoes a b → RingGoes b c → RingGoes a c
 ring_joined a b c h i = record {
   added = h.added ++ i.added;
   wrote = lines_joined a.lines b.lines c.lines h.added i.added h.wrote i.wrote;
@@ -59,7 +59,7 @@ ring_joined a b c h i = record {
   program = i.program ∙ h.program;
 }
 
-ring_ended : (a b c : State) → RingGoes a b → RingHalts b c → RingHalts a c
+ring_ended : (a b c : KernelState) → RingGoes a b → RingHalts b c → RingHalts a c
 ring_ended a b c h i = record {
   added = h.added ++ i.added;
   wrote = lines_joined a.lines b.lines c.lines h.added i.added h.wrote i.wrote;
@@ -73,12 +73,12 @@ pub chain : AreJoined RingGoes RingHalts
 chain = record { same = ring_same; joined = ring_joined; ended = ring_ended }
 
 -- no line is written, and the ring is unchanged
-record IsStill (s t : State) : Type 0 where
+record IsStill (s t : KernelState) : Type 0 where
   lines : t.lines ≡ s.lines
   ring : t.ring ≡ s.ring
   program : t.program ≡ s.program
 
-goes_still : (s t : State) → IsStill s t → RingGoes s t
+goes_still : (s t : KernelState) → IsStill s t → RingGoes s t
 goes_still s t q = record {
   added = [];
   wrote = q.lines ∙ sym (append-nil s.lines);
@@ -88,7 +88,7 @@ goes_still s t q = record {
 }
 
 -- a line that is not about a packet
-goes_apart : (s u : State) (w : What) → IsStill s u → IsApart w → (IsNote w → ⊥) → RingGoes s (with_line u w)
+goes_apart : (s u : KernelState) (w : What) → IsStill s u → IsApart w → (IsNote w → ⊥) → RingGoes s (with_line u w)
 goes_apart s u w q apart n = record {
   added = record { at = u.moment; what = w } ∷ [];
   wrote = ap (λ l. l ++ record { at = u.moment; what = w } ∷ []) q.lines;
@@ -97,11 +97,11 @@ goes_apart s u w q apart n = record {
   program = q.program;
 }
 
-line_apart : (s : State) (w : What) → IsApart w → (IsNote w → ⊥) → RingGoes s (with_line s w)
+line_apart : (s : KernelState) (w : What) → IsApart w → (IsNote w → ⊥) → RingGoes s (with_line s w)
 line_apart s w apart n = goes_apart s s w (record { lines = refl; ring = refl; program = refl }) apart n
 
 -- a halt leaves the waiting packets without a line
-halts_from : (s u : State) → u.lines ≡ s.lines → u.program ≡ s.program → RingHalts s (halted_of u)
+halts_from : (s u : KernelState) → u.lines ≡ s.lines → u.program ≡ s.program → RingHalts s (halted_of u)
 unfolding halted_of
 halts_from s u lines program = record {
   added = record { at = u.moment; what = what.Halt } ∷ [];
@@ -112,17 +112,17 @@ halts_from s u lines program = record {
   program = program;
 }
 
-polls_still : (s : State) (p : Proc) → RingGoes s (poll_of s p)
+polls_still : (s : KernelState) (p : Proc) → RingGoes s (poll_of s p)
 unfolding with_needs_poll
 polls_still s p = keeps_poll RingGoes RingHalts chain s p (goes_still s _ (record { lines = refl; ring = refl; program = refl }))
 
-sets_still : (s : State) (timers : TimerLists) (timer : ℕ) → RingGoes s (timer_is_set (record s { timers = timers }) timer)
+sets_still : (s : KernelState) (timers : TimerLists) (timer : ℕ) → RingGoes s (timer_is_set (record s { timers = timers }) timer)
 sets_still s timers timer = keeps_set RingGoes RingHalts chain s timers timer (λ callbacks. goes_still s _ (record { lines = refl; ring = refl; program = refl })) (λ t. polls_still t Etimer)
 
 -- the radio's poll
 
 -- the packet in front leaves the ring, and its line is written
-hands_front : (receiver : Option ℕ) (a : Arrival) (later : List Arrival) (s u : State) (w : What) → s.ring ≡ a ∷ later → s.program.receiver ≡ receiver → u.lines ≡ s.lines → u.ring ≡ later → u.program ≡ s.program → TellsPacket receiver a w → (IsNote w → ⊥) → RingGoes s (with_line u w)
+hands_front : (receiver : Option ℕ) (a : Arrival) (later : List Arrival) (s u : KernelState) (w : What) → s.ring ≡ a ∷ later → s.program.receiver ≡ receiver → u.lines ≡ s.lines → u.ring ≡ later → u.program ≡ s.program → TellsPacket receiver a w → (IsNote w → ⊥) → RingGoes s (with_line u w)
 hands_front receiver a later s u w ring r lines rest program tells n = record {
   added = record { at = u.moment; what = w } ∷ [];
   wrote = ap (λ l. l ++ record { at = u.moment; what = w } ∷ []) lines;
@@ -133,11 +133,11 @@ hands_front receiver a later s u w ring r lines rest program tells n = record {
 
 -- the ring changes along the lines of each small step, whichever process is exited
 
-pub steps : AreSteps RingGoes RingHalts chain Whoever Every
+pub steps : AreSteps RingGoes RingHalts chain AnyProcess Every
 unfolding put_remainder with_state exiting_of with_exiting unlisted_of
 steps = record {
   own = λ p own. tt;
-  brackets = brackets_of RingGoes RingHalts chain Whoever Every
+  brackets = brackets_of RingGoes RingHalts chain AnyProcess Every
       (λ s p o. goes_still s _ (record { lines = refl; ring = refl; program = refl })) (λ s p o. goes_still s _ (record { lines = refl; ring = refl; program = refl }))
       (λ s p o l. goes_still s _ (record { lines = refl; ring = refl; program = refl })) (λ s p o l. goes_apart s _ (what.Leave p) (record { lines = refl; ring = refl; program = refl }) tt (λ h. h));
   halts = λ s. halts_from s s refl refl;
@@ -175,19 +175,19 @@ run_steps = record {
   drops = λ s n p. line_apart s (what.Drop n p) tt (λ h. h);
 }
 
-abbrev Rings : (A : Type 0) → State → Outcome A → Type 0
+abbrev Rings : (A : Type 0) → KernelState → Outcome A → Type 0
 Rings A s o = Lead RingGoes RingHalts A s o
 
-leads_of : (A : Type 0) (s : State) (o : Outcome A) → Rings A s o → RingLeads s o
+leads_of : (A : Type 0) (s : KernelState) (o : Outcome A) → Rings A s o → RingLeads s o
 leads_of A s (Ends t) h = h.leads
 leads_of A s (Goes a t) h = h.leads
 
 pub calls_tell_packets : CallsTellPackets
-calls_tell_packets depth s p e = leads_of _ s _ ((calls_led RingGoes RingHalts chain Whoever steps depth).call s p e (λ q. tt))
+calls_tell_packets depth s p e = leads_of _ s _ ((calls_led RingGoes RingHalts chain AnyProcess steps depth).call s p e (λ q. tt))
 
 -- boots and kernel runs
 
-given_packets : (moment : ℕ) (m : Mote) (lines : List Line) (sends : List Sent) (o : Outcome ℕ) → Rings ℕ (begun m moment lines sends) o → GivesPackets m lines (given o)
+given_packets : (moment : ℕ) (m : KernelModel) (lines : List Line) (sends : List Sent) (o : Outcome ℕ) → Rings ℕ (begun m moment lines sends) o → GivesPackets m lines (given o)
 unfolding begun_of
 given_packets moment m lines sends (Ends t) h = let k = h.leads in record {
   added = k.added;
@@ -208,7 +208,7 @@ given_packets moment m lines sends (Goes a t) h = let k = h.leads in record {
   program = k.program;
 }
 
-unless_packets : (moment : ℕ) (m : Mote) (lines : List Line) (sends : List Sent) (o : Outcome ℕ) → Rings ℕ (begun m moment lines sends) o → GivesPackets m lines (unless_halted m lines sends (given o))
+unless_packets : (moment : ℕ) (m : KernelModel) (lines : List Line) (sends : List Sent) (o : Outcome ℕ) → Rings ℕ (begun m moment lines sends) o → GivesPackets m lines (unless_halted m lines sends (given o))
 unless_packets moment m lines sends o h =
     unless_halts (GivesPackets m lines) m lines sends (given o) (λ e. record { added = []; wrote = sym (append-nil lines); left = m.state.ring; runs = NoneMore; hears_none = none_heard; holds = λ q. refl; program = refl }) (λ e. given_packets moment m lines sends o h)
 

@@ -6,7 +6,7 @@ use Rattle.program_tree.specs.declared.event.Proc.{Proc}
 use Rattle.program_tree.specs.declared.event.Proc.TheVariants.{Own, Etimer}
 use Rattle.trace_lines.specs.declared.line.What.{What}
 use Rattle.trace_lines.specs.declared.line.What.TheVariants as what
-use Rattle.process_kernel.specs.State.{State, Outcome, Ends, Goes}
+use Rattle.process_kernel.specs.State.{KernelState, Outcome, Ends, Goes}
 use Rattle.process_kernel.specs.Processes.{with_state, with_exiting, with_needs_poll}
 use Rattle.process_kernel.specs.ProcessList.{put_remainder, exiting_of, unlisted_of}
 use Rattle.process_kernel.specs.Posts.{poll_of}
@@ -17,22 +17,22 @@ use Rattle.radio_packet.specs.declared.sent.Sent.{Sent}
 use Rattle.trace_lines.specs.declared.line.What.TheVariants.{Halt}
 use Rattle.kernel_laws.specs.Stamps.{PacketsBear, AreNumberedFrom, Stamped, state_after, GivesStamped}
 use Rattle.kernel_laws.proofs.Steps.{lines_joined}
-use Rattle.kernel_laws.proofs.EachStep.{Every, Whoever, Lead, AreJoined, AreSteps, AreRunSteps, keeps_set, brackets_of, AreLed, calls_led, runs_led, boots_led, unless_halts, polled_or_not}
+use Rattle.kernel_laws.proofs.EachStep.{Every, AnyProcess, Lead, AreJoined, AreSteps, AreRunSteps, keeps_set, brackets_of, AreLed, calls_led, runs_led, boots_led, unless_halts, polled_or_not}
 use Rattle.process_kernel.specs.Calls.{Calls}
 use Rattle.process_kernel.specs.Call.{calls_of}
 use Rattle.process_kernel.specs.Run.{begun_of, most_units}
-use Rattle.process_kernel.specs.Mote.{Mote}
+use Rattle.process_kernel.specs.KernelModel.{KernelModel}
 use Rattle.process_kernel.specs.Given.{given, begun, unless_halted, boot_given, run_given}
 use Rattle.trace_lines.specs.declared.line.Line.{Line}
 use Rattle.kernel_laws.specs.Laws.{CallsStamp, BootStamps, RunStamps}
 
 -- Everything that is written is stamped with the moment, and the moment doesn't change.
-pub record Keeps (s t : State) : Type 0 where
+pub record Keeps (s t : KernelState) : Type 0 where
   pub stamped : Stamped s.moment s t
   pub moment : t.moment ≡ s.moment
 
 -- the same for an outcome, whether it continues or ends
-abbrev pub Kept : {A : Type 0} → State → Outcome A → Type 0
+abbrev pub Kept : {A : Type 0} → KernelState → Outcome A → Type 0
 Kept {A} s o = Lead Keeps Keeps A s o
 
 numbers_joined : (first m n : ℕ) → range_with_len first (m + n) ≡ range_with_len first m ++ range_with_len (first + m) n
@@ -52,7 +52,7 @@ sends_joined : (a b c x y : List Sent) → b ≡ a ++ x → c ≡ b ++ y → c �
 sends_joined a b c x y e f = f ∙ ap (λ k. k ++ y) e ∙ append_assoc a x y
 
 -- two such steps one after another
-pub stamped_twice : (moment : ℕ) (a b c : State) → Stamped moment a b → Stamped moment b c → Stamped moment a c
+pub stamped_twice : (moment : ℕ) (a b c : KernelState) → Stamped moment a b → Stamped moment b c → Stamped moment a c
 stamped_twice moment a b c h i = record {
   lines = h.lines ++ i.lines;
   wrote = lines_joined a.lines b.lines c.lines h.lines i.lines h.wrote i.wrote;
@@ -69,14 +69,14 @@ stamped_twice moment a b c h i = record {
     counted_twice : (a b c m n : ℕ) → b ≡ a + m → c ≡ b + n → c ≡ a + (m + n)
     counted_twice a b c m n e f = omega arith
 
-keeps_twice : (a b c : State) → Keeps a b → Keeps b c → Keeps a c
+keeps_twice : (a b c : KernelState) → Keeps a b → Keeps b c → Keeps a c
 keeps_twice a b c h i = record {
   stamped = stamped_twice a.moment a b c h.stamped (subst (λ k. Stamped k b c) h.moment i.stamped);
   moment = i.moment ∙ h.moment;
 }
 
 -- nothing is written, and none of these values changes
-pub record IsStill (s t : State) : Type 0 where
+pub record IsStill (s t : KernelState) : Type 0 where
   pub lines : t.lines ≡ s.lines
   pub sends : t.sends ≡ s.sends
   pub sent : t.sent ≡ s.sent
@@ -84,11 +84,11 @@ pub record IsStill (s t : State) : Type 0 where
   pub mote : t.mote ≡ s.mote
   pub program : t.program ≡ s.program
 
-pub still : (s : State) → IsStill s s
+pub still : (s : KernelState) → IsStill s s
 still s = record { lines = refl; sends = refl; sent = refl; moment = refl; mote = refl; program = refl }
 
 -- a state with the same lines, packets, count, mote and program
-pub stamped_still : (moment : ℕ) (s t : State) → t.lines ≡ s.lines → t.sends ≡ s.sends → t.sent ≡ s.sent → t.mote ≡ s.mote → t.program ≡ s.program → Stamped moment s t
+pub stamped_still : (moment : ℕ) (s t : KernelState) → t.lines ≡ s.lines → t.sends ≡ s.sends → t.sent ≡ s.sent → t.mote ≡ s.mote → t.program ≡ s.program → Stamped moment s t
 stamped_still moment s t lines sends sent mote program = record {
   lines = [];
   wrote = lines ∙ sym (append-nil s.lines);
@@ -102,7 +102,7 @@ stamped_still moment s t lines sends sent mote program = record {
   program = program;
 }
 
-keeps_still : (s t : State) → IsStill s t → Keeps s t
+keeps_still : (s t : KernelState) → IsStill s t → Keeps s t
 keeps_still s t q = record { stamped = stamped_still s.moment s t q.lines q.sends q.sent q.mote q.program; moment = q.moment }
 
 -- chains of steps
@@ -112,7 +112,7 @@ chain = record { same = λ s. keeps_still s s (still s); joined = keeps_twice; e
 
 -- lines
 
-keeps_line : (s : State) (w : What) → Keeps s (with_line s w)
+keeps_line : (s : KernelState) (w : What) → Keeps s (with_line s w)
 keeps_line s w = record {
   stamped = record {
     lines = record { at = s.moment; what = w } ∷ [];
@@ -130,18 +130,18 @@ keeps_line s w = record {
 }
 
 -- a line is written after another change
-keeps_written : (s u : State) (w : What) → IsStill s u → Keeps s (with_line u w)
+keeps_written : (s u : KernelState) (w : What) → IsStill s u → Keeps s (with_line u w)
 keeps_written s u w q = keeps_twice s u _ (keeps_still s u q) (keeps_line u w)
 
 -- steps without output
 
-pub poll_still : (s : State) (p : Proc) → IsStill s (poll_of s p)
+pub poll_still : (s : KernelState) (p : Proc) → IsStill s (poll_of s p)
 unfolding with_needs_poll
 poll_still s p = polled_or_not (IsStill s) s p (record { lines = refl; sends = refl; sent = refl; moment = refl; mote = refl; program = refl }) (still s)
 
 -- packets
 
-keeps_packet : (s : State) (v : ℕ) → Keeps s (record s { sends = s.sends ++ record { at = s.moment; sender = s.mote; number = s.sent; value = v } ∷ []; sent = s.sent + 1 })
+keeps_packet : (s : KernelState) (v : ℕ) → Keeps s (record s { sends = s.sends ++ record { at = s.moment; sender = s.mote; number = s.sent; value = v } ∷ []; sent = s.sent + 1 })
 keeps_packet s v = record {
   stamped = record {
     lines = [];
@@ -160,11 +160,11 @@ keeps_packet s v = record {
 
 -- all small steps
 
-pub steps : AreSteps Keeps Keeps chain Whoever Every
+pub steps : AreSteps Keeps Keeps chain AnyProcess Every
 unfolding put_remainder halted_of with_state exiting_of with_exiting unlisted_of
 steps = record {
   own = λ p own. tt;
-  brackets = brackets_of Keeps Keeps chain Whoever Every (λ s p o. keeps_still s _ (record { lines = refl; sends = refl; sent = refl; moment = refl; mote = refl; program = refl })) (λ s p o. keeps_still s _ (record { lines = refl; sends = refl; sent = refl; moment = refl; mote = refl; program = refl }))
+  brackets = brackets_of Keeps Keeps chain AnyProcess Every (λ s p o. keeps_still s _ (record { lines = refl; sends = refl; sent = refl; moment = refl; mote = refl; program = refl })) (λ s p o. keeps_still s _ (record { lines = refl; sends = refl; sent = refl; moment = refl; mote = refl; program = refl }))
       (λ s p o l. keeps_still s _ (record { lines = refl; sends = refl; sent = refl; moment = refl; mote = refl; program = refl })) (λ s p o l. keeps_written s _ (what.Leave p) (record { lines = refl; sends = refl; sent = refl; moment = refl; mote = refl; program = refl }));
   halts = λ s. keeps_line s Halt;
   units = λ s n l. keeps_still s _ (record { lines = refl; sends = refl; sent = refl; moment = refl; mote = refl; program = refl });
@@ -203,18 +203,18 @@ run_steps = record {
 
 -- calls, boots and kernel runs
 
-left_by : (A : Type 0) (s : State) (o : Outcome A) → Kept s o → Keeps s (state_after o)
+left_by : (A : Type 0) (s : KernelState) (o : Outcome A) → Kept s o → Keeps s (state_after o)
 left_by A s (Ends t) h = h.leads
 left_by A s (Goes a t) h = h.leads
 
 abbrev pub AreKept : Calls → Type 0
-AreKept calls = AreLed Keeps Keeps chain Whoever Every calls
+AreKept calls = AreLed Keeps Keeps chain AnyProcess Every calls
 
 pub calls_kept : (k : ℕ) → AreKept (calls_of k)
-calls_kept k = calls_led Keeps Keeps chain Whoever steps k
+calls_kept k = calls_led Keeps Keeps chain AnyProcess steps k
 
 -- a boot or a run, whether the mote continues or halts
-given_stamped : (moment : ℕ) (m : Mote) (lines : List Line) (sends : List Sent) (o : Outcome ℕ) → Keeps (begun m moment lines sends) (state_after o) → GivesStamped moment m lines sends (given o)
+given_stamped : (moment : ℕ) (m : KernelModel) (lines : List Line) (sends : List Sent) (o : Outcome ℕ) → Keeps (begun m moment lines sends) (state_after o) → GivesStamped moment m lines sends (given o)
 unfolding begun_of
 given_stamped moment m lines sends (Ends t) k = let h = k.stamped in record {
   lines = h.lines;
@@ -241,7 +241,7 @@ given_stamped moment m lines sends (Goes a t) k = let h = k.stamped in record {
   program = h.program;
 }
 
-unless_stamped : (moment : ℕ) (m : Mote) (lines : List Line) (sends : List Sent) (o : Outcome ℕ) → Kept (begun m moment lines sends) o → GivesStamped moment m lines sends (unless_halted m lines sends (given o))
+unless_stamped : (moment : ℕ) (m : KernelModel) (lines : List Line) (sends : List Sent) (o : Outcome ℕ) → Kept (begun m moment lines sends) o → GivesStamped moment m lines sends (unless_halted m lines sends (given o))
 unless_stamped moment m lines sends o k =
     unless_halts (GivesStamped moment m lines sends) m lines sends (given o) (λ e. stamped_still moment _ _ refl refl refl refl refl) (λ e. given_stamped moment m lines sends o (left_by ℕ _ o k))
 

@@ -21,52 +21,52 @@ use Rattle.trace_lines.specs.declared.line.What.{What}
 use Rattle.trace_lines.specs.declared.line.What.TheVariants as what
 use Rattle.process_kernel.specs.declared.process.Member.{Member}
 use Rattle.process_kernel.specs.Members.{place_of, is_same, is_found_in}
-use Rattle.process_kernel.specs.State.{State, Outcome, Goes}
+use Rattle.process_kernel.specs.State.{KernelState, Outcome, Goes}
 use Rattle.process_kernel.specs.Processes.{is_listed, with_state, with_exiting, with_needs_poll}
 use Rattle.process_kernel.specs.ProcessList.{put_remainder, enlist_of, exiting_of, unlisted_of}
 use Rattle.process_kernel.specs.Posts.{poll_of}
 use Rattle.process_kernel.specs.Writes.{with_line, halted_of}
 use Rattle.process_kernel.specs.Calls.{Calls}
 use Rattle.process_kernel.specs.Call.{calls_of}
-use Rattle.kernel_laws.specs.Own.{IsOwn, FitsTarget}
+use Rattle.kernel_laws.specs.Own.{IsOwnProcess, FitsTarget}
 use Rattle.kernel_laws.specs.Seen.{seen_what, seen_lines, seen_target, seen_member, seen_posted, view_of}
 use Rattle.kernel_laws.specs.Going.{SystemStays}
 use Rattle.kernel_laws.proofs.EachStep.{Every, Leads, Lead, AreJoined, AreSteps, AreLed, with_event, with_started, without_process, enlist_is, keeps_set, brackets_of, fits_no_exit, calls_led, polled_or_not}
 
 -- the lines from one state to the later one are a run of the machine, whatever walk is in progress
-pub record GoesOn (s t : State) : Type 0 where
+pub record GoesOn (s t : KernelState) : Type 0 where
   pub added : List Line
   pub wrote : t.lines ≡ s.lines ++ added
   pub moves : Moves (view_of s) (seen_lines added) (view_of t)
   pub sound : SystemStays s → SystemStays t
 
 -- the same lines, and then a halt
-pub record Stops (s t : State) : Type 0 where
+pub record Stops (s t : KernelState) : Type 0 where
   pub added : List Line
   pub wrote : t.lines ≡ s.lines ++ added
   pub halts : views.Stops (view_of s) (seen_lines added)
 
-abbrev pub Reaches : {A : Type 0} → State → Outcome A → Type 0
+abbrev pub Reaches : {A : Type 0} → KernelState → Outcome A → Type 0
 Reaches s o = Leads GoesOn Stops s o
 
 -- an outcome that continues or ends
-abbrev pub Reach : (A : Type 0) → State → Outcome A → Type 0
+abbrev pub Reach : (A : Type 0) → KernelState → Outcome A → Type 0
 Reach A s o = Lead GoesOn Stops A s o
 
 -- nothing changes that the delivery of events sees
-pub record IsQuiet (s t : State) : Type 0 where
+pub record IsQuiet (s t : KernelState) : Type 0 where
   pub lines : t.lines ≡ s.lines
   pub members : t.members ≡ s.members
   pub started : t.started ≡ s.started
   pub queue : t.queue ≡ s.queue
 
-pub quiet_same : (s : State) → IsQuiet s s
+pub quiet_same : (s : KernelState) → IsQuiet s s
 quiet_same s = record { lines = refl; members = refl; started = refl; queue = refl }
 
-pub view_quiet : (s t : State) → IsQuiet s t → view_of s ≡ view_of t
+pub view_quiet : (s t : KernelState) → IsQuiet s t → view_of s ≡ view_of t
 view_quiet s t q = rw (q.members, q.started, q.queue) refl
 
-pub quiet : (s t : State) → IsQuiet s t → GoesOn s t
+pub quiet : (s t : KernelState) → IsQuiet s t → GoesOn s t
 quiet s t q = record {
   added = [];
   wrote = q.lines ∙ sym (append-nil s.lines);
@@ -77,7 +77,7 @@ quiet s t q = record {
 pub lines_joined : (a b c x y : List Line) → b ≡ a ++ x → c ≡ b ++ y → c ≡ a ++ (x ++ y)
 lines_joined a b c x y e f = f ∙ ap (λ k. k ++ y) e ∙ append_assoc a x y
 
-pub joined : (a b c : State) → GoesOn a b → GoesOn b c → GoesOn a c
+pub joined : (a b c : KernelState) → GoesOn a b → GoesOn b c → GoesOn a c
 joined a b c h i = record {
   added = h.added ++ i.added;
   wrote = lines_joined a.lines b.lines c.lines h.added i.added h.wrote i.wrote;
@@ -85,7 +85,7 @@ joined a b c h i = record {
   sound = λ k. i.sound (h.sound k);
 }
 
-ended : (a b c : State) → GoesOn a b → Stops b c → Stops a c
+ended : (a b c : KernelState) → GoesOn a b → Stops b c → Stops a c
 ended a b c h i = record {
   added = h.added ++ i.added;
   wrote = lines_joined a.lines b.lines c.lines h.added i.added h.wrote i.wrote;
@@ -98,7 +98,7 @@ chain = record { same = λ s. quiet s s (quiet_same s); joined = joined; ended =
 -- lines
 
 -- one more line, which a step of the machine writes
-one_line : (s u : State) (w : What) → u.lines ≡ s.lines → Moves (view_of s) (seen_what w ∷ []) (view_of u) → (SystemStays s → SystemStays u) → GoesOn s (with_line u w)
+one_line : (s u : KernelState) (w : What) → u.lines ≡ s.lines → Moves (view_of s) (seen_what w ∷ []) (view_of u) → (SystemStays s → SystemStays u) → GoesOn s (with_line u w)
 one_line s u w e m f = record {
   added = record { at = u.moment; what = w } ∷ [];
   wrote = ap (λ l. l ++ record { at = u.moment; what = w } ∷ []) e;
@@ -107,22 +107,22 @@ one_line s u w e m f = record {
 }
 
 -- a line about no process and no event
-pub line_aside : (s : State) (w : What) → seen_what w ≡ handed.Other → GoesOn s (with_line s w)
+pub line_aside : (s : KernelState) (w : What) → seen_what w ≡ handed.Other → GoesOn s (with_line s w)
 line_aside s w e = one_line s s w refl (rw e (other_moves (view_of s))) (λ h. h)
 
-pub halts : (s : State) → Stops s (halted_of s)
+pub halts : (s : KernelState) → Stops s (halted_of s)
 unfolding halted_of
 halts s = record { added = record { at = s.moment; what = what.Halt } ∷ []; wrote = refl; halts = halt_stops (view_of s) }
 
 -- steps without a change that the delivery of events sees
 
-pub poll_quiet : (s : State) (p : Proc) → IsQuiet s (poll_of s p)
+pub poll_quiet : (s : KernelState) (p : Proc) → IsQuiet s (poll_of s p)
 unfolding with_needs_poll
 poll_quiet s p = polled_or_not (IsQuiet s) s p (record { lines = refl; members = refl; started = refl; queue = refl }) (quiet_same s)
 
 -- the process list
 
-pub listed_alike : (ms : List Member) (p : Proc) → is_found_in ms p ≡ handed.is_listed (map seen_member ms) (place_of p)
+pub listed_alike : (ms : List Member) (p : Proc) → is_found_in ms p ≡ handed.has_incarnation (map seen_member ms) (place_of p)
 listed_alike [] p = refl
 listed_alike (m ∷ ms) p = grind (arith, nat_tests, listed_alike ms p)
 
@@ -130,13 +130,13 @@ pub any_or : (b c : Bool) → c ≡ true → (b || c) ≡ true
 any_or true c e = refl
 any_or false c e = e
 
-starts : (s : State) (p : Proc) → is_listed s p ≡ false → GoesOn s (with_started s p)
+starts : (s : KernelState) (p : Proc) → is_listed s p ≡ false → GoesOn s (with_started s p)
 unfolding with_state
 starts s p n =
     one_line s _ (what.Start p) refl (start_moves (view_of s) (place_of p) (sym (listed_alike s.members p) ∙ n)) (λ h. record { stays = any_or (is_same Etimer p) (is_listed s Etimer) h.stays; fits = h.fits })
 
 -- the state is sound after the etimer process started, if no event is queued
-pub first_sound : (s : State) (a : Unit {0}) (t : State) → s.queue.events ≡ [] → enlist_of s Etimer ≡ Goes a t → SystemStays t
+pub first_sound : (s : KernelState) (a : Unit {0}) (t : KernelState) → s.queue.events ≡ [] → enlist_of s Etimer ≡ Goes a t → SystemStays t
 unfolding with_state
 first_sound s a t f e =
     let u = with_started s Etimer in
@@ -158,31 +158,31 @@ pub others_stay : (ms : List Member) (p q : Proc) → (place_of q == place_of p)
 others_stay [] p q e = refl
 others_stay (m ∷ ms) p q e = grind (arith, nat_tests, others_stay ms p q e)
 
-pub etimer_is_not_own : (p : Proc) → IsOwn p → (place_of Etimer == place_of p) ≡ false
+pub etimer_is_not_own : (p : Proc) → IsOwnProcess p → (place_of Etimer == place_of p) ≡ false
 etimer_is_not_own (Own p) own = grind (arith, nat_tests)
 etimer_is_not_own Etimer own = absurd own
 etimer_is_not_own Ctimer own = absurd own
 etimer_is_not_own Radio own = absurd own
 
-leaves_list : (s : State) (p : Proc) → IsOwn p → GoesOn s (without_process s p)
+leaves_list : (s : KernelState) (p : Proc) → IsOwnProcess p → GoesOn s (without_process s p)
 unfolding unlisted_of with_exiting
 leaves_list s p own =
     one_line s (unlisted_of (with_exiting s p false) p) (what.Leave p) refl (leave_moves (view_of s) (place_of p) _ (left_members s.members p)) (λ h. record { stays = others_stay s.members p Etimer (etimer_is_not_own p own) ∙ h.stays; fits = h.fits })
 
 -- the queue
 
-posts_at : (s u : State) (t : Target) (e : Event) → IsQuiet s u → FitsTarget t e.number → GoesOn s (with_event u t e)
+posts_at : (s u : KernelState) (t : Target) (e : Event) → IsQuiet s u → FitsTarget t e.number → GoesOn s (with_event u t e)
 posts_at s u t e q f =
     joined s u _ (quiet s u q) (one_line u (record u { queue = with_posted u.queue t e }) (what.Post u.queue.accepted t e.number e.word) refl (post_moves (view_of u) (seen_target t) _ (map-append seen_posted u.queue.events _))
     (λ h. record { stays = h.stays; fits = All-push (λ x. FitsTarget x.target x.event.number) u.queue.events _ h.fits f }))
 
 -- all small steps
 
-pub steps : AreSteps GoesOn Stops chain IsOwn Every
+pub steps : AreSteps GoesOn Stops chain IsOwnProcess Every
 unfolding put_remainder with_state exiting_of with_exiting
 steps = record {
   own = λ p own. own;
-  brackets = brackets_of GoesOn Stops chain IsOwn Every (λ s p o. quiet s _ (record { lines = refl; members = refl; started = refl; queue = refl })) (λ s p o. quiet s _ (record { lines = refl; members = refl; started = refl; queue = refl })) (λ s p o l. quiet s _ (record { lines = refl; members = refl; started = refl; queue = refl })) (λ s p o l. leaves_list s p l);
+  brackets = brackets_of GoesOn Stops chain IsOwnProcess Every (λ s p o. quiet s _ (record { lines = refl; members = refl; started = refl; queue = refl })) (λ s p o. quiet s _ (record { lines = refl; members = refl; started = refl; queue = refl })) (λ s p o l. quiet s _ (record { lines = refl; members = refl; started = refl; queue = refl })) (λ s p o l. leaves_list s p l);
   halts = halts;
   units = λ s n l. quiet s _ (record { lines = refl; members = refl; started = refl; queue = refl });
   busy = λ s p. line_aside s (what.Busy p) refl;
@@ -209,11 +209,11 @@ steps = record {
 }
 
 pub fits_other : (p : Proc) (number : ℕ) → (number == system_number Exit) ≡ false → FitsTarget (One p) number
-fits_other p number e = fits_no_exit GoesOn Stops chain IsOwn Every p number e
+fits_other p number e = fits_no_exit GoesOn Stops chain IsOwnProcess Every p number e
 
 -- the calls of a process, and the runs of a thread
 abbrev pub AreRuns : Calls → Type 0
-AreRuns calls = AreLed GoesOn Stops chain IsOwn Every calls
+AreRuns calls = AreLed GoesOn Stops chain IsOwnProcess Every calls
 
 pub calls_run : (k : ℕ) → AreRuns (calls_of k)
-calls_run k = calls_led GoesOn Stops chain IsOwn steps k
+calls_run k = calls_led GoesOn Stops chain IsOwnProcess steps k

@@ -9,7 +9,7 @@ use Rattle.process_kernel.specs.declared.process.ProcessState.{ProcessState}
 use Rattle.process_kernel.specs.declared.process.ProcessState.TheVariants.{Off}
 use Rattle.process_kernel.specs.declared.process.Member.{Member}
 use Rattle.process_kernel.specs.Members.{place_of, is_same}
-use Rattle.process_kernel.specs.State.{State}
+use Rattle.process_kernel.specs.State.{KernelState}
 use Rattle.process_kernel.specs.Processes.{with_state, with_exiting}
 use Rattle.kernel_laws.specs.InStep.{state_at_place, exiting_at, listed_in, AreInStep, IsInStep}
 
@@ -51,19 +51,19 @@ pub others_listed : (m : Member) (ms : List Member) (k : ℕ) → (k ≡ place_o
 others_listed m ms k h = grind (arith, nat_tests, h)
 
 -- the two states differ only at this place
-pub record DiffersAt (p : ℕ) (s t : State) : Type 0 where
+pub record DiffersAt (p : ℕ) (s t : KernelState) : Type 0 where
   pub states : (k : ℕ) → (k ≡ p → ⊥) → state_at_place t k ≡ state_at_place s k
   pub exiting : (k : ℕ) → (k ≡ p → ⊥) → exiting_at t k ≡ exiting_at s k
   pub listed : (k : ℕ) → (k ≡ p → ⊥) → listed_in t.members k ≡ listed_in s.members k
   pub tables : length s.exiting ≡ length s.states → length t.exiting ≡ length t.states
 
-pub in_step_but : (p : ℕ) (s t : State) → IsInStep s → DiffersAt p s t → AreInStep (state_at_place t p) (exiting_at t p) (listed_in t.members p) → IsInStep t
+pub in_step_but : (p : ℕ) (s t : KernelState) → IsInStep s → DiffersAt p s t → AreInStep (state_at_place t p) (exiting_at t p) (listed_in t.members p) → IsInStep t
 in_step_but p s t i d h = record {
   tables = d.tables i.tables;
   each = λ k. elim (is_equal k p) [ inl e ↦ rw e h | inr n ↦ rw (d.states k n, d.exiting k n, d.listed k n) (i.each k) ];
 }
 
-pub state_differs : (s : State) (p : Proc) (x : ProcessState) → DiffersAt (place_of p) s (with_state s p x)
+pub state_differs : (s : KernelState) (p : Proc) (x : ProcessState) → DiffersAt (place_of p) s (with_state s p x)
 unfolding with_state
 state_differs s p x = record {
   states = λ k n. set_other s.states (place_of p) k x Off n;
@@ -72,7 +72,7 @@ state_differs s p x = record {
   tables = λ e. e ∙ sym (length-set s.states (place_of p) x);
 }
 
-pub exiting_differs : (s : State) (p : Proc) (b : Bool) → DiffersAt (place_of p) s (with_exiting s p b)
+pub exiting_differs : (s : KernelState) (p : Proc) (b : Bool) → DiffersAt (place_of p) s (with_exiting s p b)
 unfolding with_exiting
 exiting_differs s p b = record {
   states = λ k n. refl;
@@ -81,7 +81,7 @@ exiting_differs s p b = record {
   tables = λ e. length-set s.exiting (place_of p) b ∙ e;
 }
 
-pub differs_twice : (p : ℕ) (s t u : State) → DiffersAt p s t → DiffersAt p t u → DiffersAt p s u
+pub differs_twice : (p : ℕ) (s t u : KernelState) → DiffersAt p s t → DiffersAt p t u → DiffersAt p s u
 differs_twice p s t u d e = record {
   states = λ k n. e.states k n ∙ d.states k n;
   exiting = λ k n. e.exiting k n ∙ d.exiting k n;
@@ -89,10 +89,10 @@ differs_twice p s t u d e = record {
   tables = λ x. e.tables (d.tables x);
 }
 
-pub state_set : (s : State) (p : Proc) (x : ProcessState) → place_of p < length s.states → state_at_place (with_state s p x) (place_of p) ≡ x
+pub state_set : (s : KernelState) (p : Proc) (x : ProcessState) → place_of p < length s.states → state_at_place (with_state s p x) (place_of p) ≡ x
 unfolding with_state
 state_set s p x h = set_same s.states (place_of p) x Off h
 
-pub exiting_set : (s : State) (p : Proc) (b : Bool) → place_of p < length s.exiting → exiting_at (with_exiting s p b) (place_of p) ≡ b
+pub exiting_set : (s : KernelState) (p : Proc) (b : Bool) → place_of p < length s.exiting → exiting_at (with_exiting s p b) (place_of p) ≡ b
 unfolding with_exiting
 exiting_set s p b h = set_same s.exiting (place_of p) b false h

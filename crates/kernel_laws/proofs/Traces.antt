@@ -9,11 +9,11 @@ use Rattle.program_tree.specs.Code.{Tree}
 use Rattle.process_kernel.specs.declared.process.ProcessState.TheVariants.{Off}
 use Rattle.trace_lines.specs.declared.line.Line.{Line}
 use Rattle.radio_packet.specs.declared.sent.Sent.{Sent}
-use Rattle.process_kernel.specs.State.{State, Outcome, Ends, Goes}
-use Rattle.process_kernel.specs.Mote.{Mote, unbooted, with_poll, with_packet}
+use Rattle.process_kernel.specs.State.{KernelState, Outcome, Ends, Goes}
+use Rattle.process_kernel.specs.KernelModel.{KernelModel, unbooted, with_poll, with_packet}
 use Rattle.process_kernel.specs.Given.{Given, given, boot_given, run_given}
-use Rattle.kernel_laws.specs.Going.{GoesWithAs, GoesWith, Adds, IsNote}
-use Rattle.kernel_laws.specs.Traces.{KernelCall, RunAt, PollOf, Accepts, Notes, Traced, with_given, after_call, after_calls, booted_at}
+use Rattle.kernel_laws.specs.Going.{GoesWithAs, GoesWith, AppendsLines, IsNote}
+use Rattle.kernel_laws.specs.Traces.{KernelCall, RunAt, PollOf, Accepts, Notes, Traced, with_given, traced_after_call, traced_after_calls, booted_at}
 use Rattle.kernel_laws.specs.Laws.{KernelsHandOn, NoLinesGoFirst}
 use Rattle.kernel_laws.proofs.Motes.{goes_unbooted, run_adds, boot_adds, poll_keeps, packet_keeps, note_keeps, in_order}
 
@@ -32,7 +32,7 @@ no_lines_first program mote queue =
     let n = length program.processes in record { matches = record { walked = 0; runs = stays }; blank = record { members = refl; events = refl; idle = rw (is_off n, is_unset n) refl; there = is_there n } }
 
 -- a call without earlier lines adds all the lines that it returns
-given_adds : (t : Traced) (g : Given) → Adds t.lines [] g → GoesWith (with_given t g).lines (with_given t g).mote
+given_adds : (t : Traced) (g : Given) → AppendsLines t.lines [] g → GoesWith (with_given t g).lines (with_given t g).mote
 given_adds t g h = rw (h.wrote) h.goes
 
 -- a booted mote and lines that agree with it
@@ -48,16 +48,16 @@ unless_booted : (h : Bool) (f g : Given) → f.mote.booted ≡ true → g.mote.b
 unless_booted true f g a b = a
 unless_booted false f g a b = b
 
-pub run_booted : (m : Mote) (moment : ℕ) (before : List Line) (sends : List Sent) → m.booted ≡ true → (run_given moment m before sends).mote.booted ≡ true
+pub run_booted : (m : KernelModel) (moment : ℕ) (before : List Line) (sends : List Sent) → m.booted ≡ true → (run_given moment m before sends).mote.booted ≡ true
 unfolding run_given
 run_booted m moment before sends b = unless_booted m.halted _ _ b (given_booted _)
 
 -- a mote that was not booted, and whose lines agree with it, has not halted
-open_first : (halted : Bool) (lines : List Line) (s : State) → GoesWithAs false halted lines s → halted ≡ false
+open_first : (halted : Bool) (lines : List Line) (s : KernelState) → GoesWithAs false halted lines s → halted ≡ false
 open_first true lines s g = absurd g
 open_first false lines s g = refl
 
-pub boot_booted : (lines : List Line) (m : Mote) (moment : ℕ) (before : List Line) (sends : List Sent) → m.booted ≡ false → GoesWith lines m → (boot_given moment m before sends).mote.booted ≡ true
+pub boot_booted : (lines : List Line) (m : KernelModel) (moment : ℕ) (before : List Line) (sends : List Sent) → m.booted ≡ false → GoesWith lines m → (boot_given moment m before sends).mote.booted ≡ true
 unfolding boot_given
 boot_booted lines m moment before sends b g =
     let h : m.halted ≡ false = open_first m.halted lines m.state (goes_unbooted lines m b g) in rw h (given_booted _)
@@ -66,7 +66,7 @@ noted : (t : Traced) (l : Line) → IsNote l.what → (h : Bool) → t.mote.halt
 noted t l n true e i = i
 noted t l n false e i = record { booted = i.booted; goes = note_keeps t.lines t.mote l e n i.goes }
 
-call_traced : (t : Traced) (c : KernelCall) → IsTraced t → IsTraced (after_call t c)
+call_traced : (t : Traced) (c : KernelCall) → IsTraced t → IsTraced (traced_after_call t c)
 unfolding with_poll with_packet
 call_traced t (RunAt moment) i = record {
   booted = run_booted t.mote moment [] [] i.booted;
@@ -76,9 +76,9 @@ call_traced t (PollOf p) i = record { booted = i.booted; goes = poll_keeps t.lin
 call_traced t (Accepts a) i = record { booted = i.booted; goes = packet_keeps t.lines t.mote a i.goes }
 call_traced t (Notes l n) i = noted t l n t.mote.halted refl i
 
-calls_traced : (cs : List KernelCall) (t : Traced) → IsTraced t → IsTraced (after_calls t cs)
+calls_traced : (cs : List KernelCall) (t : Traced) → IsTraced t → IsTraced (traced_after_calls t cs)
 calls_traced [] t i = i
-calls_traced (c ∷ cs) t i = calls_traced cs (after_call t c) (call_traced t c i)
+calls_traced (c ∷ cs) t i = calls_traced cs (traced_after_call t c) (call_traced t c i)
 
 boot_traced : (program : Tree) (mote queue moment : ℕ) → IsTraced (booted_at program mote queue moment)
 unfolding boot_given unbooted

@@ -14,13 +14,13 @@ use Rattle.process_kernel.specs.declared.process.Member.{Member}
 use Rattle.trace_lines.specs.declared.line.What.{What}
 use Rattle.trace_lines.specs.declared.line.What.TheVariants as what
 use Rattle.process_kernel.specs.Members.{place_of}
-use Rattle.process_kernel.specs.State.{State}
+use Rattle.process_kernel.specs.State.{KernelState}
 use Rattle.process_kernel.specs.Processes.{is_alive, process_state, process_needs_poll, with_state, with_exiting, with_needs_poll}
 use Rattle.process_kernel.specs.ProcessList.{put_remainder, exiting_of, unlisted_of}
 use Rattle.process_kernel.specs.Posts.{poll_of}
 use Rattle.process_kernel.specs.TimerOperations.{timer_is_set}
 use Rattle.process_kernel.specs.Writes.{with_line}
-use Rattle.kernel_laws.specs.Own.{IsOwn}
+use Rattle.kernel_laws.specs.Own.{IsOwnProcess}
 use Rattle.kernel_laws.specs.Poll.{PollWaits, CanBePolled}
 use Rattle.kernel_laws.specs.Due.{IsDueFor, NoneIsDue, ForgetsNone}
 use Rattle.kernel_laws.proofs.Alive.{Alive, needs_poll_more, alive_still, alive_joined, alive_state, alive_exiting, alive_needs_poll, alive_longer, alive_shorter}
@@ -30,7 +30,7 @@ use Rattle.kernel_laws.proofs.Timers.{other_timer}
 use Rattle.kernel_laws.proofs.EachStep.{Every, Whatever, AreJoined, AreSteps, brackets_of, with_started}
 
 -- an invariant of a step: whether this process still needs a poll
-pub record Watches (p : Proc) (s t : State) : Type 0 where
+pub record Watches (p : Proc) (s t : KernelState) : Type 0 where
   pub moment : t.moment ≡ s.moment
   pub etimer : Alive Etimer s t
   pub radio : Alive Radio s t
@@ -38,18 +38,18 @@ pub record Watches (p : Proc) (s t : State) : Type 0 where
   pub poll_requested : s.poll_requested ≡ true → t.poll_requested ≡ true
   pub due : p ≡ Etimer → CanBePolled Etimer s → NoneIsDue s.moment s.timers → ForgetsNone t.moment t
 
-pub still_waits : (p : Proc) (s t : State) → Watches p s t → PollWaits p s → PollWaits p t
+pub still_waits : (p : Proc) (s t : KernelState) → Watches p s t → PollWaits p s → PollWaits p t
 still_waits p s t h w = record { needs_poll = h.needs_poll w.needs_poll; poll_requested = h.poll_requested w.poll_requested }
 
-forgets_by : (p : Proc) (s t : State) → Watches p s t → p ≡ Etimer → CanBePolled Etimer s → ForgetsNone s.moment s → ForgetsNone t.moment t
+forgets_by : (p : Proc) (s t : KernelState) → Watches p s t → p ≡ Etimer → CanBePolled Etimer s → ForgetsNone s.moment s → ForgetsNone t.moment t
 forgets_by p s t h e c (inl n) = h.due e c n
 forgets_by p s t h e c (inr w) = inr (subst (λ q. PollWaits q t) e (still_waits p s t h (subst (λ q. PollWaits q s) (sym e) w)))
 
-pub forgets_on : (s t : State) → Watches Etimer s t → CanBePolled Etimer s → ForgetsNone s.moment s → ForgetsNone t.moment t
+pub forgets_on : (s t : KernelState) → Watches Etimer s t → CanBePolled Etimer s → ForgetsNone s.moment s → ForgetsNone t.moment t
 forgets_on s t h c f = forgets_by Etimer s t h refl c f
 
 -- none of these values changes
-pub record IsStill (s t : State) : Type 0 where
+pub record IsStill (s t : KernelState) : Type 0 where
   pub moment : t.moment ≡ s.moment
   pub states : t.states ≡ s.states
   pub needs_poll : t.needs_poll ≡ s.needs_poll
@@ -64,7 +64,7 @@ pub radio_system : place_of Radio < 3
 radio_system = omega arith
 
 -- a poll is requested
-pub waits_now : (p : Proc) (s : State) → CanBePolled p s → PollWaits p (poll_of s p)
+pub waits_now : (p : Proc) (s : KernelState) → CanBePolled p s → PollWaits p (poll_of s p)
 unfolding poll_of with_needs_poll
 waits_now p s c = rw (c.alive) (record { needs_poll = set_same s.needs_poll (place_of p) true false (below_of (place_of p) (length s.needs_poll) c.can_need_poll); poll_requested = refl })
 
@@ -97,7 +97,7 @@ unpurged_due moment l p id owner d =
     record { listed = (is_left (λ k. not (is_owned_by p (timer_at l.timers k))) id l.listed d.listed).0; due = d.due; owned = d.owned }
 
 module _ (p : Proc) where
-  pub watches_still : (s t : State) → IsStill s t → Watches p s t
+  pub watches_still : (s t : KernelState) → IsStill s t → Watches p s t
   watches_still s t q = record {
     moment = q.moment;
     etimer = alive_still Etimer etimer_system s t q.states q.needs_poll q.members;
@@ -107,10 +107,10 @@ module _ (p : Proc) where
     due = λ is c n. inl (rw (q.moment, q.timers) n);
   }
 
-  watches_same : (s : State) → Watches p s s
+  watches_same : (s : KernelState) → Watches p s s
   watches_same s = watches_still s s (record { moment = refl; states = refl; needs_poll = refl; poll_requested = refl; members = refl; timers = refl })
 
-  pub watches_joined : (a b c : State) → Watches p a b → Watches p b c → Watches p a c
+  pub watches_joined : (a b c : KernelState) → Watches p a b → Watches p b c → Watches p a c
   watches_joined a b c h i = record {
     moment = i.moment ∙ h.moment;
     etimer = alive_joined Etimer etimer_system a b c h.etimer i.etimer;
@@ -125,7 +125,7 @@ module _ (p : Proc) where
 
   -- states, and the processes that need a poll
 
-  watches_state : (s : State) (q : Proc) (x : ProcessState) → is_alive x ≡ true → Watches p s (with_state s q x)
+  watches_state : (s : KernelState) (q : Proc) (x : ProcessState) → is_alive x ≡ true → Watches p s (with_state s q x)
   unfolding with_state
   watches_state s q x alive = record {
     moment = refl;
@@ -136,7 +136,7 @@ module _ (p : Proc) where
     due = λ is c n. inl n;
   }
 
-  watches_exiting : (s : State) (q : Proc) → IsOwn q → Watches p s (exiting_of s q)
+  watches_exiting : (s : KernelState) (q : Proc) → IsOwnProcess q → Watches p s (exiting_of s q)
   unfolding exiting_of with_exiting with_state
   watches_exiting s q own = record {
     moment = refl;
@@ -147,7 +147,7 @@ module _ (p : Proc) where
     due = λ is c n. inl n;
   }
 
-  pub watches_poll : (s : State) (q : Proc) → Watches p s (poll_of s q)
+  pub watches_poll : (s : KernelState) (q : Proc) → Watches p s (poll_of s q)
   unfolding poll_of with_needs_poll
   watches_poll s q = by (is_alive (process_state s q))
     where
@@ -165,7 +165,7 @@ module _ (p : Proc) where
       by false = watches_same s
 
   -- `needs_poll` of another process is cleared
-  pub watches_cleared : (s : State) (q : Proc) → (place_of p ≡ place_of q → ⊥) → Watches p s (with_needs_poll s q false)
+  pub watches_cleared : (s : KernelState) (q : Proc) → (place_of p ≡ place_of q → ⊥) → Watches p s (with_needs_poll s q false)
   unfolding with_needs_poll
   watches_cleared s q n = record {
     moment = refl;
@@ -178,7 +178,7 @@ module _ (p : Proc) where
 
   -- timers
 
-  watches_set : (s : State) (timers : TimerLists) (timer : ℕ) → Watches p s (timer_is_set (record s { timers = timers }) timer)
+  watches_set : (s : KernelState) (timers : TimerLists) (timer : ℕ) → Watches p s (timer_is_set (record s { timers = timers }) timer)
   unfolding timer_is_set
   watches_set s timers timer =
       let h = watches_poll _ Etimer in record {
@@ -191,7 +191,7 @@ module _ (p : Proc) where
       }
 
   -- fewer timers are due, and no other value changes
-  watches_fewer : (s : State) (timers : TimerLists) → ((id : ℕ) (owner : Proc) → IsDueFor s.moment timers id owner → IsDueFor s.moment s.timers id owner) → Watches p s (record s { timers = timers })
+  watches_fewer : (s : KernelState) (timers : TimerLists) → ((id : ℕ) (owner : Proc) → IsDueFor s.moment timers id owner → IsDueFor s.moment s.timers id owner) → Watches p s (record s { timers = timers })
   watches_fewer s timers f = record {
     moment = refl;
     etimer = alive_still Etimer etimer_system s _ refl refl refl;
@@ -201,12 +201,12 @@ module _ (p : Proc) where
     due = λ is c n. inl (λ id owner d. n id owner (f id owner d));
   }
 
-  pub watches_line : (s : State) (w : What) → Watches p s (with_line s w)
+  pub watches_line : (s : KernelState) (w : What) → Watches p s (with_line s w)
   watches_line s w = watches_still s _ (record { moment = refl; states = refl; needs_poll = refl; poll_requested = refl; members = refl; timers = refl })
 
   -- the process list
 
-  watches_longer : (s : State) (m : Member) (n : ℕ) → Watches p s (record s { members = m ∷ s.members; started = n })
+  watches_longer : (s : KernelState) (m : Member) (n : ℕ) → Watches p s (record s { members = m ∷ s.members; started = n })
   watches_longer s m n = record {
     moment = refl;
     etimer = alive_longer Etimer etimer_system s m n;
@@ -216,13 +216,13 @@ module _ (p : Proc) where
     due = λ is c d. inl d;
   }
 
-  watches_started : (s : State) (q : Proc) → Watches p s (with_started s q)
+  watches_started : (s : KernelState) (q : Proc) → Watches p s (with_started s q)
   watches_started s q =
       let a = record s { members = record { process = q; incarnation = s.started } ∷ s.members; started = s.started + 1 } in
       let b = with_state a q Running in
       watches_joined s a _ (watches_longer s _ _) (watches_joined a b _ (watches_state a q Running refl) (watches_still b _ (record { moment = refl; states = refl; needs_poll = refl; poll_requested = refl; members = refl; timers = refl })))
 
-  watches_shorter : (s : State) (q : Proc) → IsOwn q → Watches p s (unlisted_of (with_exiting s q false) q)
+  watches_shorter : (s : KernelState) (q : Proc) → IsOwnProcess q → Watches p s (unlisted_of (with_exiting s q false) q)
   unfolding unlisted_of with_exiting
   watches_shorter s q own = record {
     moment = refl;
@@ -233,11 +233,11 @@ module _ (p : Proc) where
     due = λ is c n. inl n;
   }
 
-  pub steps : AreSteps (Watches p) Whatever chain IsOwn Every
+  pub steps : AreSteps (Watches p) Whatever chain IsOwnProcess Every
   unfolding put_remainder
   steps = record {
     own = λ q own. own;
-    brackets = brackets_of (Watches p) Whatever chain IsOwn Every (λ s q o. watches_state s q Called refl) (λ s q o. watches_state s q Running refl) (λ s q o own. watches_exiting s q own)
+    brackets = brackets_of (Watches p) Whatever chain IsOwnProcess Every (λ s q o. watches_state s q Called refl) (λ s q o. watches_state s q Running refl) (λ s q o own. watches_exiting s q own)
         (λ s q o own. watches_joined s _ _ (watches_shorter s q own) (watches_line _ (what.Leave q)));
     halts = λ s. tt;
     units = λ s n l. watches_still s _ (record { moment = refl; states = refl; needs_poll = refl; poll_requested = refl; members = refl; timers = refl });

@@ -15,14 +15,14 @@ use Rattle.process_kernel.specs.declared.process.ProcessState.TheVariants.{Off, 
 use Rattle.process_kernel.specs.declared.process.Member.{Member}
 use Rattle.trace_lines.specs.declared.line.What.TheVariants as what
 use Rattle.process_kernel.specs.Members.{place_of}
-use Rattle.process_kernel.specs.State.{State, Outcome, Went, Ends, Goes}
+use Rattle.process_kernel.specs.State.{KernelState, Outcome, Went, Ends, Goes}
 use Rattle.process_kernel.specs.Processes.{is_alive, is_running, is_running_state, is_called_state, process_state, process_needs_poll, is_listed, is_on_list, has_process, with_needs_poll}
 use Rattle.process_kernel.specs.Writes.{write_of}
 use Rattle.process_kernel.specs.Calls.{Calls, own_event}
 use Rattle.process_kernel.specs.Polls.{walk_polls, polls_of, polls_due_of, poll_turn_of}
 use Rattle.process_kernel.specs.Delivery.{give_of, visit_of, walk_broadcast, deliver_to, deliver_of}
 use Rattle.process_kernel.specs.Run.{deliver_front, kernel_of}
-use Rattle.kernel_laws.specs.Own.{IsOwn, FitsTarget}
+use Rattle.kernel_laws.specs.Own.{IsOwnProcess, FitsTarget}
 use Rattle.kernel_laws.specs.Going.{SystemStays}
 use Rattle.kernel_laws.specs.InStep.{IsInStep, IsIdle}
 use Rattle.kernel_laws.specs.Due.{NoneIsDue, ForgetsNone}
@@ -39,12 +39,12 @@ use Rattle.kernel_laws.proofs.Watch.{Watches, chain, watches_still, watches_line
 use Rattle.kernel_laws.proofs.Passes.{Serves}
 
 -- the radio process can be polled, too
-pub record RadioIsReady (s : State) : Type 0 where
+pub record RadioIsReady (s : KernelState) : Type 0 where
   pub can : CanBePolled Radio s
   pub listed : is_listed s Radio ≡ true
 
 -- Etimer can be polled, because no process is in a call. The radio process can be polled, too, if it has started.
-pub record IsInState (started : Bool) (s : State) : Type 0 where
+pub record IsInState (started : Bool) (s : KernelState) : Type 0 where
   pub can : CanBePolled Etimer s
   pub step : IsInStep s
   pub idle : IsIdle s
@@ -53,7 +53,7 @@ pub record IsInState (started : Bool) (s : State) : Type 0 where
   pub radio_can_need_poll : nat_lt 2 (length s.needs_poll) ≡ true
   pub radio : started ≡ true → RadioIsReady s
 
-in_state_on : (r : Bool) (s t : State) → IsInState r s → Watches Etimer s t → tables.Keeps s t → IsInState r t
+in_state_on : (r : Bool) (s t : KernelState) → IsInState r s → Watches Etimer s t → tables.Keeps s t → IsInState r t
 in_state_on r s t h w k = record {
   can = w.etimer.can h.can;
   step = k.step;
@@ -69,28 +69,28 @@ runs_now Off a c = absurd (cc)
 runs_now Running a c = refl
 runs_now Called a c = absurd (cc)
 
-pub etimer_runs : (r : Bool) (s : State) → IsInState r s → is_running s Etimer ≡ true
+pub etimer_runs : (r : Bool) (s : KernelState) → IsInState r s → is_running s Etimer ≡ true
 etimer_runs r s h = runs_now (process_state s Etimer) h.can.alive (h.idle.called 0)
 
 -- no timer is forgotten at this moment
-pub record Good (r : Bool) (moment : ℕ) (t : State) : Type 0 where
+pub record Good (r : Bool) (moment : ℕ) (t : KernelState) : Type 0 where
   pub now_is : t.moment ≡ moment
   pub in_state : IsInState r t
   pub forgets : ForgetsNone moment t
 
-good_on : (r : Bool) (moment : ℕ) (s t : State) → Good r moment s → Watches Etimer s t → tables.Keeps s t → Good r moment t
+good_on : (r : Bool) (moment : ℕ) (s t : KernelState) → Good r moment s → Watches Etimer s t → tables.Keeps s t → Good r moment t
 good_on r moment s t g w k =
     let now : t.moment ≡ moment = w.moment ∙ g.now_is in
     let members_before : ForgetsNone s.moment s = subst (λ n. ForgetsNone n s) (sym g.now_is) g.forgets in
     record { now_is = now; in_state = in_state_on r s t g.in_state w k; forgets = subst (λ n. ForgetsNone n t) now (forgets_on s t w g.in_state.can members_before) }
 
-pub good_leads : (A : Type 0) (r : Bool) (moment : ℕ) (s : State) (o : Outcome A) → Good r moment s → Lead (Watches Etimer) Whatever A s o → tables.Kept A s o → IfGoes (Good r moment) o
+pub good_leads : (A : Type 0) (r : Bool) (moment : ℕ) (s : KernelState) (o : Outcome A) → Good r moment s → Lead (Watches Etimer) Whatever A s o → tables.Kept A s o → IfGoes (Good r moment) o
 good_leads A r moment s (Ends t) g w k = tt
 good_leads A r moment s (Goes a t) g w k = good_on r moment s t g w.leads (k.leads.kept g.in_state.step)
 
 -- `needs_poll` of a process is cleared
 
-pub cleared_in_state : (r : Bool) (s : State) (p : Proc) → IsInState r s → IsInState r (with_needs_poll s p false)
+pub cleared_in_state : (r : Bool) (s : KernelState) (p : Proc) → IsInState r s → IsInState r (with_needs_poll s p false)
 unfolding with_needs_poll
 cleared_in_state r s p h = record {
   can = record { alive = h.can.alive; can_need_poll = still_has 0 (place_of p) false s.needs_poll h.can.can_need_poll };
@@ -102,12 +102,12 @@ cleared_in_state r s p h = record {
   radio = λ e. let q = h.radio e in record { can = record { alive = q.can.alive; can_need_poll = still_has 2 (place_of p) false s.needs_poll q.can.can_need_poll }; listed = q.listed };
 }
 
-pub cleared_moment : (s : State) (p : Proc) → (with_needs_poll s p false).moment ≡ s.moment
+pub cleared_moment : (s : KernelState) (p : Proc) → (with_needs_poll s p false).moment ≡ s.moment
 unfolding with_needs_poll
 cleared_moment s p = refl
 
 -- `poll_requested` is cleared
-pub unrequested : (r : Bool) (s : State) → IsInState r s → IsInState r (record s { poll_requested = false })
+pub unrequested : (r : Bool) (s : KernelState) → IsInState r s → IsInState r (record s { poll_requested = false })
 unrequested r s h = record {
   can = record { alive = h.can.alive; can_need_poll = h.can.can_need_poll };
   step = (tables.keeps_still s (record s { poll_requested = false }) (record { states = refl; exiting = refl; members = refl }) h.step).step;
@@ -119,7 +119,7 @@ unrequested r s h = record {
 }
 
 -- the state when etimer's turn comes: etimer is on the list, and no timer is due or etimer needs a poll
-pub record Comes (r : Bool) (moment : ℕ) (x : Member) (t : State) : Type 0 where
+pub record Comes (r : Bool) (moment : ℕ) (x : Member) (t : KernelState) : Type 0 where
   pub now_is : t.moment ≡ moment
   pub in_state : IsInState r t
   pub there : is_on_list t x ≡ true
@@ -127,47 +127,47 @@ pub record Comes (r : Bool) (moment : ℕ) (x : Member) (t : State) : Type 0 whe
 
 -- the properties of the calls that nest one less deep
 pub record AreWatched (calls : Calls) : Type 0 where
-  pub led : AreLed (Watches Etimer) Whatever (chain Etimer) IsOwn Every calls
+  pub led : AreLed (Watches Etimer) Whatever (chain Etimer) IsOwnProcess Every calls
   pub kept : tables.AreKept calls
   pub reach : AreRuns calls
-  pub serves : (s : State) → is_running s Etimer ≡ true → CanBePolled Etimer s → IfGoes (Serves s) (calls.call s Etimer (own_event Poll 0))
+  pub serves : (s : KernelState) → is_running s Etimer ≡ true → CanBePolled Etimer s → IfGoes (Serves s) (calls.call s Etimer (own_event Poll 0))
 
 module _ (calls : Calls) (are : AreWatched calls) where
   -- a call that polls etimer
 
-  served_good : (r : Bool) (moment : ℕ) (s : State) (o : Went) → s.moment ≡ moment → IsInState r s → Lead (Watches Etimer) Whatever (Unit {0}) s o → tables.Kept (Unit {0}) s o → IfGoes (Serves s) o → IfGoes (Good r moment) o
+  served_good : (r : Bool) (moment : ℕ) (s : KernelState) (o : Went) → s.moment ≡ moment → IsInState r s → Lead (Watches Etimer) Whatever (Unit {0}) s o → tables.Kept (Unit {0}) s o → IfGoes (Serves s) o → IfGoes (Good r moment) o
   served_good r moment s (Ends t) e h w k f = tt
   served_good r moment s (Goes a t) e h w k f =
       let now : t.moment ≡ moment = w.leads.moment ∙ e in record { now_is = now; in_state = in_state_on r s t h w.leads (k.leads.kept h.step); forgets = subst (λ n. ForgetsNone n t) now f.forgets }
 
   -- a poll is not an exit
   pub fits_poll : (p : Proc) → FitsTarget (One p) (own_event Poll 0).number
-  fits_poll p = fits_no_exit (Watches Etimer) Whatever (chain Etimer) IsOwn Every p (own_event Poll 0).number refl
+  fits_poll p = fits_no_exit (Watches Etimer) Whatever (chain Etimer) IsOwnProcess Every p (own_event Poll 0).number refl
 
-  etimer_good : (r : Bool) (moment : ℕ) (s : State) → s.moment ≡ moment → IsInState r s → IfGoes (Good r moment) (calls.call s Etimer (own_event Poll 0))
+  etimer_good : (r : Bool) (moment : ℕ) (s : KernelState) → s.moment ≡ moment → IsInState r s → IfGoes (Good r moment) (calls.call s Etimer (own_event Poll 0))
   etimer_good r moment s e h =
       served_good r moment s _ e h (are.led.call s Etimer (own_event Poll 0) (fits_poll Etimer)) (are.kept.call s Etimer (own_event Poll 0) (λ q. tt)) (are.serves s (etimer_runs r s h) h.can)
 
-  other_good : (r : Bool) (moment : ℕ) (s : State) (p : Proc) → (0 ≡ place_of p → ⊥) → Good r moment s → IfGoes (Good r moment) (calls.call (with_needs_poll s p false) p (own_event Poll 0))
+  other_good : (r : Bool) (moment : ℕ) (s : KernelState) (p : Proc) → (0 ≡ place_of p → ⊥) → Good r moment s → IfGoes (Good r moment) (calls.call (with_needs_poll s p false) p (own_event Poll 0))
   other_good r moment s p n g = good_leads _ r moment s _ g (other_led Etimer calls are.led s p n) (lead_from tables.KeepsStep Whatever tables.chain _ s _ _ (tables.run_steps.cleared s p) (are.kept.call _ p (own_event Poll 0) (λ q. tt)))
 
-  polled_good : (r : Bool) (moment : ℕ) (s : State) (p : Proc) → Good r moment s → IfGoes (Good r moment) (calls.call (with_needs_poll s p false) p (own_event Poll 0))
+  polled_good : (r : Bool) (moment : ℕ) (s : KernelState) (p : Proc) → Good r moment s → IfGoes (Good r moment) (calls.call (with_needs_poll s p false) p (own_event Poll 0))
   polled_good r moment s (Own p) g = other_good r moment s (Own p) (λ e. omega arith) g
   polled_good r moment s Etimer g = etimer_good r moment (with_needs_poll s Etimer false) (cleared_moment s Etimer ∙ g.now_is) (cleared_in_state r s Etimer g.in_state)
   polled_good r moment s Ctimer g = other_good r moment s Ctimer (λ e. omega arith) g
   polled_good r moment s Radio g = other_good r moment s Radio (λ e. omega arith) g
 
-  turn_good : (r : Bool) (moment : ℕ) (s : State) (x : Member) → Good r moment s → IfGoes (Good r moment) (poll_turn_of calls s x)
+  turn_good : (r : Bool) (moment : ℕ) (s : KernelState) (x : Member) → Good r moment s → IfGoes (Good r moment) (poll_turn_of calls s x)
   unfolding poll_turn_of
   turn_good r moment s x g = goes_cases (Good r moment) (is_on_list s x && process_needs_poll s x.process) _ _ (λ e. polled_good r moment s x.process g) (λ e. g)
 
-  polls_good : (r : Bool) (moment : ℕ) (ms : List Member) (s : State) → Good r moment s → IfGoes (Good r moment) (walk_polls calls ms s)
+  polls_good : (r : Bool) (moment : ℕ) (ms : List Member) (s : KernelState) → Good r moment s → IfGoes (Good r moment) (walk_polls calls ms s)
   polls_good r moment [] s g = g
   polls_good r moment (x ∷ ms) s g = goes_bind _ _ (Good r moment) (Good r moment) (poll_turn_of calls s x) _ (turn_good r moment s x g) (λ a t h. polls_good r moment ms t h)
 
   -- before its turn etimer still needs a poll
 
-  comes_by : (r : Bool) (moment : ℕ) (x : Member) (s : State) (o : Went) → s.moment ≡ moment → IsInState r s → x.process ≡ Etimer → is_on_list s x ≡ true → NoneIsDue moment s.timers ⊎ (process_needs_poll s Etimer ≡ true)
+  comes_by : (r : Bool) (moment : ℕ) (x : Member) (s : KernelState) (o : Went) → s.moment ≡ moment → IsInState r s → x.process ≡ Etimer → is_on_list s x ≡ true → NoneIsDue moment s.timers ⊎ (process_needs_poll s Etimer ≡ true)
       → Lead (Watches Etimer) Whatever (Unit {0}) s o → tables.Kept (Unit {0}) s o → IfGoes (Comes r moment x) o
   comes_by r moment x s (Ends t) e h p there due w k = tt
   comes_by r moment x s (Goes a t) e h p there due w k =
@@ -181,11 +181,11 @@ module _ (calls : Calls) (are : AreWatched calls) where
       still (inl n) = on (w.leads.due refl h.can (subst (λ m. NoneIsDue m s.timers) (sym e) n))
       still (inr m) = inr (w.leads.needs_poll m)
 
-  pub comes : (r : Bool) (moment : ℕ) (x : Member) (s : State) → s.moment ≡ moment → IsInState r s → x.process ≡ Etimer → is_on_list s x ≡ true → NoneIsDue moment s.timers ⊎ (process_needs_poll s Etimer ≡ true) → IfGoes (Comes r moment x) (walk_polls calls (members_before Etimer s.members) s)
+  pub comes : (r : Bool) (moment : ℕ) (x : Member) (s : KernelState) → s.moment ≡ moment → IsInState r s → x.process ≡ Etimer → is_on_list s x ≡ true → NoneIsDue moment s.timers ⊎ (process_needs_poll s Etimer ≡ true) → IfGoes (Comes r moment x) (walk_polls calls (members_before Etimer s.members) s)
   comes r moment x s e h p there due =
       comes_by r moment x s _ e h p there due (before_led Etimer calls are.led s.members s) (tables.polls_kept calls are.kept (members_before Etimer s.members) s)
 
-  at_turn : (r : Bool) (moment : ℕ) (x : Member) (u : State) → x.process ≡ Etimer → Comes r moment x u → IfGoes (Good r moment) (poll_turn_of calls u x)
+  at_turn : (r : Bool) (moment : ℕ) (x : Member) (u : KernelState) → x.process ≡ Etimer → Comes r moment x u → IfGoes (Good r moment) (poll_turn_of calls u x)
   unfolding poll_turn_of
   at_turn r moment x u p c = rw (c.there, p) (by (process_needs_poll u Etimer) refl)
     where
@@ -197,14 +197,14 @@ module _ (calls : Calls) (are : AreWatched calls) where
       by true e = etimer_good r moment (with_needs_poll u Etimer false) (cleared_moment u Etimer ∙ c.now_is) (cleared_in_state r u Etimer c.in_state)
       by false e = record { now_is = c.now_is; in_state = c.in_state; forgets = none e c.due }
 
-  walk_good : (r : Bool) (moment : ℕ) (s : State) → s.moment ≡ moment → IsInState r s → NoneIsDue moment s.timers ⊎ (process_needs_poll s Etimer ≡ true) → IfGoes (Good r moment) (walk_polls calls s.members s)
+  walk_good : (r : Bool) (moment : ℕ) (s : KernelState) → s.moment ≡ moment → IsInState r s → NoneIsDue moment s.timers ⊎ (process_needs_poll s Etimer ≡ true) → IfGoes (Good r moment) (walk_polls calls s.members s)
   walk_good r moment s e h due =
       let k = splits Etimer s.members h.listed in
       rw (walk_splits Etimer calls s.members k.member k.after s k.split)
       (goes_bind _ _ (Comes r moment k.member) (Good r moment) (walk_polls calls (members_before Etimer s.members) s) _ (comes r moment k.member s e h k.is_it k.holds due)
       (λ a u c. goes_bind _ _ (Good r moment) (Good r moment) (poll_turn_of calls u k.member) _ (at_turn r moment k.member u k.is_it c) (λ b v g. polls_good r moment k.after v g)))
 
-  polls_due_good : (r : Bool) (moment : ℕ) (s : State) → Good r moment s → IfGoes (Good r moment) (polls_due_of calls s)
+  polls_due_good : (r : Bool) (moment : ℕ) (s : KernelState) → Good r moment s → IfGoes (Good r moment) (polls_due_of calls s)
   unfolding polls_due_of polls_of
   polls_due_good r moment s g =
       goes_cases (Good r moment) s.poll_requested _ _ (λ e. walk_good r moment (record s { poll_requested = false }) g.now_is (unrequested r s g.in_state) (weaker g.forgets)) (λ e. g)
@@ -215,15 +215,15 @@ module _ (calls : Calls) (are : AreWatched calls) where
 
   -- an event
 
-  give_led : (s : State) (x : Posted) (p : Proc) (there : Bool) → FitsTarget (One p) x.event.number → Lead (Watches Etimer) Whatever (Unit {0}) s (give_of calls s x p there)
+  give_led : (s : KernelState) (x : Posted) (p : Proc) (there : Bool) → FitsTarget (One p) x.event.number → Lead (Watches Etimer) Whatever (Unit {0}) s (give_of calls s x p there)
   unfolding give_of write_of
   give_led s x p there f =
       lead_if (Watches Etimer) Whatever (chain Etimer) _ s there _ _ (lead_from (Watches Etimer) Whatever (chain Etimer) _ s _ _ (watches_line Etimer s (what.Take x.serial p)) (are.led.call _ p x.event f)) (lead_goes (Watches Etimer) Whatever (chain Etimer) _ s tt _ (watches_line Etimer s (what.Drop x.serial p)))
 
-  give_good : (r : Bool) (moment : ℕ) (s : State) (x : Posted) (p : Proc) (there : Bool) → FitsTarget (One p) x.event.number → Good r moment s → IfGoes (Good r moment) (give_of calls s x p there)
+  give_good : (r : Bool) (moment : ℕ) (s : KernelState) (x : Posted) (p : Proc) (there : Bool) → FitsTarget (One p) x.event.number → Good r moment s → IfGoes (Good r moment) (give_of calls s x p there)
   give_good r moment s x p there f g = good_leads _ r moment s _ g (give_led s x p there f) (tables.give_kept calls are.kept s x p there)
 
-  walk_broadcast_good : (r : Bool) (moment : ℕ) (x : Posted) (ms : List Member) (s : State) → (x.event.number ≡ system_number Exit → ⊥) → Good r moment s → IfGoes (Good r moment) (walk_broadcast calls x ms s)
+  walk_broadcast_good : (r : Bool) (moment : ℕ) (x : Posted) (ms : List Member) (s : KernelState) → (x.event.number ≡ system_number Exit → ⊥) → Good r moment s → IfGoes (Good r moment) (walk_broadcast calls x ms s)
   unfolding visit_of
   walk_broadcast_good r moment x [] s f g = g
   walk_broadcast_good r moment x (m ∷ ms) s f g =
@@ -231,14 +231,14 @@ module _ (calls : Calls) (are : AreWatched calls) where
       (goes_bind _ _ (Good r moment) (Good r moment) (polls_due_of calls s) _ (polls_due_good r moment s g) (λ a t h. give_good r moment t x m.process (is_on_list t m) (λ q. absurd (f q)) h))
       (λ a t h. walk_broadcast_good r moment x ms t f h)
 
-  target_good : (r : Bool) (moment : ℕ) (target : Target) (s : State) (x : Posted) → FitsTarget target x.event.number → Good r moment s → IfGoes (Good r moment) (deliver_to target calls s x)
+  target_good : (r : Bool) (moment : ℕ) (target : Target) (s : KernelState) (x : Posted) → FitsTarget target x.event.number → Good r moment s → IfGoes (Good r moment) (deliver_to target calls s x)
   target_good r moment (One p) s x f g = give_good r moment s x p (is_listed s p) f g
   target_good r moment ToEach s x f g = walk_broadcast_good r moment x s.members s f g
 
-  untaken_good : (r : Bool) (moment : ℕ) (s : State) → Good r moment s → Good r moment (record s { queue = without_front s.queue })
+  untaken_good : (r : Bool) (moment : ℕ) (s : KernelState) → Good r moment s → Good r moment (record s { queue = without_front s.queue })
   untaken_good r moment s g = good_on r moment s _ g (watches_still Etimer s _ (record { moment = refl; states = refl; needs_poll = refl; poll_requested = refl; members = refl; timers = refl })) (tables.keeps_still s _ (record { states = refl; exiting = refl; members = refl }) g.in_state.step)
 
-  front_good : (r : Bool) (moment : ℕ) (q : List Posted) (s : State) → s.queue.events ≡ q → SystemStays s → Good r moment s → IfGoes (Good r moment) (deliver_front calls q s)
+  front_good : (r : Bool) (moment : ℕ) (q : List Posted) (s : KernelState) → s.queue.events ≡ q → SystemStays s → Good r moment s → IfGoes (Good r moment) (deliver_front calls q s)
   unfolding deliver_of
   front_good r moment [] s e h g = g
   front_good r moment (x ∷ q) s e h g =
@@ -247,11 +247,11 @@ module _ (calls : Calls) (are : AreWatched calls) where
 
   -- a kernel run
 
-  also_sound : (r : Bool) (moment : ℕ) (s : State) (o : Went) → SystemStays s → Reach (Unit {0}) s o → IfGoes (Good r moment) o → IfGoes (λ t. Good r moment t × SystemStays t) o
+  also_sound : (r : Bool) (moment : ℕ) (s : KernelState) (o : Went) → SystemStays s → Reach (Unit {0}) s o → IfGoes (Good r moment) o → IfGoes (λ t. Good r moment t × SystemStays t) o
   also_sound r moment s (Ends t) h k g = tt
   also_sound r moment s (Goes a t) h k g = (g, k.leads.sound h)
 
-  pub kernel_good : (r : Bool) (moment : ℕ) (s : State) → SystemStays s → Good r moment s → IfGoes (Good r moment) (kernel_of calls s)
+  pub kernel_good : (r : Bool) (moment : ℕ) (s : KernelState) → SystemStays s → Good r moment s → IfGoes (Good r moment) (kernel_of calls s)
   unfolding kernel_of
   kernel_good r moment s h g =
       goes_bind _ _ (λ t. Good r moment t × SystemStays t) (Good r moment) (polls_due_of calls s) _ (also_sound r moment s _ h (polls_due_run calls are.reach s) (polls_due_good r moment s g))

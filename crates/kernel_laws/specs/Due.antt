@@ -15,10 +15,10 @@ use Rattle.trace_lines.specs.declared.line.Line.{Line}
 use Rattle.radio_packet.specs.declared.sent.Sent.{Sent}
 use Rattle.trace_lines.specs.declared.line.What.{What}
 use Rattle.process_kernel.specs.Run.{most_units}
-use Rattle.process_kernel.specs.State.{State, Goes}
+use Rattle.process_kernel.specs.State.{KernelState, Goes}
 use Rattle.process_kernel.specs.Processes.{is_listed}
 use Rattle.process_kernel.specs.Call.{calls_of}
-use Rattle.process_kernel.specs.Mote.{Mote, unbooted}
+use Rattle.process_kernel.specs.KernelModel.{KernelModel, unbooted}
 use Rattle.process_kernel.specs.Given.{begun, boot_given, run_given}
 use Rattle.kernel_laws.specs.Going.{SystemStays}
 use Rattle.kernel_laws.specs.InStep.{IsInStep, IsIdle}
@@ -40,12 +40,12 @@ abbrev pub HaveOwners : TimerLists → Type 0
 HaveOwners l = (timer : ℕ) → is_member timer l.listed ≡ true → IsSome (timer_at l.timers timer).owner
 
 -- no timer is forgotten: no timer is due, or a poll of etimer waits
-abbrev pub ForgetsNone : (moment : ℕ) → State → Type 0
+abbrev pub ForgetsNone : (moment : ℕ) → KernelState → Type 0
 ForgetsNone moment s = NoneIsDue moment s.timers ⊎ PollWaits Etimer s
 
 -- a property of a kernel between its runs: etimer and the radio process can be polled and never leave, and no process
 -- is in a call
-pub record IsAtRest (s : State) : Type 0 where
+pub record IsAtRest (s : KernelState) : Type 0 where
   pub sound : SystemStays s
   pub step : IsInStep s
   pub idle : IsIdle s
@@ -64,7 +64,7 @@ pub record HasTelling (moment : ℕ) (lines : List Line) (target : Target) (numb
 -- A call forgets no timer: if none was forgotten before it, none is forgotten after it, whatever the call does.
 abbrev pub CallsForgetNone : Type 0
 CallsForgetNone =
-    (depth : ℕ) (s t : State) (p : Proc) (e : Event) → FitsTarget (One p) e.number → CanBePolled Etimer s
+    (depth : ℕ) (s t : KernelState) (p : Proc) (e : Event) → FitsTarget (One p) e.number → CanBePolled Etimer s
     → ForgetsNone s.moment s → (calls_of depth).call s p e ≡ Goes tt t
     → ForgetsNone t.moment t
 
@@ -78,21 +78,22 @@ BootForgetsNone =
 -- if a mote is at rest and no timer is forgotten, the same is true after a kernel run
 abbrev pub RunForgetsNone : Type 0
 RunForgetsNone =
-    (moment : ℕ) (m : Mote) (lines : List Line) (sends : List Sent) → IsAtRest m.state → ForgetsNone moment m.state
+    (moment : ℕ) (m : KernelModel) (lines : List Line) (sends : List Sent) → IsAtRest m.state
+    → ForgetsNone moment m.state
     → let after = (run_given moment m lines sends).mote in
     after.halted ≡ false → IsAtRest after.state × ForgetsNone moment after.state
 
 -- after boots and kernel runs each timer on the list still has an owner, even if the mote halts
 abbrev pub BootKeepsOwners : Type 0
-BootKeepsOwners = (moment : ℕ) (m : Mote) (lines : List Line) (sends : List Sent) → HaveOwners m.state.timers
+BootKeepsOwners = (moment : ℕ) (m : KernelModel) (lines : List Line) (sends : List Sent) → HaveOwners m.state.timers
     → HaveOwners (boot_given moment m lines sends).mote.state.timers
 
 abbrev pub RunKeepsOwners : Type 0
-RunKeepsOwners = (moment : ℕ) (m : Mote) (lines : List Line) (sends : List Sent) → HaveOwners m.state.timers
+RunKeepsOwners = (moment : ℕ) (m : KernelModel) (lines : List Line) (sends : List Sent) → HaveOwners m.state.timers
     → HaveOwners (run_given moment m lines sends).mote.state.timers
 
 -- Lines that a run appended: for each timer that is due in this state, one of these lines is about the timer.
-pub record TellsDue (moment : ℕ) (u : State) (lines after : List Line) : Type 0 where
+pub record TellsDue (moment : ℕ) (u : KernelState) (lines after : List Line) : Type 0 where
   pub added : List Line
   pub wrote : after ≡ lines ++ added
   pub each : (timer : ℕ) (owner : Proc) → IsDueFor moment u.timers timer owner
@@ -100,14 +101,14 @@ pub record TellsDue (moment : ℕ) (u : State) (lines after : List Line) : Type 
 
 -- the polls of a run that begins in this state reach etimer, and each timer that is due then has its line, unless the
 -- mote halts
-pub record PollsEtimer (moment : ℕ) (s : State) (lines after : List Line) : Type 0 where
-  pub at_turn : State
+pub record PollsEtimer (moment : ℕ) (s : KernelState) (lines after : List Line) : Type 0 where
+  pub at_turn : KernelState
   pub comes : polls_before Etimer (calls_of (most_units + 1)) s ≡ Goes tt at_turn
   pub tells : TellsDue moment at_turn lines after
 
 -- a kernel run in which a poll of etimer waits polls etimer, and each timer that is due then gets its line
 abbrev pub RunTellsDue : Type 0
 RunTellsDue =
-    (moment : ℕ) (m : Mote) (lines : List Line) (sends : List Sent) → m.halted ≡ false → IsAtRest m.state
+    (moment : ℕ) (m : KernelModel) (lines : List Line) (sends : List Sent) → m.halted ≡ false → IsAtRest m.state
     → PollWaits Etimer m.state → let g = run_given moment m lines sends in
     g.mote.halted ≡ false → PollsEtimer moment (begun m moment lines sends) lines g.lines

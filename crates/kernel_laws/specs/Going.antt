@@ -9,36 +9,36 @@ use Rattle.program_tree.specs.declared.event.Proc.TheVariants.{Etimer}
 use Rattle.trace_lines.specs.declared.line.Line.{Line}
 use Rattle.trace_lines.specs.declared.line.What.{What}
 use Rattle.trace_lines.specs.declared.line.What.TheVariants as what
-use Rattle.process_kernel.specs.State.{State}
+use Rattle.process_kernel.specs.State.{KernelState}
 use Rattle.process_kernel.specs.Processes.{has_process, is_busy, is_listed}
-use Rattle.process_kernel.specs.Mote.{Mote}
+use Rattle.process_kernel.specs.KernelModel.{KernelModel}
 use Rattle.process_kernel.specs.Given.{Given}
 use Rattle.kernel_laws.specs.Own.{FitsTarget}
 use Rattle.kernel_laws.specs.Seen.{seen_lines, view_of}
 
 -- the etimer process is on the list, and no waiting event can make a system process leave
-pub record SystemStays (s : State) : Type 0 where
+pub record SystemStays (s : KernelState) : Type 0 where
   pub stays : is_listed s Etimer ≡ true
   pub fits : All (λ x. FitsTarget x.target x.event.number) s.queue.events
 
 -- no process was started and no event posted, and the etimer process can start
-pub record IsBlank (s : State) : Type 0 where
+pub record IsBlank (s : KernelState) : Type 0 where
   pub members : s.members ≡ []
   pub events : s.queue.events ≡ []
   pub idle : is_busy s Etimer ≡ false
   pub there : has_process s Etimer ≡ true
 
 -- the lines are a run of the delivery machine to the mote's state, and no walk is in progress
-pub record GoesAsBooted (lines : List Line) (s : State) : Type 0 where
+pub record GoesAsBooted (lines : List Line) (s : KernelState) : Type 0 where
   pub matches : view.GoesWithView (seen_lines lines) (view_of s)
   pub sound : SystemStays s
 
 -- the lines of a mote that was not booted
-pub record GoesAsNew (lines : List Line) (s : State) : Type 0 where
+pub record GoesAsNew (lines : List Line) (s : KernelState) : Type 0 where
   pub matches : view.GoesWithView (seen_lines lines) (view_of s)
   pub blank : IsBlank s
 
-abbrev pub GoesWithAs : (booted halted : Bool) → List Line → State → Type 0
+abbrev pub GoesWithAs : (booted halted : Bool) → List Line → KernelState → Type 0
 GoesWithAs false false lines s = GoesAsNew lines s
 GoesWithAs false true lines s = ⊥
 GoesWithAs true false lines s = GoesAsBooted lines s
@@ -46,11 +46,11 @@ GoesWithAs true true lines s = HasHalted (seen_lines lines)
 
 -- The lines of a mote agree with it: they are a run of the delivery machine to the mote's state, or to its halt. No
 -- mote halts before it is booted.
-abbrev pub GoesWith : List Line → Mote → Type 0
+abbrev pub GoesWith : List Line → KernelModel → Type 0
 GoesWith lines m = GoesWithAs m.booted m.halted lines m.state
 
 -- A boot or a run appends some lines, and after that the mote's lines agree with the mote.
-pub record Adds (lines before : List Line) (g : Given) : Type 0 where
+pub record AppendsLines (lines before : List Line) (g : Given) : Type 0 where
   pub added : List Line
   pub wrote : g.lines ≡ before ++ added
   pub goes : GoesWith (lines ++ added) g.mote

@@ -5,14 +5,14 @@ use Rattle.process_kernel.specs.declared.process.ProcessState.{ProcessState}
 use Rattle.process_kernel.specs.declared.process.ProcessState.TheVariants.{Off, Running, Called}
 use Rattle.process_kernel.specs.declared.process.Member.{Member}
 use Rattle.process_kernel.specs.Members.{place_of}
-use Rattle.process_kernel.specs.State.{State}
+use Rattle.process_kernel.specs.State.{KernelState}
 use Rattle.process_kernel.specs.Processes.{is_called_state}
 
 -- for the process at this place: its state, whether it is being exited, and whether it is on the process list
-abbrev pub state_at_place : State → (place : ℕ) → ProcessState
+abbrev pub state_at_place : KernelState → (place : ℕ) → ProcessState
 state_at_place s k = unwrap_or (slice_get s.states k) Off
 
-abbrev pub exiting_at : State → (place : ℕ) → Bool
+abbrev pub exiting_at : KernelState → (place : ℕ) → Bool
 exiting_at s k = unwrap_or (slice_get s.exiting k) false
 
 abbrev pub listed_in : List Member → (place : ℕ) → Bool
@@ -25,16 +25,16 @@ AreInStep Off exiting listed = exiting ≡ listed
 AreInStep Running exiting listed = (exiting ≡ false) × (listed ≡ true)
 AreInStep Called exiting listed = (exiting ≡ false) × (listed ≡ true)
 
-pub record IsInStep (s : State) : Type 0 where
+pub record IsInStep (s : KernelState) : Type 0 where
   pub tables : length s.exiting ≡ length s.states
   pub each : (k : ℕ) → AreInStep (state_at_place s k) (exiting_at s k) (listed_in s.members k)
 
 -- the processes that are called or being exited are the same in both states
-pub record IsAsBusy (s t : State) : Type 0 where
+pub record IsAsBusy (s t : KernelState) : Type 0 where
   pub called : (k : ℕ) → is_called_state (state_at_place t k) ≡ is_called_state (state_at_place s k)
   pub exiting : (k : ℕ) → exiting_at t k ≡ exiting_at s k
 
 -- no process is called or being exited
-pub record IsIdle (s : State) : Type 0 where
+pub record IsIdle (s : KernelState) : Type 0 where
   pub called : (k : ℕ) → is_called_state (state_at_place s k) ≡ false
   pub exiting : (k : ℕ) → exiting_at s k ≡ false

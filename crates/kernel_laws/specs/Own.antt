@@ -7,13 +7,13 @@ use Rattle.program_tree.specs.declared.event.Target.TheVariants.{One, All}
 use Rattle.program_tree.specs.declared.event.SystemEvent.TheVariants.{Exit}
 use Rattle.program_tree.specs.Events.{system_number}
 
-abbrev pub IsOwn : Proc → Type 0
-IsOwn (Own p) = Unit {0}
-IsOwn Etimer = ⊥
-IsOwn Ctimer = ⊥
-IsOwn Radio = ⊥
+abbrev pub IsOwnProcess : Proc → Type 0
+IsOwnProcess (Own p) = Unit {0}
+IsOwnProcess Etimer = ⊥
+IsOwnProcess Ctimer = ⊥
+IsOwnProcess Radio = ⊥
 
 -- an event EXIT has only a process of the program as its target
 abbrev pub FitsTarget : Target → (number : ℕ) → Type 0
-FitsTarget (One p) number = number ≡ system_number Exit → IsOwn p
+FitsTarget (One p) number = number ≡ system_number Exit → IsOwnProcess p
 FitsTarget All number = number ≡ system_number Exit → ⊥

@@ -14,7 +14,7 @@ use Rattle.radio_packet.specs.declared.arrival.Arrival.{Arrival}
 use Rattle.trace_lines.specs.declared.line.Line.{Line}
 use Rattle.trace_lines.specs.declared.line.What.{What}
 use Rattle.trace_lines.specs.declared.line.What.TheVariants as what
-use Rattle.process_kernel.specs.State.{State, Goes}
+use Rattle.process_kernel.specs.State.{KernelState, Goes}
 use Rattle.process_kernel.specs.Calls.{is_system_event}
 use Rattle.process_kernel.specs.Etimer.{etimer_of}
 use Rattle.process_kernel.specs.Radio.{radio_of}
@@ -39,7 +39,7 @@ abbrev pub lines_at : (moment : ℕ) → List What → List Line
 lines_at moment ws = map (λ w. record { at = moment; what = w }) ws
 
 -- the ring is empty, and there is a line for each packet that was in the ring, in order, and no other line
-pub record EmptiesRing (s t : State) : Type 0 where
+pub record EmptiesRing (s t : KernelState) : Type 0 where
   pub empty : t.ring ≡ []
   pub tellings : List What
   pub each : TellEach s.program.receiver s.ring tellings
@@ -47,11 +47,11 @@ pub record EmptiesRing (s t : State) : Type 0 where
 
 -- each packet that was accepted into the ring is posted to the receiver once, in order, or nobody hears it
 abbrev pub PacketsAreHanded : Type 0
-PacketsAreHanded = (s t : State) (e : Event) → is_system_event Poll e ≡ true → radio_of s e ≡ Goes tt t
+PacketsAreHanded = (s t : KernelState) (e : Event) → is_system_event Poll e ≡ true → radio_of s e ≡ Goes tt t
     → EmptiesRing s t
 
 -- one of the lines between the two states is about this post
-pub record TellsOfPost (s t : State) (target : Target) (number word : ℕ) : Type 0 where
+pub record TellsOfPost (s t : KernelState) (target : Target) (number word : ℕ) : Type 0 where
   pub telling : What
   pub tells : TellsPost target number word telling
   pub before : List Line
@@ -61,7 +61,8 @@ pub record TellsOfPost (s t : State) (target : Target) (number word : ℕ) : Typ
 -- the event of a timer that is due is posted to the timer's owner; the queue may be full
 abbrev pub DueTimersArePosted : Type 0
 DueTimersArePosted =
-    (s t : State) (e : Event) (timer : ℕ) (owner : Proc) → is_system_event Poll e ≡ true → etimer_of s e ≡ Goes tt t
+    (s t : KernelState) (e : Event) (timer : ℕ) (owner : Proc) → is_system_event Poll e ≡ true
+    → etimer_of s e ≡ Goes tt t
     → is_member timer s.timers.listed ≡ true → is_due s.moment (timer_at s.timers.timers timer) ≡ true
     → (timer_at s.timers.timers timer).owner ≡ Some owner
     → TellsOfPost s t (One owner) (system_number Timer) timer

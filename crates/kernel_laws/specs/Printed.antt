@@ -17,7 +17,7 @@ use Rattle.trace_lines.specs.declared.line.What.{What}
 use Rattle.trace_lines.specs.declared.line.What.TheVariants as what
 use Rattle.process_kernel.specs.Members.{is_same}
 use Rattle.process_kernel.specs.Calls.{own_event}
-use Rattle.kernel_laws.specs.Traces.{KernelCall, after_calls, booted_at}
+use Rattle.kernel_laws.specs.Traces.{KernelCall, traced_after_calls, booted_at}
 
 -- A quiet statement or block: it prints nothing, sets no variable and spawns no thread.
 
@@ -118,8 +118,9 @@ pub record Life (code : Code) (mote : ℕ) (variables : List ℕ) : Type 0 where
   pub reads : ReadsThread code Yielded (listed code.body) now later variables did became
 
 -- the lines of a life: its start and its prints
-abbrev pub lines_of : {code : Code} {mote : ℕ} {variables : List ℕ} → Proc → Life code mote variables → List Line
-lines_of p life = record { at = life.now.looks.moment; what = what.Start p } ∷ prints p (life.now ∷ life.later) life.did
+abbrev pub lines_of_life : {code : Code} {mote : ℕ} {variables : List ℕ} → Proc → Life code mote variables → List Line
+lines_of_life p life = record { at = life.now.looks.moment; what = what.Start p } ∷ prints p
+    (life.now ∷ life.later) life.did
 
 -- The lives of a process one after another, and their lines. Each life begins with the variables that the previous one
 -- left.
@@ -127,7 +128,7 @@ pub data Lives (code : Code) (p : Proc) (mote : ℕ) (variables : List ℕ) : Li
   Unborn : Lives code p mote variables [] variables
   LivesAgain : {lines : List Line} {left : List ℕ}
       → Lives code p mote variables lines left → (life : Life code mote left)
-      → Lives code p mote variables (lines ++ lines_of p life) (left_by life.became)
+      → Lives code p mote variables (lines ++ lines_of_life p life) (left_by life.became)
 
 -- The lines about a process at any time: the lines of its lives, the last of which may not have ended; or these lines
 -- and one more start, after which the process has not done anything yet.
@@ -148,7 +149,7 @@ abbrev pub PrintsAreTheReading : Type 0
 PrintsAreTheReading =
     (program : Tree) (p : ℕ) (code : Code) (mote queue moment : ℕ) (calls : List KernelCall)
     → slice_get program.codes p ≡ Some code → IsQuietApart code →
-    let t = after_calls (booted_at program mote queue moment) calls in
+    let t = traced_after_calls (booted_at program mote queue moment) calls in
     t.mote.halted ≡ false → TellsLives code p mote t.lines (slice_get t.mote.state.variables p)
 
 -- the same up to the line about a halt, if the mote halts: the lines that the process has printed in its last life are
@@ -157,5 +158,5 @@ abbrev pub PrintsSoFarAreTheReading : Type 0
 PrintsSoFarAreTheReading =
     (program : Tree) (p : ℕ) (code : Code) (mote queue moment : ℕ) (calls : List KernelCall)
     → slice_get program.codes p ≡ Some code → IsQuietApart code →
-    let t = after_calls (booted_at program mote queue moment) calls in
+    let t = traced_after_calls (booted_at program mote queue moment) calls in
     LivesSoFar code (Own p) mote code.starts (starts_and_prints (Own p) t.lines)

@@ -9,9 +9,9 @@ use Rattle.trace_lines.specs.declared.line.Line.{Line}
 use Rattle.radio_packet.specs.declared.sent.Sent.{Sent}
 use Rattle.trace_lines.specs.declared.line.What.{What}
 use Rattle.trace_lines.specs.declared.line.What.TheVariants as what
-use Rattle.process_kernel.specs.State.{State, Outcome, Ends, Goes}
+use Rattle.process_kernel.specs.State.{KernelState, Outcome, Ends, Goes}
 use Rattle.process_kernel.specs.Call.{calls_of}
-use Rattle.process_kernel.specs.Mote.{Mote}
+use Rattle.process_kernel.specs.KernelModel.{KernelModel}
 use Rattle.process_kernel.specs.Given.{Given, boot_given, run_given}
 use Rattle.kernel_laws.specs.Due.{IsAtRest}
 use Rattle.kernel_laws.specs.Going.{IsNote}
@@ -46,7 +46,7 @@ pub data RingRuns (receiver : Option ℕ) : List Arrival → List Line → List 
 
 -- lines were added from one state to a later one; along these lines the ring changes from its old contents to its new
 -- contents, and none of the lines is about an arriving packet
-pub record RingGoes (s t : State) : Type 0 where
+pub record RingGoes (s t : KernelState) : Type 0 where
   pub added : List Line
   pub wrote : t.lines ≡ s.lines ++ added
   pub runs : RingRuns s.program.receiver s.ring added t.ring
@@ -54,7 +54,7 @@ pub record RingGoes (s t : State) : Type 0 where
   pub program : t.program ≡ s.program
 
 -- if the mote halts, some packets may be left without a line
-pub record RingHalts (s t : State) : Type 0 where
+pub record RingHalts (s t : KernelState) : Type 0 where
   pub added : List Line
   pub wrote : t.lines ≡ s.lines ++ added
   pub left : List Arrival
@@ -62,17 +62,17 @@ pub record RingHalts (s t : State) : Type 0 where
   pub hears_none : All (λ l. IsNote l.what → ⊥) added
   pub program : t.program ≡ s.program
 
-abbrev pub RingLeads : {A : Type 0} → State → Outcome A → Type 0
+abbrev pub RingLeads : {A : Type 0} → KernelState → Outcome A → Type 0
 RingLeads s (Ends t) = RingHalts s t
 RingLeads s (Goes a t) = RingGoes s t
 
 -- whatever a call does, each packet that leaves the ring has its line, in order
 abbrev pub CallsTellPackets : Type 0
-CallsTellPackets = (depth : ℕ) (s : State) (p : Proc) (e : Event) → RingLeads s ((calls_of depth).call s p e)
+CallsTellPackets = (depth : ℕ) (s : KernelState) (p : Proc) (e : Event) → RingLeads s ((calls_of depth).call s p e)
 
 -- along the lines that a boot or a run adds, the ring changes from its old contents to its new contents, unless the
 -- mote has halted; none of the lines is about an arriving packet
-pub record GivesPackets (m : Mote) (lines : List Line) (g : Given) : Type 0 where
+pub record GivesPackets (m : KernelModel) (lines : List Line) (g : Given) : Type 0 where
   pub added : List Line
   pub wrote : g.lines ≡ lines ++ added
   pub left : List Arrival
@@ -82,16 +82,16 @@ pub record GivesPackets (m : Mote) (lines : List Line) (g : Given) : Type 0 wher
   pub program : g.mote.state.program ≡ m.state.program
 
 abbrev pub BootTellsPackets : Type 0
-BootTellsPackets = (moment : ℕ) (m : Mote) (lines : List Line) (sends : List Sent)
+BootTellsPackets = (moment : ℕ) (m : KernelModel) (lines : List Line) (sends : List Sent)
     → GivesPackets m lines (boot_given moment m lines sends)
 
 abbrev pub RunTellsPackets : Type 0
-RunTellsPackets = (moment : ℕ) (m : Mote) (lines : List Line) (sends : List Sent)
+RunTellsPackets = (moment : ℕ) (m : KernelModel) (lines : List Line) (sends : List Sent)
     → GivesPackets m lines (run_given moment m lines sends)
 
 -- A kernel run leaves the ring empty if the ring was empty before, or if a poll of the radio process waited.
 abbrev pub RunEmptiesRing : Type 0
 RunEmptiesRing =
-    (moment : ℕ) (m : Mote) (lines : List Line) (sends : List Sent) → IsAtRest m.state → (m.state.ring ≡ [])
+    (moment : ℕ) (m : KernelModel) (lines : List Line) (sends : List Sent) → IsAtRest m.state → (m.state.ring ≡ [])
     ⊎ PollWaits Radio m.state → let g = run_given moment m lines sends in
     g.mote.halted ≡ false → g.mote.state.ring ≡ []

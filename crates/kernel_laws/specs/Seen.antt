@@ -12,7 +12,7 @@ use Rattle.trace_lines.specs.declared.line.What.{What}
 use Rattle.trace_lines.specs.declared.line.What.TheVariants as what
 use Rattle.process_kernel.specs.declared.process.Member.{Member}
 use Rattle.process_kernel.specs.Members.{place_of}
-use Rattle.process_kernel.specs.State.{State}
+use Rattle.process_kernel.specs.State.{KernelState}
 
 abbrev pub seen_target : Target → handed.Target
 seen_target (One p) = ToOne (place_of p)
@@ -39,7 +39,7 @@ seen_member m = record { process = place_of m.process; number = m.incarnation }
 abbrev pub seen_posted : Posted → Waiting
 seen_posted x = record { serial = x.serial; target = seen_target x.target }
 
-abbrev pub view_of : State → View
+abbrev pub view_of : KernelState → View
 view_of s = record {
   list = map seen_member s.members;
   numbered = s.started;

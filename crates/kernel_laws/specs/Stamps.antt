@@ -3,8 +3,8 @@ use Rattle.std.specs.Prelude.{ℕ, ◌≡◌, ◌+◌, List, ◌++◌, length, m
 use Rattle.std.specs.List.{range_with_len}
 use Rattle.trace_lines.specs.declared.line.Line.{Line}
 use Rattle.radio_packet.specs.declared.sent.Sent.{Sent}
-use Rattle.process_kernel.specs.State.{State, Outcome, Ends, Goes}
-use Rattle.process_kernel.specs.Mote.{Mote}
+use Rattle.process_kernel.specs.State.{KernelState, Outcome, Ends, Goes}
+use Rattle.process_kernel.specs.KernelModel.{KernelModel}
 use Rattle.process_kernel.specs.Given.{Given}
 
 -- each of these lines is stamped with the moment
@@ -22,7 +22,7 @@ AreNumberedFrom first sends = map (λ x. x.number) sends ≡ range_with_len firs
 -- From one state to a later one, each line that was written is stamped with the moment, and each packet with the
 -- moment and the mote. The numbers of the packets continue from the number of packets sent before, and the packets are
 -- counted. The mote's number and its program don't change.
-pub record Stamped (moment : ℕ) (s t : State) : Type 0 where
+pub record Stamped (moment : ℕ) (s t : KernelState) : Type 0 where
   pub lines : List Line
   pub wrote : t.lines ≡ s.lines ++ lines
   pub lines_bear : LinesBear moment lines
@@ -35,14 +35,14 @@ pub record Stamped (moment : ℕ) (s t : State) : Type 0 where
   pub program : t.program ≡ s.program
 
 -- the state in which a step ends or continues
-abbrev pub state_after : {A : Type 0} → Outcome A → State
+abbrev pub state_after : {A : Type 0} → Outcome A → KernelState
 state_after (Ends t) = t
 state_after (Goes a t) = t
 
 -- the state of a mote with these lines and packets written
-abbrev pub with_output : Mote → List Line → List Sent → State
+abbrev pub with_output : KernelModel → List Line → List Sent → KernelState
 with_output m lines sends = record m.state { lines = lines; sends = sends }
 
 -- the outcome of a boot or a run at this moment, if these lines and packets were written before
-abbrev pub GivesStamped : (moment : ℕ) → Mote → List Line → List Sent → Given → Type 0
+abbrev pub GivesStamped : (moment : ℕ) → KernelModel → List Line → List Sent → Given → Type 0
 GivesStamped moment m lines sends g = Stamped moment (with_output m lines sends) (with_output g.mote g.lines g.sends)

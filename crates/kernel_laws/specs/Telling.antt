@@ -15,13 +15,13 @@ use Rattle.radio_packet.specs.declared.sent.Sent.{Sent}
 use Rattle.process_kernel.specs.declared.process.ProcessState.{ProcessState}
 use Rattle.process_kernel.specs.declared.process.ProcessState.TheVariants.{Off, Running}
 use Rattle.process_kernel.specs.Members.{place_of}
-use Rattle.process_kernel.specs.State.{State}
+use Rattle.process_kernel.specs.State.{KernelState}
 use Rattle.process_kernel.specs.Processes.{process_state, at_process, has_process, is_listed}
 use Rattle.process_kernel.specs.Calls.{own_event}
-use Rattle.process_kernel.specs.Mote.{Mote, unbooted, with_packet, with_poll}
+use Rattle.process_kernel.specs.KernelModel.{KernelModel, unbooted, with_packet, with_poll}
 use Rattle.process_kernel.specs.Given.{boot_given, run_given}
 use Rattle.kernel_laws.specs.Going.{IsNote}
-use Rattle.kernel_laws.specs.Printed.{IsQuietApart, starts_and_prints, prints, AreShown, Life, lines_of, Lives}
+use Rattle.kernel_laws.specs.Printed.{IsQuietApart, starts_and_prints, prints, AreShown, Life, lines_of_life, Lives}
 use Rattle.kernel_laws.specs.Printed.{LivesSoFar, TellsLives}
 
 -- the next sight of the process: INIT at its start, at this moment; the same event at the same moment, with this
@@ -45,7 +45,7 @@ pub record HasLife (p : ℕ) (code : Code) (mote : ℕ) (start : List ℕ) (line
     (became : Completion) : Type 0 where
   pub life : Life code mote start
   pub became_so : life.became ≡ became
-  pub has_lines : lines_of (Own p) life ≡ lines
+  pub has_lines : lines_of_life (Own p) life ≡ lines
 
 -- These are the lines so far of a life. Whatever the process does from now on, in a sight that can come, belongs to
 -- the same life.
@@ -81,7 +81,7 @@ pub record ProcessInMote : Type 0 where
   pub vars : Option (List ℕ)
   pub lines_so_far : List Line
 
-abbrev pub process_in_mote : (p : ℕ) → State → ProcessInMote
+abbrev pub process_in_mote : (p : ℕ) → KernelState → ProcessInMote
 process_in_mote p s = record {
   program = s.program;
   mote = s.mote;
@@ -124,7 +124,7 @@ pub record RestsAsTraced (program : Tree) (mote p : ℕ) (code : Code) (lines_so
   pub where_it_is : IsOut v ⊎ IsIn p code mote lines_so_far AtCall v still left
 
 -- The lines so far of a mote are about the lives of the process up to its state, or up to the halt of the mote.
-pub record TellsSoFar (program : Tree) (mote p : ℕ) (code : Code) (lines : List Line) (m : Mote) : Type 0 where
+pub record TellsSoFar (program : Tree) (mote p : ℕ) (code : Code) (lines : List Line) (m : KernelModel) : Type 0 where
   pub going : m.halted ≡ false → RestsAsTraced program mote p code (starts_and_prints (Own p) lines)
       (process_in_mote p m.state)
   pub halted : m.halted ≡ true → LivesSoFar code (Own p) mote code.starts (starts_and_prints (Own p) lines)
@@ -138,12 +138,14 @@ pub record IsProcess (program : Tree) (p : ℕ) (code : Code) : Type 0 where
 
 abbrev pub TellingIsOfLives : Type 0
 TellingIsOfLives =
-    (program : Tree) (mote p : ℕ) (code : Code) (lines : List Line) (m : Mote) → TellsSoFar program mote p code lines m
+    (program : Tree) (mote p : ℕ) (code : Code) (lines : List Line) (m : KernelModel)
+    → TellsSoFar program mote p code lines m
     → m.halted ≡ false → TellsLives code p mote lines (slice_get m.state.variables p)
 
 abbrev pub TellingIsOfLivesSoFar : Type 0
 TellingIsOfLivesSoFar =
-    (program : Tree) (mote p : ℕ) (code : Code) (lines : List Line) (m : Mote) → TellsSoFar program mote p code lines m
+    (program : Tree) (mote p : ℕ) (code : Code) (lines : List Line) (m : KernelModel)
+    → TellsSoFar program mote p code lines m
     → LivesSoFar code (Own p) mote code.starts (starts_and_prints (Own p) lines)
 
 -- A mote that was not booted has no lines. Each call of its kernel keeps `TellsSoFar`, whatever was written before.
@@ -154,24 +156,26 @@ NoLinesTellFirst = (program : Tree) (mote p : ℕ) (code : Code) (queue : ℕ) �
 
 abbrev pub BootTells : Type 0
 BootTells =
-    (program : Tree) (mote p : ℕ) (code : Code) (earlier : List Line) (m : Mote) (moment : ℕ) (before : List Line)
+    (program : Tree) (mote p : ℕ) (code : Code) (earlier : List Line) (m : KernelModel) (moment : ℕ)
+    (before : List Line)
     (sends : List Sent) → IsProcess program p code → TellsSoFar program mote p code (earlier ++ before) m
     → let g = boot_given moment m before sends in TellsSoFar program mote p code (earlier ++ g.lines) g.mote
 
 abbrev pub RunTells : Type 0
 RunTells =
-    (program : Tree) (mote p : ℕ) (code : Code) (earlier : List Line) (m : Mote) (moment : ℕ) (before : List Line)
+    (program : Tree) (mote p : ℕ) (code : Code) (earlier : List Line) (m : KernelModel) (moment : ℕ)
+    (before : List Line)
     (sends : List Sent) → IsProcess program p code → TellsSoFar program mote p code (earlier ++ before) m
     → let g = run_given moment m before sends in TellsSoFar program mote p code (earlier ++ g.lines) g.mote
 
 abbrev pub PollTells : Type 0
-PollTells = (program : Tree) (mote p : ℕ) (code : Code) (lines : List Line) (m : Mote) (q : Proc)
+PollTells = (program : Tree) (mote p : ℕ) (code : Code) (lines : List Line) (m : KernelModel) (q : Proc)
     → TellsSoFar program mote p code lines m → TellsSoFar program mote p code lines (with_poll m q)
 
 abbrev pub PacketTells : Type 0
-PacketTells = (program : Tree) (mote p : ℕ) (code : Code) (lines : List Line) (m : Mote) (a : Arrival)
+PacketTells = (program : Tree) (mote p : ℕ) (code : Code) (lines : List Line) (m : KernelModel) (a : Arrival)
     → TellsSoFar program mote p code lines m → TellsSoFar program mote p code lines (with_packet m a)
 
 abbrev pub NoteTells : Type 0
-NoteTells = (program : Tree) (mote p : ℕ) (code : Code) (lines : List Line) (m : Mote) (l : Line) → IsNote l.what
+NoteTells = (program : Tree) (mote p : ℕ) (code : Code) (lines : List Line) (m : KernelModel) (l : Line) → IsNote l.what
     → TellsSoFar program mote p code lines m → TellsSoFar program mote p code (lines ++ l ∷ []) m

@@ -4,7 +4,7 @@ use Rattle.program_tree.specs.declared.event.Proc.{Proc}
 use Rattle.program_tree.specs.Code.{Tree}
 use Rattle.radio_packet.specs.declared.arrival.Arrival.{Arrival}
 use Rattle.trace_lines.specs.declared.line.Line.{Line}
-use Rattle.process_kernel.specs.Mote.{Mote, unbooted, with_packet, with_poll}
+use Rattle.process_kernel.specs.KernelModel.{KernelModel, unbooted, with_packet, with_poll}
 use Rattle.process_kernel.specs.Given.{Given, boot_given, run_given}
 use Rattle.kernel_laws.specs.Going.{IsNote}
 
@@ -18,21 +18,21 @@ pub data KernelCall : Type 0 where
 
 -- a mote, and its lines so far
 pub record Traced : Type 0 where
-  pub mote : Mote
+  pub mote : KernelModel
   pub lines : List Line
 
 abbrev pub with_given : Traced → Given → Traced
 with_given t g = record { mote = g.mote; lines = t.lines ++ g.lines }
 
-abbrev pub after_call : Traced → KernelCall → Traced
-after_call t (RunAt moment) = with_given t (run_given moment t.mote [] [])
-after_call t (PollOf p) = record t { mote = with_poll t.mote p }
-after_call t (Accepts a) = record t { mote = with_packet t.mote a }
-after_call t (Notes l n) = if t.mote.halted then t else record t { lines = t.lines ++ l ∷ [] }
+abbrev pub traced_after_call : Traced → KernelCall → Traced
+traced_after_call t (RunAt moment) = with_given t (run_given moment t.mote [] [])
+traced_after_call t (PollOf p) = record t { mote = with_poll t.mote p }
+traced_after_call t (Accepts a) = record t { mote = with_packet t.mote a }
+traced_after_call t (Notes l n) = if t.mote.halted then t else record t { lines = t.lines ++ l ∷ [] }
 
-abbrev pub after_calls : Traced → List KernelCall → Traced
-after_calls t [] = t
-after_calls t (c ∷ cs) = after_calls (after_call t c) cs
+abbrev pub traced_after_calls : Traced → List KernelCall → Traced
+traced_after_calls t [] = t
+traced_after_calls t (c ∷ cs) = traced_after_calls (traced_after_call t c) cs
 
 -- a mote with this program after its boot at a moment
 abbrev pub booted_at : Tree → (mote queue moment : ℕ) → Traced
@@ -41,4 +41,4 @@ booted_at program mote queue moment =
 
 -- the lines of the boot and of these calls
 abbrev pub trace_of : Tree → (mote queue moment : ℕ) → List KernelCall → List Line
-trace_of program mote queue moment calls = (after_calls (booted_at program mote queue moment) calls).lines
+trace_of program mote queue moment calls = (traced_after_calls (booted_at program mote queue moment) calls).lines

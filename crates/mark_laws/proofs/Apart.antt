@@ -11,7 +11,7 @@ use Rattle.mote_net.specs.Net.{NetModel}
 use Rattle.all_workers.proofs.Lookups.{there}
 use Rattle.marked_workers.specs.All.{AllRan}
 use Rattle.marked_workers.proofs.Pairs.{numbered_at}
-use Rattle.mark_laws.specs.Plan.{number_of}
+use Rattle.mark_laws.specs.Plan.{sender_number}
 use Rattle.mark_laws.specs.RunLaws.{SendersAreApart}
 
 -- ---- a list of different numbers below n has at most n elements
@@ -81,7 +81,7 @@ module _ (x y : ℕ) (g : ℕ → ℕ) (k n : ℕ) (one : (i j : ℕ) → i < k 
   two_more = few (with_two x y g) (suc (suc k)) n one_two low_two
 
 -- ---- the senders on one inbox
-module _ (n : NetModel) (of : List ℕ) (width windows workers : ℕ) (all : AllRan n of width windows workers) (u : ℕ) (lu : u < workers) where
+module _ (n : NetModel) (owners : List ℕ) (width windows workers : ℕ) (all : AllRan n owners width windows workers) (u : ℕ) (lu : u < workers) where
   abbrev k : ℕ
   k = length (all.senders u)
 
@@ -89,14 +89,14 @@ module _ (n : NetModel) (of : List ℕ) (width windows workers : ℕ) (all : All
   record Has (j owner : ℕ) : Type 0 where
     low : owner < workers
     other : owner ≢ u
-    number : number_of (all.sender u owner) ≡ j
+    number : sender_number (all.sender u owner) ≡ j
 
   has : (j : ℕ) → j < k → (owner : ℕ) × Has j owner
   has j lt =
       let are = all.are_senders u lu in
       let a = there (all.senders u) j lt in
       let w = are.worker_of j a.0 a.1 in
-      (w.0, record { low = w.1; other = w.2; number = ap number_of w.3 ∙ numbered_at (all.senders u) are.numbered j a.0 a.1 })
+      (w.0, record { low = w.1; other = w.2; number = ap sender_number w.3 ∙ numbered_at (all.senders u) are.numbered j a.0 a.1 })
 
   owner_of : (j : ℕ) → (j < k) ⊎ (k ≤ j) → ℕ
   owner_of j (inl lt) = (has j lt).0
@@ -115,30 +115,30 @@ module _ (n : NetModel) (of : List ℕ) (width windows workers : ℕ) (all : All
   owner_has j lt = owner_case j lt (cases_lt j k)
 
   -- each other worker owns the number of its sender
-  owns : (y : ℕ) → y < workers → y ≢ u → (number_of (all.sender u y) < k) × (owner (number_of (all.sender u y)) ≡ y)
+  owns : (y : ℕ) → y < workers → y ≢ u → (sender_number (all.sender u y) < k) × (owner (sender_number (all.sender u y)) ≡ y)
   owns y ly ny =
       let are = all.are_senders u lu in
       let w = are.of_worker y ly ny in
-      let number : number_of (all.sender u y) ≡ w.0.state.number = ap number_of w.1 in
+      let number : sender_number (all.sender u y) ≡ w.0.state.number = ap sender_number w.1 in
       let low : w.0.state.number < k = slice_get_within (all.senders u) w.0.state.number w.0 w.2 in
-      let lt : number_of (all.sender u y) < k = omega arith in (
+      let lt : sender_number (all.sender u y) < k = omega arith in (
         lt,
-        elim (cases_eq (owner (number_of (all.sender u y))) y) [
+        elim (cases_eq (owner (sender_number (all.sender u y))) y) [
           | inl e ↦ e
           | inr ne ↦ absurd (
               let others = are.others in
               let more = two_more u y owner k workers
-              (λ i j li lj e. sym (owner_has i li).number ∙ (ap (λ o. number_of (all.sender u o)) e ∙ (owner_has j lj).number))
+              (λ i j li lj e. sym (owner_has i li).number ∙ (ap (λ o. sender_number (all.sender u o)) e ∙ (owner_has j lj).number))
               (λ e. ny (sym e))
               (λ j lj e. (owner_has j lj).other (sym e))
-              (λ j lj e. ne (ap owner (ap (λ o. number_of (all.sender u o)) e ∙ (owner_has j lj).number) ∙ sym e))
+              (λ j lj e. ne (ap owner (ap (λ o. sender_number (all.sender u o)) e ∙ (owner_has j lj).number) ∙ sym e))
               lu ly (λ j lj. (owner_has j lj).low) in
               omega arith)
         ],
       )
 
 pub senders_are_apart : SendersAreApart
-senders_are_apart n of width windows workers all v w u pv pw same =
-    sym (owns n of width windows workers all u pv.to_there v pv.from_there pv.apart).1
-    ∙ (ap (owner n of width windows workers all u pv.to_there) same
-    ∙ (owns n of width windows workers all u pv.to_there w pw.from_there pw.apart).1)
+senders_are_apart n owners width windows workers all v w u pv pw same =
+    sym (owns n owners width windows workers all u pv.to_there v pv.from_there pv.apart).1
+    ∙ (ap (owner n owners width windows workers all u pv.to_there) same
+    ∙ (owns n owners width windows workers all u pv.to_there w pw.from_there pw.apart).1)

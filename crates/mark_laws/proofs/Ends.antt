@@ -3,8 +3,8 @@ use Rattle.std.proofs.Common.{◌≡◌, ℕ, zero, suc, ◌+◌, ◌<◌, ◌�
 use Rattle.std.proofs.lemmas.Bool.{cases_eq, ne_eqb}
 use Rattle.copy_inbox.specs.declared.items.Carried.{Carried}
 use Rattle.copy_exchange.specs.Pushes.{pushes}
-use Rattle.mark_laws.specs.State.{Plan, State, IsPair, start, set_at, set_pair, sum_below}
-use Rattle.mark_laws.specs.Steps.{Event, MayHappen, after, Run, IsAtEnd, items_for, steps_of}
+use Rattle.mark_laws.specs.State.{Plan, MarkState, IsPair, start, set_at, set_pair, sum_below}
+use Rattle.mark_laws.specs.Steps.{Event, MayHappen, after_event, Run, IsAtEnd, items_for, steps_of}
 use Rattle.mark_laws.specs.Steps.Event.{Push, Take, GoOn}
 use Rattle.mark_laws.specs.AreInPosition.{AreInPosition}
 use Rattle.mark_laws.specs.Laws.{RunsAreBounded, FullRunsAreOfOneLength, EveryRunCanEnd}
@@ -31,21 +31,21 @@ longer n f v u x lv lu =
 module _ (p : Plan) where
   -- the number of steps that were made so far: one for each window that a worker has finished, one for each item
   -- pushed, and one for each item taken
-  abbrev pub made : State → ℕ
+  abbrev pub made : MarkState → ℕ
   made w = sum_below p.workers w.finished + (sum_pairs p.workers (lengths w.pushed) + sum_pairs p.workers (lengths w.taken))
 
-  pub made_step : (w : State) (e : Event) → MayHappen p w e → made (after w e) ≡ suc (made w)
+  pub made_step : (w : MarkState) (e : Event) → MayHappen p w e → made (after_event w e) ≡ suc (made w)
   made_step w (Push v u x) may = let a = longer p.workers w.pushed v u x may.pair.from_there may.pair.to_there in omega arith
   made_step w (Take v u x) may = let a = longer p.workers w.taken u v x may.pair.from_there may.pair.to_there in omega arith
   made_step w (GoOn v) may =
       let a = sum_up p.workers w.finished (set_at w.finished v (suc (w.finished v))) v may.there (set_same w.finished v (suc (w.finished v))) (λ k ne. set_other w.finished v (suc (w.finished v)) k ne) in
       omega arith
 
-  pub made_run : (events : List Event) (w new : State) → Run p w events new → made new ≡ made w + length events
+  pub made_run : (events : List Event) (w new : MarkState) → Run p w events new → made new ≡ made w + length events
   made_run [] w new run = let e = ap made run in omega arith
   made_run (e ∷ events) w new run =
       let a = made_step w e run.0 in
-      let b = made_run events (after w e) new run.1 in
+      let b = made_run events (after_event w e) new run.1 in
       omega arith
 
   zeros : (n : ℕ) → sum_below n (λ v. 0) ≡ 0
@@ -58,7 +58,7 @@ module _ (p : Plan) where
       let b : sum_pairs p.workers (λ v u. 0) ≡ sum_below p.workers (λ v. 0) = sum_same p.workers (λ v. 0) (λ v. sum_below p.workers (λ u. 0)) (λ v lv. a) in
       omega arith
 
-  module _ (w : State) (s : AreInPosition p w) where
+  module _ (w : MarkState) (s : AreInPosition p w) where
     few : (f : ℕ → ℕ → List Carried) → ((v : ℕ) → f v v ≡ []) → ((v u : ℕ) → IsPair p v u → length (f v u) ≤ length (pushes p.windows (p.sent v u)))
         → (v u : ℕ) → v < p.workers → u < p.workers → lengths f v u ≤ items_for p v u
     few f own h v u lv lu = elim (cases_eq v u) [
@@ -113,12 +113,12 @@ module _ (p : Plan) where
         omega arith
 
   -- a run with at most this many steps left can end
-  can_end : (left : ℕ) (w : State) → AreInPosition p w → steps_of p ≤ made w + left → (more : List Event) × (end : State) × Run p w more end × IsAtEnd p end
+  can_end : (left : ℕ) (w : MarkState) → AreInPosition p w → steps_of p ≤ made w + left → (more : List Event) × (end : MarkState) × Run p w more end × IsAtEnd p end
   can_end zero w s le = elim (end_or_goes_on p w s) [
     | inl end ↦ ([], w, refl, end)
     | inr g ↦ absurd (
         let a = made_step w g.0 g.1 in
-        let b = made_low (after w g.0) (in_position_after_step p w g.0 s g.1) in
+        let b = made_low (after_event w g.0) (in_position_after_step p w g.0 s g.1) in
         omega arith
         )
   ]
@@ -126,7 +126,7 @@ module _ (p : Plan) where
     | inl end ↦ ([], w, refl, end)
     | inr g ↦ (
         let a = made_step w g.0 g.1 in
-        let r = can_end left (after w g.0) (in_position_after_step p w g.0 s g.1) (omega arith) in
+        let r = can_end left (after_event w g.0) (in_position_after_step p w g.0 s g.1) (omega arith) in
         (g.0 ∷ r.0, r.1, (g.1, r.2), r.3)
         )
   ]

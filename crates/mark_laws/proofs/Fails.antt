@@ -2,11 +2,11 @@
 use Rattle.std.proofs.Common.{◌≡◌, ℕ, zero, suc, ◌+◌, ◌<◌, ◌≤◌, ◌⊎◌, Bool, true, false, cond, List, [], ◌∷◌, length, refl, sym, ap, ◌∙◌, subst, inl, inr, arith}
 use Rattle.std.proofs.lemmas.Bool.{cases_lt, cases_Bool, false≢true}
 use Rattle.copy_inbox.specs.declared.items.Item.{Item}
-use Rattle.mark_laws.specs.State.{Plan, State, set_at, sum_below}
-use Rattle.mark_laws.specs.Steps.{Event, worker_of, Waits, steps_of}
+use Rattle.mark_laws.specs.State.{Plan, MarkState, set_at, sum_below}
+use Rattle.mark_laws.specs.Steps.{Event, worker_of, WorkerWaits, steps_of}
 use Rattle.mark_laws.specs.Steps.Event.{Push, Take, GoOn}
 use Rattle.mark_laws.specs.Queues.{Senders, RunQueued}
-use Rattle.mark_laws.specs.Failures.{Flagged, start_flagged, Turn, MayDo, MayLeave, MayTurn, after_turn, RunTurns, steps_in, IsStuckFlagged}
+use Rattle.mark_laws.specs.Failures.{Flagged, start_flagged, Turn, MayDo, MayLeave, MayTurn, flagged_after_turn, RunTurns, steps_in, IsStuckFlagged}
 use Rattle.mark_laws.specs.Failures.Turn.{Does, Fails, Leaves}
 use Rattle.mark_laws.specs.Laws.{TurnsAreRuns, FlaggedStuckIsOver, UnlessOneFails, TurnsAreBounded}
 use Rattle.mark_laws.proofs.Changes.{set_same, set_other}
@@ -23,30 +23,30 @@ module _ (p : Plan) (senders : Senders p) where
   sound_first : IsSound start_flagged
   sound_first = record { order = first_in_order p senders; all_there = λ e v. refl }
 
-  sound_turn : (c : Flagged) (t : Turn) → IsSound c → MayTurn p senders c t → IsSound (after_turn senders c t)
+  sound_turn : (c : Flagged) (t : Turn) → IsSound c → MayTurn p senders c t → IsSound (flagged_after_turn senders c t)
   sound_turn c (Does e) s may = record { order = order_step p senders c.queued s.order e may.may; all_there = s.all_there }
   sound_turn c (Fails v) s may = record { order = s.order; all_there = λ e. absurd (false≢true (sym e)) }
   sound_turn c (Leaves v) s may = record { order = s.order; all_there = λ e. absurd (false≢true (sym e ∙ may.stopped)) }
 
   sound_run : (turns : List Turn) (c new : Flagged) → IsSound c → RunTurns p senders c turns new → IsSound new
   sound_run [] c new s run = subst IsSound (sym run) s
-  sound_run (t ∷ turns) c new s run = sound_run turns (after_turn senders c t) new (sound_turn c t s run.0) run.1
+  sound_run (t ∷ turns) c new s run = sound_run turns (flagged_after_turn senders c t) new (sound_turn c t s run.0) run.1
 
   steps_run : (turns : List Turn) (c new : Flagged) → RunTurns p senders c turns new → RunQueued p senders c.queued (steps_in turns) new.queued
   steps_run [] c new run = ap (λ (i : Flagged). i.queued) run
-  steps_run (Does e ∷ turns) c new run = (run.0.may, steps_run turns (after_turn senders c (Does e)) new run.1)
-  steps_run (Fails v ∷ turns) c new run = steps_run turns (after_turn senders c (Fails v)) new run.1
-  steps_run (Leaves v ∷ turns) c new run = steps_run turns (after_turn senders c (Leaves v)) new run.1
+  steps_run (Does e ∷ turns) c new run = (run.0.may, steps_run turns (flagged_after_turn senders c (Does e)) new run.1)
+  steps_run (Fails v ∷ turns) c new run = steps_run turns (flagged_after_turn senders c (Fails v)) new run.1
+  steps_run (Leaves v ∷ turns) c new run = steps_run turns (flagged_after_turn senders c (Leaves v)) new run.1
 
   -- ---- if the flag is set, each worker that is in a window has a possible turn, whatever the other workers do
   module _ (c : Flagged) (s : IsSound c) (stopped : c.stop ≡ true) (v : ℕ) (lv : v < p.workers) (still : c.gone v ≡ false) where
-    abbrev w : State
+    abbrev w : MarkState
     w = c.queued.state
 
     abbrev HasTurn : Type 0
     HasTurn = ((e : Event) × MayDo p senders c e) ⊎ MayLeave p c v
 
-    waiting : Waits p w v → (l : List Item) → c.queued.queue v ≡ l → HasTurn
+    waiting : WorkerWaits p w v → (l : List Item) → c.queued.queue v ≡ l → HasTurn
     waiting waits [] is = inr (record { there = lv; still = still; waits = waits; stopped = stopped })
     waiting waits (y ∷ ys) is =
         let t = takes_first p senders c.queued s.order v y ys waits is in
@@ -93,7 +93,7 @@ module _ (p : Plan) (senders : Senders p) where
       (ap one_if (set_same gone v true) ∙ (let e = ap one_if still in omega arith))
       (λ k ne. ap one_if (set_other gone v true k ne))
 
-  turned_turn : (c : Flagged) (t : Turn) → IsSound c → MayTurn p senders c t → turned (after_turn senders c t) ≡ suc (turned c)
+  turned_turn : (c : Flagged) (t : Turn) → IsSound c → MayTurn p senders c t → turned (flagged_after_turn senders c t) ≡ suc (turned c)
   turned_turn c (Does e) s may = let a = made_step p c.queued.state e (is_step p senders c.queued s.order e may.may) in omega arith
   turned_turn c (Fails v) s may = let a = one_more c.gone v may.there may.still in omega arith
   turned_turn c (Leaves v) s may = let a = one_more c.gone v may.there may.still in omega arith
@@ -102,7 +102,7 @@ module _ (p : Plan) (senders : Senders p) where
   turned_run [] c new s run = let e = ap turned run in omega arith
   turned_run (t ∷ turns) c new s run =
       let a = turned_turn c t s run.0 in
-      let b = turned_run turns (after_turn senders c t) new (sound_turn c t s run.0) run.1 in
+      let b = turned_run turns (flagged_after_turn senders c t) new (sound_turn c t s run.0) run.1 in
       omega arith
 
   nobody_gone : (n : ℕ) → sum_below n (λ v. 0) ≡ 0

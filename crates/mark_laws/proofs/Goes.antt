@@ -2,11 +2,11 @@
 use Rattle.std.proofs.Common.{◌≡◌, ℕ, suc, ◌<◌, ◌≤◌, ◌⊎◌, min, length, sym, ap, ◌∙◌, subst, inl, inr, arith}
 use Rattle.std.proofs.lemmas.Bool.{cases_eq, cases_lt}
 use Rattle.copy_inbox.specs.declared.items.Carried.{Carried}
-use Rattle.copy_inbox.specs.Items.{BeginsWith}
+use Rattle.copy_inbox.specs.Items.{HasPrefix}
 use Rattle.copy_exchange.specs.Pushes.{marks_in, pushes}
 use Rattle.copy_exchange.proofs.Whole.{marks_pushes, all_is_taken}
-use Rattle.mark_laws.specs.State.{Plan, State, IsPair}
-use Rattle.mark_laws.specs.Steps.{Event, HasPushed, Waits, MayPush, MayTake, MayGoOn, MayHappen, IsStuck, IsAtEnd}
+use Rattle.mark_laws.specs.State.{Plan, MarkState, IsPair}
+use Rattle.mark_laws.specs.Steps.{Event, HasPushed, WorkerWaits, MayPush, MayTake, MayGoOn, MayHappen, IsStuck, IsAtEnd}
 use Rattle.mark_laws.specs.Steps.Event.{Push, Take, GoOn}
 use Rattle.mark_laws.specs.AreInPosition.{AreInPosition}
 use Rattle.mark_laws.specs.Laws.{SomeoneGoesOn, StuckIsAtEnd, EndIsStuck}
@@ -14,7 +14,7 @@ use Rattle.mark_laws.proofs.Begins.{begins_marks, begins_length, next_of, all_of
 use Rattle.mark_laws.proofs.Searches.{all_or_some, lowest}
 use Rattle.mark_laws.proofs.IsInState.{all_in_position}
 
-module _ (p : Plan) (w : State) (s : AreInPosition p w) where
+module _ (p : Plan) (w : MarkState) (s : AreInPosition p w) where
   pub record Next (v : ℕ) : Type 0 where
     pub to : ℕ
     pub x : Carried
@@ -25,10 +25,10 @@ module _ (p : Plan) (w : State) (s : AreInPosition p w) where
 
   -- all items for the other worker were pushed, or the next of them may be pushed
   module _ (v u : ℕ) (pair : IsPair p v u) (runs : w.finished v < p.windows) where
-    up_to_now : BeginsWith (pushes (suc (w.finished v)) (p.sent v u)) (w.pushed v u)
+    up_to_now : HasPrefix (pushes (suc (w.finished v)) (p.sent v u)) (w.pushed v u)
     up_to_now =
         let e : min (suc (w.finished v)) p.windows ≡ suc (w.finished v) = omega arith in
-        subst (λ k. BeginsWith (pushes k (p.sent v u)) (w.pushed v u)) e (s.lines v u pair).front
+        subst (λ k. HasPrefix (pushes k (p.sent v u)) (w.pushed v u)) e (s.lines v u pair).front
 
     pair_pushes : (w.pushed v u ≡ pushes (suc (w.finished v)) (p.sent v u)) ⊎ Next v
     pair_pushes = elim (cases_lt (length (w.pushed v u)) (length (pushes (suc (w.finished v)) (p.sent v u)))) [
@@ -72,13 +72,13 @@ module _ (p : Plan) (w : State) (s : AreInPosition p w) where
       ]
     ]
 
-    goes_or_waits : HasPushed p w v → MayGoOn p w v ⊎ Waits p w v
+    goes_or_waits : HasPushed p w v → MayGoOn p w v ⊎ WorkerWaits p w v
     goes_or_waits out = elim (all_or_some IsHeard Missing p.workers heard_or_missing) [
       | inl all ↦ inl (record { there = lv; runs = runs; has_pushed = out; heard = λ u pair. all u pair.from_there pair })
       | inr some ↦ inr (record { runs = runs; has_pushed = out; missing = (some.0, some.2.pair, some.2.few) })
     ]
 
-    pub phase : Next v ⊎ (MayGoOn p w v ⊎ Waits p w v)
+    pub phase : Next v ⊎ (MayGoOn p w v ⊎ WorkerWaits p w v)
     phase = elim (worker_pushes v lv) [ inl out ↦ inr (goes_or_waits (out runs)) | inr next ↦ inl next ]
 
   -- if all workers in a window have pushed all its items, a worker with the fewest finished windows takes an item or
@@ -142,7 +142,7 @@ module _ (p : Plan) (w : State) (s : AreInPosition p w) where
         let line = s.lines v u pair in
         let h = line.heard in
         let is = done u pair.to_there in
-        all_is_taken p.windows (p.sent v u) (w.taken v u) (subst (λ l. BeginsWith l (w.taken v u)) (all_pushed v u pair) line.took) (omega arith)
+        all_is_taken p.windows (p.sent v u) (w.taken v u) (subst (λ l. HasPrefix l (w.taken v u)) (all_pushed v u pair) line.took) (omega arith)
 
     pub at_end : IsAtEnd p w
     at_end = record { finished = done; pushed = all_pushed; taken = all_taken }

@@ -7,10 +7,10 @@ use Rattle.copy_inbox.specs.declared.items.Item.{Item}
 use Rattle.copy_inbox.specs.Items.{part}
 use Rattle.copy_inbox.proofs.Parts.{part-append, part-here, part-else}
 use Rattle.mark_laws.specs.State.{Plan, IsPair, start, set_pair}
-use Rattle.mark_laws.specs.Steps.{Event, Waits, MayPush, MayTake, MayHappen, after, Run, IsAtEnd, steps_of}
+use Rattle.mark_laws.specs.Steps.{Event, WorkerWaits, MayPush, MayTake, MayHappen, after_event, Run, IsAtEnd, steps_of}
 use Rattle.mark_laws.specs.Steps.Event.{Push, Take, GoOn}
 use Rattle.mark_laws.specs.AreInPosition.{AreInPosition}
-use Rattle.mark_laws.specs.Queues.{Senders, Queued, start_queued, item_of, rest_of, MayTakeFirst, MayHappenQueued, after_queued, RunQueued, IsStuckQueued}
+use Rattle.mark_laws.specs.Queues.{Senders, Queued, start_queued, carried_item, rest_of, MayTakeFirst, MayHappenQueued, after_queued, RunQueued, IsStuckQueued}
 use Rattle.mark_laws.specs.Laws.{QueuedRunsAreRuns, QueuedSomeoneGoesOn, QueuedStuckIsAtEnd, EveryQueuedRunCanEnd, OwnOrderDoesNotStick, SendersAreThere}
 use Rattle.mark_laws.proofs.Changes.{pair_same, pair_apart, pair_beside, at_one}
 use Rattle.mark_laws.proofs.IsInState.{in_position_after_step, in_position_first}
@@ -41,7 +41,7 @@ module _ (p : Plan) (senders : Senders p) where
   module _ (q : Queued) (h : InOrder q) where
     module _ (v u : ℕ) (x : Carried) (may : MayPush p q.state v u x) where
       abbrev item : Item
-      item = item_of senders v u x
+      item = carried_item senders v u x
 
       abbrev longer : List Item
       longer = q.queue u ++ item ∷ []
@@ -87,7 +87,7 @@ module _ (p : Plan) (senders : Senders p) where
       goes_before : q.state.pushed u v ≡ (q.state.taken u v ++ x ∷ []) ++ part (senders.number u v) rest
       goes_before =
           h.parts u v may.pair
-          ∙ (ap (λ l. q.state.taken u v ++ l) (ap (part (senders.number u v)) may.first.1 ∙ part-here (senders.number u v) (item_of senders u v x) rest refl)
+          ∙ (ap (λ l. q.state.taken u v ++ l) (ap (part (senders.number u v)) may.first.1 ∙ part-here (senders.number u v) (carried_item senders u v x) rest refl)
           ∙ sym (append_assoc (q.state.taken u v) (x ∷ []) (part (senders.number u v) rest)))
 
       may_take : MayTake p q.state v u x
@@ -99,7 +99,7 @@ module _ (p : Plan) (senders : Senders p) where
       of_untaken : (a : ℕ) → a ≢ u → IsPair p a v → q.state.pushed a v ≡ taken a v ++ part (senders.number a v) rest
       of_untaken a ne pair =
           h.parts a v pair
-          ∙ (ap (λ l. q.state.taken a v ++ l) (ap (part (senders.number a v)) may.first.1 ∙ part-else (senders.number a v) (item_of senders u v x) rest (λ e. ne (sym (senders.apart u a v may.pair pair e))))
+          ∙ (ap (λ l. q.state.taken a v ++ l) (ap (part (senders.number a v)) may.first.1 ∙ part-else (senders.number a v) (carried_item senders u v x) rest (λ e. ne (sym (senders.apart u a v may.pair pair e))))
           ∙ ap (λ l. l ++ part (senders.number a v) rest) (sym (pair_apart q.state.taken u v (q.state.taken u v ++ x ∷ []) a v ne)))
 
       left : (a : ℕ) → IsPair p a v → q.state.pushed a v ≡ taken a v ++ part (senders.number a v) rest
@@ -131,10 +131,10 @@ module _ (p : Plan) (senders : Senders p) where
     order_step (GoOn v) may = record { in_position = in_position_after_step p q.state (GoOn v) h.in_position may; parts = h.parts; others = h.others }
 
     -- a worker that waits takes the oldest item, if there is one
-    pub takes_first : (v : ℕ) (y : Item) (ys : List Item) → Waits p q.state v → q.queue v ≡ y ∷ ys → (u : ℕ) × MayTakeFirst p senders q v u y.what
+    pub takes_first : (v : ℕ) (y : Item) (ys : List Item) → WorkerWaits p q.state v → q.queue v ≡ y ∷ ys → (u : ℕ) × MayTakeFirst p senders q v u y.what
     takes_first v y ys waits is =
         let other : IsOfOther v y = (subst (Each (IsOfOther v)) is (h.others v)).0 in
-        let same : y ≡ item_of senders other.from v y.what = ap (λ n. record { sender = n; what = y.what }) other.at in
+        let same : y ≡ carried_item senders other.from v y.what = ap (λ n. record { sender = n; what = y.what }) other.at in
         (other.from, record { pair = other.pair; waits = waits; first = (ys, is ∙ ap (λ i. i ∷ ys) same) })
 
     -- if an item of one other worker may be taken, the oldest item of the queue may be taken
@@ -186,7 +186,7 @@ module _ (p : Plan) (senders : Senders p) where
     | inl end ↦ ([], q, refl, end)
     | inr g ↦ absurd (
         let a = made_step p q.state g.0 (is_step q h g.0 g.1) in
-        let b = made_low p (after q.state g.0) (order_step q h g.0 g.1).in_position in
+        let b = made_low p (after_event q.state g.0) (order_step q h g.0 g.1).in_position in
         omega arith
         )
   ]

@@ -4,7 +4,7 @@ use Rattle.std.proofs.lemmas.Bool.{cases_lt}
 use Rattle.radio_packet.specs.declared.copy.RadioCopy.{RadioCopy}
 use Rattle.copy_inbox.specs.declared.items.Carried.{Carried}
 use Rattle.copy_inbox.specs.declared.items.Carried.TheVariants.{Packet, Mark}
-use Rattle.copy_inbox.specs.Items.{BeginsWith}
+use Rattle.copy_inbox.specs.Items.{HasPrefix}
 use Rattle.copy_exchange.specs.Pushes.{marks_in, pushes}
 use Rattle.copy_exchange.proofs.Whole.{all_is_taken}
 use Rattle.mark_laws.specs.Laws.{TwoWindowsLieThere}
@@ -20,7 +20,7 @@ tail_of [] = []
 tail_of (y ∷ ys) = ys
 
 -- of two prefixes of one list, the longer begins with the shorter
-shorter_in : (a b r s : List Carried) → a ++ r ≡ b ++ s → length a ≤ length b → BeginsWith b a
+shorter_in : (a b r s : List Carried) → a ++ r ≡ b ++ s → length a ≤ length b → HasPrefix b a
 shorter_in [] b r s e le = (b, refl)
 shorter_in (x ∷ a) [] r s e le = absurd (omega arith)
 shorter_in (x ∷ a) (y ∷ b) r s e le =
@@ -28,11 +28,11 @@ shorter_in (x ∷ a) (y ∷ b) r s e le =
     let same : y ≡ x = sym (ap (head_or x) e) in
     (rest.0, ap (λ i. i ∷ b) same ∙ ap (λ l. x ∷ l) rest.1)
 
-shorter : (xs a b : List Carried) → BeginsWith xs a → BeginsWith xs b → length a ≤ length b → BeginsWith b a
+shorter : (xs a b : List Carried) → HasPrefix xs a → HasPrefix xs b → length a ≤ length b → HasPrefix b a
 shorter xs a b h g le = shorter_in a b h.0 g.0 (sym h.1 ∙ g.1) le
 
 -- a prefix with k marks is at least as long as the items that k windows push
-long_by_marks : (m k : ℕ) (sent : ℕ → List RadioCopy) (taken : List Carried) → BeginsWith (pushes m sent) taken → k ≤ m → k ≤ marks_in taken → length (pushes k sent) ≤ length taken
+long_by_marks : (m k : ℕ) (sent : ℕ → List RadioCopy) (taken : List Carried) → HasPrefix (pushes m sent) taken → k ≤ m → k ≤ marks_in taken → length (pushes k sent) ≤ length taken
 long_by_marks m k sent taken h le marks = elim (cases_lt (length taken) (length (pushes k sent))) [
   | inl lt ↦ (
       let b = shorter (pushes m sent) taken (pushes k sent) h (pushes_grow k m sent le) (omega arith) in

@@ -2,20 +2,20 @@
 use Rattle.std.specs.Prelude.{◌≡◌, ℕ, suc, ◌<◌, ◌≤◌, min, List, []}
 use Rattle.radio_packet.specs.declared.copy.RadioCopy.{RadioCopy}
 use Rattle.copy_inbox.specs.declared.items.Carried.{Carried}
-use Rattle.copy_inbox.specs.Items.{BeginsWith}
+use Rattle.copy_inbox.specs.Items.{HasPrefix}
 use Rattle.copy_exchange.specs.Pushes.{marks_in, pushes}
-use Rattle.mark_laws.specs.State.{Plan, State, IsPair}
+use Rattle.mark_laws.specs.State.{Plan, MarkState, IsPair}
 
 -- The items from one worker to another: the first has finished `finished` windows, the other `begun`. The first has
 -- pushed all items of the windows that it has finished, and no item of a window that it hasn't begun. The other has
 -- taken a prefix of these items, with the marks of the windows that it has finished itself.
 pub record IsLine (windows finished begun : ℕ) (sent : ℕ → List RadioCopy) (pushed taken : List Carried) : Type 0 where
-  pub whole : BeginsWith pushed (pushes finished sent)
-  pub front : BeginsWith (pushes (min (suc finished) windows) sent) pushed
-  pub took : BeginsWith pushed taken
+  pub whole : HasPrefix pushed (pushes finished sent)
+  pub front : HasPrefix (pushes (min (suc finished) windows) sent) pushed
+  pub took : HasPrefix pushed taken
   pub heard : begun ≤ marks_in taken
 
-pub record AreInPosition (p : Plan) (w : State) : Type 0 where
+pub record AreInPosition (p : Plan) (w : MarkState) : Type 0 where
   pub within : (v : ℕ) → v < p.workers → w.finished v ≤ p.windows
   pub lines : (v u : ℕ) → IsPair p v u
       → IsLine p.windows (w.finished v) (w.finished u) (p.sent v u) (w.pushed v u) (w.taken v u)

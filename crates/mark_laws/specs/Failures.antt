@@ -2,7 +2,7 @@
 -- that waits may leave. A worker reads its queue before it reads the flag, so an item may have arrived in between.
 use Rattle.std.specs.Prelude.{◌≡◌, ℕ, ◌<◌, Bool, true, false, List, [], ◌∷◌}
 use Rattle.mark_laws.specs.Queues.{Senders, Queued, start_queued, MayHappenQueued, after_queued}
-use Rattle.mark_laws.specs.Steps.{Event, worker_of, Waits}
+use Rattle.mark_laws.specs.Steps.{Event, worker_of, WorkerWaits}
 use Rattle.mark_laws.specs.State.{Plan, set_at}
 
 pub record Flagged : Type 0 where
@@ -33,7 +33,7 @@ pub record MayFail (p : Plan) (c : Flagged) (worker : ℕ) : Type 0 where
 pub record MayLeave (p : Plan) (c : Flagged) (worker : ℕ) : Type 0 where
   pub there : worker < p.workers
   pub still : c.gone worker ≡ false
-  pub waits : Waits p c.queued.state worker
+  pub waits : WorkerWaits p c.queued.state worker
   pub stopped : c.stop ≡ true
 
 abbrev pub MayTurn : (p : Plan) → Senders p → Flagged → Turn → Type 0
@@ -41,15 +41,16 @@ MayTurn p senders c (Does e) = MayDo p senders c e
 MayTurn p senders c (Fails v) = MayFail p c v
 MayTurn p senders c (Leaves v) = MayLeave p c v
 
-abbrev pub after_turn : {p : Plan} → Senders p → Flagged → Turn → Flagged
-after_turn senders c (Does e) = record { queued = after_queued senders c.queued e; gone = c.gone; stop = c.stop }
-after_turn senders c (Fails v) = record { queued = c.queued; gone = set_at c.gone v true; stop = true }
-after_turn senders c (Leaves v) = record { queued = c.queued; gone = set_at c.gone v true; stop = c.stop }
+abbrev pub flagged_after_turn : {p : Plan} → Senders p → Flagged → Turn → Flagged
+flagged_after_turn senders c
+    (Does e) = record { queued = after_queued senders c.queued e; gone = c.gone; stop = c.stop }
+flagged_after_turn senders c (Fails v) = record { queued = c.queued; gone = set_at c.gone v true; stop = true }
+flagged_after_turn senders c (Leaves v) = record { queued = c.queued; gone = set_at c.gone v true; stop = c.stop }
 
 abbrev pub RunTurns : (p : Plan) → Senders p → Flagged → List Turn → Flagged → Type 0
 RunTurns p senders old [] new = new ≡ old
 RunTurns p senders old (t ∷ turns) new = MayTurn p senders old t
-    × RunTurns p senders (after_turn senders old t) turns new
+    × RunTurns p senders (flagged_after_turn senders old t) turns new
 
 -- the steps among the turns
 abbrev pub steps_in : List Turn → List Event

@@ -12,13 +12,13 @@ pub record Plan : Type 0 where
 
 -- the number of windows that each worker has finished, the items that one worker has pushed to another so far, and the
 -- items that the other has taken
-pub record State : Type 0 where
+pub record MarkState : Type 0 where
   pub finished : ℕ → ℕ
   pub pushed : (from to : ℕ) → List Carried
   pub taken : (from to : ℕ) → List Carried
 
 -- the state before the first step
-abbrev pub start : State
+abbrev pub start : MarkState
 start = record { finished = λ v. 0; pushed = λ v u. []; taken = λ v u. [] }
 
 -- two different workers

@@ -10,7 +10,7 @@ use Rattle.net_agenda.specs.NetSystem.{system_of}
 use Rattle.worker_cut.specs.Crossed.{is_own, crossed}
 use Rattle.copy_inbox.specs.declared.rule.TakerState.{TakerState}
 use Rattle.copy_inbox.specs.Gathered.{Whole}
-use Rattle.copy_inbox.specs.Items.{copies_of, part, BeginsWith}
+use Rattle.copy_inbox.specs.Items.{copies_of, part, HasPrefix}
 use Rattle.copy_inbox.specs.Handles.{InboxId, TakerView, SenderView, AllGathered, PacketsLeft}
 use Rattle.copy_inbox.specs.Views.{make_taker_state}
 use Rattle.copy_exchange.specs.Takers.{copies_in, taken_by, gathered_by, IsOrderly}
@@ -40,7 +40,7 @@ use Rattle.marked_workers.proofs.Settles.{pair_taken, all_taken, one, gathered_a
 use Rattle.marked_workers.proofs.Settles.{same_of_each}
 use Rattle.marked_workers.proofs.Stages.{stage, own_stage, Reached, reached}
 
-module _ (n : NetModel) (of : List ℕ) (width windows : ℕ) (group : WorkerGroup) (h : EndAllMarked n of width windows group) where
+module _ (n : NetModel) (owners : List ℕ) (width windows : ℕ) (group : WorkerGroup) (h : EndAllMarked n owners width windows group) where
   abbrev workers : ℕ
   workers = length group.inboxes.items
 
@@ -55,10 +55,10 @@ module _ (n : NetModel) (of : List ℕ) (width windows : ℕ) (group : WorkerGro
     taker : TakerView
     share_at : slice_get group.shares.items v ≡ Some share
     taker_at : slice_get group.takers.items v ≡ Some taker
-    ran : WorkerRunsWindows n of width windows workers v z.state.made z.state.taken (λ u. pushed_list (h.sender u v)) z.history
-    keeps : IsWholeShare n of v (bound width n.end windows) (z.history.motes windows) (copies_of z.state.taken) share
+    ran : WorkerRunsWindows n owners width windows workers v z.state.made z.state.taken (λ u. pushed_list (h.sender u v)) z.history
+    keeps : IsWholeShare n owners v (bound width n.end windows) (z.history.motes windows) (copies_of z.state.taken) share
     are_senders : AreSenders workers v (h.sender v) z.state.made z.senders
-    begun : Each (λ (s : SenderView). BeginsWith s.state.pushed (part s.state.number z.state.taken)) z.senders
+    begun : Each (λ (s : SenderView). HasPrefix s.state.pushed (part s.state.number z.state.taken)) z.senders
     gathers : GatheredSenders z.state.made z.state.taken z.senders taker
     inbox : InboxId
     taker_is : taker ≡ record { inbox = inbox; state = with_joined z.senders (record z.state { gathered = [] }) }
@@ -67,8 +67,8 @@ module _ (n : NetModel) (of : List ℕ) (width windows : ℕ) (group : WorkerGro
   is_part v low =
       let s = there group.shares.items v (subst (λ l. v < l) (sym h.shares) low) in
       let t = there group.takers.items v (subst (λ l. v < l) (sym h.takers) low) in
-      let e : EndsMarked n of width windows workers h.sender v s.0 t.0 = subst (λ x. EndsMarked n of width windows workers h.sender v x t.0) (read group.shares.items v s.0 s.0 s.1)
-      (subst (λ x. EndsMarked n of width windows workers h.sender v (get_or group.shares.items v s.0) x) (read group.takers.items v t.0 t.0 t.1) (h.each_worker v low s.0 t.0)) in (
+      let e : EndsMarked n owners width windows workers h.sender v s.0 t.0 = subst (λ x. EndsMarked n owners width windows workers h.sender v x t.0) (read group.shares.items v s.0 s.0 s.1)
+      (subst (λ x. EndsMarked n owners width windows workers h.sender v (get_or group.shares.items v s.0) x) (read group.takers.items v t.0 t.0 t.1) (h.each_worker v low s.0 t.0)) in (
         record { state = e.before.state; senders = e.senders; history = e.promise.history },
         record {
           share = s.0;
@@ -104,7 +104,7 @@ module _ (n : NetModel) (of : List ℕ) (width windows : ℕ) (group : WorkerGro
   parts : (f : ℕ → Part) × ((v : ℕ) → v < workers → IsPart v (f v))
   parts = choose no_part IsPart workers is_part
 
-  abbrev all : AllRan n of width windows workers
+  abbrev all : AllRan n owners width windows workers
   all = record {
     made = λ v. (parts.0 v).state.made;
     taken = λ v. (parts.0 v).state.taken;
@@ -122,15 +122,15 @@ module _ (n : NetModel) (of : List ℕ) (width windows : ℕ) (group : WorkerGro
       subst (GatheredSenders (all.made v) (all.taken v) (all.senders v)) (same_found (slice_get group.takers.items v) p.taker t p.taker_at is) p.gathers
 
   -- the actions of all workers
-  pub all_ran : (a : AllRan n of width windows (length group.inboxes.items)) × IsOfTakers a group.takers.items
+  pub all_ran : (a : AllRan n owners width windows (length group.inboxes.items)) × IsOfTakers a group.takers.items
   all_ran = (all, is_of_takers)
 
   module _ (fine : RunsForward (system_of n)) (short : width ≤ (system_of n).lookahead) (are : AreWindows width n.end windows) where
     abbrev motes : Motes
-    motes = stage n fine of width windows workers all h.cut are short windows
+    motes = stage n fine owners width windows workers all h.cut are short windows
 
-    there_at_last : Reached n fine of width windows workers all h.cut are short windows
-    there_at_last = reached n fine of width windows workers all h.cut are short windows (omega arith)
+    there_at_last : Reached n fine owners width windows workers all h.cut are short windows
+    there_at_last = reached n fine owners width windows workers all h.cut are short windows (omega arith)
 
     at_last : bound width n.end windows ≡ suc n.end
     at_last = at_the_end width n.end windows are
@@ -146,64 +146,64 @@ module _ (n : NetModel) (of : List ℕ) (width windows : ℕ) (group : WorkerGro
       all_had s = ap (λ l. from s (copies_of l)) p.ran.all
 
       -- the copies taken from motes of other workers are all copies that were sent to this worker
-      had_all : (s : ℕ) → is_own of v s ≡ false → (o : Option ℕ) → slice_get of s ≡ o → from s (copies_of z.state.taken) ≡ from s (sent_so_far n of width windows workers all h.cut are v windows)
+      had_all : (s : ℕ) → is_own owners v s ≡ false → (o : Option ℕ) → slice_get owners s ≡ o → from s (copies_of z.state.taken) ≡ from s (sent_so_far n owners width windows workers all h.cut are v windows)
       had_all s other None e =
           sym (all_had s)
-          ∙ (copies_none n of width windows workers all v low windows (omega arith) s (λ w lw nw. nobodys of w s e)
-          ∙ sym (of_nobody n of width windows workers all h.cut are v windows s (omega arith) e))
+          ∙ (copies_none n owners width windows workers all v low windows (omega arith) s (λ w lw nw. nobodys owners w s e)
+          ∙ sym (of_nobody n owners width windows workers all h.cut are v windows s (omega arith) e))
       had_all s other (Some w) e =
-          let lw = each_at (λ x. x < workers) of s w h.cut.there e in
-          let ne : w ≢ v = λ same. false≢true (sym other ∙ own_by of v s (e ∙ ap Some same)) in
-          let number : ℕ = (pair n of width windows workers all v w low lw ne).number in
+          let lw = each_at (λ x. x < workers) owners s w h.cut.there e in
+          let ne : w ≢ v = λ same. false≢true (sym other ∙ own_by owners v s (e ∙ ap Some same)) in
+          let number : ℕ = (pair n owners width windows workers all v w low lw ne).number in
           sym (all_had s)
-          ∙ (copies_from n of width windows workers all v low windows (omega arith) s w lw ne e
+          ∙ (copies_from n owners width windows workers all v low windows (omega arith) s w lw ne e
           ∙ (ap (λ l. from s (copies_in (part number l))) p.ran.all
-          ∙ (ap (λ l. from s (copies_in l)) (pair_taken n of width windows workers all v low w lw ne)
-          ∙ (ap (from s) (copies_pushes windows _) ∙ sym (of_worker n of width windows workers all h.cut are v windows s w (omega arith) lw e)))))
+          ∙ (ap (λ l. from s (copies_in l)) (pair_taken n owners width windows workers all v low w lw ne)
+          ∙ (ap (from s) (copies_pushes windows _) ∙ sym (of_worker n owners width windows workers all h.cut are v windows s w (omega arith) lw e)))))
 
-      crossed_is : (s : ℕ) → from s (copies_of z.state.taken) ≡ crossed (system_of n) of motes v s
-      crossed_is s = elim (cases_Bool (is_own of v s)) [
-        | inl e ↦ rw e (sym (all_had s) ∙ copies_none n of width windows workers all v low windows (omega arith) s (λ w lw nw. not_other of v w s (own_of of v s e) (λ q. nw (sym q))))
-        | inr e ↦ had_all s e (slice_get of s) refl ∙ there_at_last.matches v low s
+      crossed_is : (s : ℕ) → from s (copies_of z.state.taken) ≡ crossed (system_of n) owners motes v s
+      crossed_is s = elim (cases_Bool (is_own owners v s)) [
+        | inl e ↦ rw e (sym (all_had s) ∙ copies_none n owners width windows workers all v low windows (omega arith) s (λ w lw nw. not_other owners v w s (own_of owners v s e) (λ q. nw (sym q))))
+        | inr e ↦ had_all s e (slice_get owners s) refl ∙ there_at_last.matches v low s
       ]
 
       its_one : (s : ℕ) → OneOf s z.senders
-      its_one = one n of width windows workers all v low h.cut
+      its_one = one n owners width windows workers all v low h.cut
 
       taken_gathered : (s : ℕ) → from s (taken_by p.taker) ≡ from s (gathered_by p.taker)
       taken_gathered s =
           subst (λ t. from s (taken_by t) ≡ from s (gathered_by t)) (sym p.taker_is)
-          (same_of_each workers v (h.sender v) z.state z.senders p.are_senders p.ran.of_made p.begun (all_taken n of width windows workers all v low) its_one s)
+          (same_of_each workers v (h.sender v) z.state z.senders p.are_senders p.ran.of_made p.begun (all_taken n owners width windows workers all v low) its_one s)
 
-      at_worker : IsWorkerAt n of (suc n.end) motes group.first_out v p.share p.taker
+      at_worker : IsWorkerAt n owners (suc n.end) motes group.first_out v p.share p.taker
       at_worker = record {
-        keeps = subst (λ l. IsWholeShare n of v (suc n.end) motes l p.share) (sym (ap taken_by p.taker_is))
-            (keeps_same n of v (z.history.motes windows) motes (own_stage n fine of width windows workers all h.cut are short v low windows) (suc n.end) (copies_of z.state.taken) p.share
-            (subst (λ t. IsWholeShare n of v t (z.history.motes windows) (copies_of z.state.taken) p.share) at_last p.keeps));
+        keeps = subst (λ l. IsWholeShare n owners v (suc n.end) motes l p.share) (sym (ap taken_by p.taker_is))
+            (keeps_same n owners v (z.history.motes windows) motes (own_stage n fine owners width windows workers all h.cut are short v low windows) (suc n.end) (copies_of z.state.taken) p.share
+            (subst (λ t. IsWholeShare n owners v t (z.history.motes windows) (copies_of z.state.taken) p.share) at_last p.keeps));
         gathered = λ s. sym (taken_gathered s) ∙ (ap (λ t. from s (taken_by t)) p.taker_is ∙ crossed_is s);
         waits = λ s. record { rest = []; all = sym (append-nil (from s (taken_by p.taker)) ∙ taken_gathered s); later = tt };
       }
 
       whole_at : Whole p.taker.state.gathered p.taker.state.taken
       whole_at = subst (λ (t : TakerView). Whole t.state.gathered t.state.taken) (sym p.taker_is)
-          (whole_then workers v (h.sender v) z.state z.senders p.are_senders p.ran.of_made p.begun (all_taken n of width windows workers all v low) its_one)
+          (whole_then workers v (h.sender v) z.state z.senders p.are_senders p.ran.of_made p.begun (all_taken n owners width windows workers all v low) its_one)
 
       settled_one : (id : InboxId) (taker : TakerView) → IsSettled (get_or group.inboxes.items v id) (get_or group.takers.items v taker)
       settled_one id taker =
           let is = read group.takers.items v p.taker taker p.taker_at in
           subst (IsSettled (get_or group.inboxes.items v id)) (sym is) (record {
             its = ap (λ (t : TakerView). t.inbox) (sym is) ∙ h.inbox_of_taker v id taker low;
-            orderly = subst (λ (t : TakerView). IsOrderly t.state) (sym p.taker_is) (orderly workers v (h.sender v) z.state z.senders p.are_senders p.ran.of_made p.begun (all_taken n of width windows workers all v low) its_one);
-            no_mark = subst (λ (t : TakerView). PacketsLeft t.state) (sym p.taker_is) (no_mark workers v (h.sender v) z.state z.senders p.are_senders p.ran.of_made p.begun (all_taken n of width windows workers all v low) its_one);
-            all = subst (λ (t : TakerView). AllGathered t.state) (sym p.taker_is) (gathered_all workers v (h.sender v) z.state z.senders p.are_senders p.ran.of_made p.begun (all_taken n of width windows workers all v low) its_one);
+            orderly = subst (λ (t : TakerView). IsOrderly t.state) (sym p.taker_is) (orderly workers v (h.sender v) z.state z.senders p.are_senders p.ran.of_made p.begun (all_taken n owners width windows workers all v low) its_one);
+            no_mark = subst (λ (t : TakerView). PacketsLeft t.state) (sym p.taker_is) (no_mark workers v (h.sender v) z.state z.senders p.are_senders p.ran.of_made p.begun (all_taken n owners width windows workers all v low) its_one);
+            all = subst (λ (t : TakerView). AllGathered t.state) (sym p.taker_is) (gathered_all workers v (h.sender v) z.state z.senders p.are_senders p.ran.of_made p.begun (all_taken n owners width windows workers all v low) its_one);
           })
 
-      worker_at : (share : Share) (taker : TakerView) → IsWorkerAt n of (suc n.end) motes group.first_out v (get_or group.shares.items v share) (get_or group.takers.items v taker)
+      worker_at : (share : Share) (taker : TakerView) → IsWorkerAt n owners (suc n.end) motes group.first_out v (get_or group.shares.items v share) (get_or group.takers.items v taker)
       worker_at share taker =
-          subst (λ x. IsWorkerAt n of (suc n.end) motes group.first_out v x (get_or group.takers.items v taker)) (sym (read group.shares.items v p.share share p.share_at))
-          (subst (λ x. IsWorkerAt n of (suc n.end) motes group.first_out v p.share x) (sym (read group.takers.items v p.taker taker p.taker_at)) at_worker)
+          subst (λ x. IsWorkerAt n owners (suc n.end) motes group.first_out v x (get_or group.takers.items v taker)) (sym (read group.shares.items v p.share share p.share_at))
+          (subst (λ x. IsWorkerAt n owners (suc n.end) motes group.first_out v p.share x) (sym (read group.takers.items v p.taker taker p.taker_at)) at_worker)
 
-    pub all_at_end : IsAt n of (suc n.end) group
+    pub all_at_end : IsAt n owners (suc n.end) group
     all_at_end = record {
       motes = motes;
       led = subst (λ t. Windows (system_of n) 0 t (first_mote (system_of n)) motes) at_last there_at_last.led;
@@ -221,6 +221,6 @@ module _ (n : NetModel) (of : List ℕ) (width windows : ℕ) (group : WorkerGro
         let p : IsPart v (parts.0 v) = parts.1 v low in
         subst (λ (x : TakerView). Whole x.state.gathered x.state.taken) (same_found (slice_get group.takers.items v) p.taker t p.taker_at e) (whole_at v low))
 
-pub ends : (n : NetModel) → RunsForward (system_of n) → (of : List ℕ) (width windows : ℕ) → width ≤ (system_of n).lookahead → AreWindows width n.end windows
-    → (group : WorkerGroup) → EndAllMarked n of width windows group → IsAt n of (suc n.end) group × Each (λ (t : TakerView). Whole t.state.gathered t.state.taken) group.takers.items
-ends n fine of width windows short are group all = (all_at_end n of width windows group all fine short are, all_whole n of width windows group all fine short are)
+pub ends : (n : NetModel) → RunsForward (system_of n) → (owners : List ℕ) (width windows : ℕ) → width ≤ (system_of n).lookahead → AreWindows width n.end windows
+    → (group : WorkerGroup) → EndAllMarked n owners width windows group → IsAt n owners (suc n.end) group × Each (λ (t : TakerView). Whole t.state.gathered t.state.taken) group.takers.items
+ends n fine owners width windows short are group all = (all_at_end n owners width windows group all fine short are, all_whole n owners width windows group all fine short are)

@@ -8,7 +8,7 @@ use Rattle.copy_inbox.specs.Items.{part}
 use Rattle.copy_inbox.proofs.Parts.{part-append}
 use Rattle.marked_workers.specs.WorkerHistory.{WorkerHistory, WorkerRunsWindows}
 
-module _ (n : NetModel) (of : List ℕ) (width windows workers worker made : ℕ) (taken : List Item) (pushed : ℕ → List Carried) (history : WorkerHistory) (ran : WorkerRunsWindows n of width windows workers worker made taken pushed history) where
+module _ (n : NetModel) (owners : List ℕ) (width windows workers worker made : ℕ) (taken : List Item) (pushed : ℕ → List Carried) (history : WorkerHistory) (ran : WorkerRunsWindows n owners width windows workers worker made taken pushed history) where
   grows : (k m : ℕ) → k + m ≤ windows → (more : List Item) × (history.taken (k + m) ≡ history.taken k ++ more)
   grows k zero h = let e : k + zero ≡ k = omega arith in ([], ap history.taken e ∙ sym (append-nil (history.taken k)))
   grows k (suc m) h =

@@ -34,8 +34,8 @@ pushes_same (suc k) f g h =
     ∙ ap (λ l. pushes k g ++ (map Packet l ++ Mark k ∷ [])) (h k (omega arith))
 
 -- no window yet
-pub runs_none : (n : NetModel) (of : List ℕ) (width workers worker made : ℕ) → WorkerRunsWindows n of width 0 workers worker made [] (λ v. []) (record { motes = λ k. first_mote (system_of n); taken = λ k. []; outgoing = λ k. [] })
-runs_none n of width workers worker made = record {
+pub runs_none : (n : NetModel) (owners : List ℕ) (width workers worker made : ℕ) → WorkerRunsWindows n owners width 0 workers worker made [] (λ v. []) (record { motes = λ k. first_mote (system_of n); taken = λ k. []; outgoing = λ k. [] })
+runs_none n owners width workers worker made = record {
   first = refl;
   nothing = refl;
   all = refl;
@@ -46,17 +46,17 @@ runs_none n of width workers worker made = record {
   pushes_then = λ v low ne. refl;
 }
 
-module _ (n : NetModel) (of : List ℕ) (width workers worker made k : ℕ) (taken more : List Item) (pushed pushes_now : ℕ → List Carried) (history : WorkerHistory) (next : Motes) (outgoing : List RadioCopy) where
+module _ (n : NetModel) (owners : List ℕ) (width workers worker made k : ℕ) (taken more : List Item) (pushed pushes_now : ℕ → List Carried) (history : WorkerHistory) (next : Motes) (outgoing : List RadioCopy) where
   abbrev pub longer : WorkerHistory
   longer = record { motes = edit history.motes (suc k) next; taken = edit history.taken (suc k) (taken ++ more); outgoing = edit history.outgoing k outgoing }
 
   -- the worker ran window k, pushed the copies that it sent in the window and the mark, and then took more items,
   -- until it had the marks of window k too
-  module _ (ran : WorkerRunsWindows n of width k workers worker made taken pushed history)
-      (window : RunsMotes n of worker (bound width n.end k) (bound width n.end (suc k)) (history.motes k) next (copies_of taken) outgoing)
+  module _ (ran : WorkerRunsWindows n owners width k workers worker made taken pushed history)
+      (window : RunsMotes n owners worker (bound width n.end k) (bound width n.end (suc k)) (history.motes k) next (copies_of taken) outgoing)
       (lead : (s : ℕ) → s < made → suc k ≤ marks_in (part s (taken ++ more)))
       (of_made : OfMade made (taken ++ more))
-      (pushes_more : (v : ℕ) → v < workers → v ≢ worker → pushes_now v ≡ pushed v ++ (map Packet (filter (is_to of v) outgoing) ++ Mark k ∷ [])) where
+      (pushes_more : (v : ℕ) → v < workers → v ≢ worker → pushes_now v ≡ pushed v ++ (map Packet (filter (is_to owners v) outgoing) ++ Mark k ∷ [])) where
     old_motes : (j : ℕ) → j ≤ k → longer.motes j ≡ history.motes j
     old_motes j le = edit_other history.motes (suc k) next j (λ e. absurd (omega arith))
 
@@ -67,21 +67,21 @@ module _ (n : NetModel) (of : List ℕ) (width workers worker made k : ℕ) (tak
     old_sent j low = edit_other history.outgoing k outgoing j (λ e. absurd (omega arith))
 
     abbrev Runs : ℕ → Type 0
-    Runs j = RunsMotes n of worker (bound width n.end j) (bound width n.end (suc j)) (longer.motes j) (longer.motes (suc j)) (copies_of (longer.taken j)) (longer.outgoing j)
+    Runs j = RunsMotes n owners worker (bound width n.end j) (bound width n.end (suc j)) (longer.motes j) (longer.motes (suc j)) (copies_of (longer.taken j)) (longer.outgoing j)
 
     runs_old : (j : ℕ) → j < k → Runs j
     runs_old j low =
-        subst (λ x. RunsMotes n of worker (bound width n.end j) (bound width n.end (suc j)) x (longer.motes (suc j)) (copies_of (longer.taken j)) (longer.outgoing j)) (sym (old_motes j (omega arith)))
-        (subst (λ x. RunsMotes n of worker (bound width n.end j) (bound width n.end (suc j)) (history.motes j) x (copies_of (longer.taken j)) (longer.outgoing j)) (sym (old_motes (suc j) (omega arith)))
-        (subst (λ x. RunsMotes n of worker (bound width n.end j) (bound width n.end (suc j)) (history.motes j) (history.motes (suc j)) (copies_of x) (longer.outgoing j)) (sym (old_taken j (omega arith)))
-        (subst (λ x. RunsMotes n of worker (bound width n.end j) (bound width n.end (suc j)) (history.motes j) (history.motes (suc j)) (copies_of (history.taken j)) x) (sym (old_sent j low)) (ran.runs j low))))
+        subst (λ x. RunsMotes n owners worker (bound width n.end j) (bound width n.end (suc j)) x (longer.motes (suc j)) (copies_of (longer.taken j)) (longer.outgoing j)) (sym (old_motes j (omega arith)))
+        (subst (λ x. RunsMotes n owners worker (bound width n.end j) (bound width n.end (suc j)) (history.motes j) x (copies_of (longer.taken j)) (longer.outgoing j)) (sym (old_motes (suc j) (omega arith)))
+        (subst (λ x. RunsMotes n owners worker (bound width n.end j) (bound width n.end (suc j)) (history.motes j) (history.motes (suc j)) (copies_of x) (longer.outgoing j)) (sym (old_taken j (omega arith)))
+        (subst (λ x. RunsMotes n owners worker (bound width n.end j) (bound width n.end (suc j)) (history.motes j) (history.motes (suc j)) (copies_of (history.taken j)) x) (sym (old_sent j low)) (ran.runs j low))))
 
     runs_last : Runs k
     runs_last =
-        subst (λ x. RunsMotes n of worker (bound width n.end k) (bound width n.end (suc k)) x (longer.motes (suc k)) (copies_of (longer.taken k)) (longer.outgoing k)) (sym (old_motes k (omega arith)))
-        (subst (λ x. RunsMotes n of worker (bound width n.end k) (bound width n.end (suc k)) (history.motes k) x (copies_of (longer.taken k)) (longer.outgoing k)) (sym (edit_same history.motes (suc k) next))
-        (subst (λ x. RunsMotes n of worker (bound width n.end k) (bound width n.end (suc k)) (history.motes k) next (copies_of x) (longer.outgoing k)) (sym (old_taken k (omega arith) ∙ ran.all))
-        (subst (λ x. RunsMotes n of worker (bound width n.end k) (bound width n.end (suc k)) (history.motes k) next (copies_of taken) x) (sym (edit_same history.outgoing k outgoing)) window)))
+        subst (λ x. RunsMotes n owners worker (bound width n.end k) (bound width n.end (suc k)) x (longer.motes (suc k)) (copies_of (longer.taken k)) (longer.outgoing k)) (sym (old_motes k (omega arith)))
+        (subst (λ x. RunsMotes n owners worker (bound width n.end k) (bound width n.end (suc k)) (history.motes k) x (copies_of (longer.taken k)) (longer.outgoing k)) (sym (edit_same history.motes (suc k) next))
+        (subst (λ x. RunsMotes n owners worker (bound width n.end k) (bound width n.end (suc k)) (history.motes k) next (copies_of x) (longer.outgoing k)) (sym (old_taken k (omega arith) ∙ ran.all))
+        (subst (λ x. RunsMotes n owners worker (bound width n.end k) (bound width n.end (suc k)) (history.motes k) next (copies_of taken) x) (sym (edit_same history.outgoing k outgoing)) window)))
 
     goes_old : (j : ℕ) → j < k → (rest : List Item) × (longer.taken (suc j) ≡ longer.taken j ++ rest)
     goes_old j low =
@@ -97,7 +97,7 @@ module _ (n : NetModel) (of : List ℕ) (width workers worker made k : ℕ) (tak
     lead_old : (j : ℕ) → j ≤ k → (s : ℕ) → s < made → j ≤ marks_in (part s (longer.taken j))
     lead_old j le s low = subst (λ l. j ≤ marks_in (part s l)) (sym (old_taken j le)) (ran.marks_lead j le s low)
 
-    pub runs_longer : WorkerRunsWindows n of width (suc k) workers worker made (taken ++ more) pushes_now longer
+    pub runs_longer : WorkerRunsWindows n owners width (suc k) workers worker made (taken ++ more) pushes_now longer
     runs_longer = record {
       first = old_motes 0 (omega arith) ∙ ran.first;
       nothing = old_taken 0 (omega arith) ∙ ran.nothing;
@@ -114,6 +114,6 @@ module _ (n : NetModel) (of : List ℕ) (width workers worker made k : ℕ) (tak
       runs = λ j low. elim (cases_eq j k) [ inl e ↦ subst Runs (sym e) runs_last | inr ne ↦ runs_old j (omega (arith, ne)) ];
       pushes_then = λ v low ne.
           pushes_more v low ne
-          ∙ (ap (λ l. l ++ (map Packet (filter (is_to of v) outgoing) ++ Mark k ∷ [])) (ran.pushes_then v low ne ∙ pushes_same k (λ j. filter (is_to of v) (history.outgoing j)) (λ j. filter (is_to of v) (longer.outgoing j)) (λ j lt. ap (filter (is_to of v)) (sym (old_sent j lt))))
-          ∙ ap (λ l. pushes k (λ j. filter (is_to of v) (longer.outgoing j)) ++ (map Packet (filter (is_to of v) l) ++ Mark k ∷ [])) (sym (edit_same history.outgoing k outgoing)));
+          ∙ (ap (λ l. l ++ (map Packet (filter (is_to owners v) outgoing) ++ Mark k ∷ [])) (ran.pushes_then v low ne ∙ pushes_same k (λ j. filter (is_to owners v) (history.outgoing j)) (λ j. filter (is_to owners v) (longer.outgoing j)) (λ j lt. ap (filter (is_to owners v)) (sym (old_sent j lt))))
+          ∙ ap (λ l. pushes k (λ j. filter (is_to owners v) (longer.outgoing j)) ++ (map Packet (filter (is_to owners v) l) ++ Mark k ∷ [])) (sym (edit_same history.outgoing k outgoing)));
     }

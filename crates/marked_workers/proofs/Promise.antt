@@ -23,35 +23,35 @@ use Rattle.marked_workers.proofs.Bounds.{at_first}
 use Rattle.marked_workers.proofs.Longer.{edit_same, runs_none, longer, runs_longer}
 
 -- a worker with a new share, and with a taker that has taken nothing
-pub promise_first : (n : NetModel) (of : List ℕ) (width workers worker : ℕ) (share : Share) (state : TakerState) → state.taken ≡ [] → state.gathered ≡ []
-    → IsWholeShare n of worker 0 (first_mote (system_of n)) [] share → WorkerRunsMarked n of width 0 workers worker share state (λ v. [])
-promise_first n of width workers worker share state taken nobody keeps = record {
+pub promise_first : (n : NetModel) (owners : List ℕ) (width workers worker : ℕ) (share : Share) (state : TakerState) → state.taken ≡ [] → state.gathered ≡ []
+    → IsWholeShare n owners worker 0 (first_mote (system_of n)) [] share → WorkerRunsMarked n owners width 0 workers worker share state (λ v. [])
+promise_first n owners width workers worker share state taken nobody keeps = record {
   history = record { motes = λ k. first_mote (system_of n); taken = λ k. []; outgoing = λ k. [] };
-  ran = subst (λ l. WorkerRunsWindows n of width 0 workers worker state.made l (λ v. []) (record { motes = λ k. first_mote (system_of n); taken = λ k. []; outgoing = λ k. [] })) (sym taken)
-      (runs_none n of width workers worker state.made);
-  keeps = subst (λ l. IsWholeShare n of worker (bound width n.end 0) (first_mote (system_of n)) (copies_of l) share) (sym taken)
-      (subst (λ t. IsWholeShare n of worker t (first_mote (system_of n)) [] share) (sym (at_first width n.end)) keeps);
+  ran = subst (λ l. WorkerRunsWindows n owners width 0 workers worker state.made l (λ v. []) (record { motes = λ k. first_mote (system_of n); taken = λ k. []; outgoing = λ k. [] })) (sym taken)
+      (runs_none n owners width workers worker state.made);
+  keeps = subst (λ l. IsWholeShare n owners worker (bound width n.end 0) (first_mote (system_of n)) (copies_of l) share) (sym taken)
+      (subst (λ t. IsWholeShare n owners worker t (first_mote (system_of n)) [] share) (sym (at_first width n.end)) keeps);
   nobody = nobody;
 }
 
-module _ (n : NetModel) (of : List ℕ) (width workers worker k : ℕ) (share ran_share last_share : Share) (state : TakerState) (pushed pushes_now : ℕ → List Carried) (more : List Item) (outgoing : List RadioCopy)
-    (promise : WorkerRunsMarked n of width k workers worker share state pushed)
-    (window : RunsWindow n of worker (bound width n.end k) (bound width n.end (suc k)) (promise.history.motes k) (copies_of state.taken) ran_share outgoing)
-    (goes : Each (IsOutgoing n of worker) outgoing)
+module _ (n : NetModel) (owners : List ℕ) (width workers worker k : ℕ) (share ran_share last_share : Share) (state : TakerState) (pushed pushes_now : ℕ → List Carried) (more : List Item) (outgoing : List RadioCopy)
+    (promise : WorkerRunsMarked n owners width k workers worker share state pushed)
+    (window : RunsWindow n owners worker (bound width n.end k) (bound width n.end (suc k)) (promise.history.motes k) (copies_of state.taken) ran_share outgoing)
+    (goes : Each (IsOutgoing n owners worker) outgoing)
     (lead : (s : ℕ) → s < state.made → suc k ≤ marks_in (part s (state.taken ++ more)))
     (of_made : OfMade state.made (state.taken ++ more))
-    (pushes_more : (v : ℕ) → v < workers → v ≢ worker → pushes_now v ≡ pushed v ++ (map Packet (filter (is_to of v) outgoing) ++ Mark k ∷ []))
-    (keeps : IsWholeShare n of worker (bound width n.end (suc k)) window.next (copies_of state.taken ++ copies_of more) last_share) where
-  motes_ran : RunsMotes n of worker (bound width n.end k) (bound width n.end (suc k)) (promise.history.motes k) window.next (copies_of state.taken) outgoing
+    (pushes_more : (v : ℕ) → v < workers → v ≢ worker → pushes_now v ≡ pushed v ++ (map Packet (filter (is_to owners v) outgoing) ++ Mark k ∷ []))
+    (keeps : IsWholeShare n owners worker (bound width n.end (suc k)) window.next (copies_of state.taken ++ copies_of more) last_share) where
+  motes_ran : RunsMotes n owners worker (bound width n.end k) (bound width n.end (suc k)) (promise.history.motes k) window.next (copies_of state.taken) outgoing
   motes_ran = record { runs = window.runs; out = window.out; goes = goes; late = window.late }
 
   -- the window was run, its copies and its mark were pushed, and more items were taken until all marks of the window
   -- had arrived
-  pub promise_next : WorkerRunsMarked n of width (suc k) workers worker last_share (make_taker_state state.marked state.made (state.taken ++ more) state.gathered) pushes_now
+  pub promise_next : WorkerRunsMarked n owners width (suc k) workers worker last_share (make_taker_state state.marked state.made (state.taken ++ more) state.gathered) pushes_now
   promise_next = record {
-    history = longer n of width workers worker state.made k state.taken more pushed pushes_now promise.history window.next outgoing;
-    ran = runs_longer n of width workers worker state.made k state.taken more pushed pushes_now promise.history window.next outgoing promise.ran motes_ran lead of_made pushes_more;
-    keeps = subst (λ m. IsWholeShare n of worker (bound width n.end (suc k)) m (copies_of (state.taken ++ more)) last_share) (sym (edit_same promise.history.motes (suc k) window.next))
-        (subst (λ l. IsWholeShare n of worker (bound width n.end (suc k)) window.next l last_share) (sym (copies-append state.taken more)) keeps);
+    history = longer n owners width workers worker state.made k state.taken more pushed pushes_now promise.history window.next outgoing;
+    ran = runs_longer n owners width workers worker state.made k state.taken more pushed pushes_now promise.history window.next outgoing promise.ran motes_ran lead of_made pushes_more;
+    keeps = subst (λ m. IsWholeShare n owners worker (bound width n.end (suc k)) m (copies_of (state.taken ++ more)) last_share) (sym (edit_same promise.history.motes (suc k) window.next))
+        (subst (λ l. IsWholeShare n owners worker (bound width n.end (suc k)) window.next l last_share) (sym (copies-append state.taken more)) keeps);
     nobody = promise.nobody;
   }

@@ -64,15 +64,15 @@ module _ (inboxes : List InboxId) (takers : List TakerView) (shares : List Share
   all_none_gathered : Each (λ (c : Endpoint). c.taker.state.gathered ≡ []) made.endpoints
   all_none_gathered = each_from (λ (c : Endpoint). c.taker.state.gathered ≡ []) made.endpoints none_gathered
 
-  module _ (n : NetModel) (of : List ℕ) (cut : IsCut (length n.motes) (length inboxes) of) (first : AreFirst n of (length inboxes) shares) (marked : Each (λ (taker : TakerView). taker.state.marked ≡ true) takers) where
-    one_ready : (v : ℕ) (s : Share) (c : Endpoint) → slice_get shares v ≡ Some s → slice_get made.endpoints v ≡ Some c → IsFirst n of inboxes (make_worker (s, c))
+  module _ (n : NetModel) (owners : List ℕ) (cut : IsCut (length n.motes) (length inboxes) owners) (first : AreFirst n owners (length inboxes) shares) (marked : Each (λ (taker : TakerView). taker.state.marked ≡ true) takers) where
+    one_ready : (v : ℕ) (s : Share) (c : Endpoint) → slice_get shares v ≡ Some s → slice_get made.endpoints v ≡ Some c → IsFirst n owners inboxes (make_worker (s, c))
     one_ready v s c at_share at_endpoint =
         let low : v < length inboxes = subst (λ l. v < l) first.count (inside shares v s at_share) in
         let number : c.worker ≡ v = numbered (length inboxes) made.endpoints made.together.workers v low c at_endpoint in
         record {
           cut = cut;
-          keeps = subst (λ w. IsWholeShare n of w 0 (first_mote (system_of n)) [] s) (sym number)
-              (subst (λ x. IsWholeShare n of v 0 (first_mote (system_of n)) [] x) (read shares v s s at_share) (first.each v s low));
+          keeps = subst (λ w. IsWholeShare n owners w 0 (first_mote (system_of n)) [] s) (sym number)
+              (subst (λ x. IsWholeShare n owners v 0 (first_mote (system_of n)) [] x) (read shares v s s at_share) (first.each v s low));
           on_inboxes = (each_at (IsEndpoint inboxes) made.endpoints v c made.together.each at_endpoint).on_inboxes;
           marked = each_at HasMarks made.endpoints v c (made.marked marked) at_endpoint;
           made = made_for_others inboxes made.endpoints made.together v c at_endpoint (none_gathered v c at_endpoint);
@@ -81,8 +81,8 @@ module _ (inboxes : List InboxId) (takers : List TakerView) (shares : List Share
           none_pushed = each_at HasPushedNothing made.endpoints v c made.nothing at_endpoint;
         }
 
-    pub ready : Each (IsFirst n of inboxes) workers
-    ready = subst (Each (IsFirst n of inboxes)) (sym made.are) (each_zipped (IsFirst n of inboxes) make_worker shares made.endpoints one_ready)
+    pub ready : Each (IsFirst n owners inboxes) workers
+    ready = subst (Each (IsFirst n owners inboxes)) (sym made.are) (each_zipped (IsFirst n owners inboxes) make_worker shares made.endpoints one_ready)
 
   -- the endpoints of the workers are those that were made
   module _ (count : length shares ≡ length inboxes) where

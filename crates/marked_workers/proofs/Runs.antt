@@ -10,7 +10,7 @@ use Rattle.window_laws.proofs.Lists.{every_weaker}
 use Rattle.net_agenda.specs.NetSystem.{system_of}
 use Rattle.copy_inbox.specs.declared.items.Carried.{Carried}
 use Rattle.copy_inbox.specs.Gathered.{Whole}
-use Rattle.copy_inbox.specs.Items.{BeginsWith, part}
+use Rattle.copy_inbox.specs.Items.{HasPrefix, part}
 use Rattle.copy_inbox.specs.Handles.{InboxId, TakerView, SenderView, after_gather}
 use Rattle.copy_exchange.specs.declared.endpoint.Endpoint.{Endpoint}
 use Rattle.copy_exchange.specs.Endpoints.{IsOnInboxes, Stays, Together, pushed_list, pushed_to, senders_to}
@@ -37,25 +37,25 @@ use Rattle.marked_workers.proofs.Ends.{ends}
 of_others : (workers worker : ℕ) (sender : ℕ → Option SenderView) (made : ℕ) (senders : List SenderView) → SendersOfOthers workers worker sender made senders → AreSenders workers worker sender made senders
 of_others workers worker sender made senders h = record { numbered = h.numbered; made_is = h.made_is; others = h.others; of_worker = h.of_worker; worker_of = h.worker_of }
 
-module _ (n : NetModel) (of : List ℕ) (width windows : ℕ) (inboxes : List InboxId) where
-  all_stay : (xs ys : List Worker) → AllZip (WorkerRunsAllWindows n of width windows inboxes) xs ys → AllZip Stays (endpoints_of xs) (endpoints_of ys)
+module _ (n : NetModel) (owners : List ℕ) (width windows : ℕ) (inboxes : List InboxId) where
+  all_stay : (xs ys : List Worker) → AllZip (WorkerRunsAllWindows n owners width windows inboxes) xs ys → AllZip Stays (endpoints_of xs) (endpoints_of ys)
   all_stay [] [] h = tt
   all_stay [] (y ∷ ys) h = h
   all_stay (x ∷ xs) [] h = h
   all_stay (x ∷ xs) (y ∷ ys) h = (h.0.stays, all_stay xs ys h.1)
 
-  pub all_on_inboxes : (xs ys : List Worker) → AllZip (WorkerRunsAllWindows n of width windows inboxes) xs ys → Each (IsOnInboxes inboxes) (endpoints_of ys)
+  pub all_on_inboxes : (xs ys : List Worker) → AllZip (WorkerRunsAllWindows n owners width windows inboxes) xs ys → Each (IsOnInboxes inboxes) (endpoints_of ys)
   all_on_inboxes [] [] h = tt
   all_on_inboxes [] (y ∷ ys) h = absurd h
   all_on_inboxes (x ∷ xs) [] h = tt
   all_on_inboxes (x ∷ xs) (y ∷ ys) h = (h.0.on_inboxes, all_on_inboxes xs ys h.1)
 
   -- the endpoints at the end; each is the endpoint of its worker
-  pub all_back : (xs ys : List Worker) → Together inboxes (endpoints_of xs) → AllZip (WorkerRunsAllWindows n of width windows inboxes) xs ys
+  pub all_back : (xs ys : List Worker) → Together inboxes (endpoints_of xs) → AllZip (WorkerRunsAllWindows n owners width windows inboxes) xs ys
       → map (λ (c : Endpoint). c.worker) (endpoints_of ys) ≡ range_with_len 0 (length inboxes)
   all_back xs ys together ran = same_workers (endpoints_of xs) (endpoints_of ys) (all_stay xs ys ran) ∙ together.workers
 
-module _ (n : NetModel) (of : List ℕ) (width : ℕ) (old new : WorkerGroup) (cut : IsCut (length n.motes) (length new.inboxes.items) of) (ran : GroupRunsMarked n of width old new) where
+module _ (n : NetModel) (owners : List ℕ) (width : ℕ) (old new : WorkerGroup) (cut : IsCut (length n.motes) (length new.inboxes.items) owners) (ran : GroupRunsMarked n owners width old new) where
   abbrev ids : List InboxId
   ids = new.inboxes.items
 
@@ -72,14 +72,14 @@ module _ (n : NetModel) (of : List ℕ) (width : ℕ) (old new : WorkerGroup) (c
   done_long = as_long _ ran.first ran.done ran.ran ∙ first_long
 
   stays : AllZip Stays starts back
-  stays = all_stay n of width (windows_of width n.end) ids ran.first ran.done ran.ran
+  stays = all_stay n owners width (windows_of width n.end) ids ran.first ran.done ran.ran
 
   on_inboxes : Each (IsOnInboxes ids) back
-  on_inboxes = all_on_inboxes n of width (windows_of width n.end) ids ran.first ran.done ran.ran
+  on_inboxes = all_on_inboxes n owners width (windows_of width n.end) ids ran.first ran.done ran.ran
 
   -- one worker, its number, and its taker
   module _ (v : ℕ) (low : v < length ids) (w : Worker) (at_first : slice_get ran.first v ≡ Some w) (d : Worker) (at_done : slice_get ran.done v ≡ Some d)
-      (has_run : WorkerRunsAllWindows n of width (windows_of width n.end) ids w d) (t : TakerView) (at_taker : slice_get new.takers.items v ≡ Some t) where
+      (has_run : WorkerRunsAllWindows n owners width (windows_of width n.end) ids w d) (t : TakerView) (at_taker : slice_get new.takers.items v ≡ Some t) where
     its : w.endpoint.worker ≡ v
     its = numbered (length ids) starts ran.together.workers v low w.endpoint (mapped (λ (x : Worker). x.endpoint) ran.first v w at_first)
 
@@ -98,17 +98,17 @@ module _ (n : NetModel) (of : List ℕ) (width : ℕ) (old new : WorkerGroup) (c
     pushed_same : (u : ℕ) → pushed_to d.endpoint u ≡ pushed_list (sender_of back u v)
     pushed_same u = ap pushed_list (sym (sender_is back u v d.endpoint at_back))
 
-    promise : WorkerRunsMarked n of width (windows_of width n.end) (length ids) v d.share d.endpoint.taker.state (λ u. pushed_list (sender_of back u v))
-    promise = subst (λ k. WorkerRunsMarked n of width (windows_of width n.end) (length ids) k d.share d.endpoint.taker.state (λ u. pushed_list (sender_of back u v))) its
-        (subst (λ (p : ℕ → List Carried). WorkerRunsMarked n of width (windows_of width n.end) (length ids) w.endpoint.worker d.share d.endpoint.taker.state p) (λ i u. pushed_same u i) has_run.promise)
+    promise : WorkerRunsMarked n owners width (windows_of width n.end) (length ids) v d.share d.endpoint.taker.state (λ u. pushed_list (sender_of back u v))
+    promise = subst (λ k. WorkerRunsMarked n owners width (windows_of width n.end) (length ids) k d.share d.endpoint.taker.state (λ u. pushed_list (sender_of back u v))) its
+        (subst (λ (p : ℕ → List Carried). WorkerRunsMarked n owners width (windows_of width n.end) (length ids) w.endpoint.worker d.share d.endpoint.taker.state p) (λ i u. pushed_same u i) has_run.promise)
 
-    pub one_ends : EndsMarked n of width (windows_of width n.end) (length ids) (sender_of back) v d.share t
+    pub one_ends : EndsMarked n owners width (windows_of width n.end) (length ids) (sender_of back) v d.share t
     one_ends = record {
       before = d.endpoint.taker;
       promise = promise;
       senders = senders_to back v;
       are_senders = of_others (length ids) v (sender_of back v) d.endpoint.taker.state.made (senders_to back v) (are_senders ids starts back ran.together ran.none_gathered stays on_inboxes v d.endpoint at_back);
-      begun = every_weaker (λ (s : SenderView). TellsOf d.endpoint.taker.state s.state) (λ (s : SenderView). BeginsWith s.state.pushed (part s.state.number d.endpoint.taker.state.taken)) (λ s h. h.begun) (senders_to back v) (ran.back.matches v d.endpoint at_back);
+      begun = every_weaker (λ (s : SenderView). TellsOf d.endpoint.taker.state s.state) (λ (s : SenderView). HasPrefix s.state.pushed (part s.state.number d.endpoint.taker.state.taken)) (λ s h. h.begun) (senders_to back v) (ran.back.matches v d.endpoint at_back);
       gathered = taker_is;
     }
 
@@ -121,23 +121,23 @@ module _ (n : NetModel) (of : List ℕ) (width : ℕ) (old new : WorkerGroup) (c
     pub at_first : slice_get ran.first v ≡ Some w
     pub d : Worker
     pub at_done : slice_get ran.done v ≡ Some d
-    pub has_run : WorkerRunsAllWindows n of width (windows_of width n.end) ids w d
+    pub has_run : WorkerRunsAllWindows n owners width (windows_of width n.end) ids w d
     pub t : TakerView
     pub at_taker : slice_get new.takers.items v ≡ Some t
 
   in_state : (v : ℕ) → v < length ids → IsInState v
   in_state v low =
       let w = there ran.first v (subst (λ l. v < l) (sym first_long) low) in
-      let d = beside (WorkerRunsAllWindows n of width (windows_of width n.end) ids) ran.first ran.done ran.ran v w.0 w.1 in
+      let d = beside (WorkerRunsAllWindows n owners width (windows_of width n.end) ids) ran.first ran.done ran.ran v w.0 w.1 in
       let t = there new.takers.items v (subst (λ l. v < l) (sym takers_long) low) in
       record { w = w.0; at_first = w.1; d = d.0; at_done = d.1; has_run = d.2; t = t.0; at_taker = t.1 }
 
-  each_ends : (v : ℕ) → v < length ids → (share : Share) (taker : TakerView) → EndsMarked n of width (windows_of width n.end) (length ids) (sender_of back) v (get_or new.shares.items v share) (get_or new.takers.items v taker)
+  each_ends : (v : ℕ) → v < length ids → (share : Share) (taker : TakerView) → EndsMarked n owners width (windows_of width n.end) (length ids) (sender_of back) v (get_or new.shares.items v share) (get_or new.takers.items v taker)
   each_ends v low share taker =
       let s = in_state v low in
       let at_share : slice_get new.shares.items v ≡ Some s.d.share = ap (λ l. slice_get l v) ran.shares ∙ mapped (λ (w : Worker). w.share) ran.done v s.d s.at_done in
-      subst (λ x. EndsMarked n of width (windows_of width n.end) (length ids) (sender_of back) v x (get_or new.takers.items v taker)) (sym (read new.shares.items v s.d.share share at_share))
-      (subst (λ x. EndsMarked n of width (windows_of width n.end) (length ids) (sender_of back) v s.d.share x) (sym (read new.takers.items v s.t taker s.at_taker))
+      subst (λ x. EndsMarked n owners width (windows_of width n.end) (length ids) (sender_of back) v x (get_or new.takers.items v taker)) (sym (read new.shares.items v s.d.share share at_share))
+      (subst (λ x. EndsMarked n owners width (windows_of width n.end) (length ids) (sender_of back) v s.d.share x) (sym (read new.takers.items v s.t taker s.at_taker))
       (one_ends v low s.w s.at_first s.d s.at_done s.has_run s.t s.at_taker))
 
   each_its : (v : ℕ) (id : InboxId) (taker : TakerView) → v < length ids → (get_or new.takers.items v taker).inbox ≡ get_or ids v id
@@ -147,7 +147,7 @@ module _ (n : NetModel) (of : List ℕ) (width : ℕ) (old new : WorkerGroup) (c
       ∙ (taker_inbox v low s.w s.at_first s.d s.at_done s.has_run s.t s.at_taker
       ∙ sym (read ids v s.d.endpoint.taker.inbox id (its_inbox v low s.w s.at_first s.d s.at_done s.has_run s.t s.at_taker)))
 
-  pub ends_marked : EndAllMarked n of width (windows_of width n.end) new
+  pub ends_marked : EndAllMarked n owners width (windows_of width n.end) new
   ends_marked = record {
     cut = cut;
     shares = ap length ran.shares ∙ (length-map ran.done (λ (w : Worker). w.share) ∙ done_long);
@@ -159,8 +159,8 @@ module _ (n : NetModel) (of : List ℕ) (width : ℕ) (old new : WorkerGroup) (c
   }
 
 -- all workers are at the end, if no window was longer than the lookahead
-pub ended : (n : NetModel) → RunsForward (system_of n) → (of : List ℕ) (width : ℕ) → 0 < width → width ≤ (system_of n).lookahead
-    → (old new : WorkerGroup) → IsCut (length n.motes) (length old.inboxes.items) of → GroupRunsMarked n of width old new → IsAt n of (suc n.end) new × Each (λ (t : TakerView). Whole t.state.gathered t.state.taken) new.takers.items
-ended n fine of width wide short old new cut ran =
-    let cut_now : IsCut (length n.motes) (length new.inboxes.items) of = subst (λ (l : List InboxId). IsCut (length n.motes) (length l) of) (sym ran.inboxes) cut in
-    ends n fine of width (windows_of width n.end) short (are_windows width n.end wide) new (ends_marked n of width old new cut_now ran)
+pub ended : (n : NetModel) → RunsForward (system_of n) → (owners : List ℕ) (width : ℕ) → 0 < width → width ≤ (system_of n).lookahead
+    → (old new : WorkerGroup) → IsCut (length n.motes) (length old.inboxes.items) owners → GroupRunsMarked n owners width old new → IsAt n owners (suc n.end) new × Each (λ (t : TakerView). Whole t.state.gathered t.state.taken) new.takers.items
+ended n fine owners width wide short old new cut ran =
+    let cut_now : IsCut (length n.motes) (length new.inboxes.items) owners = subst (λ (l : List InboxId). IsCut (length n.motes) (length l) owners) (sym ran.inboxes) cut in
+    ends n fine owners width (windows_of width n.end) short (are_windows width n.end wide) new (ends_marked n owners width old new cut_now ran)

@@ -10,7 +10,7 @@ use Rattle.worker_cut.specs.Crossed.{is_own}
 use Rattle.copy_inbox.specs.declared.items.Item.{Item}
 use Rattle.copy_inbox.specs.declared.rule.TakerState.{TakerState}
 use Rattle.copy_inbox.specs.declared.rule.Gathered.{Gathered}
-use Rattle.copy_inbox.specs.Items.{copies_of, Packets, part, BeginsWith, OfMade}
+use Rattle.copy_inbox.specs.Items.{copies_of, Packets, part, HasPrefix, OfMade}
 use Rattle.copy_inbox.specs.Gathered.{is_gathered, untaken_of, Whole}
 use Rattle.copy_inbox.specs.Handles.{TakerView, SenderView, after_gather, AllGathered, PacketsLeft}
 use Rattle.copy_inbox.proofs.Parts.{part-not_nil}
@@ -31,14 +31,14 @@ use Rattle.marked_workers.proofs.Pairs.{sent_to, none_sent, not_other, Pair, pai
 use Rattle.marked_workers.proofs.Seen.{nobodys}
 
 -- ---- the senders on one inbox
-module _ (n : NetModel) (of : List ℕ) (width windows workers : ℕ) (all : AllRan n of width windows workers) (u : ℕ) (lu : u < workers) where
+module _ (n : NetModel) (owners : List ℕ) (width windows workers : ℕ) (all : AllRan n owners width windows workers) (u : ℕ) (lu : u < workers) where
   -- the worker that owns the sender
   record Owner (a : SenderView) : Type 0 where
     worker : ℕ
     there : worker < workers
     other : worker ≢ u
     at : all.sender u worker ≡ Some a
-    pushed : a.state.pushed ≡ pushes windows (sent_to n of width windows workers all worker u)
+    pushed : a.state.pushed ≡ pushes windows (sent_to n owners width windows workers all worker u)
 
   owner : (j : ℕ) (a : SenderView) → slice_get (all.senders u) j ≡ Some a → Owner a
   owner j a e =
@@ -52,55 +52,55 @@ module _ (n : NetModel) (of : List ℕ) (width windows workers : ℕ) (all : All
       }
 
   -- all items that one worker of a pair pushed to the other were taken
-  pub pair_taken : (v : ℕ) (lv : v < workers) (ne : v ≢ u) → part (pair n of width windows workers all u v lu lv ne).number (all.taken u) ≡ pushes windows (sent_to n of width windows workers all v u)
+  pub pair_taken : (v : ℕ) (lv : v < workers) (ne : v ≢ u) → part (pair n owners width windows workers all u v lu lv ne).number (all.taken u) ≡ pushes windows (sent_to n owners width windows workers all v u)
   pair_taken v lv ne =
-      let p = pair n of width windows workers all u v lu lv ne in
+      let p = pair n owners width windows workers all u v lu lv ne in
       let ran = all.ran u lu in
-      all_is_taken windows (sent_to n of width windows workers all v u) (part p.number (all.taken u)) p.begins
+      all_is_taken windows (sent_to n owners width windows workers all v u) (part p.number (all.taken u)) p.begins
       (subst (λ l. windows ≤ marks_in (part p.number l)) ran.all (ran.marks_lead windows (omega arith) p.number p.was_made))
 
   pub all_taken : Each (λ (a : SenderView). part a.state.number (all.taken u) ≡ a.state.pushed) (all.senders u)
   all_taken = each_from _ (all.senders u) (λ j a e.
       let o = owner j a e in
-      ap (λ i. part i (all.taken u)) ((pair n of width windows workers all u o.worker lu o.there o.other).only a o.at) ∙ (pair_taken o.worker o.there o.other ∙ sym o.pushed))
+      ap (λ i. part i (all.taken u)) ((pair n owners width windows workers all u o.worker lu o.there o.other).only a o.at) ∙ (pair_taken o.worker o.there o.other ∙ sym o.pushed))
 
-  none_of_owner : (s : ℕ) (a : SenderView) (o : Owner a) → is_own of o.worker s ≡ false → from s (copies_by a) ≡ []
+  none_of_owner : (s : ℕ) (a : SenderView) (o : Owner a) → is_own owners o.worker s ≡ false → from s (copies_by a) ≡ []
   none_of_owner s a o other =
       ap (λ l. from s (copies_in l)) o.pushed
-      ∙ (ap (from s) (copies_pushes windows (sent_to n of width windows workers all o.worker u))
-      ∙ none_before s (sent_to n of width windows workers all o.worker u) windows (λ j low. none_sent n of width windows workers all o.worker u s j o.there low other))
+      ∙ (ap (from s) (copies_pushes windows (sent_to n owners width windows workers all o.worker u))
+      ∙ none_before s (sent_to n owners width windows workers all o.worker u) windows (λ j low. none_sent n owners width windows workers all o.worker u s j o.there low other))
 
-  nobody_one : (s : ℕ) → ((v : ℕ) → v < workers → v ≢ u → is_own of v s ≡ false) → OneOf s (all.senders u)
+  nobody_one : (s : ℕ) → ((v : ℕ) → v < workers → v ≢ u → is_own owners v s ≡ false) → OneOf s (all.senders u)
   nobody_one s none = record {
     number = 0;
     each = each_from _ (all.senders u) (λ j a e. let o = owner j a e in inr (none_of_owner s a o (none o.worker o.there o.other)));
   }
 
-  pub one : IsCut (length n.motes) workers of → (s : ℕ) → OneOf s (all.senders u)
-  one cut s = of_case (slice_get of s) refl
+  pub one : IsCut (length n.motes) workers owners → (s : ℕ) → OneOf s (all.senders u)
+  one cut s = of_case (slice_get owners s) refl
     where
-      of_other : (v : ℕ) → slice_get of s ≡ Some v → v ≢ u → OneOf s (all.senders u)
+      of_other : (v : ℕ) → slice_get owners s ≡ Some v → v ≢ u → OneOf s (all.senders u)
       of_other v e ne =
-          let lv = each_at (λ w. w < workers) of s v cut.there e in
-          let p : Pair n of width windows workers all u v = pair n of width windows workers all u v lu lv ne in
+          let lv = each_at (λ w. w < workers) owners s v cut.there e in
+          let p : Pair n owners width windows workers all u v = pair n owners width windows workers all u v lu lv ne in
           record {
             number = p.number;
             each = each_from _ (all.senders u) (λ j a f. by_owner p a (owner j a f));
           }
         where
-          by_owner : (p : Pair n of width windows workers all u v) (a : SenderView) → Owner a → (a.state.number ≡ p.number) ⊎ (from s (copies_by a) ≡ [])
+          by_owner : (p : Pair n owners width windows workers all u v) (a : SenderView) → Owner a → (a.state.number ≡ p.number) ⊎ (from s (copies_by a) ≡ [])
           by_owner p a o = of_same (cases_eq v o.worker)
             where
               of_same : (v ≡ o.worker) ⊎ (v ≡ o.worker → ⊥) → (a.state.number ≡ p.number) ⊎ (from s (copies_by a) ≡ [])
               of_same (inl same) = inl (p.only a (subst (λ w. all.sender u w ≡ Some a) (sym same) o.at))
-              of_same (inr else_) = inr (none_of_owner s a o (not_other of v o.worker s e else_))
+              of_same (inr else_) = inr (none_of_owner s a o (not_other owners v o.worker s e else_))
 
-      of_worker : (v : ℕ) → slice_get of s ≡ Some v → (v ≡ u) ⊎ (v ≡ u → ⊥) → OneOf s (all.senders u)
-      of_worker v e (inl same) = nobody_one s (λ w lw nw. not_other of v w s e (λ q. nw (sym q ∙ same)))
+      of_worker : (v : ℕ) → slice_get owners s ≡ Some v → (v ≡ u) ⊎ (v ≡ u → ⊥) → OneOf s (all.senders u)
+      of_worker v e (inl same) = nobody_one s (λ w lw nw. not_other owners v w s e (λ q. nw (sym q ∙ same)))
       of_worker v e (inr ne) = of_other v e ne
 
-      of_case : (o : Option ℕ) → slice_get of s ≡ o → OneOf s (all.senders u)
-      of_case None e = nobody_one s (λ w lw nw. nobodys of w s e)
+      of_case : (o : Option ℕ) → slice_get owners s ≡ o → OneOf s (all.senders u)
+      of_case None e = nobody_one s (λ w lw nw. nobodys owners w s e)
       of_case (Some v) e = of_worker v e (cases_eq v u)
 
 -- ---- the taker of one inbox
@@ -127,7 +127,7 @@ joined_each P made [] gs h k = k
 joined_each P made (a ∷ ss) gs h k = joined_each P made ss (as_gathered made a ∷ gs) h.1 (h.0, k)
 
 module _ (workers worker : ℕ) (sender : ℕ → Option SenderView) (d : TakerState) (ss : List SenderView) (are : AreSenders workers worker sender d.made ss) (of_made : OfMade d.made d.taken)
-    (begun : Each (λ (a : SenderView). BeginsWith a.state.pushed (part a.state.number d.taken)) ss) (whole : Each (λ (a : SenderView). part a.state.number d.taken ≡ a.state.pushed) ss) (one : (s : ℕ) → OneOf s ss) where
+    (begun : Each (λ (a : SenderView). HasPrefix a.state.pushed (part a.state.number d.taken)) ss) (whole : Each (λ (a : SenderView). part a.state.number d.taken ≡ a.state.pushed) ss) (one : (s : ℕ) → OneOf s ss) where
   abbrev then : TakerState
   then = with_joined ss (record d { gathered = [] })
 
@@ -167,7 +167,7 @@ module _ (workers worker : ℕ) (sender : ℕ → Option SenderView) (d : TakerS
   pub orderly : IsOrderly then
   orderly = record {
     in_order = λ rest is s. gathered_first.in_order (d.taken ++ rest) (is.0, λ k e. is.1 k e ∙ no_others k e) s;
-    begun = joined_each (λ g. BeginsWith g.pushed (part g.number d.taken)) d.made ss [] begun tt;
+    begun = joined_each (λ g. HasPrefix g.pushed (part g.number d.taken)) d.made ss [] begun tt;
     unseen = no_others;
     apart = gathered_first.apart;
     later = gathered_first.later;

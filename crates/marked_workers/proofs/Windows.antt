@@ -20,7 +20,7 @@ use Rattle.copy_exchange.proofs.Delivered.{stays_on}
 use Rattle.copy_exchange.proofs.Marked.{marks_stay, stays_same}
 use Rattle.copy_exchange.specs.declared.endpoint.Endpoint.{Endpoint}
 use Rattle.copy_exchange.specs.declared.mark_endpoint.MarkEndpoint.{MarkEndpoint}
-use Rattle.copy_exchange.specs.Marks.{Counts}
+use Rattle.copy_exchange.specs.Marks.{AreTakersCounts}
 use Rattle.copy_exchange.specs.Pushes.{marks_in}
 use Rattle.copy_exchange.proofs.MarksDelivered.{takes_stays, takes_on_inboxes}
 use Rattle.worker_window.specs.Share.{IsWholeShare}
@@ -46,10 +46,10 @@ of_made_more : (made : ℕ) (xs ys : List Item) → OfMade made xs → Each (λ 
 of_made_more made xs ys h more s le = part-append s xs ys ∙ (ap (λ l. l ++ part s ys) (h s le) ∙ none_of_others made ys more s le)
 
 -- a worker before its first window, with its counts of marks
-pub started : (n : NetModel) (of : List ℕ) (inboxes : List InboxId) (w : Worker) (m : MarkEndpoint) → IsFirst n of inboxes w → m.base ≡ w.endpoint
-    → Counts m.marks.items w.endpoint.taker.state → IsStarted n of inboxes (record { share = w.share; endpoint = m })
-started n of inboxes w m first same counts =
-    subst (λ (x : Endpoint). IsStarted n of inboxes (record { share = w.share; endpoint = record m { base = x } })) (sym same) (record {
+pub started : (n : NetModel) (owners : List ℕ) (inboxes : List InboxId) (w : Worker) (m : MarkEndpoint) → IsFirst n owners inboxes w → m.base ≡ w.endpoint
+    → AreTakersCounts m.marks.items w.endpoint.taker.state → IsStarted n owners inboxes (record { share = w.share; endpoint = m })
+started n owners inboxes w m first same counts =
+    subst (λ (x : Endpoint). IsStarted n owners inboxes (record { share = w.share; endpoint = record m { base = x } })) (sym same) (record {
       cut = first.cut;
       keeps = first.keeps;
       on_inboxes = first.on_inboxes;
@@ -61,31 +61,31 @@ started n of inboxes w m first same counts =
     })
 
 -- a worker after all its windows, without the counts
-pub reported_of : (n : NetModel) (of : List ℕ) (width windows : ℕ) (inboxes : List InboxId) (w d : Worker) (m e : MarkWorker) → IsSame w m → IsSame d e
-    → HasRun n of width windows inboxes m e → WorkerRunsAllWindows n of width windows inboxes w d
-reported_of n of width windows inboxes w d m e before after ran = record {
+pub reported_of : (n : NetModel) (owners : List ℕ) (width windows : ℕ) (inboxes : List InboxId) (w d : Worker) (m e : MarkWorker) → IsSame w m → IsSame d e
+    → HasRun n owners width windows inboxes m e → WorkerRunsAllWindows n owners width windows inboxes w d
+reported_of n owners width windows inboxes w d m e before after ran = record {
   stays = subst (λ x. Stays x d.endpoint) before.endpoint (subst (Stays m.endpoint.base) after.endpoint ran.stays);
-  promise = subst (λ (x : Endpoint). WorkerRunsMarked n of width windows (length inboxes) x.worker d.share d.endpoint.taker.state (pushed_to d.endpoint)) before.endpoint
-      (subst (λ (x : Endpoint). WorkerRunsMarked n of width windows (length inboxes) m.endpoint.base.worker d.share x.taker.state (pushed_to x)) after.endpoint
-      (subst (λ s. WorkerRunsMarked n of width windows (length inboxes) m.endpoint.base.worker s e.endpoint.base.taker.state (pushed_to e.endpoint.base)) after.share ran.promise));
+  promise = subst (λ (x : Endpoint). WorkerRunsMarked n owners width windows (length inboxes) x.worker d.share d.endpoint.taker.state (pushed_to d.endpoint)) before.endpoint
+      (subst (λ (x : Endpoint). WorkerRunsMarked n owners width windows (length inboxes) m.endpoint.base.worker d.share x.taker.state (pushed_to x)) after.endpoint
+      (subst (λ s. WorkerRunsMarked n owners width windows (length inboxes) m.endpoint.base.worker s e.endpoint.base.taker.state (pushed_to e.endpoint.base)) after.share ran.promise));
   on_inboxes = subst (IsOnInboxes inboxes) after.endpoint ran.on_inboxes;
 }
 
 -- the promise before the first window
-pub no_window : (n : NetModel) (of : List ℕ) (width : ℕ) (inboxes : List InboxId) (w : MarkWorker) → IsStarted n of inboxes w → HasRun n of width 0 inboxes w w
-no_window n of width inboxes w m = record {
+pub no_window : (n : NetModel) (owners : List ℕ) (width : ℕ) (inboxes : List InboxId) (w : MarkWorker) → IsStarted n owners inboxes w → HasRun n owners width 0 inboxes w w
+no_window n owners width inboxes w m = record {
   stays = stays_same w.endpoint.base;
-  promise = subst (λ (p : ℕ → List Carried). WorkerRunsMarked n of width 0 (length inboxes) w.endpoint.base.worker w.share w.endpoint.base.taker.state p)
+  promise = subst (λ (p : ℕ → List Carried). WorkerRunsMarked n owners width 0 (length inboxes) w.endpoint.base.worker w.share w.endpoint.base.taker.state p)
       (λ i v. sym (m.none_pushed v) i)
-      (promise_first n of width (length inboxes) w.endpoint.base.worker w.share w.endpoint.base.taker.state m.none_taken m.none_gathered m.keeps);
+      (promise_first n owners width (length inboxes) w.endpoint.base.worker w.share w.endpoint.base.taker.state m.none_taken m.none_gathered m.keeps);
   on_inboxes = m.on_inboxes;
   marked = m.marked;
   counts = m.counts;
 }
 
 -- a worker after some windows
-module _ (n : NetModel) (of : List ℕ) (width k until : ℕ) (inboxes : List InboxId) (wide : 0 < width) (low : k < windows_of width n.end) (at : until ≡ bound width n.end (suc k)) (first old : MarkWorker)
-    (in_state : HasRun n of width k inboxes first old) where
+module _ (n : NetModel) (owners : List ℕ) (width k until : ℕ) (inboxes : List InboxId) (wide : 0 < width) (low : k < windows_of width n.end) (at : until ≡ bound width n.end (suc k)) (first old : MarkWorker)
+    (in_state : HasRun n owners width k inboxes first old) where
   are : AreWindows width n.end (windows_of width n.end)
   are = are_windows width n.end wide
 
@@ -93,7 +93,7 @@ module _ (n : NetModel) (of : List ℕ) (width k until : ℕ) (inboxes : List In
   up = let b = begins_before width n.end (windows_of width n.end) are k low in let e = at in omega arith
 
   -- the worker can run through the next window
-  pub can_run : CanRun n of until old.share []
+  pub can_run : CanRun n owners until old.share []
   can_run = record {
     worker = first.endpoint.base.worker;
     from = bound width n.end k;
@@ -108,7 +108,7 @@ module _ (n : NetModel) (of : List ℕ) (width k until : ℕ) (inboxes : List In
   same = in_state.promise.keeps.is_worker ∙ sym in_state.stays.worker
 
   -- after that, the worker has run one more window
-  module _ (short : width ≤ (system_of n).lookahead) (between new : MarkWorker) (sends : SendsWindow n of (length inboxes) k until old between) (on_inboxes : IsOnInboxes inboxes between.endpoint.base) (takes : TakesWindow of k until between new) where
+  module _ (short : width ≤ (system_of n).lookahead) (between new : MarkWorker) (sends : SendsWindow n owners (length inboxes) k until old between) (on_inboxes : IsOnInboxes inboxes between.endpoint.base) (takes : TakesWindow owners k until between new) where
     abbrev worker : ℕ
     worker = first.endpoint.base.worker
 
@@ -118,15 +118,15 @@ module _ (n : NetModel) (of : List ℕ) (width k until : ℕ) (inboxes : List In
     abbrev more : List Item
     more = takes.took.items
 
-    ran : RunsWindow n of worker (bound width n.end k) until (in_state.promise.history.motes k) (copies_of state.taken) between.share sends.outgoing
+    ran : RunsWindow n owners worker (bound width n.end k) until (in_state.promise.history.motes k) (copies_of state.taken) between.share sends.outgoing
     ran =
         let b = no_wider width n.end (windows_of width n.end) are k low in
         let e = at in
         let s = short in
         sends.runs worker (bound width n.end k) (in_state.promise.history.motes k) (copies_of state.taken) in_state.promise.keeps up (omega arith)
 
-    goes : Each (IsOutgoing n of worker) sends.outgoing
-    goes = subst (λ w. Each (IsOutgoing n of w) sends.outgoing) in_state.promise.keeps.is_worker sends.out
+    goes : Each (IsOutgoing n owners worker) sends.outgoing
+    goes = subst (λ w. Each (IsOutgoing n owners w) sends.outgoing) in_state.promise.keeps.is_worker sends.out
 
     taker_is : new.endpoint.base.taker ≡ after_taking old.endpoint.base.taker more
     taker_is = takes.took.taker ∙ ap (λ t. after_taking t more) sends.pushes.taker
@@ -146,37 +146,37 @@ module _ (n : NetModel) (of : List ℕ) (width k until : ℕ) (inboxes : List In
         let past = takes.past s 0 (omega arith) in
         omega arith
 
-    pushes_more : (v : ℕ) → v < length inboxes → v ≢ worker → pushed_to new.endpoint.base v ≡ pushed_to old.endpoint.base v ++ (map Packet (filter (is_to of v) sends.outgoing) ++ Mark k ∷ [])
+    pushes_more : (v : ℕ) → v < length inboxes → v ≢ worker → pushed_to new.endpoint.base v ≡ pushed_to old.endpoint.base v ++ (map Packet (filter (is_to owners v) sends.outgoing) ++ Mark k ∷ [])
     pushes_more v there other =
         ap (λ s. pushed_list (get_or s.items v None)) takes.senders
         ∙ sends.pushes.pushes v there (ap (λ w. v == w) in_state.stays.worker ∙ ne_eqb v worker other)
 
-    arrived_come : Each (IsExpected of worker until) takes.arrived
-    arrived_come = subst (λ w. Each (IsExpected of w until) takes.arrived) (sends.pushes.stays.worker ∙ in_state.stays.worker) takes.took.expected
+    arrived_come : Each (IsExpected owners worker until) takes.arrived
+    arrived_come = subst (λ w. Each (IsExpected owners w until) takes.arrived) (sends.pushes.stays.worker ∙ in_state.stays.worker) takes.took.expected
 
-    keeps : IsWholeShare n of worker until ran.next (copies_of state.taken ++ copies_of more) new.share
-    keeps = subst (λ l. IsWholeShare n of worker until ran.next (copies_of state.taken ++ l) new.share) takes.took.arrived
-        (takes.keeps n of worker until ran.next (copies_of state.taken) ran.keeps arrived_come)
+    keeps : IsWholeShare n owners worker until ran.next (copies_of state.taken ++ copies_of more) new.share
+    keeps = subst (λ l. IsWholeShare n owners worker until ran.next (copies_of state.taken ++ l) new.share) takes.took.arrived
+        (takes.keeps n owners worker until ran.next (copies_of state.taken) ran.keeps arrived_come)
 
     stays : Stays old.endpoint.base new.endpoint.base
     stays = stays_on old.endpoint.base between.endpoint.base new.endpoint.base sends.pushes.stays
-        (takes_stays of until between.endpoint.base new.endpoint.base takes.arrived takes.took takes.worker takes.senders)
+        (takes_stays owners until between.endpoint.base new.endpoint.base takes.arrived takes.took takes.worker takes.senders)
 
-    pub one_more : HasRun n of width (suc k) inboxes first new
+    pub one_more : HasRun n owners width (suc k) inboxes first new
     one_more = record {
       stays = stays_on first.endpoint.base old.endpoint.base new.endpoint.base in_state.stays stays;
-      promise = subst (λ (t : TakerView). WorkerRunsMarked n of width (suc k) (length inboxes) worker new.share t.state (pushed_to new.endpoint.base)) (sym taker_is) promise;
-      on_inboxes = takes_on_inboxes inboxes of until between.endpoint.base new.endpoint.base takes.arrived takes.took takes.worker takes.senders on_inboxes;
+      promise = subst (λ (t : TakerView). WorkerRunsMarked n owners width (suc k) (length inboxes) worker new.share t.state (pushed_to new.endpoint.base)) (sym taker_is) promise;
+      on_inboxes = takes_on_inboxes inboxes owners until between.endpoint.base new.endpoint.base takes.arrived takes.took takes.worker takes.senders on_inboxes;
       marked = marks_stay old.endpoint.base new.endpoint.base stays in_state.marked;
       counts = takes.counts;
     }
       where
         Ran : ℕ → Type 0
-        Ran t = (r : RunsWindow n of worker (bound width n.end k) t (in_state.promise.history.motes k) (copies_of state.taken) between.share sends.outgoing)
-            × IsWholeShare n of worker t r.next (copies_of state.taken ++ copies_of more) new.share
+        Ran t = (r : RunsWindow n owners worker (bound width n.end k) t (in_state.promise.history.motes k) (copies_of state.taken) between.share sends.outgoing)
+            × IsWholeShare n owners worker t r.next (copies_of state.taken ++ copies_of more) new.share
 
         ran_to : Ran (bound width n.end (suc k))
         ran_to = subst Ran at (ran, keeps)
 
-        promise : WorkerRunsMarked n of width (suc k) (length inboxes) worker new.share (after_taking old.endpoint.base.taker more).state (pushed_to new.endpoint.base)
-        promise = promise_next n of width (length inboxes) worker k old.share between.share new.share state (pushed_to old.endpoint.base) (pushed_to new.endpoint.base) more sends.outgoing in_state.promise ran_to.0 goes lead of_made pushes_more ran_to.1
+        promise : WorkerRunsMarked n owners width (suc k) (length inboxes) worker new.share (after_taking old.endpoint.base.taker more).state (pushed_to new.endpoint.base)
+        promise = promise_next n owners width (length inboxes) worker k old.share between.share new.share state (pushed_to old.endpoint.base) (pushed_to new.endpoint.base) more sends.outgoing in_state.promise ran_to.0 goes lead of_made pushes_more ran_to.1

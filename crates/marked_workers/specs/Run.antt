@@ -15,12 +15,12 @@ endpoints_of workers = map (λ worker. worker.endpoint) workers
 
 -- the senders of all workers were made together, each worker ran all windows in its thread, and the senders were then
 -- gathered
-pub record GroupRunsMarked (n : NetModel) (of : List ℕ) (width : ℕ) (old new : WorkerGroup) : Type 0 where
+pub record GroupRunsMarked (model : NetModel) (owners : List ℕ) (width : ℕ) (old new : WorkerGroup) : Type 0 where
   pub first : List Worker
   pub done : List Worker
   pub together : Together new.inboxes.items (endpoints_of first)
   pub none_gathered : Each (λ (e : Endpoint). e.taker.state.gathered ≡ []) (endpoints_of first)
-  pub ran : AllZip (WorkerRunsAllWindows n of width (windows_of width n.end) new.inboxes.items) first done
+  pub ran : AllZip (WorkerRunsAllWindows model owners width (windows_of width model.end) new.inboxes.items) first done
   pub shares : new.shares.items ≡ map (λ (worker : Worker). worker.share) done
   pub back : GathersBack (endpoints_of done) new.takers.items
   pub inboxes : new.inboxes.items ≡ old.inboxes.items

@@ -24,35 +24,39 @@ pub record WorkerHistory : Type 0 where
   pub outgoing : ℕ → List RadioCopy
 
 -- one window of the worker's motes, on the copies that it had taken by then
-pub record RunsMotes (n : NetModel) (of : List ℕ) (worker from until : ℕ) (motes next : Motes)
+pub record RunsMotes (model : NetModel) (owners : List ℕ) (worker from until : ℕ) (motes next : Motes)
     (taken outgoing : List RadioCopy) : Type 0 where
-  pub runs : (k : ℕ) → is_own of worker k ≡ true → RunsOwnMote n (is_own of worker) from until motes next taken k
-  pub out : (s : ℕ) → outgoing_by n (is_own of worker) next s
-      ≡ outgoing_by n (is_own of worker) motes s ++ filter (is_from_sender s) outgoing
-  pub goes : Each (IsOutgoing n of worker) outgoing
+  pub runs : (k : ℕ) → is_own owners worker k ≡ true
+      → RunsOwnMote model (is_own owners worker) from until motes next taken k
+  pub out : (s : ℕ) → outgoing_by model (is_own owners worker) next s
+      ≡ outgoing_by model (is_own owners worker) motes s ++ filter (is_from_sender s) outgoing
+  pub goes : Each (IsOutgoing model owners worker) outgoing
   pub late : Each (λ (copy : RadioCopy). until ≤ copy.at) outgoing
 
 -- The first windows of one worker; `windows` is their number. Before each window it had taken, from each sender that
 -- was made on its inbox, the marks of all earlier windows. The items that it pushed to another worker are, for each
 -- window, the copies for that worker's motes and then the mark.
-pub record WorkerRunsWindows (n : NetModel) (of : List ℕ) (width windows workers worker made : ℕ) (taken : List Item)
+pub record WorkerRunsWindows (model : NetModel) (owners : List ℕ) (width windows workers worker made : ℕ)
+    (taken : List Item)
     (pushed : ℕ → List Carried) (history : WorkerHistory) : Type 0 where
-  pub first : history.motes 0 ≡ first_mote (system_of n)
+  pub first : history.motes 0 ≡ first_mote (system_of model)
   pub nothing : history.taken 0 ≡ []
   pub all : history.taken windows ≡ taken
   pub goes_on : (k : ℕ) → k < windows → (more : List Item) × (history.taken (suc k) ≡ history.taken k ++ more)
   pub marks_lead : (k : ℕ) → k ≤ windows → (sender : ℕ) → sender < made → k ≤ marks_in (part sender (history.taken k))
   pub of_made : OfMade made taken
-  pub runs : (k : ℕ) → k < windows → RunsMotes n of worker (bound width n.end k) (bound width n.end (suc k))
+  pub runs : (k : ℕ) → k < windows
+      → RunsMotes model owners worker (bound width model.end k) (bound width model.end (suc k))
       (history.motes k) (history.motes (suc k)) (copies_of (history.taken k)) (history.outgoing k)
   pub pushes_then : (v : ℕ) → v < workers → v ≢ worker
-      → pushed v ≡ pushes windows (λ k. filter (is_to of v) (history.outgoing k))
+      → pushed v ≡ pushes windows (λ k. filter (is_to owners v) (history.outgoing k))
 
 -- The promise: the worker ran this many windows, with some history, and its share keeps the motes at the end of the
 -- windows. Its taker has taken the items of the history, and has gathered no sender.
-pub record WorkerRunsMarked (n : NetModel) (of : List ℕ) (width windows workers worker : ℕ) (share : Share)
+pub record WorkerRunsMarked (model : NetModel) (owners : List ℕ) (width windows workers worker : ℕ) (share : Share)
     (state : TakerState) (pushed : ℕ → List Carried) : Type 0 where
   pub history : WorkerHistory
-  pub ran : WorkerRunsWindows n of width windows workers worker state.made state.taken pushed history
-  pub keeps : IsWholeShare n of worker (bound width n.end windows) (history.motes windows) (copies_of state.taken) share
+  pub ran : WorkerRunsWindows model owners width windows workers worker state.made state.taken pushed history
+  pub keeps : IsWholeShare model owners worker (bound width model.end windows) (history.motes windows)
+      (copies_of state.taken) share
   pub nobody : state.gathered ≡ []

@@ -2,12 +2,12 @@
 
 ghost use Rattle.std.specs.Prelude.{◌≡◌, suc, true, IfErr, IfOk};
 ghost use Rattle.std.specs.List.{AllByRecursion as Each};
-ghost use Rattle.fork_join.specs.Gravest.{is_own};
+ghost use Rattle.fork_join.specs.Gravest.{is_own_failure};
 ghost use Rattle.mote_net.specs.Meaning.{net_of};
 ghost use Rattle.net_agenda.specs.NetSystem.{system_of};
 ghost use Rattle.copy_inbox.specs.Gathered.{Whole};
 ghost use Rattle.all_workers.specs.WorkerGroup.{IsAt};
-ghost use Rattle.all_workers.specs.WindowLength.{IsSound, length_of_window};
+ghost use Rattle.all_workers.specs.WindowLength.{HasSoundMedium, length_of_window};
 ghost use Rattle.all_workers.specs.Start.{AreReady};
 ghost use Rattle.marked_workers.specs.Run.{GroupRunsMarked};
 
@@ -24,7 +24,7 @@ use std::thread::Threads;
 use worker_window::Gate;
 
 /// Runs all workers to the end of the net, each in one thread for the whole run. All windows except the last have the
-/// same length: the lookahead, or `longest` if that is above 0 and below the lookahead. `of` is the worker of each
+/// same length: the lookahead, or `longest` if that is above 0 and below the lookahead. `owners` is the worker of each
 /// mote. The inboxes have marks, and are empty at the end.
 ///
 /// # Errors
@@ -35,7 +35,7 @@ pub fn run_by_marks<'a, R, G>(
     rt: &'a R,
     alloc: Global,
     net: &'a Net,
-    of: &'a [u16],
+    owners: &'a [u16],
     longest: u32,
     gate: &'a G,
     group: WorkerGroup,
@@ -43,17 +43,17 @@ pub fn run_by_marks<'a, R, G>(
 where
     R: Threads + Wait + RandomSource + AllocGlobal + Sync,
     G: Gate + Sync,
-    requires ready { AreReady (net_of net.now) of.now group }
+    requires ready { AreReady (net_of net.now) owners.now group }
     requires marked { Each (λ taker. taker.state.marked ≡ true) group.takers.items }
-    ensures at { let n = net_of net.now in IfOk result (λ done. IsAt n of.now (suc n.end) done) }
+    ensures at_moment { let model = net_of net.now in IfOk result (λ done. IsAt model owners.now (suc model.end) done) }
     ensures inboxes { IfOk result (λ done. done.inboxes.items ≡ group.inboxes.items) }
     // Each worker ran all windows, which have this length.
-    ensures windows { let n = net_of net.now in
-        IfOk result (GroupRunsMarked n of.now (length_of_window (system_of n).lookahead longest) group) }
+    ensures windows { let model = net_of net.now in
+        IfOk result (GroupRunsMarked model owners.now (length_of_window (system_of model).lookahead longest) group) }
     ensures all_taken { IfOk result
         (λ done. Each (λ taker. Whole taker.state.gathered taker.state.taken) done.takers.items) }
-    ensures failed { IfErr result (λ e. is_own e ≡ true) }
-    ensures sound { IsSound (net_of net.now) }
+    ensures failed { IfErr result (λ e. is_own_failure e ≡ true) }
+    ensures sound { HasSoundMedium (net_of net.now) }
 {
     let width = window_length(lookahead_of(net), longest);
     let WorkerGroup {
@@ -64,7 +64,7 @@ where
     } = group;
     let run = WorkersRun {
         net,
-        of,
+        owners,
         inboxes: &inboxes,
         width,
     };

@@ -6,7 +6,7 @@ ghost use Rattle.mote_net.specs.Meaning.{net_of};
 ghost use Rattle.net_agenda.specs.NetSystem.{system_of};
 ghost use Rattle.copy_exchange.specs.Endpoints.{HasMarks, IsOnInboxes};
 ghost use Rattle.copy_exchange.specs.Expected.{TakesUnexpected, position};
-ghost use Rattle.copy_exchange.specs.Marks.{Counts};
+ghost use Rattle.copy_exchange.specs.Marks.{AreTakersCounts};
 ghost use Rattle.worker_window.specs.Window.{CanRun};
 ghost use Rattle.all_workers.specs.WorkerGroup.{IsCut};
 ghost use Rattle.marked_workers.specs.Bounds.{bound, windows_of};
@@ -52,12 +52,12 @@ fn send_window<R: Wait + RandomSource + AllocGlobal, G: Gate>(
     until: u64,
 ) -> Result<(), WorkerError>
     requires until_bounded { until ≤ 2 ^ 40 }
-    requires cut { IsCut (length (net_of run.now.net.now).motes) (length run.now.inboxes.now) run.now.of.now }
-    requires ready { CanRun (net_of run.now.net.now) run.now.of.now until worker.old.share [] }
+    requires cut { IsCut (length (net_of run.now.net.now).motes) (length run.now.inboxes.now) run.now.owners.now }
+    requires ready { CanRun (net_of run.now.net.now) run.now.owners.now until worker.old.share [] }
     requires same { worker.old.share.worker ≡ worker.old.endpoint.base.worker }
     requires on_inboxes { IsOnInboxes run.now.inboxes.now worker.old.endpoint.base }
     requires marked { HasMarks worker.old.endpoint.base }
-    ensures sends { OnOk result (SendsWindow (net_of run.now.net.now) run.now.of.now (length run.now.inboxes.now)
+    ensures sends { OnOk result (SendsWindow (net_of run.now.net.now) run.now.owners.now (length run.now.inboxes.now)
         window until worker.old worker.new) }
     ensures on_inboxes { OnOk result (IsOnInboxes run.now.inboxes.now worker.new.endpoint.base) }
     ensures refused { IfErr result (λ reason. reason ≢ Stopped) }
@@ -65,10 +65,10 @@ fn send_window<R: Wait + RandomSource + AllocGlobal, G: Gate>(
     let none = Vec::new(rt.alloc());
     let outgoing = worker
         .share
-        .run_window(rt, run.net, run.of, none, until, gate)?;
+        .run_window(rt, run.net, run.owners, none, until, gate)?;
     let Ok(()) = worker
         .endpoint
-        .deliver_window(rt, run.inboxes, run.of, &outgoing, window)
+        .deliver_window(rt, run.inboxes, run.owners, &outgoing, window)
     else {
         return Err(WorkerError::Memory);
     };
@@ -98,18 +98,18 @@ fn take_window<R: Wait + AllocGlobal, L: Ledger>(
     until: u64,
 ) -> Result<(), WorkerError>
     requires on_inboxes { IsOnInboxes run.now.inboxes.now worker.old.endpoint.base }
-    requires counts { Counts worker.old.endpoint.marks.items worker.old.endpoint.base.taker.state }
-    ensures takes { OnOk result (TakesWindow run.now.of.now window until worker.old worker.new) }
+    requires counts { AreTakersCounts worker.old.endpoint.marks.items worker.old.endpoint.base.taker.state }
+    ensures takes { OnOk result (TakesWindow run.now.owners.now window until worker.old worker.new) }
     ensures seen { IfErr result (λ reason. reason ≡ Stopped → watch.new.seen ≡ true) }
     ensures unexpected { IfErr result
-        (λ reason. reason ≡ Thread → TakesUnexpected (position run.now.of.now worker.old.endpoint.base.worker until)
+        (λ reason. reason ≡ Thread → TakesUnexpected (position run.now.owners.now worker.old.endpoint.base.worker until)
         worker.old.endpoint.base.taker worker.new.endpoint.base.taker) }
 {
     let number = worker.endpoint.base.worker;
     let inbox = &run.inboxes[usize::from(number)];
     let window_position = WindowPosition {
         worker: number,
-        of: run.of,
+        owners: run.owners,
         from: until,
     };
     let took = worker
@@ -135,14 +135,14 @@ fn run_one<R: Wait + RandomSource + AllocGlobal, G: Gate, L: Ledger>(
     until: u64,
 ) -> Result<(), WorkerError>
     requires until_bounded { until ≤ 2 ^ 40 }
-    requires wide { 0 < run.now.width }
+    requires width_positive { 0 < run.now.width }
     requires window_exists { window < windows_of run.now.width (net_of run.now.net.now).end }
     requires until { until ≡ bound run.now.width (net_of run.now.net.now).end (suc window) }
-    requires cut { IsCut (length (net_of run.now.net.now).motes) (length run.now.inboxes.now) run.now.of.now }
-    requires in_state { (first : MarkWorkerOfCode) × HasRun (net_of run.now.net.now) run.now.of.now run.now.width
+    requires cut { IsCut (length (net_of run.now.net.now).motes) (length run.now.inboxes.now) run.now.owners.now }
+    requires in_state { (first : MarkWorkerOfCode) × HasRun (net_of run.now.net.now) run.now.owners.now run.now.width
         window run.now.inboxes.now first worker.old }
-    ensures leads_on { let n = net_of run.now.net.now in OnOk result
-        (LeadsOn n run.now.of.now run.now.width window run.now.inboxes.now worker.old worker.new) }
+    ensures leads_on { let model = net_of run.now.net.now in OnOk result
+        (LeadsOn model run.now.owners.now run.now.width window run.now.inboxes.now worker.old worker.new) }
     ensures seen { IfErr result (λ reason. reason ≡ Stopped → watch.new.seen ≡ true) }
 {
     send_window(rt, gate, run, worker, window, until)?;
@@ -161,11 +161,12 @@ fn run_worker<R: Wait + RandomSource + AllocGlobal, G: Gate, L: Ledger>(
     watch: &mut Watch<'_, L>,
     worker: MarkWorker,
 ) -> Result<MarkWorker, WorkerError>
-    requires wide { 0 < run.now.width }
+    requires width_positive { 0 < run.now.width }
     requires short { run.now.width ≤ (system_of (net_of run.now.net.now)).lookahead }
-    requires started { IsStarted (net_of run.now.net.now) run.now.of.now run.now.inboxes.now worker }
-    ensures has_run { let n = net_of run.now.net.now in IfOk result
-        (HasRun n run.now.of.now run.now.width (windows_of run.now.width n.end) run.now.inboxes.now worker) }
+    requires started { IsStarted (net_of run.now.net.now) run.now.owners.now run.now.inboxes.now worker }
+    ensures has_run { let model = net_of run.now.net.now in IfOk result
+        (HasRun model run.now.owners.now run.now.width
+        (windows_of run.now.width model.end) run.now.inboxes.now worker) }
     ensures seen { IfErr result (λ reason. reason ≡ Stopped → watch.new.seen ≡ true) }
 {
     let end = run.net.end();
@@ -187,9 +188,9 @@ fn with_marks(
     run: &WorkersRun<'_>,
     worker: Worker,
 ) -> Result<MarkWorker, WorkerError>
-    requires is_first { IsFirst (net_of run.now.net.now) run.now.of.now run.now.inboxes.now worker }
+    requires is_first { IsFirst (net_of run.now.net.now) run.now.owners.now run.now.inboxes.now worker }
     ensures same { IfOk result (IsSame worker) }
-    ensures started { IfOk result (IsStarted (net_of run.now.net.now) run.now.of.now run.now.inboxes.now) }
+    ensures started { IfOk result (IsStarted (net_of run.now.net.now) run.now.owners.now run.now.inboxes.now) }
     ensures refused { IfErr result (λ reason. reason ≡ Memory) }
 {
     let Worker {
@@ -235,11 +236,11 @@ fn run_through<R: Wait + RandomSource + AllocGlobal, G: Gate, L: Ledger>(
     watch: &mut Watch<'_, L>,
     worker: Worker,
 ) -> Result<Worker, WorkerError>
-    requires wide { 0 < run.now.width }
+    requires width_positive { 0 < run.now.width }
     requires short { run.now.width ≤ (system_of (net_of run.now.net.now)).lookahead }
-    requires first { IsFirst (net_of run.now.net.now) run.now.of.now run.now.inboxes.now worker }
-    ensures runs { let n = net_of run.now.net.now in IfOk result (WorkerRunsAllWindows
-        n run.now.of.now run.now.width (windows_of run.now.width n.end) run.now.inboxes.now worker) }
+    requires first { IsFirst (net_of run.now.net.now) run.now.owners.now run.now.inboxes.now worker }
+    ensures runs { let model = net_of run.now.net.now in IfOk result (WorkerRunsAllWindows
+        model run.now.owners.now run.now.width (windows_of run.now.width model.end) run.now.inboxes.now worker) }
     ensures seen { IfErr result (λ reason. reason ≡ Stopped → watch.new.seen ≡ true) }
 {
     let worker = with_marks(rt.alloc(), run, worker)?;
@@ -249,10 +250,11 @@ fn run_through<R: Wait + RandomSource + AllocGlobal, G: Gate, L: Ledger>(
 
 impl<R: Wait + RandomSource + AllocGlobal, G: Gate> Work<Worker> for MarkRunner<'_, R, G> {
     ghost ready = { λ w worker. (0 < w.run.width) × (w.run.width ≤ (system_of (net_of w.run.net.now)).lookahead)
-        × IsFirst (net_of w.run.net.now) w.run.of.now w.run.inboxes.now worker };
+        × IsFirst (net_of w.run.net.now) w.run.owners.now w.run.inboxes.now worker };
 
-    ghost makes = { λ w old new. let n = net_of w.run.net.now in WorkerRunsAllWindows n w.run.of.now w.run.width
-        (windows_of w.run.width n.end) w.run.inboxes.now old new };
+    ghost makes = { λ w old new. let model = net_of w.run.net.now in
+        WorkerRunsAllWindows model w.run.owners.now w.run.width
+        (windows_of w.run.width model.end) w.run.inboxes.now old new };
 
     fn work<L: Ledger>(
         &self,

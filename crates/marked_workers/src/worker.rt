@@ -18,7 +18,7 @@ pub struct MarkWorker {
 pub struct WorkersRun<'a> {
     pub net: &'a Net,
     /// The worker of each mote.
-    pub of: &'a [u16],
+    pub owners: &'a [u16],
     /// The inbox of each worker.
     pub inboxes: &'a [Inbox],
     /// The length of a window.

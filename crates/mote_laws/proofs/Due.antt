@@ -17,10 +17,10 @@ use Rattle.radio_packet.specs.declared.arrival.Arrival.{Arrival}
 use Rattle.trace_lines.specs.declared.line.Line.{Line}
 use Rattle.radio_packet.specs.declared.sent.Sent.{Sent}
 use Rattle.process_kernel.specs.Run.{most_units}
-use Rattle.process_kernel.specs.State.{State, Goes}
+use Rattle.process_kernel.specs.State.{KernelState, Goes}
 use Rattle.process_kernel.specs.Call.{calls_of}
 use Rattle.process_kernel.specs.Posts.{poll_of}
-use Rattle.process_kernel.specs.Mote.{Mote, unbooted, has_room, with_packet, with_poll}
+use Rattle.process_kernel.specs.KernelModel.{KernelModel, unbooted, has_room, with_packet, with_poll}
 use Rattle.process_kernel.specs.Given.{begun, boot_given, run_given}
 use Rattle.kernel_laws.specs.Poll.{PollWaits, polls_before}
 use Rattle.kernel_laws.specs.Due.{IsDueFor, NoneIsDue, ForgetsNone, IsAtRest, HasTelling}
@@ -31,7 +31,7 @@ use Rattle.kernel_laws.proofs.Due.{boot_forgets_none, run_forgets_none, run_tell
 use Rattle.kernel_laws.proofs.Owners.{poll_timers}
 use Rattle.kernel_laws.proofs.Traces.{boot_booted, run_booted, no_lines_first}
 use Rattle.mote_node.specs.Node.{Node, new_node}
-use Rattle.mote_node.specs.Underway.{Underway, with_mote, with_lines, after}
+use Rattle.mote_node.specs.Underway.{Underway, with_mote, with_lines, underway_after}
 use Rattle.mote_node.specs.Arrivals.{received_line, lost_line, hear, hear_each, took_some, hear_all, is_collision, with_collisions}
 use Rattle.mote_node.specs.Turn.{most_runs, boot_due, is_some_due, poll_due, follow, runs_of, work_of, mote_turn, net_turn, turn_of}
 use Rattle.mote_node.specs.Wake.{wake_of, wake_after}
@@ -45,18 +45,18 @@ use Rattle.mote_laws.proofs.Stamps.{now_last}
 use Rattle.mote_laws.proofs.Ring.{run_stays}
 
 -- a mote that was booted, and is at rest unless it has halted
-pub record Rested (m : Mote) : Type 0 where
+pub record Rested (m : KernelModel) : Type 0 where
   pub booted : m.booted ≡ true
   pub rest : m.halted ≡ false → IsAtRest m.state
 
 -- the same, and none of the mote's timers is forgotten at this moment
-pub record Watched (moment : ℕ) (m : Mote) : Type 0 where
+pub record Watched (moment : ℕ) (m : KernelModel) : Type 0 where
   pub rested : Rested m
   pub forgets : m.halted ≡ false → ForgetsNone moment m.state
 
 -- packets that arrive
 
-packet_rested : (m : Mote) (a : Arrival) → Rested m → Rested (with_packet m a)
+packet_rested : (m : KernelModel) (a : Arrival) → Rested m → Rested (with_packet m a)
 unfolding with_packet
 packet_rested m a r = record { booted = r.booted; rest = λ h. again (r.rest h) }
   where
@@ -70,7 +70,7 @@ packet_rested m a r = record { booted = r.booted; rest = λ h. again (r.rest h) 
       radio_stays = k.radio_stays;
     }
 
-poll_rests : (s : State) (p : Proc) → IsAtRest s → IsAtRest (poll_of s p)
+poll_rests : (s : KernelState) (p : Proc) → IsAtRest s → IsAtRest (poll_of s p)
 poll_rests s p k =
     let t = tables.keeps_still s (poll_of s p) (tables.poll_still s p) k.step in record {
       sound = (quiet s (poll_of s p) (poll_quiet s p)).sound k.sound;
@@ -81,7 +81,7 @@ poll_rests s p k =
       radio_stays = (watches_poll Etimer s p).radio.listed k.radio_stays;
     }
 
-poll_rested : (m : Mote) (p : Proc) → Rested m → Rested (with_poll m p)
+poll_rested : (m : KernelModel) (p : Proc) → Rested m → Rested (with_poll m p)
 unfolding with_poll
 poll_rested m p r = record { booted = r.booted; rest = λ h. poll_rests m.state p (r.rest h) }
 
@@ -152,11 +152,11 @@ unfolding next_expiration_of
 none_due moment l e id owner d =
     let f : is_due moment (timer_at l.timers id) ≡ false = above_least moment (λ k. expiration (timer_at l.timers k)) l.listed id e d.listed in let g = d.due in cc
 
-pub poll_due_watched : (moment : ℕ) (m : Mote) → Rested m → Watched moment (poll_due moment m)
+pub poll_due_watched : (moment : ℕ) (m : KernelModel) → Rested m → Watched moment (poll_due moment m)
 unfolding poll_due with_poll
 poll_due_watched moment m r = by (is_some_due moment (next_expiration_of m.state.timers)) refl
   where
-    waits : (m : Mote) → IsAtRest m.state → PollWaits Etimer (with_poll m Etimer).state
+    waits : (m : KernelModel) → IsAtRest m.state → PollWaits Etimer (with_poll m Etimer).state
     waits m k = waits_now Etimer m.state k.can
 
     by : (b : Bool) → is_some_due moment (next_expiration_of m.state.timers) ≡ b → Watched moment (if b then with_poll m Etimer else m)
@@ -176,7 +176,7 @@ runs_watched most moment u w = runs_keep moment (λ v. Watched moment v.mote) (�
 
 -- a turn of a mote that is new or at rest
 
-abbrev pub IsAsMade : Tree → (number queue : ℕ) → Mote → Type 0
+abbrev pub IsAsMade : Tree → (number queue : ℕ) → KernelModel → Type 0
 IsAsMade program number queue m = m ≡ unbooted program number queue
 
 first_booted : (program : Tree) (number queue : ℕ) → (unbooted program number queue).booted ≡ false
@@ -189,7 +189,7 @@ boot_rested program number queue moment lines sends = record {
   rest = λ h. (boot_forgets_none program number queue moment lines sends h).0;
 }
 
-boot_by : (program : Tree) (number queue moment : ℕ) (u : Underway) (b : Bool) → u.mote.booted ≡ b → IsAsMade program number queue u.mote ⊎ Rested u.mote → Rested (if b then u else after (boot_given moment u.mote u.lines u.sends)).mote
+boot_by : (program : Tree) (number queue moment : ℕ) (u : Underway) (b : Bool) → u.mote.booted ≡ b → IsAsMade program number queue u.mote ⊎ Rested u.mote → Rested (if b then u else underway_after (boot_given moment u.mote u.lines u.sends)).mote
 boot_by program number queue moment u true e (inl h) = let f : u.mote.booted ≡ false = ap (λ m. m.booted) h ∙ first_booted program number queue in absurd (cc)
 boot_by program number queue moment u true e (inr r) = r
 boot_by program number queue moment u false e (inl h) = subst (λ m. Rested (boot_given moment m u.lines u.sends).mote) (sym h) (boot_rested program number queue moment u.lines u.sends)
@@ -283,7 +283,7 @@ first_not_halted most moment (ran.Left (suc n)) v h = not_halted most moment v v
 
 -- the run that begins in this state polls etimer, and the lines are about each timer that is due then
 record ServesFrom (moment : ℕ) (u : Underway) (lines : List Line) : Type 0 where
-  at_turn : State
+  at_turn : KernelState
   comes : polls_before Etimer (calls_of (most_units + 1)) (begun u.mote moment u.lines u.sends) ≡ Goes tt at_turn
   each : (timer : ℕ) (owner : Proc) → IsDueFor moment at_turn.timers timer owner → HasTelling moment lines (One owner) (system_number Timer) timer
 
@@ -291,8 +291,8 @@ runs_serve : (most moment : ℕ) (u : Underway) → IsAtRest u.mote.state → Po
 unfolding runs_of
 runs_serve most moment u rest waits running h =
     let g = run_given moment u.mote u.lines u.sends in
-    let p = run_tells_due moment u.mote u.lines u.sends running rest waits (first_not_halted most moment g.ran (after g) h) in
-    let more = follows (λ v. stamps.Goes moment (after g) v) g.ran (runs_of most moment) (after g) (stamps.goes_still moment (after g)) (stamps.runs_go most moment (after g)) in
+    let p = run_tells_due moment u.mote u.lines u.sends running rest waits (first_not_halted most moment g.ran (underway_after g) h) in
+    let more = follows (λ v. stamps.Goes moment (underway_after g) v) g.ran (runs_of most moment) (underway_after g) (stamps.goes_still moment (underway_after g)) (stamps.runs_go most moment (underway_after g)) in
     record {
       at_turn = p.at_turn;
       comes = p.comes;
@@ -336,7 +336,7 @@ boot_over : (moment : ℕ) (u : Underway) → u.mote.booted ≡ true → boot_du
 unfolding boot_due
 boot_over moment u e = by u.mote.booted e
   where
-    by : (b : Bool) → b ≡ true → (if b then u else after (boot_given moment u.mote u.lines u.sends)) ≡ u
+    by : (b : Bool) → b ≡ true → (if b then u else underway_after (boot_given moment u.mote u.lines u.sends)) ≡ u
     by true e = refl
     by false e = absurd (cc)
 

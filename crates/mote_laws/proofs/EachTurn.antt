@@ -7,10 +7,10 @@ use Rattle.process_kernel.specs.declared.kernel.Ran.{Ran}
 use Rattle.process_kernel.specs.declared.kernel.Ran.TheVariants as ran
 use Rattle.radio_packet.specs.declared.arrival.Arrival.{Arrival}
 use Rattle.trace_lines.specs.declared.line.Line.{Line}
-use Rattle.process_kernel.specs.Mote.{has_room, with_packet, with_poll}
+use Rattle.process_kernel.specs.KernelModel.{has_room, with_packet, with_poll}
 use Rattle.process_kernel.specs.Given.{boot_given, run_given}
 use Rattle.mote_node.specs.Node.{Node}
-use Rattle.mote_node.specs.Underway.{Underway, with_mote, with_lines, after}
+use Rattle.mote_node.specs.Underway.{Underway, with_mote, with_lines, underway_after}
 use Rattle.mote_node.specs.Arrivals.{received_line, lost_line, collision_line, hear, hear_each, took_some, hear_all, is_collision, with_collisions}
 use Rattle.mote_node.specs.Turn.{most_runs, boot_due, is_some_due, poll_due, follow, runs_of, work_of, mote_turn, net_turn, turn_of}
 use Rattle.mote_node.specs.Laws.{TurnInput, Turns, Rests, Takes}
@@ -30,22 +30,22 @@ nodes_keep P turn n last given lines Rests h = h
 nodes_keep P turn n last given lines (Takes {given = x} past t) h = nodes_keep P turn _ last _ _ t (turn n x h)
 
 module _ (moment : ℕ) where
-  pub runs_keep : (P : Underway → Type 0) → ((u : Underway) → P u → P (after (run_given moment u.mote u.lines u.sends))) → (most : ℕ) (u : Underway) → P u → P (runs_of most moment u)
+  pub runs_keep : (P : Underway → Type 0) → ((u : Underway) → P u → P (underway_after (run_given moment u.mote u.lines u.sends))) → (most : ℕ) (u : Underway) → P u → P (runs_of most moment u)
   unfolding runs_of
   runs_keep P run zero u h = h
   runs_keep P run (suc most) u h =
-      let g = run_given moment u.mote u.lines u.sends in follows P g.ran (runs_of most moment) (after g) (run u h) (runs_keep P run most (after g) (run u h))
+      let g = run_given moment u.mote u.lines u.sends in follows P g.ran (runs_of most moment) (underway_after g) (run u h) (runs_keep P run most (underway_after g) (run u h))
 
   -- One property is true up to the boot of the mote, and another one after it.
   module _ (First Holds : Underway → Type 0) where
     pub record AreTurnSteps : Type 0 where
       pub collides : (u : Underway) (a : Arrival) → u.mote.halted ≡ false → First u → First (with_lines u (collision_line moment a ∷ []))
-      pub boots : (u : Underway) → u.mote.booted ≡ false → First u → Holds (after (boot_given moment u.mote u.lines u.sends))
+      pub boots : (u : Underway) → u.mote.booted ≡ false → First u → Holds (underway_after (boot_given moment u.mote u.lines u.sends))
       pub booted : (u : Underway) → u.mote.booted ≡ true → First u → Holds u
       pub accepts : (u : Underway) (a : Arrival) → u.mote.halted ≡ false → has_room u.mote ≡ true → Holds u → Holds (with_lines (with_mote u (with_packet u.mote a)) (received_line moment a ∷ []))
       pub loses : (u : Underway) (a : Arrival) → u.mote.halted ≡ false → has_room u.mote ≡ false → Holds u → Holds (with_lines u (lost_line moment a ∷ []))
       pub polls : (u : Underway) (p : Proc) → Holds u → Holds (with_mote u (with_poll u.mote p))
-      pub runs : (u : Underway) → Holds u → Holds (after (run_given moment u.mote u.lines u.sends))
+      pub runs : (u : Underway) → Holds u → Holds (underway_after (run_given moment u.mote u.lines u.sends))
 
     module _ (steps : AreTurnSteps) where
       record Works (u : Underway) : Type 0 where
@@ -88,7 +88,7 @@ module _ (moment : ℕ) where
       unfolding boot_due
       boot_holds u h = by u.mote.booted refl
         where
-          by : (b : Bool) → u.mote.booted ≡ b → Holds (if b then u else after (boot_given moment u.mote u.lines u.sends))
+          by : (b : Bool) → u.mote.booted ≡ b → Holds (if b then u else underway_after (boot_given moment u.mote u.lines u.sends))
           by true e = steps.booted u e h
           by false e = steps.boots u e h
 

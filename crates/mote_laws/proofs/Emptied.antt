@@ -7,7 +7,7 @@ use Rattle.mote_timers.specs.TimerLists.{next_expiration_of}
 use Rattle.radio_packet.specs.declared.arrival.Arrival.{Arrival}
 use Rattle.trace_lines.specs.declared.line.Line.{Line}
 use Rattle.process_kernel.specs.Posts.{poll_of}
-use Rattle.process_kernel.specs.Mote.{Mote, unbooted, with_poll}
+use Rattle.process_kernel.specs.KernelModel.{KernelModel, unbooted, with_poll}
 use Rattle.process_kernel.specs.Given.{boot_given, run_given}
 use Rattle.kernel_laws.specs.Poll.{PollWaits}
 use Rattle.kernel_laws.specs.Ring.{GivesPackets}
@@ -15,7 +15,7 @@ use Rattle.kernel_laws.proofs.Ring.{boot_tells_packets}
 use Rattle.kernel_laws.proofs.Emptied.{empty_stays, run_empties_ring}
 use Rattle.kernel_laws.proofs.Watch.{watches_poll, still_waits, waits_now}
 use Rattle.mote_node.specs.Node.{Node, new_node}
-use Rattle.mote_node.specs.Underway.{Underway, with_mote, after}
+use Rattle.mote_node.specs.Underway.{Underway, with_mote, underway_after}
 use Rattle.mote_node.specs.Arrivals.{hear_each, took_some, hear_all, is_collision, with_collisions}
 use Rattle.mote_node.specs.Turn.{boot_due, is_some_due, poll_due, runs_of, work_of, mote_turn, net_turn, turn_of}
 use Rattle.mote_node.specs.Laws as turns
@@ -27,14 +27,14 @@ use Rattle.mote_laws.proofs.Ring.{run_stays, poll_same, accounts, ring_goes_with
 use Rattle.mote_laws.proofs.Due.{Rested, Watched, hear_each_rested, hear_all_rested, hear_each_timers, poll_due_watched, run_by, IsAsMade, IsInState, boot_due_rested, either_in_state, turn_in_state, first_in_state}
 
 -- no packet is in the ring, unless the mote has halted
-record Emptied (m : Mote) : Type 0 where
+record Emptied (m : KernelModel) : Type 0 where
   none : m.halted ≡ false → m.state.ring ≡ []
 
 -- the ring is empty, or a poll of the radio process waits
-record Ready (m : Mote) : Type 0 where
+record Ready (m : KernelModel) : Type 0 where
   ready : m.halted ≡ false → (m.state.ring ≡ []) ⊎ PollWaits Radio m.state
 
-emptied_ready : (m : Mote) → Emptied m → Ready m
+emptied_ready : (m : KernelModel) → Emptied m → Ready m
 emptied_ready m e = record { ready = λ h. inl (e.none h) }
 
 -- packets that arrive
@@ -55,7 +55,7 @@ hear_all_ready moment packets u r running e =
     by true t v q k f = record { ready = λ h. inr (waits_now Radio v.mote.state (k.rest f).radio) }
     by false t v q k f = record { ready = λ h. inl (none_more u.mote.state.ring v.mote.state.ring (e.none running) (subst (λ (w : Underway). took_some u.mote w.mote ≡ false) q t)) }
 
-poll_due_ready : (moment : ℕ) (m : Mote) → Ready m → Ready (poll_due moment m)
+poll_due_ready : (moment : ℕ) (m : KernelModel) → Ready m → Ready (poll_due moment m)
 unfolding poll_due with_poll
 poll_due_ready moment m r = by (is_some_due moment (next_expiration_of m.state.timers))
   where
@@ -84,7 +84,7 @@ first_emptied most moment u w r =
     let g = run_given moment u.mote u.lines u.sends in
     let k = run_by moment u u.mote.halted refl w in
     let f = run_empties moment u u.mote.halted refl w.rested r in
-    follows (λ v. Emptied v.mote) g.ran (runs_of most moment) (after g) f (runs_emptied most moment (after g) k f)
+    follows (λ v. Emptied v.mote) g.ran (runs_of most moment) (underway_after g) f (runs_emptied most moment (underway_after g) k f)
 
 -- turns
 
@@ -101,7 +101,7 @@ boot_emptied moment u e running = by u.mote.booted
     k : GivesPackets u.mote u.lines (boot_given moment u.mote u.lines u.sends)
     k = boot_tells_packets moment u.mote u.lines u.sends
 
-    by : (b : Bool) → Emptied (if b then u else after (boot_given moment u.mote u.lines u.sends)).mote
+    by : (b : Bool) → Emptied (if b then u else underway_after (boot_given moment u.mote u.lines u.sends)).mote
     by true = e
     by false = record { none = λ h. k.holds h ∙ empty_stays u.mote.state.program.receiver u.mote.state.ring k.left k.added (e.none running) k.runs k.hears_none }
 

@@ -7,12 +7,12 @@ use Rattle.radio_packet.specs.declared.arrival.Arrival.{Arrival}
 use Rattle.trace_lines.specs.declared.line.Line.{Line}
 use Rattle.trace_lines.specs.declared.line.What.{What}
 use Rattle.trace_lines.specs.declared.line.What.TheVariants as what
-use Rattle.process_kernel.specs.Mote.{has_room, with_packet, with_poll}
+use Rattle.process_kernel.specs.KernelModel.{has_room, with_packet, with_poll}
 use Rattle.process_kernel.specs.Given.{boot_given, run_given}
 use Rattle.kernel_laws.specs.Going.{IsNote}
 use Rattle.kernel_laws.proofs.Steps.{lines_joined}
 use Rattle.kernel_laws.proofs.Ring.{boot_tells_packets, run_tells_packets}
-use Rattle.mote_node.specs.Underway.{Underway, with_mote, with_lines, after}
+use Rattle.mote_node.specs.Underway.{Underway, with_mote, with_lines, underway_after}
 use Rattle.mote_node.specs.Arrivals.{received_line, lost_line, collision_line, hear, hear_each, took_some, hear_all, is_collision, with_collisions}
 use Rattle.mote_node.specs.Turn.{most_runs, boot_due, poll_due, runs_of, work_of, mote_turn, net_turn, turn_of}
 use Rattle.mote_laws.specs.Ring.{note_of, notes_in, AreHeard, NoneCame, IsReceived, IsLost, BeginWithCollisions, TurnsCollide, TurnsHear}
@@ -98,17 +98,17 @@ hear_all_hears moment packets u =
 
 -- boots and runs
 
-run_quiet : (moment : ℕ) (u : Underway) → Quiet u (after (run_given moment u.mote u.lines u.sends))
+run_quiet : (moment : ℕ) (u : Underway) → Quiet u (underway_after (run_given moment u.mote u.lines u.sends))
 run_quiet moment u = let k = run_tells_packets moment u.mote u.lines u.sends in record { added = k.added; wrote = k.wrote; none = no_notes k.added k.hears_none }
 
 boot_quiet : (moment : ℕ) (u : Underway) → Quiet u (boot_due moment u)
 unfolding boot_due
 boot_quiet moment u =
     let k = boot_tells_packets moment u.mote u.lines u.sends in
-    either (λ v. Quiet u v) u.mote.booted u (after (boot_given moment u.mote u.lines u.sends)) (quiet_same u) (record { added = k.added; wrote = k.wrote; none = no_notes k.added k.hears_none })
+    either (λ v. Quiet u v) u.mote.booted u (underway_after (boot_given moment u.mote u.lines u.sends)) (quiet_same u) (record { added = k.added; wrote = k.wrote; none = no_notes k.added k.hears_none })
 
 runs_quiet : (most moment : ℕ) (u : Underway) → Quiet u (runs_of most moment u)
-runs_quiet most moment u = runs_keep moment (λ v. Quiet u v) (λ v h. quiet_joined u v (after (run_given moment v.mote v.lines v.sends)) h (run_quiet moment v)) most u (quiet_same u)
+runs_quiet most moment u = runs_keep moment (λ v. Quiet u v) (λ v h. quiet_joined u v (underway_after (run_given moment v.mote v.lines v.sends)) h (run_quiet moment v)) most u (quiet_same u)
 
 work_hears : (moment : ℕ) (packets : List Arrival) (t u : Underway) → Quiet t u → Hears packets t (work_of moment packets u)
 unfolding work_of

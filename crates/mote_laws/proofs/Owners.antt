@@ -3,7 +3,7 @@ use Rattle.std.proofs.Common.{ℕ, Bool, List, [], sym, subst}
 use Rattle.program_tree.specs.Code.{Tree}
 use Rattle.mote_timers.specs.TimerLists.{new_timers}
 use Rattle.radio_packet.specs.declared.arrival.Arrival.{Arrival}
-use Rattle.process_kernel.specs.Mote.{Mote, unbooted, with_packet, with_poll}
+use Rattle.process_kernel.specs.KernelModel.{KernelModel, unbooted, with_packet, with_poll}
 use Rattle.kernel_laws.specs.Due.{HaveOwners}
 use Rattle.kernel_laws.proofs.Owners.{boot_keeps_owners, poll_timers, run_keeps_owners}
 use Rattle.mote_node.specs.Node.{Node, new_node}
@@ -12,7 +12,7 @@ use Rattle.mote_laws.specs.Laws.{first_node}
 use Rattle.mote_laws.specs.Due.{TurnsKeepOwners}
 use Rattle.mote_laws.proofs.EachTurn.{AreTurnSteps, net_turn_holds, nodes_keep}
 
-record Owned (m : Mote) : Type 0 where
+record Owned (m : KernelModel) : Type 0 where
   owned : HaveOwners m.state.timers
 
 steps : (moment : ℕ) → AreTurnSteps moment (λ u. Owned u.mote) (λ u. Owned u.mote)

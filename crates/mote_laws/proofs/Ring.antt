@@ -7,17 +7,17 @@ use Rattle.radio_packet.specs.declared.arrival.Arrival.{Arrival}
 use Rattle.trace_lines.specs.declared.line.Line.{Line}
 use Rattle.trace_lines.specs.declared.line.What.{What}
 use Rattle.trace_lines.specs.declared.line.What.TheVariants as what
-use Rattle.process_kernel.specs.State.{State}
+use Rattle.process_kernel.specs.State.{KernelState}
 use Rattle.process_kernel.specs.Processes.{with_needs_poll}
 use Rattle.process_kernel.specs.Posts.{poll_of}
-use Rattle.process_kernel.specs.Mote.{Mote, unbooted, with_packet, with_poll}
+use Rattle.process_kernel.specs.KernelModel.{KernelModel, unbooted, with_packet, with_poll}
 use Rattle.process_kernel.specs.Given.{Given, boot_given, run_given}
 use Rattle.kernel_laws.specs.Polled.{Accepted, Refused, TellsPacket, TellEach, NoneLeft, TellsNext}
 use Rattle.kernel_laws.specs.Ring.{IsApart, RingRuns, NoneMore, Receives, Loses, Hands, Passes, GivesPackets}
 use Rattle.kernel_laws.proofs.Tables.{below_of}
 use Rattle.kernel_laws.proofs.Ring.{ring_runs_on, boot_tells_packets, run_tells_packets}
 use Rattle.mote_node.specs.Node.{Node, new_node}
-use Rattle.mote_node.specs.Underway.{Underway, with_mote, with_lines, after}
+use Rattle.mote_node.specs.Underway.{Underway, with_mote, with_lines, underway_after}
 use Rattle.mote_node.specs.Arrivals.{received_line, lost_line, collision_line}
 use Rattle.mote_node.specs.Turn.{turn_of}
 use Rattle.mote_node.specs.Laws as turns
@@ -34,7 +34,7 @@ record Goes (program : Tree) (before : List Line) (u : Underway) : Type 0 where
 
 -- boots and runs
 
-given_goes : (program : Tree) (before : List Line) (u : Underway) (g : Given) → u.mote.halted ≡ false → GivesPackets u.mote u.lines g → Goes program before u → Goes program before (after g)
+given_goes : (program : Tree) (before : List Line) (u : Underway) (g : Given) → u.mote.halted ≡ false → GivesPackets u.mote u.lines g → Goes program before u → Goes program before (underway_after g)
 given_goes program before u g running k h =
     let from : u.mote.state.ring ≡ h.ring.left = h.ring.holds running in
     let more : RingRuns program.receiver h.ring.left k.added k.left = subst (λ r. RingRuns program.receiver r k.added k.left) from (subst (λ p. RingRuns p.receiver u.mote.state.ring k.added k.left) h.program_is k.runs) in
@@ -44,29 +44,29 @@ given_goes program before u g running k h =
       program_is = k.program ∙ h.program_is;
     }
 
-stays_goes : (program : Tree) (before : List Line) (u : Underway) (g : Given) → after g ≡ u → Goes program before u → Goes program before (after g)
+stays_goes : (program : Tree) (before : List Line) (u : Underway) (g : Given) → underway_after g ≡ u → Goes program before u → Goes program before (underway_after g)
 stays_goes program before u g e h = subst (Goes program before) (sym e) h
 
-pub run_stays : (moment : ℕ) (u : Underway) → u.mote.halted ≡ true → after (run_given moment u.mote u.lines u.sends) ≡ u
+pub run_stays : (moment : ℕ) (u : Underway) → u.mote.halted ≡ true → underway_after (run_given moment u.mote u.lines u.sends) ≡ u
 unfolding run_given
 run_stays moment u e = rw e refl
 
-run_by : (program : Tree) (before : List Line) (moment : ℕ) (u : Underway) (b : Bool) → u.mote.halted ≡ b → Goes program before u → Goes program before (after (run_given moment u.mote u.lines u.sends))
+run_by : (program : Tree) (before : List Line) (moment : ℕ) (u : Underway) (b : Bool) → u.mote.halted ≡ b → Goes program before u → Goes program before (underway_after (run_given moment u.mote u.lines u.sends))
 run_by program before moment u true e h = stays_goes program before u (run_given moment u.mote u.lines u.sends) (run_stays moment u e) h
 run_by program before moment u false e h = given_goes program before u _ e (run_tells_packets moment u.mote u.lines u.sends) h
 
-pub boot_stays : (moment : ℕ) (u : Underway) → u.mote.halted ≡ true → after (boot_given moment u.mote u.lines u.sends) ≡ u
+pub boot_stays : (moment : ℕ) (u : Underway) → u.mote.halted ≡ true → underway_after (boot_given moment u.mote u.lines u.sends) ≡ u
 unfolding boot_given
 boot_stays moment u e = rw e refl
 
-boot_by : (program : Tree) (before : List Line) (moment : ℕ) (u : Underway) (b : Bool) → u.mote.halted ≡ b → Goes program before u → Goes program before (after (boot_given moment u.mote u.lines u.sends))
+boot_by : (program : Tree) (before : List Line) (moment : ℕ) (u : Underway) (b : Bool) → u.mote.halted ≡ b → Goes program before u → Goes program before (underway_after (boot_given moment u.mote u.lines u.sends))
 boot_by program before moment u true e h = stays_goes program before u (boot_given moment u.mote u.lines u.sends) (boot_stays moment u e) h
 boot_by program before moment u false e h = given_goes program before u _ e (boot_tells_packets moment u.mote u.lines u.sends) h
 
 -- packets that arrive
 
 -- more lines, along which the ring changes to the mote's new ring
-lines_go : (program : Tree) (before : List Line) (u : Underway) (m : Mote) (more : List Line) → (h : Goes program before u) → RingRuns program.receiver h.ring.left more m.state.ring → m.state.program ≡ u.mote.state.program → Goes program before (with_lines (with_mote u m) more)
+lines_go : (program : Tree) (before : List Line) (u : Underway) (m : KernelModel) (more : List Line) → (h : Goes program before u) → RingRuns program.receiver h.ring.left more m.state.ring → m.state.program ≡ u.mote.state.program → Goes program before (with_lines (with_mote u m) more)
 lines_go program before u m more h r e = record {
   ring = record { left = m.state.ring; runs = subst (λ l. RingRuns program.receiver [] l m.state.ring) (append_assoc before u.lines more) (ring_runs_on program.receiver [] h.ring.left m.state.ring (before ++ u.lines) more h.ring.runs r); holds = λ q. refl };
   program_is = e ∙ h.program_is;
@@ -79,7 +79,7 @@ held program u before h running more left r = subst (λ x. RingRuns program.rece
 above_of : (n : ℕ) → nat_lt n 8 ≡ false → 8 ≤ n
 above_of n e = grind (arith, nat_tests)
 
-pub poll_same : (s : State) (p : Proc) → ((poll_of s p).ring ≡ s.ring) × ((poll_of s p).program ≡ s.program)
+pub poll_same : (s : KernelState) (p : Proc) → ((poll_of s p).ring ≡ s.ring) × ((poll_of s p).program ≡ s.program)
 unfolding with_needs_poll
 poll_same s p = polled_or_not (λ t. (t.ring ≡ s.ring) × (t.program ≡ s.program)) s p (refl, refl) (refl, refl)
 

@@ -8,22 +8,22 @@ use Rattle.program_tree.specs.Code.{Tree}
 use Rattle.radio_packet.specs.declared.arrival.Arrival.{Arrival}
 use Rattle.trace_lines.specs.declared.line.Line.{Line}
 use Rattle.radio_packet.specs.declared.sent.Sent.{Sent}
-use Rattle.process_kernel.specs.State.{State}
-use Rattle.process_kernel.specs.Mote.{unbooted, with_packet, with_poll}
+use Rattle.process_kernel.specs.State.{KernelState}
+use Rattle.process_kernel.specs.KernelModel.{unbooted, with_packet, with_poll}
 use Rattle.process_kernel.specs.Given.{boot_given, run_given}
 use Rattle.mote_node.specs.Node.{Node, new_node, is_past}
-use Rattle.mote_node.specs.Underway.{Underway, with_mote, with_lines, after}
+use Rattle.mote_node.specs.Underway.{Underway, with_mote, with_lines, underway_after}
 use Rattle.mote_node.specs.Arrivals.{received_line, lost_line, collision_line}
 use Rattle.mote_node.specs.Turn.{runs_of, turn_of}
 use Rattle.mote_node.specs.Laws.{TurnInput, Turns, Rests, Takes}
 use Rattle.kernel_laws.specs.Stamps.{LinesBear, PacketsBear, AreNumberedFrom, Stamped, with_output}
 use Rattle.kernel_laws.proofs.Stamps.{numbered_on, stamped_twice, stamped_still, poll_still, boot_stamps, run_stamps}
 use Rattle.mote_laws.specs.Laws.{first_node}
-use Rattle.mote_laws.specs.Stamps.{TurnsStamp, packets_of, PacketsCountUp, TurnsNeverGoBack}
+use Rattle.mote_laws.specs.Stamps.{TurnsStamp, packets_of_turns, PacketsCountUp, TurnsNeverGoBack}
 use Rattle.mote_laws.proofs.EachTurn.{AreTurnSteps, runs_keep, net_turn_holds}
 use Rattle.mote_laws.proofs.Rising.{rises_empty, rises_level, rises_joined}
 
-abbrev pub so_far : Underway → State
+abbrev pub so_far : Underway → KernelState
 so_far u = with_output u.mote u.lines u.sends
 
 -- the output from one point of a turn to a later one is stamped with its moment
@@ -66,8 +66,8 @@ accepted_goes : (moment : ℕ) (u : Underway) (a : Arrival) → Goes moment u (w
 unfolding with_packet
 accepted_goes moment u a = stamped_still moment _ _ refl refl refl refl refl
 
-run_goes : (moment : ℕ) (u v : Underway) → Goes moment u v → Goes moment u (after (run_given moment v.mote v.lines v.sends))
-run_goes moment u v h = goes_twice moment u v (after (run_given moment v.mote v.lines v.sends)) h (run_stamps moment v.mote v.lines v.sends)
+run_goes : (moment : ℕ) (u v : Underway) → Goes moment u v → Goes moment u (underway_after (run_given moment v.mote v.lines v.sends))
+run_goes moment u v h = goes_twice moment u v (underway_after (run_given moment v.mote v.lines v.sends)) h (run_stamps moment v.mote v.lines v.sends)
 
 pub runs_go : (most moment : ℕ) (u : Underway) → Goes moment u (runs_of most moment u)
 runs_go most moment u = runs_keep moment (λ v. Goes moment u v) (run_goes moment u) most u (goes_still moment u)
@@ -77,7 +77,7 @@ runs_go most moment u = runs_keep moment (λ v. Goes moment u v) (run_goes momen
 steps : (moment : ℕ) (u : Underway) → AreTurnSteps moment (λ v. Goes moment u v) (λ v. Goes moment u v)
 steps moment u = record {
   collides = λ v a running h. one_note moment u v (collision_line moment a) refl h;
-  boots = λ v b h. goes_twice moment u v (after (boot_given moment v.mote v.lines v.sends)) h (boot_stamps moment v.mote v.lines v.sends);
+  boots = λ v b h. goes_twice moment u v (underway_after (boot_given moment v.mote v.lines v.sends)) h (boot_stamps moment v.mote v.lines v.sends);
   booted = λ v b h. h;
   accepts = λ v a running room h. let w = with_mote v (with_packet v.mote a) in one_note moment u w (received_line moment a) refl (goes_twice moment u v w h (accepted_goes moment v a));
   loses = λ v a running full h. one_note moment u v (lost_line moment a) refl h;
@@ -100,22 +100,22 @@ turns_stamp moment arrivals n =
 
 -- the packets of turns
 
-packets_numbered : (given : List TurnInput) (n : Node) → AreNumberedFrom n.mote.state.sent (packets_of n given)
+packets_numbered : (given : List TurnInput) (n : Node) → AreNumberedFrom n.mote.state.sent (packets_of_turns n given)
 packets_numbered [] n = refl
 packets_numbered (g ∷ later) n =
     let t = turn_of g.moment g.arrivals n in
     let h = turns_stamp g.moment g.arrivals n in
-    numbered_on n.mote.state.sent t.sends (packets_of t.node later) h.numbered (subst (λ k. AreNumberedFrom k (packets_of t.node later)) h.counted (packets_numbered later t.node))
+    numbered_on n.mote.state.sent t.sends (packets_of_turns t.node later) h.numbered (subst (λ k. AreNumberedFrom k (packets_of_turns t.node later)) h.counted (packets_numbered later t.node))
 
-packets_named : (mote : ℕ) (given : List TurnInput) (n : Node) → n.mote.state.mote ≡ mote → All (λ x. x.sender ≡ mote) (packets_of n given)
+packets_named : (mote : ℕ) (given : List TurnInput) (n : Node) → n.mote.state.mote ≡ mote → All (λ x. x.sender ≡ mote) (packets_of_turns n given)
 packets_named mote [] n e = All-nil (λ (x : Sent). x.sender ≡ mote)
 packets_named mote (g ∷ later) n e =
     let t = turn_of g.moment g.arrivals n in
     let h = turns_stamp g.moment g.arrivals n in
-    All-append (λ x. x.sender ≡ mote) t.sends (packets_of t.node later) (All-weaker (λ x. (x.at ≡ g.moment) × (x.sender ≡ n.mote.state.mote)) (λ x. x.sender ≡ mote) (λ x k. k.1 ∙ e) t.sends h.packets) (packets_named mote later t.node (h.mote ∙ e))
+    All-append (λ x. x.sender ≡ mote) t.sends (packets_of_turns t.node later) (All-weaker (λ x. (x.at ≡ g.moment) × (x.sender ≡ n.mote.state.mote)) (λ x. x.sender ≡ mote) (λ x k. k.1 ∙ e) t.sends h.packets) (packets_named mote later t.node (h.mote ∙ e))
 
-new_sent : (n : Node) (given : List TurnInput) → n.mote.state.sent ≡ 0 → AreNumberedFrom 0 (packets_of n given)
-new_sent n given e = subst (λ k. AreNumberedFrom k (packets_of n given)) e (packets_numbered given n)
+new_sent : (n : Node) (given : List TurnInput) → n.mote.state.sent ≡ 0 → AreNumberedFrom 0 (packets_of_turns n given)
+new_sent n given e = subst (λ k. AreNumberedFrom k (packets_of_turns n given)) e (packets_numbered given n)
 
 pub new_is : (program : Tree) (number queue : ℕ) → ((new_node program number queue).mote.state.mote ≡ number) × ((new_node program number queue).mote.state.sent ≡ 0)
 unfolding new_node unbooted

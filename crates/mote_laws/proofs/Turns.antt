@@ -1,15 +1,15 @@
 -- After each step of a turn, the lines still agree with the mote.
 use Rattle.std.proofs.Common.{ℕ, ◌≡◌, true, false, List, [], ◌∷◌, ◌++◌, sym, ap, ◌∙◌, subst, append_assoc, append-nil}
 use Rattle.trace_lines.specs.declared.line.Line.{Line}
-use Rattle.process_kernel.specs.Mote.{with_packet, with_poll}
+use Rattle.process_kernel.specs.KernelModel.{with_packet, with_poll}
 use Rattle.process_kernel.specs.Given.{Given}
 use Rattle.mote_node.specs.Node.{Node, new_node}
-use Rattle.mote_node.specs.Underway.{Underway, with_mote, with_lines, after}
+use Rattle.mote_node.specs.Underway.{Underway, with_mote, with_lines, underway_after}
 use Rattle.mote_node.specs.Arrivals.{received_line, lost_line, collision_line}
 use Rattle.mote_node.specs.Turn.{turn_of}
 use Rattle.mote_node.specs.Laws as turns
 use Rattle.mote_node.specs.Laws.{Turns, Rests, Takes}
-use Rattle.kernel_laws.specs.Going.{GoesWith, Adds, IsNote}
+use Rattle.kernel_laws.specs.Going.{GoesWith, AppendsLines, IsNote}
 use Rattle.kernel_laws.proofs.Motes.{run_adds, boot_adds, poll_keeps, packet_keeps, note_keeps, in_order}
 use Rattle.kernel_laws.proofs.Traces.{run_booted, boot_booted, no_lines_first}
 use Rattle.mote_laws.specs.Laws.{TurnKeeps, NewGoesWithNoLines, MotesHandOn}
@@ -24,7 +24,7 @@ record IsBooted (before : List Line) (u : Underway) : Type 0 where
   goes : Goes before u
   booted : u.mote.booted ≡ true
 
-after_goes : (before : List Line) (u : Underway) (g : Given) → Adds (before ++ u.lines) u.lines g → Goes before (after g)
+after_goes : (before : List Line) (u : Underway) (g : Given) → AppendsLines (before ++ u.lines) u.lines g → Goes before (underway_after g)
 after_goes before u g h = subst (λ l. GoesWith l g.mote) (append_assoc before u.lines h.added ∙ ap (λ l. before ++ l) (sym h.wrote)) h.goes
 
 -- packets that arrive

@@ -9,7 +9,7 @@ use Rattle.program_tree.specs.Code.{Tree}
 use Rattle.radio_packet.specs.declared.arrival.Arrival.{Arrival}
 use Rattle.trace_lines.specs.declared.line.Line.{Line}
 use Rattle.process_kernel.specs.Run.{most_units}
-use Rattle.process_kernel.specs.State.{State, Goes}
+use Rattle.process_kernel.specs.State.{KernelState, Goes}
 use Rattle.process_kernel.specs.Call.{calls_of}
 use Rattle.process_kernel.specs.Given.{begun}
 use Rattle.kernel_laws.specs.Poll.{PollWaits, polls_before}
@@ -57,13 +57,13 @@ node_begins moment arrivals n =
     (with_collisions moment arrivals u) else runs_begin moment arrivals u
 
 -- the state in which the first kernel run of a turn begins
-abbrev pub first_run : (moment : ℕ) → List Arrival → Node → State
+abbrev pub first_run : (moment : ℕ) → List Arrival → Node → KernelState
 first_run moment arrivals n = let u = node_begins moment arrivals n in begun u.mote moment u.lines u.sends
 
 -- The first kernel run of the turn polls etimer, after it has polled the processes before etimer on the process list
 -- that had asked for a poll. Each timer that is due then has a line in the turn, at its moment.
 pub record ServesTimers (moment : ℕ) (arrivals : List Arrival) (n : Node) : Type 0 where
-  pub at_turn : State
+  pub at_turn : KernelState
   pub comes : polls_before Etimer (calls_of (most_units + 1)) (first_run moment arrivals n) ≡ Goes tt at_turn
   pub each : (timer : ℕ) (owner : Proc) → IsDueFor moment at_turn.timers timer owner
       → HasTelling moment (turn_of moment arrivals n).lines (One owner) (system_number Timer) timer

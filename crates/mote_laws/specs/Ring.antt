@@ -5,7 +5,7 @@ use Rattle.radio_packet.specs.declared.arrival.Arrival.{Arrival}
 use Rattle.trace_lines.specs.declared.line.Line.{Line}
 use Rattle.trace_lines.specs.declared.line.What.{What}
 use Rattle.trace_lines.specs.declared.line.What.TheVariants as what
-use Rattle.process_kernel.specs.Mote.{Mote}
+use Rattle.process_kernel.specs.KernelModel.{KernelModel}
 use Rattle.kernel_laws.specs.Polled.{TellEach}
 use Rattle.kernel_laws.specs.Ring.{RingRuns}
 use Rattle.mote_node.specs.Node.{Node}
@@ -54,7 +54,7 @@ TurnsCollide =
 
 -- Along these lines, the ring changes from empty to the packets that are left. These are the packets that the mote
 -- holds, unless it has halted.
-pub record GoesWithRing (receiver : Option ℕ) (lines : List Line) (m : Mote) : Type 0 where
+pub record GoesWithRing (receiver : Option ℕ) (lines : List Line) (m : KernelModel) : Type 0 where
   pub left : List Arrival
   pub runs : RingRuns receiver [] lines left
   pub holds : m.halted ≡ false → m.state.ring ≡ left
@@ -90,7 +90,7 @@ TurnsEmptyRing =
 
 -- The packets that were received are, in order, the packets that lines are about. Each has its own line, in the same
 -- order. Only if the mote halts, some packets may be left after these.
-pub record AccountsForPackets (receiver : Option ℕ) (lines : List Line) (m : Mote) : Type 0 where
+pub record AccountsForPackets (receiver : Option ℕ) (lines : List Line) (m : KernelModel) : Type 0 where
   pub handed : List Arrival
   pub left : List Arrival
   pub all : received_in lines ≡ handed ++ left

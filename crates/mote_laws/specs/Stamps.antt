@@ -25,16 +25,16 @@ abbrev pub TurnsStamp : Type 0
 TurnsStamp = (moment : ℕ) (arrivals : List Arrival) (n : Node) → IsStamped moment n (turn_of moment arrivals n)
 
 -- the packets of these turns, one after another
-abbrev pub packets_of : Node → List TurnInput → List Sent
-packets_of n [] = []
-packets_of n (g ∷ later) = let t = turn_of g.moment g.arrivals n in t.sends ++ packets_of t.node later
+abbrev pub packets_of_turns : Node → List TurnInput → List Sent
+packets_of_turns n [] = []
+packets_of_turns n (g ∷ later) = let t = turn_of g.moment g.arrivals n in t.sends ++ packets_of_turns t.node later
 
 -- whatever turns a new node takes, its packets are stamped with its number, and are numbered 0, 1, 2 and so on, in
 -- order
 abbrev pub PacketsCountUp : Type 0
 PacketsCountUp =
     (program : Tree) (number queue : ℕ) (collides : Bool) (given : List TurnInput)
-    → let sends = packets_of (first_node program number queue collides) given in
+    → let sends = packets_of_turns (first_node program number queue collides) given in
     All (λ x. x.sender ≡ number) sends × AreNumberedFrom 0 sends
 
 -- no line is at an earlier moment than the line before it

@@ -18,11 +18,11 @@ pub record ReportModel : Type 0 where
   pub log : List Packet
   pub left : ℕ
 
-abbrev pub lines_in : Vec Line Global → List Line
-lines_in t = t.items
+abbrev pub trace_lines_in : Vec Line Global → List Line
+trace_lines_in t = t.items
 
 abbrev pub line_model : LogLine → Packet
 line_model l = record { sent = l.sent; fates = l.fates.items }
 
 abbrev pub report_of : Report → ReportModel
-report_of r = record { traces = map lines_in r.traces.items; log = map line_model r.medium.items; left = r.left }
+report_of r = record { traces = map trace_lines_in r.traces.items; log = map line_model r.medium.items; left = r.left }

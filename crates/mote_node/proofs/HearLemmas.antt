@@ -5,7 +5,7 @@ use Rattle.std.proofs.lemmas.Grind.{common_steps}
 use Rattle.program_tree.specs.declared.event.Proc.TheVariants.{Radio}
 use Rattle.radio_packet.specs.declared.arrival.Arrival.{Arrival}
 use Rattle.trace_lines.specs.declared.out.Out.{Out}
-use Rattle.process_kernel.specs.Mote.{Mote, has_room, with_packet, with_poll}
+use Rattle.process_kernel.specs.KernelModel.{KernelModel, has_room, with_packet, with_poll}
 use Rattle.mote_node.specs.Underway.{Underway, with_mote, with_lines}
 use Rattle.mote_node.specs.Arrivals.{received_line, lost_line, hear, hear_each, hear_all}
 use Rattle.mote_node.specs.Steps.{underway_in, GoesOn}
@@ -40,7 +40,7 @@ pub heard_none : (moment : ℕ) (packets : List Arrival) (first : Underway) (by_
     → HeardSoFar moment packets packets first by_now false
 heard_none moment packets first by_now is = record { u = first; is = is; rest = refl; grows = omega arith; matches = none_heard (ring_of first) }
 
-pub room_at : (old : Option Mote) (out : Out) (u : Underway) (heard : Bool) → IfSome old (λ m. heard ≡ has_room m) → underway_in old out ≡ Some u → heard ≡ has_room u.mote
+pub room_at : (old : Option KernelModel) (out : Out) (u : Underway) (heard : Bool) → IfSome old (λ m. heard ≡ has_room m) → underway_in old out ≡ Some u → heard ≡ has_room u.mote
 room_at None out u heard h is = cc
 room_at (Some m) out u heard h is =
     let same : underway m out ≡ u = cc in
@@ -56,7 +56,7 @@ any_grown false true n k le h = grind (arith, nat_tests)
 any_grown true false n k le h = h
 any_grown false false n k le h = h
 
-pub heard_next : (moment : ℕ) (packets front later : List Arrival) (a : Arrival) (first : Underway) (old new : Option Mote) (out out' : Out) (any heard : Bool)
+pub heard_next : (moment : ℕ) (packets front later : List Arrival) (a : Arrival) (first : Underway) (old new : Option KernelModel) (out out' : Out) (any heard : Bool)
     → front ≡ a ∷ later → HeardSoFar moment packets front first (underway_in old out) any
     → GoesOn (hear moment a) old out new out' → IfSome old (λ m. heard ≡ has_room m)
     → HeardSoFar moment packets later first (underway_in new out') (any || heard)
@@ -72,7 +72,7 @@ heard_next moment packets front later a first old new out out' any heard e h goe
     }
 
 -- all packets are heard, and some were appended to the ring
-pub heard_some : (moment : ℕ) (packets later : List Arrival) (any : Bool) (first : Underway) (old new : Option Mote) (out : Out)
+pub heard_some : (moment : ℕ) (packets later : List Arrival) (any : Bool) (first : Underway) (old new : Option KernelModel) (out : Out)
     → later ≡ [] → any ≡ true → HeardSoFar moment packets later first (underway_in old out) any → new ≡ option_map (λ m. with_poll m Radio) old
     → underway_in new out ≡ Some (hear_all moment packets first)
 unfolding hear_all
@@ -84,7 +84,7 @@ heard_some moment packets later any first (Some m) new out e b h is =
     rw (is, all, ← some) refl
 
 -- all packets are heard, and none was appended to the ring
-pub heard_lost : (moment : ℕ) (packets later : List Arrival) (any : Bool) (first : Underway) (old : Option Mote) (out : Out)
+pub heard_lost : (moment : ℕ) (packets later : List Arrival) (any : Bool) (first : Underway) (old : Option KernelModel) (out : Out)
     → later ≡ [] → any ≡ false → HeardSoFar moment packets later first (underway_in old out) any
     → underway_in old out ≡ Some (hear_all moment packets first)
 unfolding hear_all

@@ -1,7 +1,7 @@
 -- Steps of a turn that continue by their definitions.
 use Rattle.std.proofs.Common.{◌≡◌, Bool, true, false, option_map, Option, Some, None, refl, if◌then◌else◌}
 use Rattle.trace_lines.specs.declared.out.Out.{Out}
-use Rattle.process_kernel.specs.Mote.{Mote}
+use Rattle.process_kernel.specs.KernelModel.{KernelModel}
 use Rattle.mote_node.specs.Underway.{with_mote}
 use Rattle.mote_node.specs.Steps.{GoesOn}
 pub use Rattle.process_kernel.proofs.Steps.{underway, from_none, from_some, kernel_step}
@@ -16,6 +16,6 @@ if_false true x y h = cc
 if_false false x y h = refl
 
 -- a step that changes only the mote
-pub mote_step : (f : Mote → Mote) (old new : Option Mote) (out : Out) → new ≡ option_map f old → GoesOn (λ u. with_mote u (f u.mote)) old out new out
+pub mote_step : (f : KernelModel → KernelModel) (old new : Option KernelModel) (out : Out) → new ≡ option_map f old → GoesOn (λ u. with_mote u (f u.mote)) old out new out
 mote_step f None new out h = from_none _ out new out
 mote_step f (Some m) new out h = from_some (λ u. with_mote u (f u.mote)) m out new out (rw h refl)

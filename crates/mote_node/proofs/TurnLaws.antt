@@ -6,7 +6,7 @@ use Rattle.radio_packet.specs.declared.arrival.Arrival.{Arrival}
 use Rattle.trace_lines.specs.declared.line.Line.{Line}
 use Rattle.process_kernel.specs.Given.{boot_given}
 use Rattle.mote_node.specs.Node.{Node, is_past}
-use Rattle.mote_node.specs.Underway.{Underway, turn_goes_on, after}
+use Rattle.mote_node.specs.Underway.{Underway, turn_goes_on, underway_after}
 use Rattle.mote_node.specs.Arrivals.{is_collision}
 use Rattle.mote_node.specs.Turn.{boot_due, work_of, mote_turn, net_turn, node_after, turned_to, turn_of}
 use Rattle.mote_node.specs.Wake.{wake_after}
@@ -50,7 +50,7 @@ either false u v h = h
 
 boot_halted : (moment : ℕ) (u : Underway) → true ≡ u.mote.halted → boot_due moment u ≡ u
 unfolding boot_due boot_given
-boot_halted moment u h = either u.mote.booted u _ (ap after (if_true u.mote.halted _ _ h))
+boot_halted moment u h = either u.mote.booted u _ (ap underway_after (if_true u.mote.halted _ _ h))
 
 turn_halted : (moment : ℕ) (arrivals : List Arrival) (u : Underway) → true ≡ u.mote.halted → mote_turn moment arrivals u ≡ u
 unfolding mote_turn

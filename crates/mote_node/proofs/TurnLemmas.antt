@@ -4,8 +4,8 @@ use Rattle.program_tree.specs.Code.{Tree}
 use Rattle.process_kernel.specs.declared.kernel.Kernel.{Kernel}
 use Rattle.radio_packet.specs.declared.arrival.Arrival.{Arrival}
 use Rattle.trace_lines.specs.declared.out.Out.{Out}
-use Rattle.process_kernel.specs.Mote.{Mote}
-use Rattle.process_kernel.specs.Public.{mote_in}
+use Rattle.process_kernel.specs.KernelModel.{KernelModel}
+use Rattle.process_kernel.specs.Public.{kernel_in}
 use Rattle.mote_node.specs.Underway.{Underway}
 use Rattle.mote_node.specs.Arrivals.{hear_all}
 use Rattle.mote_node.specs.Steps.{underway_in, GoesOn}
@@ -13,14 +13,14 @@ use Rattle.mote_node.specs.Turn.{boot_due, poll_due, most_runs, runs_of, work_of
 use Rattle.mote_node.proofs.StepLemmas.{underway, if_true, if_false, mote_step}
 
 -- if a kernel tells whether its mote has halted, the same is true of the mote in the turn
-pub halted_at : (old : Option Mote) (out : Out) (u : Underway) (b : Bool) → IfSome old (λ m. b ≡ m.halted) → underway_in old out ≡ Some u → b ≡ u.mote.halted
+pub halted_at : (old : Option KernelModel) (out : Out) (u : Underway) (b : Bool) → IfSome old (λ m. b ≡ m.halted) → underway_in old out ≡ Some u → b ≡ u.mote.halted
 halted_at None out u b h is = cc
 halted_at (Some m) out u b h is =
     let same : underway m out ≡ u = cc in
     let P : Underway → Type 0 = λ v. b ≡ v.mote.halted in subst P same h
 
 -- a turn in which the boot halts the mote
-pub halted_turn : (moment : ℕ) (packets : List Arrival) (old new : Option Mote) (out out' : Out)
+pub halted_turn : (moment : ℕ) (packets : List Arrival) (old new : Option KernelModel) (out out' : Out)
     → GoesOn (boot_due moment) old out new out' → IfSome new (λ m. true ≡ m.halted) → GoesOn (mote_turn moment packets) old out new out'
 unfolding mote_turn
 halted_turn moment packets old new out out' boot halted = record {
@@ -31,7 +31,7 @@ halted_turn moment packets old new out out' boot halted = record {
 }
 
 -- a whole turn of a mote that doesn't halt in the boot
-pub whole_turn : (moment : ℕ) (packets : List Arrival) (m1 m2 m3 m4 m5 : Option Mote) (o1 o2 o3 o5 : Out)
+pub whole_turn : (moment : ℕ) (packets : List Arrival) (m1 m2 m3 m4 m5 : Option KernelModel) (o1 o2 o3 o5 : Out)
     → GoesOn (boot_due moment) m1 o1 m2 o2 → IfSome m2 (λ m. false ≡ m.halted)
     → GoesOn (hear_all moment packets) m2 o2 m3 o3 → m4 ≡ option_map (poll_due moment) m3
     → GoesOn (runs_of most_runs moment) m4 o3 m5 o5 → GoesOn (mote_turn moment packets) m1 o1 m5 o5
@@ -45,12 +45,12 @@ whole_turn moment packets m1 m2 m3 m4 m5 o1 o2 o3 o5 boot going hear poll run = 
       run.leads _ polled ∙ ap Some (sym (if_false (boot_due moment u).mote.halted (boot_due moment u) (work_of moment packets (boot_due moment u)) b));
 }
 
-some_underway : (new : Option Mote) (out : Out) (u : Underway) → underway_in new out ≡ Some u → IsSome new
+some_underway : (new : Option KernelModel) (out : Out) (u : Underway) → underway_in new out ≡ Some u → IsSome new
 some_underway None out u h = cc
 some_underway (Some m) out u h = refl
 
 -- a mote that continues has not failed
-pub some_after : (step : Underway → Underway) (old new : Option Mote) (out out' : Out) → GoesOn step old out new out' → IsSome old → IsSome new
+pub some_after : (step : Underway → Underway) (old new : Option KernelModel) (out out' : Out) → GoesOn step old out new out' → IsSome old → IsSome new
 some_after step None new out out' goes h = cc
 some_after step (Some m) new out out' goes h = some_underway new out' (step (underway m out)) (goes.leads (underway m out) refl)
 
@@ -59,6 +59,6 @@ some_if true x y h = h
 some_if false x y h = refl
 
 -- if a kernel has not failed with one program, it has not failed with any other
-pub some_anyhow : (t t' : Tree) (k : Kernel) → IsSome (mote_in t k) → IsSome (mote_in t' k)
-unfolding mote_in
+pub some_anyhow : (t t' : Tree) (k : Kernel) → IsSome (kernel_in t k) → IsSome (kernel_in t' k)
+unfolding kernel_in
 some_anyhow t t' k h = some_if k.failed _ _ h

@@ -2,7 +2,7 @@
 use Rattle.std.proofs.Common.{ℕ, ◌≡◌, ◌+◌, ◌<◌, max, Bool, true, false, Option, Some, None, option_map, refl, arith, if◌then◌else◌}
 use Rattle.std.specs.Prelude.{IfSome}
 use Rattle.mote_timers.specs.TimerLists.{next_expiration_of}
-use Rattle.process_kernel.specs.Mote.{Mote, is_pending}
+use Rattle.process_kernel.specs.KernelModel.{KernelModel, is_pending}
 use Rattle.mote_node.specs.Wake.{wake_after}
 use Rattle.mote_node.specs.Turn.{turn_of}
 use Rattle.mote_node.specs.Laws.{WakesLater, WakesBy, WakesInTime}
@@ -12,7 +12,7 @@ later_choice true moment due = omega arith
 later_choice false moment None = tt
 later_choice false moment (Some d) = omega arith
 
-later_after : (moment : ℕ) (m : Mote) → IfSome (wake_after moment m) (λ wake. moment < wake)
+later_after : (moment : ℕ) (m : KernelModel) → IfSome (wake_after moment m) (λ wake. moment < wake)
 unfolding wake_after
 later_after moment m = later_choice (is_pending m) moment (next_expiration_of m.state.timers)
 
@@ -29,7 +29,7 @@ by_choice : (pending : Bool) (moment due : ℕ) → WakesBy (max (moment + 1) du
 by_choice true moment due = (moment + 1, refl, omega arith)
 by_choice false moment due = (max (moment + 1) due, refl, omega arith)
 
-by_after : (moment due : ℕ) (m : Mote) → next_expiration_of m.state.timers ≡ Some due → WakesBy (max (moment + 1) due) (wake_after moment m)
+by_after : (moment due : ℕ) (m : KernelModel) → next_expiration_of m.state.timers ≡ Some due → WakesBy (max (moment + 1) due) (wake_after moment m)
 unfolding wake_after
 by_after moment due m next = rw next (by_choice (is_pending m) moment due)
 

@@ -4,7 +4,7 @@ use Rattle.program_tree.specs.declared.event.Proc.TheVariants.{Radio}
 use Rattle.radio_packet.specs.declared.arrival.Arrival.{Arrival}
 use Rattle.trace_lines.specs.declared.line.Line.{Line}
 use Rattle.trace_lines.specs.declared.line.What.TheVariants as what
-use Rattle.process_kernel.specs.Mote.{Mote, has_room, with_packet, with_poll}
+use Rattle.process_kernel.specs.KernelModel.{KernelModel, has_room, with_packet, with_poll}
 use Rattle.mote_node.specs.Underway.{Underway, with_mote, with_lines}
 
 abbrev pub received_line : (moment : ℕ) → Arrival → Line
@@ -28,7 +28,7 @@ hear_each moment [] u = u
 hear_each moment (a ∷ later) u = hear_each moment later (hear moment a u)
 
 -- the ring holds more packets than before
-abbrev pub took_some : Mote → Mote → Bool
+abbrev pub took_some : KernelModel → KernelModel → Bool
 took_some old new = nat_lt (length old.state.ring) (length new.state.ring)
 
 -- the packets are heard, and the radio process is polled if the ring accepted any of them
@@ -38,7 +38,7 @@ hear_all moment arrivals u =
     if took_some u.mote heard.mote then with_mote heard (with_poll heard.mote Radio) else heard
 
 -- two or more packets that arrive together collide, unless the mote has halted
-abbrev pub is_collision : Mote → List Arrival → Bool
+abbrev pub is_collision : KernelModel → List Arrival → Bool
 is_collision m arrivals = not m.halted && nat_le 2 (length arrivals)
 
 -- packets that collide are lost, and a line is written for each of them

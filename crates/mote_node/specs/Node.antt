@@ -1,11 +1,11 @@
 -- A node of a net: a mote with its clock.
 use Rattle.std.specs.Prelude.{ℕ, nat_le, Bool, false, Option, Some, None}
 use Rattle.program_tree.specs.Code.{Tree}
-use Rattle.process_kernel.specs.Mote.{Mote, unbooted}
+use Rattle.process_kernel.specs.KernelModel.{KernelModel, unbooted}
 
 -- the mote; the moment of its last turn, if it had one; and whether packets that arrive together are lost
 pub record Node : Type 0 where
-  pub mote : Mote
+  pub mote : KernelModel
   pub last : Option ℕ
   pub collides : Bool
 

@@ -2,20 +2,20 @@
 use Rattle.std.specs.Prelude.{ℕ, Bool, false, if◌then◌else◌, Option, Some, None, option_map}
 use Rattle.program_tree.specs.Code.{Tree}
 use Rattle.trace_lines.specs.declared.out.Out.{Out}
-use Rattle.process_kernel.specs.Mote.{Mote}
-use Rattle.process_kernel.specs.Public.{mote_in}
-use Rattle.mote_node.specs.declared.mote.Mote.{Mote as MoteOfCode}
+use Rattle.process_kernel.specs.KernelModel.{KernelModel}
+use Rattle.process_kernel.specs.Public.{kernel_in}
+use Rattle.mote_node.specs.declared.mote.Mote.{Mote}
 use Rattle.mote_node.specs.declared.mote.TurnOut.{TurnOut}
 use Rattle.mote_node.specs.Node.{Node, is_past}
 use Rattle.mote_node.specs.Wake.{wake_of}
 use Rattle.mote_node.specs.Turn.{TurnGiven}
 
-abbrev pub node_over : (last : Option ℕ) → (collides : Bool) → Mote → Node
+abbrev pub node_over : (last : Option ℕ) → (collides : Bool) → KernelModel → Node
 node_over last collides m = record { mote = m; last = last; collides = collides }
 
 -- The node that a `Mote` with this program represents, unless the `Mote` has failed.
-unfoldable pub node_in : Tree → MoteOfCode → Option Node
-node_in t m = if m.failed then None else option_map (node_over m.last m.collide) (mote_in t m.kernel.value)
+unfoldable pub node_in : Tree → Mote → Option Node
+node_in t m = if m.failed then None else option_map (node_over m.last m.collide) (kernel_in t m.kernel.value)
 
 -- the next wake of the node; a mote that has failed has none
 abbrev pub wake_in : Option Node → Option ℕ

@@ -5,25 +5,25 @@ use Rattle.mote_timers.specs.TimerLists.{next_expiration_of}
 use Rattle.radio_packet.specs.declared.arrival.Arrival.{Arrival}
 use Rattle.trace_lines.specs.declared.line.Line.{Line}
 use Rattle.radio_packet.specs.declared.sent.Sent.{Sent}
-use Rattle.process_kernel.specs.Mote.{Mote, with_poll}
+use Rattle.process_kernel.specs.KernelModel.{KernelModel, with_poll}
 use Rattle.process_kernel.specs.Given.{boot_given}
 pub use Rattle.process_kernel.specs.Runs.{follow}
 unfoldable pub use Rattle.process_kernel.specs.Runs.{runs_of}
 use Rattle.mote_node.specs.Node.{Node}
 use Rattle.mote_node.specs.Wake.{wake_of}
-use Rattle.mote_node.specs.Underway.{Underway, turn_goes_on, with_mote, after}
+use Rattle.mote_node.specs.Underway.{Underway, turn_goes_on, with_mote, underway_after}
 use Rattle.mote_node.specs.Arrivals.{hear_all, is_collision, with_collisions}
 
 -- the first turn boots the mote
 unfoldable pub boot_due : (moment : ℕ) → Underway → Underway
-boot_due moment u = if u.mote.booted then u else after (boot_given moment u.mote u.lines u.sends)
+boot_due moment u = if u.mote.booted then u else underway_after (boot_given moment u.mote u.lines u.sends)
 
 abbrev pub is_some_due : (moment : ℕ) → (expiration : Option ℕ) → Bool
 is_some_due moment None = false
 is_some_due moment (Some expiration) = nat_le expiration moment
 
 -- the etimer process is polled if a timer is due at this moment
-unfoldable pub poll_due : (moment : ℕ) → Mote → Mote
+unfoldable pub poll_due : (moment : ℕ) → KernelModel → KernelModel
 poll_due moment m = if is_some_due moment (next_expiration_of m.state.timers) then with_poll m Etimer else m
 
 -- the greatest number of kernel runs in a turn, without the boot
@@ -53,7 +53,7 @@ pub record TurnGiven : Type 0 where
   pub wake : Option ℕ
 
 -- the node after a turn at this moment, in which the mote became this one
-abbrev pub node_after : Node → (moment : ℕ) → Mote → Node
+abbrev pub node_after : Node → (moment : ℕ) → KernelModel → Node
 node_after n moment m = record n { mote = m; last = Some moment }
 
 abbrev pub turned_to : Node → (moment : ℕ) → Underway → TurnGiven

@@ -4,7 +4,7 @@ ghost use Rattle.std.specs.Prelude.{◌≡◌, ◌≤◌, ◌^◌, ◌↔◌, tr
 ghost use Rattle.std.specs.Prelude.{Err, [], option_map, OnOk, OnErr};
 ghost use Rattle.program_tree.specs.Code.{Tree};
 ghost use Rattle.program_tree.specs.Program.{tree_of};
-ghost use Rattle.process_kernel.specs.Public.{mote_in};
+ghost use Rattle.process_kernel.specs.Public.{kernel_in};
 ghost use Rattle.mote_node.specs.Node.{is_past};
 ghost use Rattle.mote_node.specs.Wake.{wake_after};
 ghost use Rattle.std.proofs.Props.{props};
@@ -29,9 +29,9 @@ pub enum MoteError {
 }
 
 impl fmt::Display for MoteError {
-    ghost use Rattle.mote_node.specs.MoteErrors.{text_of_error};
+    ghost use Rattle.mote_node.specs.MoteErrors.{text_of_mote_error};
 
-    ghost output = { λ e. Some (text_of_error e) };
+    ghost output = { λ e. Some (text_of_mote_error e) };
 
     fn fmt<W: fmt::Write>(&self, f: &mut fmt::Formatter<W>) -> fmt::Result {
         match self {
@@ -71,7 +71,7 @@ pub struct Mote {
     collide: bool,
     failed: bool,
     ghost early: { IfSome last (λ moment. moment ≤ 2 ^ 40) } by { Prim.hlevel props },
-    ghost running: { (t : Tree) → failed ≡ false → IsSome (mote_in t kernel.value) } by { Prim.hlevel props },
+    ghost running: { (t : Tree) → failed ≡ false → IsSome (kernel_in t kernel.value) } by { Prim.hlevel props },
 }
 
 /// Implemented by hand, so that the check of a function that owns a mote sees only one call for its drop.
@@ -91,7 +91,7 @@ impl Drop for Mote {
 #[tactic(auto, unfolding(crate::specs::Wake::wake_after))]
 fn wake_after(kernel: &Kernel, moment: u64) -> Option<u64>
     requires moment_bounded { moment ≤ 2 ^ 40 }
-    ensures value { (t : Tree) → IfSome (mote_in t kernel.now) (λ m. result ≡ wake_after moment m) }
+    ensures value { (t : Tree) → IfSome (kernel_in t kernel.now) (λ m. result ≡ wake_after moment m) }
 {
     if kernel.pending() {
         return Some(moment + 1);

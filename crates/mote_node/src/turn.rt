@@ -3,8 +3,8 @@
 ghost use Rattle.std.specs.Prelude.{◌≡◌, ◌≤◌, ◌^◌, ◌++◌, map, option_map, OnOk, IfOk, IfSome};
 ghost use Rattle.program_tree.specs.Code.{Tree};
 ghost use Rattle.program_tree.specs.Program.{tree_of};
-ghost use Rattle.process_kernel.specs.Mote.{has_room};
-ghost use Rattle.process_kernel.specs.Public.{mote_in};
+ghost use Rattle.process_kernel.specs.KernelModel.{has_room};
+ghost use Rattle.process_kernel.specs.Public.{kernel_in};
 ghost use Rattle.mote_node.specs.Arrivals.{hear, hear_all, collision_line};
 ghost use Rattle.mote_node.specs.Steps.{GoesOn};
 ghost use Rattle.mote_node.specs.Turn.{boot_due, poll_due, most_runs, runs_of, mote_turn, net_turn};
@@ -27,7 +27,7 @@ fn boot(
 ) -> Result<(), AllocError>
     requires moment_bounded { moment ≤ 2 ^ 40 }
     ensures goes_on { let t = tree_of program.now in
-        OnOk result (GoesOn (boot_due moment) (mote_in t kernel.old) out.old (mote_in t kernel.new) out.new) }
+        OnOk result (GoesOn (boot_due moment) (kernel_in t kernel.old) out.old (kernel_in t kernel.new) out.new) }
 {
     if !kernel.is_booted() {
         let Ok(_) = kernel.boot(program, moment, out) else {
@@ -46,8 +46,8 @@ fn hear_or_lose(
     out: &mut Out,
 ) -> Result<bool, AllocError>
     ensures heard { (t : Tree) → OnOk result
-        (GoesOn (hear moment packet) (mote_in t kernel.old) out.old (mote_in t kernel.new) out.new) }
-    ensures room { (t : Tree) → IfOk result (λ heard. IfSome (mote_in t kernel.old) (λ m. heard ≡ has_room m)) }
+        (GoesOn (hear moment packet) (kernel_in t kernel.old) out.old (kernel_in t kernel.new) out.new) }
+    ensures room { (t : Tree) → IfOk result (λ heard. IfSome (kernel_in t kernel.old) (λ m. heard ≡ has_room m)) }
 {
     let heard = kernel.accept_packet(packet);
     let what = if heard {
@@ -67,7 +67,7 @@ fn hear_all(
     out: &mut Out,
 ) -> Result<(), AllocError>
     ensures goes_on { (t : Tree) → OnOk result
-        (GoesOn (hear_all moment packets.now) (mote_in t kernel.old) out.old (mote_in t kernel.new) out.new) }
+        (GoesOn (hear_all moment packets.now) (kernel_in t kernel.old) out.old (kernel_in t kernel.new) out.new) }
 {
     let mut any = false;
     for packet in packets {
@@ -83,7 +83,7 @@ fn hear_all(
 /// If a timer is due, asks for a poll of the etimer process.
 #[tactic(auto, unfolding(crate::specs::Turn::poll_due))]
 fn poll_etimer(kernel: &mut Kernel, moment: u64)
-    ensures polls_due { (t : Tree) → mote_in t kernel.new ≡ option_map (poll_due moment) (mote_in t kernel.old) }
+    ensures polls_due { (t : Tree) → kernel_in t kernel.new ≡ option_map (poll_due moment) (kernel_in t kernel.old) }
 {
     if let Some(due) = kernel.next_expiration() {
         if due <= moment {
@@ -101,7 +101,8 @@ fn run_all(
 ) -> Result<(), AllocError>
     requires moment_bounded { moment ≤ 2 ^ 40 }
     ensures goes_on { let t = tree_of program.now in
-        OnOk result (GoesOn (runs_of most_runs moment) (mote_in t kernel.old) out.old (mote_in t kernel.new) out.new) }
+        OnOk result (GoesOn (runs_of most_runs moment) (kernel_in t kernel.old) out.old
+        (kernel_in t kernel.new) out.new) }
 {
     match kernel.run_all(program, moment, RUNS, out) {
         Ok(()) => Ok(()),
@@ -120,8 +121,8 @@ fn turn_mote(
 ) -> Result<(), AllocError>
     requires moment_bounded { moment ≤ 2 ^ 40 }
     ensures goes_on { let t = tree_of program.now in
-        OnOk result (GoesOn (mote_turn moment packets.now) (mote_in t kernel.old) out.old
-        (mote_in t kernel.new) out.new) }
+        OnOk result (GoesOn (mote_turn moment packets.now) (kernel_in t kernel.old) out.old
+        (kernel_in t kernel.new) out.new) }
 {
     boot(kernel, program, moment, out)?;
     if kernel.is_halted() {
@@ -163,8 +164,8 @@ pub fn turn_in_net(
 ) -> Result<(), AllocError>
     requires moment_bounded { moment ≤ 2 ^ 40 }
     ensures goes_on { let t = tree_of program.now in
-        OnOk result (GoesOn (net_turn collide moment packets.now) (mote_in t kernel.old) out.old
-        (mote_in t kernel.new) out.new) }
+        OnOk result (GoesOn (net_turn collide moment packets.now) (kernel_in t kernel.old) out.old
+        (kernel_in t kernel.new) out.new) }
 {
     if collide && !kernel.is_halted() && packets.len() >= 2 {
         write_collisions(moment, packets, out)?;

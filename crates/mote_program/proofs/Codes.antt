@@ -10,7 +10,7 @@ use Rattle.program_tree.specs.Numbers.{block_in, named_of, values_of, timers_of,
 use Rattle.program_tree.specs.Shapes.{Name, Named, CodeShape}
 use Rattle.program_reader.specs.Steps.{Extends, IsFront}
 use Rattle.program_tree.specs.Tree.{Class, an_event, a_semaphore, a_process, a_variable, a_timer, a_thread, Body}
-use Rattle.mote_program.specs.Declarations.{Declarations, NamesDeclared, of_process, at_thread, IsDeclaredIn}
+use Rattle.mote_program.specs.Declarations.{Declarations, NamesDeclared, of_process, declared_at_thread, IsDeclaredIn}
 use Rattle.mote_program.proofs.Marks.{AreSound}
 use Rattle.mote_program.proofs.Numbers.{counts_of, Counts, counted, counted_before, numbers_declared}
 use Rattle.mote_program.proofs.Walk.{BlockIsSound, CallbacksAreSound, ThreadsAreSound, variables_sound, etimers_sound}
@@ -131,7 +131,7 @@ code_declared t f k c callbacks threads on_poll on_exit body =
       callbacks = λ j b e. callbacks_declared n c.etimers c.ctimers refl callbacks j b e;
       threads = λ j b e.
           let same : length {A = Name} [] + j ≡ j = omega arith in
-          subst (λ l. NamesDeclared (record (at_thread t (code_at t f k c) j) { threads = l }) b) same
+          subst (λ l. NamesDeclared (record (declared_at_thread t (code_at t f k c) j) { threads = l }) b) same
           (subst (λ l. NamesDeclared (record (counts_of n) { timers = l; threads = length {A = Name} [] + j }) b)
           (length-append c.etimers (named_of c.ctimers))
           (threads_declared n [] c.threads refl threads j b e));

@@ -8,7 +8,7 @@ use Rattle.program_tree.specs.Grammar.{Context, inner, Mark, sign, opening, cast
 use Rattle.program_tree.specs.Grammar.{expression_marks, action_marks, statement_marks, items_marks, else_marks}
 use Rattle.program_tree.specs.Grammar.{block_marks}
 use Rattle.program_tree.specs.InScope.{NamesInScope, is_a}
-use Rattle.program_tree.specs.InScope.{place_of}
+use Rattle.program_tree.specs.InScope.{place_in_names}
 use Rattle.program_tree.specs.Shapes.{Name}
 use Rattle.program_reader.specs.Steps.{look, Finds, is_own_thread}
 use Rattle.program_tree.specs.Tree.{Class, an_event, a_semaphore, a_process, a_variable, a_timer, a_thread, Expression}
@@ -35,7 +35,7 @@ some_place None e = absurd cc
 some_place (Some i) e = (i, refl)
 
 placed : (n : NamesInScope) (k : Class) (x : Name) → is_a n k x ≡ true → (i : ℕ) × (look n k x ≡ Some i)
-placed n a_timer x e = let q = some_place (place_of n.timers x) e in (_, ap (option_map (λ i. n.first_timer + i)) q.1)
+placed n a_timer x e = let q = some_place (place_in_names n.timers x) e in (_, ap (option_map (λ i. n.first_timer + i)) q.1)
 placed n k x e = some_place _ e
 
 pub in_state : (n : NamesInScope) (own : Option Name) (k : Class) (x : Name) → is_a n k x ≡ true → is_own_thread own k x ≡ false

@@ -13,7 +13,7 @@ use Rattle.std.specs.Str.Parse.{digits_value}
 use Rattle.program_tree.specs.Canonical.{keyword_word, operator_sign, spelling, braces_behind, tells, ends_line}
 use Rattle.program_tree.specs.Canonical.{is_close, line_depth, indentation, gap, text_from, canonical_text}
 use Rattle.program_tree.specs.Text.{is_blank, signs, sign_at, begins_comment, Piece, Blank, Word, Sign, Other}
-use Rattle.program_tree.specs.Text.{bytes_of, token_at, FitsBefore, text_of, AllFit, tokens_of, lines_from, IsLexed}
+use Rattle.program_tree.specs.Text.{bytes_of, token_at, FitsBefore, text_of, AllFit, tokens_of, line_numbers_from, IsLexed}
 use Rattle.program_tree.specs.Tokens as token
 use Rattle.program_tree.specs.Tokens.{Token}
 use Rattle.program_tree.specs.Words.{begins, is_word_byte, is_number, keywords, word_token}
@@ -315,7 +315,7 @@ same_tokens b (t ∷ rest) own =
     rw (word_is t own.0) (ap (λ us. t ∷ us) (tokens_blanks (gap c t rest) (pieces_from c rest)
     ∙ same_tokens c rest own.2))
 
-pub lexed_again : (ts : List Token) → AreOwn ts → IsLexed (canonical_text ts) ts (lines_from 1 (pieces_from 0 ts))
+pub lexed_again : (ts : List Token) → AreOwn ts → IsLexed (canonical_text ts) ts (line_numbers_from 1 (pieces_from 0 ts))
 lexed_again ts own = record {
   pieces = pieces_from 0 ts;
   spelled = sym (text_pieces 0 ts own);

@@ -3,7 +3,7 @@ use Rattle.std.proofs.Common.{◌≡◌, List, [], ◌∷◌, ◌++◌, refl, sy
 use Rattle.std.proofs.Common.{not, ◌&&◌, ◌||◌, IsTrue}
 use Rattle.std.proofs.lemmas.List.{map-append}
 use Rattle.program_tree.specs.Faults.{Scope, nothing_yet, with_role, with_begun, scope_after, scope_from, scope_of}
-use Rattle.program_tree.specs.Faults.{is_own, role_breaks, begun_breaks, IsProgram}
+use Rattle.program_tree.specs.Faults.{is_own_name, role_breaks, begun_breaks, IsProgram}
 use Rattle.program_tree.specs.Grammar.{Role, new, uses, spawns, starts, leaves, Begun, none_begins, Mark, tokens}
 use Rattle.program_tree.specs.Grammar.{program_marks}
 use Rattle.program_tree.specs.InScope.{NamesInScope, with_new, outside, is_a, is_in_scope}
@@ -14,7 +14,7 @@ use Rattle.program_tree.specs.declared.error.ReadErrorKind.TheVariants.{UnknownN
 -- a name that is used belongs to its class
 abbrev pub KeepsRole : NamesInScope → Role → Type 0
 KeepsRole n (uses k x) = is_a n k x ≡ true
-KeepsRole n (spawns own x) = (is_a n a_thread x ≡ true) × (is_own own x ≡ false)
+KeepsRole n (spawns own x) = (is_a n a_thread x ≡ true) × (is_own_name own x ≡ false)
 KeepsRole n (starts x) = is_a n a_process x ≡ true
 KeepsRole n r = Unit {0}
 
@@ -56,7 +56,7 @@ thread_of false b own h k = absurd (h refl)
 keeps : (s : Scope) (r : Role) → (role_breaks UnknownName s r ≡ true → ⊥) → (role_breaks BadTarget s r ≡ true → ⊥)
     → KeepsRole s.names r
 keeps s (uses c x) h k = one_of (is_in_scope s.names x) (is_a s.names c x) h k
-keeps s (spawns own x) h k = thread_of (is_in_scope s.names x) (is_a s.names a_thread x) (is_own own x) h k
+keeps s (spawns own x) h k = thread_of (is_in_scope s.names x) (is_a s.names a_thread x) (is_own_name own x) h k
 keeps s (starts x) h k = one_of (is_in_scope s.names x) (is_a s.names a_process x) h k
 keeps s r h k = tt
 

@@ -7,7 +7,7 @@ use Rattle.std.proofs.lemmas.Bool.{ltb-true, ltb-false}
 use Rattle.std.proofs.lemmas.List.{length-append}
 use Rattle.std.proofs.lemmas.List.Elements.{All-map, All-weaker}
 use Rattle.program_tree.specs.InScope.{NamesInScope, with_new, number_in}
-use Rattle.program_tree.specs.InScope.{place_of}
+use Rattle.program_tree.specs.InScope.{place_in_names}
 use Rattle.program_tree.specs.Numbers.{block_in}
 use Rattle.program_tree.specs.Shapes.{Name}
 use Rattle.program_reader.specs.Steps.{look, Finds, Extends}
@@ -42,7 +42,7 @@ shifted (Some j) n i e = (j, refl, cc)
 timer_below : (n : NamesInScope) (x : Name) (i : ℕ) → look n a_timer x ≡ Some i → (n.first_timer ≤ i)
     × (i < n.first_timer + length n.timers)
 timer_below n x i e =
-    let q = shifted (place_of n.timers x) n.first_timer i e in
+    let q = shifted (place_in_names n.timers x) n.first_timer i e in
     let below : q.0 < length n.timers = place_below n.timers x q.0 q.1 in
     (omega (arith, q.2), omega (arith, q.2, below))
 
@@ -64,7 +64,7 @@ not_same : (x y : Name) → x ≡ y → bytes_eq x y ≡ false → ⊥
 not_same x y e h = let same : bytes_eq x y ≡ true = subst (λ z. bytes_eq x z ≡ true) e (bytes_same x) in
     absurd (cc (same, h))
 
-not_last : (xs : List Name) (x y : Name) (i : ℕ) → place_of (xs ++ x ∷ []) y ≡ Some i → bytes_eq x y ≡ false
+not_last : (xs : List Name) (x y : Name) (i : ℕ) → place_in_names (xs ++ x ∷ []) y ≡ Some i → bytes_eq x y ≡ false
     → i < length xs
 not_last xs x y i e h = go (nat_lt i (length xs)) refl
   where

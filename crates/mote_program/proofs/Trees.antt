@@ -7,15 +7,15 @@ use Rattle.program_tree.specs.Code.{Code}
 use Rattle.program_tree.specs.Tree.{Body, end, a_variable, Class, variable, print, reset}
 use Rattle.program_tree.specs.declared.timer.Timer.{Timer}
 use Rattle.mote_program.specs.Complete.{IsCompleteIn}
-use Rattle.mote_program.specs.Declarations.{Declarations, IsOneOf, NamesDeclared, of_process, at_callback, at_thread}
+use Rattle.mote_program.specs.Declarations.{Declarations, IsOneOf, NamesDeclared, of_process, at_callback, declared_at_thread}
 use Rattle.mote_program.specs.Declarations.{IsDeclaredIn, IsDeclared}
 use Rattle.mote_program.specs.Named.{named_by_block}
-use Rattle.mote_program.specs.Trees.{only, first_code, second_code, second_there, tree_with, names_what_is_there}
+use Rattle.mote_program.specs.Trees.{only, first_code, second_code, second_there, tree_of_blocks, names_what_is_there}
 use Rattle.mote_program.specs.Trees.{TreesThatDeclare, TreesThatDoNot, TreesThatLack}
 
 -- a property of the second process
-second : (callback thread body : Body ℕ) → IsDeclared (tree_with callback thread body)
-    → IsDeclaredIn (tree_with callback thread body) (second_code callback thread body)
+second : (callback thread body : Body ℕ) → IsDeclared (tree_of_blocks callback thread body)
+    → IsDeclaredIn (tree_of_blocks callback thread body) (second_code callback thread body)
 second callback thread body h = h.each 1 (second_code callback thread body) refl
 
 any : Class × ℕ
@@ -62,8 +62,8 @@ second_declared = record {
   callbacks = λ k b e. at_only (λ j a. NamesDeclared (at_callback names_what_is_there second_there j) a)
       (only (reset 2)) (named_in (at_callback names_what_is_there second_there 0) (only (reset 2))
       ((omega arith, omega arith), tt)) k b e;
-  threads = λ k b e. at_only (λ j a. NamesDeclared (at_thread names_what_is_there second_there j) a)
-      (only (print (variable 0))) (named_in (at_thread names_what_is_there second_there 0) (only (print (variable 0)))
+  threads = λ k b e. at_only (λ j a. NamesDeclared (declared_at_thread names_what_is_there second_there j) a)
+      (only (print (variable 0))) (named_in (declared_at_thread names_what_is_there second_there 0) (only (print (variable 0)))
       (omega arith, tt)) k b e;
   on_poll = λ b e. absurd cc;
   on_exit = λ b e. absurd cc;

@@ -47,8 +47,8 @@ second_code callback thread body = record {
 }
 
 -- two processes, an event and a semaphore
-abbrev pub tree_with : (callback thread body : Body ℕ) → Tree
-tree_with callback thread body = record {
+abbrev pub tree_of_blocks : (callback thread body : Body ℕ) → Tree
+tree_of_blocks callback thread body = record {
   events = codes "e" ∷ [];
   semaphores = codes "m" ∷ [];
   counts = 1 ∷ [];
@@ -71,60 +71,60 @@ abbrev pub second_there : Code
 second_there = second_code (only (reset 2)) (only (print (variable 0))) names_each_class
 
 abbrev pub names_what_is_there : Tree
-names_what_is_there = tree_with (only (reset 2)) (only (print (variable 0))) names_each_class
+names_what_is_there = tree_of_blocks (only (reset 2)) (only (print (variable 0))) names_each_class
 
 abbrev pub no_such_variable : Tree
-no_such_variable = tree_with end end (only (print (variable 1)))
+no_such_variable = tree_of_blocks end end (only (print (variable 1)))
 
 abbrev pub tells_no_such_variable : Tree
-tells_no_such_variable = tree_with end end (only (broadcast (event.declared 0) (number 3) (Some 1)))
+tells_no_such_variable = tree_of_blocks end end (only (broadcast (event.declared 0) (number 3) (Some 1)))
 
 abbrev pub no_such_process : Tree
-no_such_process = tree_with end end (only (poll 2))
+no_such_process = tree_of_blocks end end (only (poll 2))
 
 abbrev pub no_such_semaphore : Tree
-no_such_semaphore = tree_with end end (only (signal 1))
+no_such_semaphore = tree_of_blocks end end (only (signal 1))
 
 abbrev pub no_such_event : Tree
-no_such_event = tree_with end end (only (broadcast (event.declared 1) (number 3) None))
+no_such_event = tree_of_blocks end end (only (broadcast (event.declared 1) (number 3) None))
 
 abbrev pub no_such_timer : Tree
-no_such_timer = tree_with end end (only (reset 3))
+no_such_timer = tree_of_blocks end end (only (reset 3))
 
 abbrev pub timer_of_another_process : Tree
-timer_of_another_process = tree_with end end (only (reset 0))
+timer_of_another_process = tree_of_blocks end end (only (reset 0))
 
 abbrev pub no_such_thread : Tree
-no_such_thread = tree_with end end (only (spawn 1))
+no_such_thread = tree_of_blocks end end (only (spawn 1))
 
 abbrev pub thread_spawns_itself : Tree
-thread_spawns_itself = tree_with end (only (spawn 0)) end
+thread_spawns_itself = tree_of_blocks end (only (spawn 0)) end
 
 abbrev pub callback_spawns_a_thread : Tree
-callback_spawns_a_thread = tree_with (only (spawn 0)) end end
+callback_spawns_a_thread = tree_of_blocks (only (spawn 0)) end end
 
 abbrev pub starts_no_such_process : Tree
-starts_no_such_process = record (tree_with end end end) { autostart = 2 ∷ [] }
+starts_no_such_process = record (tree_of_blocks end end end) { autostart = 2 ∷ [] }
 
 abbrev pub no_such_receiver : Tree
-no_such_receiver = record (tree_with end end end) { receiver = Some 2 }
+no_such_receiver = record (tree_of_blocks end end end) { receiver = Some 2 }
 
 abbrev pub semaphore_without_count : Tree
-semaphore_without_count = record (tree_with end end end) { counts = [] }
+semaphore_without_count = record (tree_of_blocks end end end) { counts = [] }
 
 abbrev pub process_without_code : Tree
-process_without_code = record (tree_with end end end) { codes = first_code ∷ [] }
+process_without_code = record (tree_of_blocks end end end) { codes = first_code ∷ [] }
 
 abbrev pub variable_without_value : Tree
-variable_without_value = record (tree_with end end end)
+variable_without_value = record (tree_of_blocks end end end)
     { codes = first_code ∷ record (second_code end end end) { starts = [] } ∷ [] }
 
 abbrev pub code_of_another_process : Tree
-code_of_another_process = record (tree_with end end end)
+code_of_another_process = record (tree_of_blocks end end end)
     { codes = first_code ∷ record (second_code end end end) { number = 0 } ∷ [] }
 
 abbrev pub timer_without_place : Tree
-timer_without_place = record (tree_with end end end)
+timer_without_place = record (tree_of_blocks end end end)
     { timers = record { process = 0; is_callback = false } ∷ record { process = 1; is_callback = false } ∷ [] }
 
 -- the names are declared, and the declarations are complete

@@ -14,13 +14,13 @@ use Rattle.mote_timers.specs.Timer.{expiration}
 use Rattle.mote_timers.specs.TimerLists.{TimerLists, timer_at, new_timers, set_timer, reset_timer, restart_timer}
 use Rattle.mote_timers.specs.TimerLists.{stop_timer, purge_timers, next_expiration_of, least}
 use Rattle.mote_timers.specs.DueTimers.{first_due}
-use Rattle.mote_timers.specs.TimerCalls.{TimerCall, Set, Reset, Restart, Stop, Fire, Purge, after_call, after_calls, TakesOff, Starts, NoneTakesOff, NoneStarts, ListedOnce, KeepsTimers, DueFromExpiration, DueFromSet, DueFromNextExpiration}
+use Rattle.mote_timers.specs.TimerCalls.{TimerCall, Set, Reset, Restart, Stop, Fire, Purge, timers_after_call, timers_after_calls, TakesOff, Starts, NoneTakesOff, NoneStarts, ListedOnce, CallsKeepTimers, DueFromExpiration, DueFromSet, DueFromNextExpiration}
 use Rattle.mote_timers.proofs.NumberLists.{IsDistinct-with, IsDistinct-filter, is_member-with, is_member-kept, is_member-filter}
 
 -- ---- each timer is listed once
 
-listed_once_after : (s : TimerLists) (call : TimerCall) → IsDistinct eqb s.listed → IsDistinct eqb (after_call s call).listed
-unfolding after_call set_timer reset_timer restart_timer stop_timer purge_timers
+listed_once_after : (s : TimerLists) (call : TimerCall) → IsDistinct eqb s.listed → IsDistinct eqb (timers_after_call s call).listed
+unfolding timers_after_call set_timer reset_timer restart_timer stop_timer purge_timers
 listed_once_after s (Set id owner interval now) once = IsDistinct-with id s.listed once
 listed_once_after s (Reset id owner) once = IsDistinct-with id s.listed once
 listed_once_after s (Restart id owner now) once = IsDistinct-with id s.listed once
@@ -28,9 +28,9 @@ listed_once_after s (Stop id) once = IsDistinct-filter _ s.listed once
 listed_once_after s (Fire id) once = IsDistinct-filter _ s.listed once
 listed_once_after s (Purge owner) once = IsDistinct-filter _ s.listed once
 
-listed_once_from : (s : TimerLists) (calls : List TimerCall) → IsDistinct eqb s.listed → IsDistinct eqb (after_calls s calls).listed
+listed_once_from : (s : TimerLists) (calls : List TimerCall) → IsDistinct eqb s.listed → IsDistinct eqb (timers_after_calls s calls).listed
 listed_once_from s [] once = once
-listed_once_from s (call ∷ calls) once = listed_once_from (after_call s call) calls (listed_once_after s call once)
+listed_once_from s (call ∷ calls) once = listed_once_from (timers_after_call s call) calls (listed_once_after s call once)
 
 pub listed_once : ListedOnce
 unfolding new_timers IsDistinct
@@ -38,8 +38,8 @@ listed_once n calls = listed_once_from (new_timers n) calls tt
 
 -- ---- the timers stay
 
-timers_after : (s : TimerLists) (call : TimerCall) → length (after_call s call).timers ≡ length s.timers
-unfolding after_call set_timer reset_timer restart_timer stop_timer purge_timers
+timers_after : (s : TimerLists) (call : TimerCall) → length (timers_after_call s call).timers ≡ length s.timers
+unfolding timers_after_call set_timer reset_timer restart_timer stop_timer purge_timers
 timers_after s (Set id owner interval now) = length-set s.timers id _
 timers_after s (Reset id owner) = length-set s.timers id _
 timers_after s (Restart id owner now) = length-set s.timers id _
@@ -47,9 +47,9 @@ timers_after s (Stop id) = length-set s.timers id _
 timers_after s (Fire id) = length-set s.timers id _
 timers_after s (Purge owner) = refl
 
-pub timers_stay : KeepsTimers
+pub timers_stay : CallsKeepTimers
 timers_stay s [] = refl
-timers_stay s (call ∷ calls) = timers_stay (after_call s call) calls ∙ timers_after s call
+timers_stay s (call ∷ calls) = timers_stay (timers_after_call s call) calls ∙ timers_after s call
 
 -- ---- due from the expiration on
 
@@ -70,8 +70,8 @@ owner_is : (p : Proc) (owner : Option Proc) → option_map_or (is_same p) owner 
 owner_is p None owned = absurd (false≢true owned)
 owner_is p (Some q) owned = ap Some (same_proc p q owned)
 
-still_listed : (s : TimerLists) (id : ℕ) (call : TimerCall) → (TakesOff s id call → ⊥) → is_member id s.listed ≡ true → is_member id (after_call s call).listed ≡ true
-unfolding after_call set_timer reset_timer restart_timer stop_timer purge_timers
+still_listed : (s : TimerLists) (id : ℕ) (call : TimerCall) → (TakesOff s id call → ⊥) → is_member id s.listed ≡ true → is_member id (timers_after_call s call).listed ≡ true
+unfolding timers_after_call set_timer reset_timer restart_timer stop_timer purge_timers
 still_listed s id (Set other owner interval now) stays there = is_member-kept id other s.listed there
 still_listed s id (Reset other owner) stays there = is_member-kept id other s.listed there
 still_listed s id (Restart other owner now) stays there = is_member-kept id other s.listed there
@@ -80,9 +80,9 @@ still_listed s id (Fire other) stays there = is_member-filter _ id s.listed (not
 still_listed s id (Purge owner) stays there =
     is_member-filter _ id s.listed (not_from_false _ (false_from_ne_true _ (λ owned. stays (owner_is owner (timer_at s.timers id).owner owned)))) there
 
-listed_after : (s : TimerLists) (id : ℕ) (calls : List TimerCall) → NoneTakesOff s id calls → is_member id s.listed ≡ true → is_member id (after_calls s calls).listed ≡ true
+listed_after : (s : TimerLists) (id : ℕ) (calls : List TimerCall) → NoneTakesOff s id calls → is_member id s.listed ≡ true → is_member id (timers_after_calls s calls).listed ≡ true
 listed_after s id [] stays there = there
-listed_after s id (call ∷ calls) stays there = listed_after (after_call s call) id calls stays.1 (still_listed s id call stays.0 there)
+listed_after s id (call ∷ calls) stays there = listed_after (timers_after_call s call) id calls stays.1 (still_listed s id call stays.0 there)
 
 set_listed : (s : TimerLists) (id : ℕ) (owner : Proc) (interval now : ℕ) → is_member id (set_timer s id owner interval now).listed ≡ true
 unfolding set_timer
@@ -92,8 +92,8 @@ pub due_from_expiration : DueFromExpiration
 due_from_expiration s id owner interval now calls stays moment =
     (λ due. due.1, λ come. (listed_after _ id calls stays (set_listed s id owner interval now), come))
 
-same_expiration : (s : TimerLists) (id : ℕ) (call : TimerCall) → (TakesOff s id call → ⊥) → (Starts id call → ⊥) → expiration (timer_at (after_call s call).timers id) ≡ expiration (timer_at s.timers id)
-unfolding after_call set_timer reset_timer restart_timer stop_timer purge_timers
+same_expiration : (s : TimerLists) (id : ℕ) (call : TimerCall) → (TakesOff s id call → ⊥) → (Starts id call → ⊥) → expiration (timer_at (timers_after_call s call).timers id) ≡ expiration (timer_at s.timers id)
+unfolding timers_after_call set_timer reset_timer restart_timer stop_timer purge_timers
 same_expiration s id (Set other owner interval now) stays rests = ap expiration (get_or-set_other s.timers other id _ _ (λ same. rests (sym same)))
 same_expiration s id (Reset other owner) stays rests = ap expiration (get_or-set_other s.timers other id _ _ (λ same. rests (sym same)))
 same_expiration s id (Restart other owner now) stays rests = ap expiration (get_or-set_other s.timers other id _ _ (λ same. rests (sym same)))
@@ -101,9 +101,9 @@ same_expiration s id (Stop other) stays rests = ap expiration (get_or-set_other 
 same_expiration s id (Fire other) stays rests = ap expiration (get_or-set_other s.timers other id _ _ (λ same. stays (sym same)))
 same_expiration s id (Purge owner) stays rests = refl
 
-expiration_after : (s : TimerLists) (id : ℕ) (calls : List TimerCall) → NoneTakesOff s id calls → NoneStarts id calls → expiration (timer_at (after_calls s calls).timers id) ≡ expiration (timer_at s.timers id)
+expiration_after : (s : TimerLists) (id : ℕ) (calls : List TimerCall) → NoneTakesOff s id calls → NoneStarts id calls → expiration (timer_at (timers_after_calls s calls).timers id) ≡ expiration (timer_at s.timers id)
 expiration_after s id [] stays rests = refl
-expiration_after s id (call ∷ calls) stays rests = expiration_after (after_call s call) id calls stays.1 rests.1 ∙ same_expiration s id call stays.0 rests.0
+expiration_after s id (call ∷ calls) stays rests = expiration_after (timers_after_call s call) id calls stays.1 rests.1 ∙ same_expiration s id call stays.0 rests.0
 
 set_expiration : (s : TimerLists) (id : ℕ) (owner : Proc) (interval now : ℕ) → id < length s.timers → expiration (timer_at (set_timer s id owner interval now).timers id) ≡ now + interval
 unfolding set_timer

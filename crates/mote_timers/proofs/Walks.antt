@@ -6,7 +6,7 @@ use Rattle.std.specs.Option.{IfSome}
 use Rattle.std.proofs.lemmas.List.Elements.{All-contains}
 use Rattle.std.proofs.lemmas.Map.Views.{Contains-from_any}
 use Rattle.mote_timers.specs.Numbers.{is_member}
-use Rattle.mote_timers.specs.DueTimers.{behind}
+use Rattle.mote_timers.specs.DueTimers.{members_after}
 
 -- the member that is found is on the list
 is_member-found : (p : ℕ → Bool) (ks : List ℕ) (x : ℕ) → find p ks ≡ Some x → is_member x ks ≡ true
@@ -62,17 +62,17 @@ shorter_behind p a (k ∷ ks) x once found =
     (rw (after_first-cons a k ks) at found))
 
 -- the member that a walk finds (after a member, or from the front on) is on the list, and nearer to its end
-pub behind_found : (p : ℕ → Bool) (after : Option ℕ) (ks : List ℕ) (found : Option ℕ) → found ≡ find p (behind after ks) → IfSome found (λ x. is_member x ks ≡ true)
+pub behind_found : (p : ℕ → Bool) (after : Option ℕ) (ks : List ℕ) (found : Option ℕ) → found ≡ find p (members_after after ks) → IfSome found (λ x. is_member x ks ≡ true)
 behind_found p after ks None is = tt
 behind_found p None ks (Some x) is = is_member-found p ks x (sym is)
 behind_found p (Some a) ks (Some x) is = is_member-behind x a ks (is_member-found p _ x (sym is))
 
-pub behind_below : (p : ℕ → Bool) (after : Option ℕ) (ks : List ℕ) (n : ℕ) (found : Option ℕ) → found ≡ find p (behind after ks) → All (λ k. k < n) ks → IfSome found (λ x. x < n)
+pub behind_below : (p : ℕ → Bool) (after : Option ℕ) (ks : List ℕ) (n : ℕ) (found : Option ℕ) → found ≡ find p (members_after after ks) → All (λ k. k < n) ks → IfSome found (λ x. x < n)
 behind_below p after ks n None is below = tt
 behind_below p after ks n (Some x) is below = All-contains (λ k. k < n) ks x below (Contains-from_any eqb-true x ks (behind_found p after ks (Some x) is))
 
-pub behind_nearer : (p : ℕ → Bool) (after : Option ℕ) (ks : List ℕ) (found : Option ℕ) → IsDistinct eqb ks → found ≡ find p (behind after ks)
-    → IfSome found (λ x. length (behind (Some x) ks) < length (behind after ks))
+pub behind_nearer : (p : ℕ → Bool) (after : Option ℕ) (ks : List ℕ) (found : Option ℕ) → IsDistinct eqb ks → found ≡ find p (members_after after ks)
+    → IfSome found (λ x. length (members_after (Some x) ks) < length (members_after after ks))
 behind_nearer p after ks None once is = tt
 behind_nearer p None ks (Some x) once is = shorter p ks x (sym is)
 behind_nearer p (Some a) ks (Some x) once is = shorter_behind p a ks x once (sym is)

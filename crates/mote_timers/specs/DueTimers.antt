@@ -14,10 +14,10 @@ pub record AreTimers (ts : List Timer) (listed : Numbers) : Type 0 where
   pub bounded : All (λ (t : Timer). t.start ≤ 2 ^ 62) ts
 
 -- the members after the given one, or the whole list if none is given
-abbrev pub behind : Option ℕ → List ℕ → List ℕ
-behind None ids = ids
-behind (Some id) ids = after_first (λ other. other == id) ids
+abbrev pub members_after : Option ℕ → List ℕ → List ℕ
+members_after None ids = ids
+members_after (Some id) ids = after_first (λ other. other == id) ids
 
 -- the first due timer on the list after the given one, or on the whole list if none is given
 unfoldable pub first_due : TimerLists → ℕ → Option ℕ → Option ℕ
-first_due s now after = find (λ id. is_due now (timer_at s.timers id)) (behind after s.listed)
+first_due s now after = find (λ id. is_due now (timer_at s.timers id)) (members_after after s.listed)

@@ -18,17 +18,17 @@ pub data TimerCall : Type 0 where
   Fire : (id : ℕ) → TimerCall
   Purge : (owner : Proc) → TimerCall
 
-unfoldable pub after_call : TimerLists → TimerCall → TimerLists
-after_call s (Set id owner interval now) = set_timer s id owner interval now
-after_call s (Reset id owner) = reset_timer s id owner
-after_call s (Restart id owner now) = restart_timer s id owner now
-after_call s (Stop id) = stop_timer s id
-after_call s (Fire id) = stop_timer s id
-after_call s (Purge owner) = purge_timers s owner
+unfoldable pub timers_after_call : TimerLists → TimerCall → TimerLists
+timers_after_call s (Set id owner interval now) = set_timer s id owner interval now
+timers_after_call s (Reset id owner) = reset_timer s id owner
+timers_after_call s (Restart id owner now) = restart_timer s id owner now
+timers_after_call s (Stop id) = stop_timer s id
+timers_after_call s (Fire id) = stop_timer s id
+timers_after_call s (Purge owner) = purge_timers s owner
 
-abbrev pub after_calls : TimerLists → List TimerCall → TimerLists
-after_calls s [] = s
-after_calls s (call ∷ calls) = after_calls (after_call s call) calls
+abbrev pub timers_after_calls : TimerLists → List TimerCall → TimerLists
+timers_after_calls s [] = s
+timers_after_calls s (call ∷ calls) = timers_after_calls (timers_after_call s call) calls
 
 -- the call takes this timer off the list: it stops or fires the timer, or purges the timers of its owner
 abbrev pub TakesOff : TimerLists → ℕ → TimerCall → Type 0
@@ -47,7 +47,7 @@ Starts id _ = ⊥
 -- none of the calls takes the timer off the list
 abbrev pub NoneTakesOff : TimerLists → ℕ → List TimerCall → Type 0
 NoneTakesOff s id [] = Unit {0}
-NoneTakesOff s id (call ∷ calls) = (TakesOff s id call → ⊥) × NoneTakesOff (after_call s call) id calls
+NoneTakesOff s id (call ∷ calls) = (TakesOff s id call → ⊥) × NoneTakesOff (timers_after_call s call) id calls
 
 -- none of the calls sets the timer
 abbrev pub NoneStarts : ℕ → List TimerCall → Type 0
@@ -60,18 +60,19 @@ IsDue s id moment = IsTrue (is_member id s.listed) × (expiration (timer_at s.ti
 
 -- after any calls, each timer is on the list at most once
 abbrev pub ListedOnce : Type 0
-ListedOnce = (n : ℕ) (calls : List TimerCall) → IsDistinct nat_eq (after_calls (new_timers n) calls).listed
+ListedOnce = (n : ℕ) (calls : List TimerCall) → IsDistinct nat_eq (timers_after_calls (new_timers n) calls).listed
 
 -- no call creates or removes a timer
-abbrev pub KeepsTimers : Type 0
-KeepsTimers = (s : TimerLists) (calls : List TimerCall) → length (after_calls s calls).timers ≡ length s.timers
+abbrev pub CallsKeepTimers : Type 0
+CallsKeepTimers = (s : TimerLists) (calls : List TimerCall)
+    → length (timers_after_calls s calls).timers ≡ length s.timers
 
 -- a timer that was set, and that no later call took off the list, is due from its expiration on, and not before
 abbrev pub DueFromExpiration : Type 0
 DueFromExpiration =
     (s : TimerLists) (id : ℕ) (owner : Proc) (interval now : ℕ) (calls : List TimerCall)
     → NoneTakesOff (set_timer s id owner interval now) id calls
-    → let t : TimerLists = after_calls (set_timer s id owner interval now) calls in
+    → let t : TimerLists = timers_after_calls (set_timer s id owner interval now) calls in
     (moment : ℕ) → IsDue t id moment ↔ (expiration (timer_at t.timers id) ≤ moment)
 
 -- if no later call set the timer again either, its expiration is the start plus the interval with which it was set
@@ -81,7 +82,8 @@ DueFromSet =
     → id < length s.timers
     → NoneTakesOff (set_timer s id owner interval now) id calls
     → NoneStarts id calls
-    → (moment : ℕ) → IsDue (after_calls (set_timer s id owner interval now) calls) id moment ↔ (now + interval ≤ moment)
+    → (moment : ℕ) → IsDue (timers_after_calls (set_timer s id owner interval now) calls) id moment ↔
+    (now + interval ≤ moment)
 
 -- the next expiration is the first moment at which a timer on the list is due
 abbrev pub DueFromNextExpiration : Type 0

@@ -1,6 +1,6 @@
 //! Laws of the timers: theorems, each stated as the contract of an empty function.
 
-ghost use Rattle.mote_timers.specs.TimerCalls.{ListedOnce, KeepsTimers, DueFromExpiration, DueFromSet};
+ghost use Rattle.mote_timers.specs.TimerCalls.{ListedOnce, CallsKeepTimers, DueFromExpiration, DueFromSet};
 ghost use Rattle.mote_timers.specs.TimerCalls.{DueFromNextExpiration};
 
 /// After any calls, each timer is on the timer list at most once, so a walk along the list ends.
@@ -10,7 +10,7 @@ pub fn listed_once()
 
 /// No call creates or removes a timer, so the numbers that a caller may use stay the same.
 pub fn timers_stay()
-    ensures keeps_timers { KeepsTimers }
+    ensures keeps_timers { CallsKeepTimers }
 {}
 
 /// A timer that was set, and not fired, stopped or purged since then, is due from its start plus its interval on, and

@@ -7,7 +7,7 @@ ghost use Rattle.std.specs.Option.{ForSome, option_map_or};
 ghost use Rattle.mote_timers.specs.Numbers.{is_member};
 ghost use Rattle.mote_timers.specs.TimerLists.{new_timers, timer_at, set_timer, reset_timer, restart_timer};
 ghost use Rattle.mote_timers.specs.TimerLists.{stop_timer, purge_timers, next_expiration_of, least};
-ghost use Rattle.mote_timers.specs.DueTimers.{behind, first_due};
+ghost use Rattle.mote_timers.specs.DueTimers.{members_after, first_due};
 ghost use Rattle.mote_timers.specs.TimerLists.{with_timer};
 ghost use Rattle.mote_timers.specs.Timer.{expiration, is_due, is_owned_by};
 
@@ -128,7 +128,8 @@ impl Timers {
         ensures owner { IfSome result (λ due. (timer_at self.now.timers due.0).owner ≡ Some due.1) }
         ensures listed { IfSome result (λ due. IsTrue (is_member due.0 self.now.listed)) }
         ensures nearer_end { IfSome result
-            (λ due. length (behind (Some due.0) self.now.listed) < length (behind after self.now.listed)) }
+            (λ due. length (members_after (Some due.0) self.now.listed) < length
+            (members_after after self.now.listed)) }
     {
         let id = first_due_behind(&self.timers, self.listed.as_slice(), after, now)?;
         let owner = self.timers[usize::from(id)].owner.unwrap();
@@ -177,17 +178,18 @@ impl Timers {
 fn first_due_behind(timers: &[Timer], listed: &[u16], after: Option<u16>, now: u64) -> Option<u16>
     requires are_timers { All (λ id. id < length timers.now) listed.now }
     requires once { IsDistinct nat_eq listed.now }
-    ensures first { result ≡ find (λ id. is_due now (timer_at timers.now id)) (behind after listed.now) }
+    ensures first { result ≡ find (λ id. is_due now (timer_at timers.now id)) (members_after after listed.now) }
     ensures is_timer { IfSome result (λ id. id < length timers.now) }
     ensures listed { IfSome result (λ id. IsTrue (is_member id listed.now)) }
-    ensures nearer_end { IfSome result (λ id. length (behind (Some id) listed.now) < length (behind after listed.now)) }
+    ensures nearer_end { IfSome result
+        (λ id. length (members_after (Some id) listed.now) < length (members_after after listed.now)) }
 {
     first_due_of(timers, listed_behind(listed, after), now)
 }
 
 /// The part of the list after the timer `after`, or the whole list if `after` is `None`.
 fn listed_behind(listed: &[u16], after: Option<u16>) -> &[u16]
-    ensures value { result.now ≡ behind after listed.now }
+    ensures value { result.now ≡ members_after after listed.now }
 {
     match after {
         None => listed,

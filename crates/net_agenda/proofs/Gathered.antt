@@ -15,7 +15,7 @@ use Rattle.radio_medium.specs.Medium.{copy_of}
 use Rattle.window_laws.specs.Agenda.{Item, Wake, Packet, comes_at, is_wake_of, moment_of, mote_of, packets}
 use Rattle.window_laws.proofs.Agenda.{packets_append, packets_map, same_place}
 use Rattle.window_laws.proofs.Lists.{is_filled, filter_filter, filter_stronger, filter_none, filter_not, every_weaker, every_passes, filled_any}
-use Rattle.net_agenda.specs.Buckets.{arrival_of, Due, nothing_due, is_wake, due_all, gathered, due_of, is_here, with_copy, with_wake, without_wake, is_none_left, Buckets, Holds, IsReady, items_in}
+use Rattle.net_agenda.specs.Buckets.{arrival_of, Due, nothing_due, is_wake, due_all, gathered, due_of, is_here, with_copy, with_wake, without_wake, is_none_left, Buckets, HoldsItems, IsReadyBucket, items_in}
 use Rattle.net_agenda.specs.declared.bucket.Bucket.{Bucket}
 use Rattle.net_agenda.proofs.Keys.{same_number}
 
@@ -182,12 +182,12 @@ due_elsewhere u m t items x at e = due_same u m items x (other (moment_of x) (mo
     other a b f = grind (arith, nat_tests)
 
 -- a change at one moment: the bucket of this moment becomes o
-pub held : (old new : Buckets) (t : ℕ) (o : Option Bucket) (items more : List Item) → Holds old items
+pub held : (old new : Buckets) (t : ℕ) (o : Option Bucket) (items more : List Item) → HoldsItems old items
     → ((q : ℕ) → get nat_cmp new q ≡ cond (is_eq (nat_cmp t q)) o (get nat_cmp old q))
-    → ((b : Bucket) → o ≡ Some b → IsReady b)
+    → ((b : Bucket) → o ≡ Some b → IsReadyBucket b)
     → ((m : ℕ) → due_of t m (items_in t o) ≡ due_of t m more)
     → ((u m : ℕ) → eqb t u ≡ false → due_of u m more ≡ due_of u m items)
-    → Holds new more
+    → HoldsItems new more
 held old new t o items more holds updates ready there elsewhere = record {
   due = λ u m.
       elim (cases_Bool (eqb t u)) [

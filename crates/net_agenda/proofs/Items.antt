@@ -20,7 +20,7 @@ use Rattle.window_laws.proofs.Lists.{every_passes, no_more}
 use Rattle.net_agenda.specs.declared.bucket.Bucket.{Bucket}
 use Rattle.net_agenda.specs.declared.bucket.PendingEvent.{PendingEvent}
 use Rattle.net_agenda.specs.Buckets.{arrival_of, Due, nothing_due, is_wake, due_all, gathered, due_of, is_here}
-use Rattle.net_agenda.specs.Buckets.{item_at, items_in, Buckets, Holds}
+use Rattle.net_agenda.specs.Buckets.{item_at, items_in, Buckets, HoldsItems}
 use Rattle.net_agenda.specs.Items.{copy_at, bucket_items, items_of, is_wake_at, AreSameItems}
 use Rattle.net_agenda.proofs.Gathered.{unwrapped, due_taken, any_same}
 use Rattle.net_agenda.proofs.Keys.{same_number}
@@ -186,10 +186,10 @@ any_wake u k items = any_due_wake u k items ∙ any_counted (filter (comes_at u 
 
 -- the law
 
-pub same_due : (buckets : Buckets) → IsOrdered nat_cmp buckets → (items : List Item) → Holds buckets items → IsSame items (items_of buckets)
+pub same_due : (buckets : Buckets) → IsOrdered nat_cmp buckets → (items : List Item) → HoldsItems buckets items → IsSame items (items_of buckets)
 same_due buckets ordered items holds t m = sym (holds.due t m) ∙ ap gathered (sym (at_its_moment buckets.entries ordered t m))
 
-pub items_held : (buckets : Buckets) → IsOrdered nat_cmp buckets → (items : List Item) → Holds buckets items → AreSameItems items (items_of buckets)
+pub items_held : (buckets : Buckets) → IsOrdered nat_cmp buckets → (items : List Item) → HoldsItems buckets items → AreSameItems items (items_of buckets)
 items_held buckets ordered items holds =
     let same = same_due buckets ordered items holds in
     let permuted = same_permute (length items) items (items_of buckets) (omega arith) same in

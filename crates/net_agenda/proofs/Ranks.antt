@@ -9,7 +9,7 @@ use Rattle.std.proofs.lemmas.Bool.{eq-eqb}
 use Rattle.std.proofs.lemmas.Bool.Decides.{nat_tests}
 use Rattle.net_agenda.specs.declared.bucket.Bucket.{Bucket}
 use Rattle.window_laws.specs.Agenda.{Item, moment_of, mote_of, comes_at, is_from}
-use Rattle.net_agenda.specs.Buckets.{Buckets, Holds, first_key, first_of, first_mote}
+use Rattle.net_agenda.specs.Buckets.{Buckets, HoldsItems, first_key, first_of, first_bucket_mote}
 use Rattle.window_laws.proofs.Agenda.{due_has}
 use Rattle.window_laws.proofs.Lists.{every_weaker}
 use Rattle.net_agenda.proofs.Keys.{same_number}
@@ -30,19 +30,19 @@ later_place : (n t m u k : ℕ) → (ltb t u || (eqb u t && not (ltb k (suc m)))
 later_place n t m u k h e =
     elim (place t m u k h) [ inl g ↦ over_row n t u m k g e | inr g ↦ (let r = g.1 in let q : u * n ≡ t * n = ap (λ x. x * n) g.0 in omega arith) ]
 
-pub first_due : (buckets : Buckets) (items : List Item) (u k : ℕ) → Holds buckets items → first_key buckets ≡ Some (u, k) → list_any (comes_at u k) items ≡ true
+pub first_due : (buckets : Buckets) (items : List Item) (u k : ℕ) → HoldsItems buckets items → first_key buckets ≡ Some (u, k) → list_any (comes_at u k) items ≡ true
 first_due buckets items u k holds e = of buckets.entries refl (e)
   where
     of : (es : List (ℕ × Bucket)) → es ≡ buckets.entries → first_key buckets ≡ Some (u, k) → list_any (comes_at u k) items ≡ true
     of [] f e = let g : first_key buckets ≡ None = ap (λ l. first_of (slice_get l 0)) (sym f) in absurd (cc)
     of (x ∷ es) f e =
-        let g : first_key buckets ≡ option_map {U = ℕ × ℕ} (λ m. (x.0, m)) (first_mote x.1) = ap (λ l. first_of (slice_get l 0)) (sym f) in
+        let g : first_key buckets ≡ option_map {U = ℕ × ℕ} (λ m. (x.0, m)) (first_bucket_mote x.1) = ap (λ l. first_of (slice_get l 0)) (sym f) in
         let i = eq-eqb x.0 x.0 refl in
         let self : is_at (nat_cmp x.0) x.0 ≡ true = same_number x.0 x.0 ∙ i in
         let found : get nat_cmp buckets x.0 ≡ Some x.1 = ap (lookup (is_at (nat_cmp x.0))) (sym f) ∙ (rw self refl) in
-        at x.0 x.1 found (first_mote x.1) refl (sym g ∙ e)
+        at x.0 x.1 found (first_bucket_mote x.1) refl (sym g ∙ e)
       where
-        at : (t : ℕ) (b : Bucket) → get nat_cmp buckets t ≡ Some b → (o : Option ℕ) → first_mote b ≡ o → option_map {U = ℕ × ℕ} (λ m. (t, m)) o ≡ Some (u, k) → list_any (comes_at u k) items ≡ true
+        at : (t : ℕ) (b : Bucket) → get nat_cmp buckets t ≡ Some b → (o : Option ℕ) → first_bucket_mote b ≡ o → option_map {U = ℕ × ℕ} (λ m. (t, m)) o ≡ Some (u, k) → list_any (comes_at u k) items ≡ true
         at t b found None h e = absurd (cc)
         at t b found (Some m) h e =
             let same : ◌≡◌ {A = ℕ × ℕ} (t, m) (u, k) = cc in
@@ -50,7 +50,7 @@ first_due buckets items u k holds e = of buckets.entries refl (e)
 
 -- the first pending event is later, if no event is left up to a moment and mote
 pub left_falls : (motes end t m : ℕ) (items : List Item) (old new : Option (ℕ × ℕ)) (buckets : Buckets) → old ≡ Some (t, m) → m < motes → t ≤ end
-    → AllByRecursion (λ item. is_from t (suc m) item ≡ true) items → Holds buckets items → new ≡ first_key buckets
+    → AllByRecursion (λ item. is_from t (suc m) item ≡ true) items → HoldsItems buckets items → new ≡ first_key buckets
     → turns_left motes end new < turns_left motes end old
 left_falls motes end t m items old new buckets e inside low ahead holds f = subst (λ o. turns_left motes end new < turns_left motes end o) (sym e) (of new f)
   where

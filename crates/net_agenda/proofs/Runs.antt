@@ -15,7 +15,7 @@ use Rattle.radio_medium.specs.Medium.{copy_of}
 use Rattle.window_laws.specs.Agenda.{Item, Packet, moment_of}
 use Rattle.net_agenda.specs.declared.bucket.Bucket.{Bucket}
 use Rattle.net_agenda.specs.declared.bucket.PendingEvent.{PendingEvent}
-use Rattle.net_agenda.specs.Buckets.{due_of, is_nothing, Buckets, FallsIfSaid, Holds, IsReady, item_at, items_at}
+use Rattle.net_agenda.specs.Buckets.{due_of, is_nothing, Buckets, FallsIfSaid, HoldsItems, IsReadyBucket, item_at, bucket_items_at}
 use Rattle.net_agenda.proofs.Gathered.{due_both, due_elsewhere, held, more_copies, more_fates}
 use Rattle.net_agenda.proofs.Moments.{moment_at}
 
@@ -72,15 +72,15 @@ many_elsewhere u m t items [] h e = ap (due_of u m) (append-nil items)
 many_elsewhere u m t items (z ∷ zs) h e =
     ap (due_of u m) (sym (append_assoc items (z ∷ []) zs)) ∙ (many_elsewhere u m t (items ++ z ∷ []) zs h.1 e ∙ due_elsewhere u m t items z h.0 e)
 
-pub put_many : (old new : Buckets) (t : ℕ) (b : Bucket) (items zs : List Item) → Holds old items → map (item_at t) b.coming.items ≡ items_at old t ++ zs
-    → is_nothing b.coming.items ≡ false → FallsIfSaid b → ((q : ℕ) → get nat_cmp new q ≡ cond (is_eq (nat_cmp t q)) (Some b) (get nat_cmp old q)) → Holds new (items ++ zs)
+pub put_many : (old new : Buckets) (t : ℕ) (b : Bucket) (items zs : List Item) → HoldsItems old items → map (item_at t) b.coming.items ≡ bucket_items_at old t ++ zs
+    → is_nothing b.coming.items ≡ false → FallsIfSaid b → ((q : ℕ) → get nat_cmp new q ≡ cond (is_eq (nat_cmp t q)) (Some b) (get nat_cmp old q)) → HoldsItems new (items ++ zs)
 put_many old new t b items zs holds more filled falls updates =
     held old new t (Some b) items (items ++ zs) holds updates ready
-    (λ m. ap (due_of t m) more ∙ due_many t m (items_at old t) items zs (holds.due t m))
-    (λ u m e. many_elsewhere u m t items zs (all_after t (items_at old t) zs (subst (AllByRecursion (λ item. moment_of item ≡ t)) more (all_then t b.coming.items))) e)
+    (λ m. ap (due_of t m) more ∙ due_many t m (bucket_items_at old t) items zs (holds.due t m))
+    (λ u m e. many_elsewhere u m t items zs (all_after t (bucket_items_at old t) zs (subst (AllByRecursion (λ item. moment_of item ≡ t)) more (all_then t b.coming.items))) e)
   where
-    ready : (d : Bucket) → Some b ≡ Some d → IsReady d
-    ready d e = let f : b ≡ d = cc in subst IsReady f (record { filled = filled; falls = falls })
+    ready : (d : Bucket) → Some b ≡ Some d → IsReadyBucket d
+    ready d e = let f : b ≡ d = cc in subst IsReadyBucket f (record { filled = filled; falls = falls })
 
 pub this_fate : (f : Fate) (t : ℕ) → f.at ≡ Some t → record { to = f.to; at = Some t } ≡ f
 this_fate f t e = ap (λ (o : Option ℕ). record { to = f.to; at = o }) (sym e)
@@ -99,12 +99,12 @@ run_on xs i n x low =
     ap (λ l. take i xs ++ (get_or xs i x ∷ take n l)) (rest_is xs (i + 1) ∙ ap (λ k. drop k xs) (add-one i)) ∙ (ap (λ l. take i xs ++ take (suc n) l) (sym (drop-cons xs i x low)) ∙ (sym (take-add i (suc n) xs) ∙ ap (λ k. take k xs) more))
 
 pub fates_held : (new : Buckets) (items : List Item) (sent : Sent) (fs : List Fate) (i n : ℕ) (f : Fate) → i < length fs
-    → Holds new ((items ++ copies_with sent (take i fs)) ++ copies_with sent (get_or fs i f ∷ take n (take (length fs - (i + 1)) (drop (i + 1) fs)))) → Holds new (items ++ copies_with sent (take (i + (1 + n)) fs))
+    → HoldsItems new ((items ++ copies_with sent (take i fs)) ++ copies_with sent (get_or fs i f ∷ take n (take (length fs - (i + 1)) (drop (i + 1) fs)))) → HoldsItems new (items ++ copies_with sent (take (i + (1 + n)) fs))
 fates_held new items sent fs i n f low =
-    subst (Holds new) (append_assoc items (copies_with sent (take i fs)) _ ∙ ap (λ l. items ++ l) (sym (ap (map Packet) (filter_map-append (copy_of sent) (take i fs) _)
+    subst (HoldsItems new) (append_assoc items (copies_with sent (take i fs)) _ ∙ ap (λ l. items ++ l) (sym (ap (map Packet) (filter_map-append (copy_of sent) (take i fs) _)
     ∙ map-append Packet (filter_map (copy_of sent) (take i fs)) _) ∙ ap (copies_with sent) (run_on fs i n f low)))
 
 pub copies_held : (new : Buckets) (items : List Item) (cs : List RadioCopy) (i n : ℕ) (c : RadioCopy) → i < length cs
-    → Holds new ((items ++ map Packet (take i cs)) ++ map Packet (get_or cs i c ∷ take n (take (length cs - (i + 1)) (drop (i + 1) cs)))) → Holds new (items ++ map Packet (take (i + (1 + n)) cs))
+    → HoldsItems new ((items ++ map Packet (take i cs)) ++ map Packet (get_or cs i c ∷ take n (take (length cs - (i + 1)) (drop (i + 1) cs)))) → HoldsItems new (items ++ map Packet (take (i + (1 + n)) cs))
 copies_held new items cs i n c low =
-    subst (Holds new) (append_assoc items (map Packet (take i cs)) _ ∙ ap (λ l. items ++ l) (sym (map-append Packet (take i cs) _) ∙ ap (map Packet) (run_on cs i n c low)))
+    subst (HoldsItems new) (append_assoc items (map Packet (take i cs)) _ ∙ ap (λ l. items ++ l) (sym (map-append Packet (take i cs) _) ∙ ap (map Packet) (run_on cs i n c low)))

@@ -5,7 +5,7 @@ use Rattle.std.specs.Option.{option_eq}
 use Rattle.std.proofs.lemmas.Bool.{cases_Bool, eqb-true, eq-eqb, and_parts, false≢true}
 use Rattle.radio_packet.specs.declared.arrival.Arrival.{Arrival}
 use Rattle.window_laws.specs.Agenda.{Item, Wake, Packet, comes_at, is_wake_of, mote_of, wake_items}
-use Rattle.net_agenda.specs.Buckets.{Due, nothing_due, is_wake, gathered, due_of, is_here, with_wake, without_wake, is_none_left, Buckets, Holds}
+use Rattle.net_agenda.specs.Buckets.{Due, nothing_due, is_wake, gathered, due_of, is_here, with_wake, without_wake, is_none_left, Buckets, HoldsItems}
 use Rattle.window_laws.proofs.Lists.{filter_not, filter_filter}
 use Rattle.net_agenda.proofs.Gathered.{due_with, due_wake, due_unwoken, due_at_mote}
 
@@ -53,8 +53,8 @@ due_again (Some u) m items one t k =
     rest : List Item
     rest = filter (λ item. not (is_wake_of m item)) items
 
-pub rewoken : (buckets : Buckets) (wake : Option ℕ) (m : ℕ) (items : List Item) → Holds buckets items → filter (is_wake_of m) items ≡ wake_items m wake
-    → Holds buckets (filter (λ item. not (is_wake_of m item)) items ++ wake_items m wake)
+pub rewoken : (buckets : Buckets) (wake : Option ℕ) (m : ℕ) (items : List Item) → HoldsItems buckets items → filter (is_wake_of m) items ≡ wake_items m wake
+    → HoldsItems buckets (filter (λ item. not (is_wake_of m item)) items ++ wake_items m wake)
 rewoken buckets wake m items holds one = record { due = λ t k. holds.due t k ∙ due_again wake m items one t k; ready = holds.ready }
 
 pub same_wake : (a b : Option ℕ) → option_eq eqb a b ≡ true → a ≡ b

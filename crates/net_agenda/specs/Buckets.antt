@@ -52,20 +52,20 @@ abbrev pub packet_in : PendingEvent → Option Arrival
 packet_in (coming.Wake mote) = None
 packet_in (coming.Copy to sender value number) = Some (record { sender = sender; number = number; value = value })
 
-abbrev pub is_for : (mote : ℕ) → PendingEvent → Bool
-is_for mote one = goes_to one == mote
+abbrev pub is_pending_for : (mote : ℕ) → PendingEvent → Bool
+is_pending_for mote one = goes_to one == mote
 
 abbrev pub of_mote : (mote : ℕ) → List PendingEvent → List PendingEvent
-of_mote mote all = filter (is_for mote) all
+of_mote mote all = filter (is_pending_for mote) all
 
-abbrev pub is_packet : PendingEvent → Bool
-is_packet one = is_some (packet_in one)
+abbrev pub is_packet_event : PendingEvent → Bool
+is_packet_event one = is_some (packet_in one)
 
 abbrev pub is_wake_for : (mote : ℕ) → PendingEvent → Bool
-is_wake_for mote one = is_for mote one && not (is_packet one)
+is_wake_for mote one = is_pending_for mote one && not (is_packet_event one)
 
-abbrev pub packets_of : List PendingEvent → List Arrival
-packets_of all = filter_map packet_in all
+abbrev pub arrivals_of : List PendingEvent → List Arrival
+arrivals_of all = filter_map packet_in all
 
 -- no mote is above a mote before it
 abbrev pub Falls : List PendingEvent → Type 0
@@ -90,9 +90,9 @@ least_from least (first ∷ rest) = least_from (lower_mote least (goes_to first)
 abbrev pub least_mote : List PendingEvent → Option ℕ
 least_mote all = least_from None all
 
--- the least mote; if the motes fall, it is the mote of the last event
-abbrev pub first_mote : Bucket → Option ℕ
-first_mote bucket =
+-- the least mote; if the motes are in descending order, it is the mote of the last event
+abbrev pub first_bucket_mote : Bucket → Option ℕ
+first_bucket_mote bucket =
     let all = bucket.coming.items in
     if bucket.falls then option_map goes_to (slice_get all (length all - 1)) else least_mote all
 
@@ -102,7 +102,7 @@ pub record IsTaken (mote : ℕ) (old new : Bucket) : Type 0 where
       ≡ (if mote == other then [] else of_mote other old.coming.items)
   pub falls : FallsIfSaid new
 
-pub record IsReady (bucket : Bucket) : Type 0 where
+pub record IsReadyBucket (bucket : Bucket) : Type 0 where
   pub filled : is_nothing bucket.coming.items ≡ false
   pub falls : FallsIfSaid bucket
 
@@ -124,21 +124,21 @@ abbrev pub items_in : (moment : ℕ) → Option Bucket → List Item
 items_in moment None = []
 items_in moment (Some bucket) = map (item_at moment) bucket.coming.items
 
-abbrev pub items_at : Buckets → (moment : ℕ) → List Item
-items_at buckets moment = items_in moment (get nat_cmp buckets moment)
+abbrev pub bucket_items_at : Buckets → (moment : ℕ) → List Item
+bucket_items_at buckets moment = items_in moment (get nat_cmp buckets moment)
 
 abbrev pub due_in : Buckets → (moment mote : ℕ) → Option Due
-due_in buckets moment mote = due_of moment mote (items_at buckets moment)
+due_in buckets moment mote = due_of moment mote (bucket_items_at buckets moment)
 
 -- the moment and the mote are these
 abbrev pub is_here : (moment mote t k : ℕ) → Bool
 is_here moment mote t k = (moment == t) && (mote == k)
 
 -- the buckets hold the items of this agenda: each bucket has all events that are due at its moment, no bucket is
--- empty, and if `falls` is true in a bucket, the motes fall in it
-pub record Holds (buckets : Buckets) (items : List Item) : Type 0 where
+-- empty, and if `falls` is true in a bucket, its motes are in descending order
+pub record HoldsItems (buckets : Buckets) (items : List Item) : Type 0 where
   pub due : (moment mote : ℕ) → due_in buckets moment mote ≡ due_of moment mote items
-  pub ready : (moment : ℕ) (bucket : Bucket) → get nat_cmp buckets moment ≡ Some bucket → IsReady bucket
+  pub ready : (moment : ℕ) (bucket : Bucket) → get nat_cmp buckets moment ≡ Some bucket → IsReadyBucket bucket
 
 -- one more packet
 abbrev pub with_copy : Arrival → Due → Due
@@ -167,7 +167,7 @@ arrivals_at moment mote items = map arrival_of (in_order (packets (filter (comes
 
 abbrev pub first_of : Option (ℕ × Bucket) → Option (ℕ × ℕ)
 first_of None = None
-first_of (Some entry) = option_map (λ mote. (entry.0, mote)) (first_mote entry.1)
+first_of (Some entry) = option_map (λ mote. (entry.0, mote)) (first_bucket_mote entry.1)
 
 -- the least moment, and the least mote in the bucket of this moment
 abbrev pub first_key : Buckets → Option (ℕ × ℕ)

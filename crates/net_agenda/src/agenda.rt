@@ -4,8 +4,8 @@ ghost use Rattle.std.specs.Prelude.{◌≡◌, ◌≤◌, ◌+◌, length, take,
 ghost use Rattle.std.specs.List.{filter_map};
 ghost use Rattle.radio_medium.specs.Medium.{copy_of};
 ghost use Rattle.window_laws.specs.Agenda.{Item, Wake, Packet, IsLeast, packets, wake_items};
-ghost use Rattle.net_agenda.specs.Buckets.{Holds, first_key, item_at};
-ghost use Rattle.net_agenda.specs.Changes.{Adds, AreDue, DropsWake, MovesWake, TakesDue};
+ghost use Rattle.net_agenda.specs.Buckets.{HoldsItems, first_key, item_at};
+ghost use Rattle.net_agenda.specs.Changes.{AddsItems, AreDue, DropsWake, MovesWake, TakesDue};
 
 use crate::bucket::{Bucket, PendingEvent};
 use crate::spread::Lists;
@@ -31,7 +31,7 @@ fn plus(one: u64, other: u64) -> Result<u64, AllocError>
 impl Agenda {
     /// Makes an agenda without pending events.
     pub fn new(alloc: Global) -> Agenda
-        ensures empty { Holds result.buckets [] }
+        ensures empty { HoldsItems result.buckets [] }
     {
         Agenda {
             alloc,
@@ -42,7 +42,7 @@ impl Agenda {
 
     /// Adds a pending event of a mote at a moment.
     fn put(&mut self, moment: u64, coming: PendingEvent) -> Result<(), AllocError>
-        ensures adds { OnOk result (Adds self.old.buckets self.new.buckets (item_at moment coming ∷ [])) }
+        ensures adds { OnOk result (AddsItems self.old.buckets self.new.buckets (item_at moment coming ∷ [])) }
     {
         if let Some(bucket) = self.buckets.get_mut(&moment) {
             return bucket.put(coming);
@@ -58,7 +58,7 @@ impl Agenda {
     /// # Errors
     /// `AllocError` if an allocation fails.
     pub fn put_wake(&mut self, moment: u64, mote: u16) -> Result<(), AllocError>
-        ensures adds { OnOk result (Adds self.old.buckets self.new.buckets (Wake moment mote ∷ [])) }
+        ensures adds { OnOk result (AddsItems self.old.buckets self.new.buckets (Wake moment mote ∷ [])) }
     {
         self.put(moment, PendingEvent::Wake(mote))
     }
@@ -68,7 +68,7 @@ impl Agenda {
     /// # Errors
     /// `AllocError` if an allocation fails.
     pub fn put_next_wake(&mut self, wake: Option<u64>, mote: u16) -> Result<(), AllocError>
-        ensures adds { OnOk result (Adds self.old.buckets self.new.buckets (wake_items mote wake)) }
+        ensures adds { OnOk result (AddsItems self.old.buckets self.new.buckets (wake_items mote wake)) }
     {
         if let Some(moment) = wake {
             self.put_wake(moment, mote)?;
@@ -83,7 +83,7 @@ impl Agenda {
         copy: &RadioCopy,
         later: &[RadioCopy],
     ) -> Result<usize, AllocError>
-        ensures held { IfOk result (λ count. Adds self.old.buckets self.new.buckets
+        ensures held { IfOk result (λ count. AddsItems self.old.buckets self.new.buckets
             (map Packet (copy.now ∷ take count later.now))) }
         ensures inside { IfOk result (λ count. count ≤ length later.now) }
     {
@@ -101,7 +101,7 @@ impl Agenda {
     /// # Errors
     /// `AllocError` if an allocation fails. In that case some of the packets may have been added.
     pub fn put_copies(&mut self, copies: &[RadioCopy]) -> Result<(), AllocError>
-        ensures adds { OnOk result (Adds self.old.buckets self.new.buckets (map Packet copies.now)) }
+        ensures adds { OnOk result (AddsItems self.old.buckets self.new.buckets (map Packet copies.now)) }
     {
         let mut next = 0;
         while next < copies.len() {
@@ -119,7 +119,7 @@ impl Agenda {
         fate: &Fate,
         later: &[Fate],
     ) -> Result<usize, AllocError>
-        ensures held { IfOk result (λ count. Adds self.old.buckets self.new.buckets
+        ensures held { IfOk result (λ count. AddsItems self.old.buckets self.new.buckets
             (map Packet (filter_map (copy_of sent.now) (fate.now ∷ take count later.now)))) }
         ensures inside { IfOk result (λ count. count ≤ length later.now) }
     {
@@ -140,7 +140,7 @@ impl Agenda {
     /// # Errors
     /// `AllocError` if an allocation fails. In that case some of the copies may have been added.
     pub fn put_fates(&mut self, sent: &Sent, fates: &[Fate]) -> Result<(), AllocError>
-        ensures adds { OnOk result (Adds self.old.buckets self.new.buckets
+        ensures adds { OnOk result (AddsItems self.old.buckets self.new.buckets
             (map Packet (filter_map (copy_of sent.now) fates.now))) }
     {
         let mut next = 0;
@@ -219,7 +219,7 @@ impl Agenda {
     /// The moment and the mote of the first pending event.
     pub fn first(&self) -> Option<(u64, u16)>
         ensures first { result ≡ first_key self.now.buckets }
-        ensures least { (items : List Item) → Holds self.now.buckets items
+        ensures least { (items : List Item) → HoldsItems self.now.buckets items
             → MatchOption result (items ≡ []) (λ p. IsLeast p.0 p.1 items) }
     {
         match self.buckets.first_key_value() {
@@ -236,7 +236,7 @@ impl Agenda {
     /// # Errors
     /// Only if the number is above `u64::MAX`. No memory has room for so many copies.
     pub fn left(self) -> Result<u64, AllocError>
-        ensures count { (items : List Item) → Holds self.buckets items → IfOk result
+        ensures count { (items : List Item) → HoldsItems self.buckets items → IfOk result
             (λ left. left ≡ length (packets items)) }
     {
         let mut buckets = self.buckets;

@@ -15,8 +15,8 @@ use std::alloc::{AllocError, Global};
 /// `AllocError` if an allocation for the mote fails.
 pub fn new_mote(alloc: Global, net: &Net, number: u16) -> Result<Mote, AllocError>
     requires mote_exists { number < length (net_of net.now).motes }
-    ensures first_node { let n = net_of net.now in IfOk result
-        (λ mote. node_in (tree_at n number) mote ≡ Some (first_node_in n number)) }
+    ensures first_node { let model = net_of net.now in IfOk result
+        (λ mote. node_in (tree_at model number) mote ≡ Some (first_node_in model number)) }
 {
     let made = Mote::new(alloc, number, net.program(number), net.queue(number));
     let Ok(mut mote) = made else {

@@ -21,8 +21,8 @@ use Rattle.toml.specs.declared.value.Value.{Value}
 use Rattle.toml.proofs.Views.{Entry}
 use Rattle.mote_net.specs.declared.programs.NamedProgram.{NamedProgram}
 use Rattle.mote_net.specs.Meaning.{named_tree}
-use Rattle.net_scenario.specs.Programs.{AllRead, texts_of}
-use Rattle.net_scenario.specs.Reads.{AreInOrder}
+use Rattle.net_scenario.specs.Programs.{AllRead, program_texts}
+use Rattle.net_scenario.specs.Reads.{AreSortedByName}
 
 first_at : {X : Type 0} (test : X → Bool) (xs : List X) (k i : ℕ) (d : X) → i < length xs → test (get_or xs i d) ≡ true
     → ((j : ℕ) → j < i → test (get_or xs j d) ≡ false) → position_from test k xs ≡ Some (k + i)
@@ -60,7 +60,7 @@ name_at (p ∷ ps) zero d = refl
 name_at (p ∷ ps) (suc i) d = name_at ps i d
 
 -- an earlier program has a smaller name
-rises : (ps : List NamedProgram) (i j : ℕ) (d : NamedProgram) → AreInOrder ps → i < j → j < length ps
+rises : (ps : List NamedProgram) (i j : ℕ) (d : NamedProgram) → AreSortedByName ps → i < j → j < length ps
     → slice_cmp nat_cmp (get_or ps i d).name (get_or ps j d).name ≡ Less
 rises ps i j d s lt there =
     let many : length (map (λ (p : NamedProgram). p.name) ps) ≡ length ps =
@@ -85,7 +85,7 @@ index_rises a b c Greater Equal p q less = let z = less_than_tied a b c less q i
 index_rises a b c Greater Greater p q less = omega arith
 
 -- compared with a name, the programs are first less, then equal, then greater
-against : (ps : List NamedProgram) (name : List ℕ) → AreInOrder ps
+against : (ps : List NamedProgram) (name : List ℕ) → AreSortedByName ps
     → IsNonDecreasingBy (λ p. ordering_index (slice_cmp nat_cmp p.name name)) ps
 against ps name s i j d le there =
     ⊎_elim
@@ -97,7 +97,7 @@ against ps name s i j d le there =
     (eq-or-lt_of_le le)
 
 -- the program that a binary search finds is the first one with its name
-pub found_place : (ps : List NamedProgram) (name : List ℕ) (i : ℕ) → AreInOrder ps → i < length ps
+pub found_place : (ps : List NamedProgram) (name : List ℕ) (i : ℕ) → AreSortedByName ps → i < length ps
     → HoldsAt (λ p. slice_cmp nat_cmp p.name name ≡ Equal) ps i
     → Some i ≡ position_from (λ p. bytes_eq p.name name) 0 ps
 found_place [] name i s lt h = absurd (omega arith)
@@ -111,7 +111,7 @@ found_place (q ∷ qs) name i s lt h =
     ∙ ap Some sum)
 
 -- if a binary search finds no program, no program has the name
-pub no_place : (ps : List NamedProgram) (name : List ℕ) (i : ℕ) → AreInOrder ps
+pub no_place : (ps : List NamedProgram) (name : List ℕ) (i : ℕ) → AreSortedByName ps
     → (IsNonDecreasingBy (λ p. ordering_index (slice_cmp nat_cmp p.name name)) ps
     → IsPartitionPoint (λ p. slice_cmp nat_cmp p.name name ≡ Less) (λ p. slice_cmp nat_cmp p.name name ≡ Greater)
     ps i)
@@ -136,7 +136,7 @@ unfolding IsStrictlySortedBy
 bytes_in_order [] h = tt
 bytes_in_order (k ∷ ks) h = (bytes_after k ks h.0, bytes_in_order ks h.1)
 
-names_are : (es : List Entry) (ps : List NamedProgram) → AllRead (texts_of (members_view es)) (map named_tree ps)
+names_are : (es : List Entry) (ps : List NamedProgram) → AllRead (program_texts (members_view es)) (map named_tree ps)
     → map (λ p. p.name) ps ≡ map string_bytes (keys_of es)
 names_are [] [] r = refl
 names_are [] (p ∷ ps) r = absurd r
@@ -148,5 +148,5 @@ names_are (e ∷ es) (p ∷ ps) r =
 
 -- programs that were read from a table are in byte order of their names
 pub read_in_order : (m : BTreeMap (String Global) Value) (ps : List NamedProgram) → IsOrdered string_cmp m
-    → AllRead (texts_of (table_view m)) (map named_tree ps) → AreInOrder ps
+    → AllRead (program_texts (table_view m)) (map named_tree ps) → AreSortedByName ps
 read_in_order m ps ordered r = rw (names_are m.entries ps r) (bytes_in_order (keys_of m.entries) ordered)

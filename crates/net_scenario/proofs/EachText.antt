@@ -19,7 +19,7 @@ use Rattle.net_scenario.specs.Limits.{longest_text}
 use Rattle.net_scenario.specs.Errors.{of_table}
 use Rattle.net_scenario.specs.Document.{table_at, document_fault}
 use Rattle.mote_net.specs.Programs.{NamedTree}
-use Rattle.net_scenario.specs.Programs.{ProgramText, texts_of, AllRead, FirstRefused}
+use Rattle.net_scenario.specs.Programs.{ProgramText, program_texts, AllRead, FirstRefused}
 use Rattle.mote_net.specs.Net.{NetModel}
 use Rattle.net_scenario.specs.Net.{net_in, radio_in}
 use Rattle.net_scenario.specs.Reading.{Document, document_of, faultless, HasTrees, TellsNet, TellsFault}
@@ -79,7 +79,7 @@ by_medium text d trees None e = inl (
 )
 by_medium text d trees (Some fault) e = inr (Medium fault, (d, record { programs = trees; medium = e }))
 
-by_programs : (text : List ℕ) (d : Document text) → Reads (texts_of (table_at (codes "programs") d.top)) → Tells text
+by_programs : (text : List ℕ) (d : Document text) → Reads (program_texts (table_at (codes "programs") d.top)) → Tells text
 by_programs text d (inl (trees, read)) = by_medium text d (record { trees = trees; read = read })
     (medium_fault (radio_in d.top)) refl
 by_programs text d (inr (name, e, refused)) = inr (Program name e, (d, refused))
@@ -95,7 +95,7 @@ module _ (each : (text : List ℕ) → HasTreeOrFault text) where
   by_tables : (text : List ℕ) (top : Members) (fault : Option TableFault)
       → document_of text ≡ option_map_or (λ f. Err (of_table f)) fault (Ok top) → Tells text
   by_tables text top None e = let d : Document text = record { top = top; is = e } in
-      by_programs text d (read_all each (texts_of (table_at (codes "programs") top)))
+      by_programs text d (read_all each (program_texts (table_at (codes "programs") top)))
   by_tables text top (Some f) e = inr (of_table f, table_reported text f e)
 
   by_parse : (text : List ℕ) (parsed : Option Members) → document_of text ≡ faultless parsed → Tells text

@@ -20,7 +20,7 @@ use Rattle.net_scenario.specs.declared.rules.Kind.TheVariants.{Tables}
 use Rattle.net_scenario.specs.Rules.{items_len, are_tables, has_kind, is_in_range, needed}
 use Rattle.net_scenario.specs.Document.{HoldsNumber, integer_at, first_some, tables_in, items_at, program_fault}
 use Rattle.mote_net.specs.Programs.{NamedTree}
-use Rattle.net_scenario.specs.Programs.{texts_of, AllRead}
+use Rattle.net_scenario.specs.Programs.{program_texts, AllRead}
 use Rattle.net_scenario.specs.Net.{unread_fault}
 use Rattle.net_scenario.proofs.Each.{or_none}
 use Rattle.net_scenario.proofs.Keeps.{Keeps, passed, neither, both, le_of}
@@ -45,7 +45,7 @@ named_first k d held t rest name Equal false n c e h more =
     cc
 
 -- each name in the table is the name of a program that was read
-pub named_read : (ms : Members) (ts : List NamedTree) (name : List ℕ) → AllRead (texts_of ms) ts
+pub named_read : (ms : Members) (ts : List NamedTree) (name : List ℕ) → AllRead (program_texts ms) ts
     → is_none (get_member name ms) ≡ false
     → is_none (find (λ t. bytes_eq t.name name) ts) ≡ false
 named_read no_members ts name r h = cc
@@ -68,7 +68,7 @@ none_or None p a b = b
 none_or (Some x) p a b = cc
 
 -- if each mote's program is in the table, it is among the programs that were read
-pub all_read : (ms : Members) (ts : List NamedTree) (motes : List Members) → AllRead (texts_of ms) ts
+pub all_read : (ms : Members) (ts : List NamedTree) (motes : List Members) → AllRead (program_texts ms) ts
     → first_some (program_fault ms) motes ≡ None → first_some (unread_fault ts) motes ≡ None
 all_read ms ts [] r h = refl
 all_read ms ts (mote ∷ motes) r h =

@@ -26,7 +26,7 @@ use Rattle.net_scenario.specs.FaultNumbers.{of_medium}
 use Rattle.net_scenario.specs.Document.{version_of, natural, integer_at, natural_at, boolean_at, table_at, tables_at}
 use Rattle.net_scenario.specs.Document.{document_fault}
 use Rattle.mote_net.specs.Meaning.{named_tree}
-use Rattle.net_scenario.specs.Programs.{texts_of, AllRead}
+use Rattle.net_scenario.specs.Programs.{program_texts, AllRead}
 use Rattle.net_scenario.specs.Reads.{ReadsPrograms}
 use Rattle.mote_net.specs.Net.{MoteSetup}
 use Rattle.mote_net.specs.Meaning.{setup_of}
@@ -49,7 +49,7 @@ answered text top (Err OutOfRange) is m = absurd m
 answered text top (Err UnknownProgram) is m = absurd m
 
 -- a program that can't be read
-pub refused : (top : Members) (e : ScenarioError) → ReadsPrograms (texts_of (table_at (codes "programs") top)) (Err e)
+pub refused : (top : Members) (e : ScenarioError) → ReadsPrograms (program_texts (table_at (codes "programs") top)) (Err e)
     → MakesNet top (Err e)
 refused top (Program name e) m = m
 refused top Memory m = tt
@@ -90,7 +90,7 @@ document_is text top short parsed faultless =
 
 -- the net of a document, part by part
 pub made : (top : Members) (e : ℕ) (flag : Bool) (radio : Radio) (ps : List NamedProgram) (ms : List SetupOfCode)
-    → AllRead (texts_of (table_at (codes "programs") top)) (map named_tree ps)
+    → AllRead (program_texts (table_at (codes "programs") top)) (map named_tree ps)
     → integer_at (codes "end") top ≡ Some (pos e)
     → flag ≡ boolean_at (codes "collide") (table_at (codes "medium") top)
     → MakesRadio (radio_in top) (Ok radio)

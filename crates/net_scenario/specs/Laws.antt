@@ -10,19 +10,19 @@ use Rattle.net_scenario.specs.Reading.{TellsNet, TellsFault}
 -- the same laws for the texts of programs
 pub record ProgramLaws : Type 0 where
   pub one_tree : (text : List ℕ) (t u : Tree) → IsTreeOf text t → IsTreeOf text u → t ≡ u
-  pub one_fault : (text : List ℕ) (k l : ReadErrorKind) (m n : ℕ) → IsErrorOf text k m → IsErrorOf text l n
-      → (k ≡ l) × (m ≡ n)
+  pub one_fault : (text : List ℕ) (k l : ReadErrorKind) (m model : ℕ) → IsErrorOf text k m → IsErrorOf text l model
+      → (k ≡ l) × (m ≡ model)
   pub never_both : (text : List ℕ) (t : Tree) (k : ReadErrorKind) (m : ℕ) → IsTreeOf text t → IsErrorOf text k m → ⊥
 
 abbrev pub OneNet : Type 0
-OneNet = (text : List ℕ) (m n : NetModel) → TellsNet text m → TellsNet text n → m ≡ n
+OneNet = (text : List ℕ) (m model : NetModel) → TellsNet text m → TellsNet text model → m ≡ model
 
 abbrev pub NeverBoth : Type 0
-NeverBoth = (text : List ℕ) (n : NetModel) (e : ScenarioError) → TellsNet text n → TellsFault text e → ⊥
+NeverBoth = (text : List ℕ) (model : NetModel) (e : ScenarioError) → TellsNet text model → TellsFault text e → ⊥
 
 -- each text describes a net or has a fault
 abbrev pub NetOrFault : Type 0
-NetOrFault = (text : List ℕ) → ((n : NetModel) × TellsNet text n) ⊎ ((e : ScenarioError) × TellsFault text e)
+NetOrFault = (text : List ℕ) → ((model : NetModel) × TellsNet text model) ⊎ ((e : ScenarioError) × TellsFault text e)
 
 abbrev pub OneFault : Type 0
 OneFault = (text : List ℕ) (e f : ScenarioError) → TellsFault text e → TellsFault text f → e ≡ f

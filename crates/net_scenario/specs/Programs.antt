@@ -11,9 +11,9 @@ pub record ProgramText : Type 0 where
   pub text : List ℕ
 
 -- the programs of a table, whose members are in byte order of their names
-abbrev pub texts_of : Members → List ProgramText
-texts_of no_members = []
-texts_of (member k d ms) = record { name = k; text = unwrap_or (as_str d) [] } ∷ texts_of ms
+abbrev pub program_texts : Members → List ProgramText
+program_texts no_members = []
+program_texts (member k d ms) = record { name = k; text = unwrap_or (as_str d) [] } ∷ program_texts ms
 
 -- the text of each program is a text of the tree at the same place
 abbrev pub AllRead : List ProgramText → List NamedTree → Type 0

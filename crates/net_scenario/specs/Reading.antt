@@ -12,7 +12,7 @@ use Rattle.net_scenario.specs.Limits.{longest_text}
 use Rattle.net_scenario.specs.Errors.{of_table}
 use Rattle.net_scenario.specs.Document.{table_at, document_fault}
 use Rattle.mote_net.specs.Programs.{NamedTree}
-use Rattle.net_scenario.specs.Programs.{texts_of, AllRead, FirstRefused}
+use Rattle.net_scenario.specs.Programs.{program_texts, AllRead, FirstRefused}
 use Rattle.mote_net.specs.Net.{NetModel}
 use Rattle.net_scenario.specs.Net.{net_in, radio_in}
 
@@ -34,7 +34,7 @@ pub record Document (text : List ℕ) : Type 0 where
 -- trees whose texts are the texts of a document's programs
 pub record HasTrees (top : Members) : Type 0 where
   pub trees : List NamedTree
-  pub read : AllRead (texts_of (table_at (codes "programs") top)) trees
+  pub read : AllRead (program_texts (table_at (codes "programs") top)) trees
 
 -- all programs of the document can be read, and its medium has no fault; this is its net
 pub record IsNetOf (top : Members) (net : NetModel) : Type 0 where
@@ -49,7 +49,7 @@ pub record IsMediumFaultOf (top : Members) (error : MediumError) : Type 0 where
 
 -- the first program of the document that can't be read
 abbrev pub IsRefusedProgramOf : Members → List ℕ → ReadError → Type 0
-IsRefusedProgramOf top name error = FirstRefused (texts_of (table_at (codes "programs") top)) name error
+IsRefusedProgramOf top name error = FirstRefused (program_texts (table_at (codes "programs") top)) name error
 
 -- the text describes this net
 abbrev pub TellsNet : List ℕ → NetModel → Type 0

@@ -49,8 +49,8 @@ Answers text (Err Memory) = Unit {0}
 Answers text (Err e) = TellsFault text e
 
 -- programs in byte order of their names; each name only once
-abbrev pub AreInOrder : List NamedProgram → Type 0
-AreInOrder ps = IsStrictlySortedBy (slice_cmp nat_cmp) (map (λ p. p.name) ps)
+abbrev pub AreSortedByName : List NamedProgram → Type 0
+AreSortedByName ps = IsStrictlySortedBy (slice_cmp nat_cmp) (map (λ p. p.name) ps)
 
 -- all programs are read, or the first one that can't be read is reported, unless an allocation failed
 abbrev pub ReadsPrograms : List ProgramText → Result (Vec NamedProgram Global) ScenarioError → Type 0

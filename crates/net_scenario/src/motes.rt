@@ -6,7 +6,7 @@ ghost use Rattle.toml.specs.View.{items_view, table_view};
 ghost use Rattle.net_scenario.specs.Document.{first_some, members_of, tables_in};
 ghost use Rattle.net_scenario.specs.Names.{lengths_fault};
 ghost use Rattle.mote_net.specs.Meaning.{named_tree};
-ghost use Rattle.net_scenario.specs.Reads.{AreInOrder};
+ghost use Rattle.net_scenario.specs.Reads.{AreSortedByName};
 ghost use Rattle.mote_net.specs.Motes.{is_mote_of};
 ghost use Rattle.mote_net.specs.Meaning.{setup_of};
 ghost use Rattle.net_scenario.specs.Net.{mote_of_table, unread_fault};
@@ -19,7 +19,7 @@ use toml::{Table, Value};
 
 /// The index of the program with this name, among programs in byte order of their names.
 fn index_of(programs: &[NamedProgram], name: &str) -> Option<usize>
-    requires are_in_order { AreInOrder programs.now }
+    requires are_in_order { AreSortedByName programs.now }
     ensures position { result ≡ position_from (λ p. bytes_eq p.name name.now) 0 programs.now }
 {
     match programs.binary_search_by(|program| program.name.as_str().cmp(name)) {
@@ -30,7 +30,7 @@ fn index_of(programs: &[NamedProgram], name: &str) -> Option<usize>
 
 /// The mote that a table describes. Its program is among the programs that were read.
 fn mote_of_table(programs: &[NamedProgram], queue: Option<&Table>, table: &Table) -> MoteSetup
-    requires in_order { AreInOrder programs.now }
+    requires in_order { AreSortedByName programs.now }
     requires queue { lengths_fault (members_of queue) ≡ None }
     requires read { unread_fault (map named_tree programs.now) (table_view table.now) ≡ None }
     ensures value { setup_of programs.now result
@@ -54,7 +54,7 @@ pub fn motes_of(
     queue: Option<&Table>,
     items: &[Value],
 ) -> Result<Vec<MoteSetup>, AllocError>
-    requires in_order { AreInOrder programs.now }
+    requires in_order { AreSortedByName programs.now }
     requires queue { lengths_fault (members_of queue) ≡ None }
     requires read { first_some (unread_fault (map named_tree programs.now)) (tables_in (items_view items.now)) ≡ None }
     ensures value { IfOk result (λ v. map (setup_of programs.now) v.items

@@ -1,8 +1,8 @@
 //! The programs of a scenario, in byte order of their names.
 ghost use Rattle.std.specs.Prelude.{◌≡◌, IfOk};
 ghost use Rattle.toml.specs.View.{table_view};
-ghost use Rattle.net_scenario.specs.Programs.{texts_of};
-ghost use Rattle.net_scenario.specs.Reads.{AreInOrder, ReadsProgram, ReadsPrograms};
+ghost use Rattle.net_scenario.specs.Programs.{program_texts};
+ghost use Rattle.net_scenario.specs.Reads.{AreSortedByName, ReadsProgram, ReadsPrograms};
 
 use crate::error::ScenarioError;
 use crate::values::text_of;
@@ -31,8 +31,8 @@ fn read_program(alloc: Global, name: &str, text: &str) -> Result<NamedProgram, S
 /// # Errors
 /// `Program` with the first program that can't be read and its error; `Memory` if an allocation failed.
 pub fn read_programs(alloc: Global, table: &Table) -> Result<Vec<NamedProgram>, ScenarioError>
-    ensures read { ReadsPrograms (texts_of (table_view table.now)) result }
-    ensures in_order { IfOk result (λ programs. AreInOrder programs.items) }
+    ensures read { ReadsPrograms (program_texts (table_view table.now)) result }
+    ensures in_order { IfOk result (λ programs. AreSortedByName programs.items) }
 {
     let mut programs = Vec::new(alloc);
     for (name, value) in table.iter() {

@@ -31,7 +31,7 @@ const PRINT_THEN_YIELD: &str =
 
 /// Closes an inbox, and writes down the copies that are left in it. If an allocation fails, nothing is written.
 fn write_rest<R: Wait>(rt: &R, text: &mut String, inbox: Inbox, taker: Taker)
-    requires inbox { taker.inbox ≡ inbox }
+    requires of_inbox { taker.inbox ≡ inbox }
     requires gathered { AllGathered taker.state }
     requires packets { NoMarkLeft taker.state }
 {

@@ -12,7 +12,7 @@ use Rattle.protothread.specs.declared.thread.Mark.TheVariants.{AtRest, RunAway}
 use Rattle.protothread.specs.Looks.{Looks}
 use Rattle.protothread.specs.Remainder.{before, ended, Remainder, whole_of, fresh_of}
 use Rattle.protothread.specs.Step.{continued, advanced_of}
-use Rattle.process_kernel.specs.State.{State, Goes, ◌>>=◌}
+use Rattle.process_kernel.specs.State.{KernelState, Goes, ◌>>=◌}
 use Rattle.process_kernel.specs.Looks.{looks_of}
 use Rattle.process_kernel.specs.Thread.{Stepped, stepped, stepped_with, stepped_of}
 use Rattle.process_kernel.specs.Calls.{Calls}
@@ -57,7 +57,7 @@ module _ (code : Code) (part : Part) (none : whole_of code part ≡ []) where
       ∙ ap (continued code part e looks ended vars) all
       ∙ goes_on e looks vars units
 
-  steps : (s : State) (p : ℕ) (e : Event) (vars : Option (List ℕ)) → slice_get s.variables p ≡ vars
+  steps : (s : KernelState) (p : ℕ) (e : Event) (vars : Option (List ℕ)) → slice_get s.variables p ≡ vars
       → stepped_with vars s code (fresh_of code part) p e
       ≡ record { step = step.Done Ended; remainder = fresh_of code part; state = s }
   steps s p e None is = refl
@@ -68,14 +68,14 @@ module _ (code : Code) (part : Part) (none : whole_of code part ≡ []) where
       record { step = step.Done Ended; remainder = fresh_of code part; state = record s { variables = v } })
       (written_back s.variables p vars is)
 
-  runs : (calls : Calls) (s : State) (p : ℕ) (e : Event)
+  runs : (calls : Calls) (s : KernelState) (p : ℕ) (e : Event)
       → run_of calls s code (fresh_of code part) p e ≡ Goes (Ended, fresh_of code part) s
   unfolding run_of stepped_of
   runs calls s p e = ap (λ (m : Stepped). after_step calls code p e m.step m.remainder m.state)
       (steps s p e (slice_get s.variables p) refl)
 
   -- a run of this part changes nothing
-  pub nothing_runs : (k : ℕ) (s : State) (p : ℕ) (e : Event) → 0 < k → part_of (calls_of k) s code part p e ≡ Goes tt s
+  pub nothing_runs : (k : ℕ) (s : KernelState) (p : ℕ) (e : Event) → 0 < k → part_of (calls_of k) s code part p e ≡ Goes tt s
   nothing_runs k s p e more =
       ap (λ o. o >>= λ _ s1. Goes tt s1)
       (run_opens s code (fresh_of code part) p e k more ∙ runs (calls_of (k - 1)) s p e)

@@ -6,15 +6,15 @@ use Rattle.program_tree.specs.Code.{Code}
 use Rattle.protothread.specs.declared.part.Part.TheVariants.{Body}
 use Rattle.protothread.specs.Remainder.{fresh_of}
 use Rattle.protothread.specs.declared.thread.Thread.{Thread}
-use Rattle.process_kernel.specs.Views.{body_of, remainders_of}
+use Rattle.process_kernel.specs.Views.{remainder_of_body, remainders_of}
 
 -- fresh threads: nothing of their bodies has run, whatever the code
 abbrev pub AreFresh : List (Option (Box Thread)) → Type 0
 AreFresh [] = Unit {0}
-AreFresh (t ∷ ts) = ((code : Code) → body_of code t ≡ fresh_of code Body) × AreFresh ts
+AreFresh (t ∷ ts) = ((code : Code) → remainder_of_body code t ≡ fresh_of code Body) × AreFresh ts
 
 pub AreFresh-push : (ts : List (Option (Box Thread))) (t : Option (Box Thread)) → AreFresh ts
-    → ((code : Code) → body_of code t ≡ fresh_of code Body) → AreFresh (ts ++ t ∷ [])
+    → ((code : Code) → remainder_of_body code t ≡ fresh_of code Body) → AreFresh (ts ++ t ∷ [])
 AreFresh-push [] t are fresh = (fresh, tt)
 AreFresh-push (u ∷ ts) t are fresh = (are.0, AreFresh-push ts t are.1 fresh)
 

@@ -13,33 +13,33 @@ use Rattle.process_kernel.specs.declared.kernel.KernelError.{KernelError}
 use Rattle.process_kernel.specs.declared.kernel.KernelError.TheVariants as error
 use Rattle.process_kernel.specs.declared.machine.Stop.{Stop}
 use Rattle.process_kernel.specs.declared.machine.Stop.TheVariants.{Halted, Memory}
-use Rattle.process_kernel.specs.State.{State, Outcome}
-use Rattle.process_kernel.specs.Mote.{Mote, at_rest}
+use Rattle.process_kernel.specs.State.{KernelState, Outcome}
+use Rattle.process_kernel.specs.KernelModel.{KernelModel, at_rest}
 use Rattle.process_kernel.specs.Views as views
-use Rattle.process_kernel.specs.Views.{state_of, mote_of, Begins}
-use Rattle.process_kernel.specs.Public.{mote_in, BeginsWith, MatchesOutcome, FailsAs, Closes}
+use Rattle.process_kernel.specs.Views.{kernel_state_of, kernel_model_of, OutBegins}
+use Rattle.process_kernel.specs.Public.{kernel_in, BeginsWith, MatchesOutcome, FailsAs, Closes}
 use Rattle.process_kernel.specs.Given.{Given, given}
 
 -- a kernel that ran out of memory in an earlier call returns `Failed`
-pub failed : (t : Tree) (gives : Mote → List Line → List Sent → Given) (k : Kernel) (out : Out) → k.failed ≡ true
-    → MatchesOutcome gives (mote_in t k) out (Err error.Failed) (mote_in t k) out
-unfolding mote_in
+pub failed : (t : Tree) (gives : KernelModel → List Line → List Sent → Given) (k : Kernel) (out : Out) → k.failed ≡ true
+    → MatchesOutcome gives (kernel_in t k) out (Err error.Failed) (kernel_in t k) out
+unfolding kernel_in
 failed t gives k out is = rw is (refl, refl, refl)
 
 -- a kernel of a mote that has halted
-pub halted : (t : Tree) (gives : Mote → List Line → List Sent → Given) (k : Kernel) (out : Out) → k.failed ≡ false
-    → gives (mote_of t k.machine k.booted k.halted) out.lines.items out.sends.items
+pub halted : (t : Tree) (gives : KernelModel → List Line → List Sent → Given) (k : Kernel) (out : Out) → k.failed ≡ false
+    → gives (kernel_model_of t k.machine k.booted k.halted) out.lines.items out.sends.items
     ≡ record {
       ran = ran.Halted;
-      mote = mote_of t k.machine k.booted k.halted;
+      mote = kernel_model_of t k.machine k.booted k.halted;
       lines = out.lines.items;
       sends = out.sends.items;
     }
-    → MatchesOutcome gives (mote_in t k) out (Ok ran.Halted) (mote_in t k) out
-unfolding mote_in
-halted t gives k out going is = rw going (mote_of t k.machine k.booted k.halted, refl, is)
+    → MatchesOutcome gives (kernel_in t k) out (Ok ran.Halted) (kernel_in t k) out
+unfolding kernel_in
+halted t gives k out going is = rw going (kernel_model_of t k.machine k.booted k.halted, refl, is)
 
-same_given : (r : Ran) (h : Bool) (a b : State) (ls ms : List Line) (ss us : List Sent) → a ≡ b → ms ≡ ls → us ≡ ss
+same_given : (r : Ran) (h : Bool) (a b : KernelState) (ls ms : List Line) (ss us : List Sent) → a ≡ b → ms ≡ ls → us ≡ ss
     → let x : Given = record {
       ran = r;
       mote = record { state = a; booted = true; halted = h };
@@ -55,29 +55,29 @@ same_given : (r : Ran) (h : Bool) (a b : State) (ls ms : List Line) (ss us : Lis
 same_given r h a b ls ms ss us p q u = cc
 
 -- a kernel that was booted or run
-pub finished : (t : Tree) (gives : Mote → List Line → List Sent → Given) (k k1 k2 : Kernel) (out out' : Out)
-    (s1 : State) (o : Outcome ℕ) (r : Result ℕ Stop) (result : Result Ran KernelError)
+pub finished : (t : Tree) (gives : KernelModel → List Line → List Sent → Given) (k k1 k2 : Kernel) (out out' : Out)
+    (s1 : KernelState) (o : Outcome ℕ) (r : Result ℕ Stop) (result : Result Ran KernelError)
     → k.failed ≡ false → k1.failed ≡ false → k1.halted ≡ false
-    → gives (mote_of t k.machine k.booted k.halted) out.lines.items out.sends.items ≡ given o
-    → views.StepMatches r s1 o → at_rest s1 ≡ at_rest (state_of t k1.machine) → out'.lines.items ≡ s1.lines
+    → gives (kernel_model_of t k.machine k.booted k.halted) out.lines.items out.sends.items ≡ given o
+    → views.StepMatches r s1 o → at_rest s1 ≡ at_rest (kernel_state_of t k1.machine) → out'.lines.items ≡ s1.lines
     → out'.sends.items ≡ s1.sends
-    → BeginsWith out out' → Closes k1 r result k2 → MatchesOutcome gives (mote_in t k) out result (mote_in t k2) out'
-unfolding mote_in
+    → BeginsWith out out' → Closes k1 r result k2 → MatchesOutcome gives (kernel_in t k) out result (kernel_in t k2) out'
+unfolding kernel_in
 finished t gives k k1 k2 out out' s1 o (Ok left) result going going1 running gives_it matches rest ls ss begins closes =
     rw (going, closes.0, closes.1, going1, running) (
-      mote_of t k1.machine true false,
+      kernel_model_of t k1.machine true false,
       refl,
       gives_it ∙ ap given matches
           ∙ same_given (ran.Left left) false (at_rest s1)
-          (at_rest (state_of t k1.machine)) s1.lines out'.lines.items s1.sends out'.sends.items rest ls ss,
+          (at_rest (kernel_state_of t k1.machine)) s1.lines out'.lines.items s1.sends out'.sends.items rest ls ss,
     )
 finished t gives k k1 k2 out out' s1 o (Err Halted) result going going1 running gives_it matches rest ls ss begins closes =
     rw (going, closes.0, closes.1, going1) (
-      mote_of t k1.machine true true,
+      kernel_model_of t k1.machine true true,
       refl,
       gives_it ∙ ap given matches
           ∙ same_given ran.Halted true (at_rest s1)
-          (at_rest (state_of t k1.machine)) s1.lines out'.lines.items s1.sends out'.sends.items rest ls ss,
+          (at_rest (kernel_state_of t k1.machine)) s1.lines out'.lines.items s1.sends out'.sends.items rest ls ss,
     )
 finished t gives k k1 k2 out out' s1 o (Err Memory) result going going1 running gives_it matches rest ls ss begins closes =
     rw (going, closes.0, closes.1) (refl, refl, begins)
@@ -91,8 +91,8 @@ machine_kept k1 k2 (Err Memory) result closes = ap (λ (k : Kernel). k.machine) 
 
 -- the current output begins with the earlier output
 pub begins_with : (old new : Out)
-    → ((lines : List Line) (sends : List Sent) → Begins lines sends old → Begins lines sends new) → BeginsWith old new
-unfolding Begins
+    → ((lines : List Line) (sends : List Sent) → OutBegins lines sends old → OutBegins lines sends new) → BeginsWith old new
+unfolding OutBegins
 begins_with old new grows =
     let b = grows old.lines.items old.sends.items
     (([], sym (append-nil old.lines.items)), ([], sym (append-nil old.sends.items))) in
@@ -119,17 +119,17 @@ begins_further a b c h g = record {
 }
 
 -- a mote that had not failed earlier has still not failed, and the current output begins with the earlier output
-abbrev pub GoesOnSoFar : Option Mote → Out → Option Mote → Out → Type 0
+abbrev pub GoesOnSoFar : Option KernelModel → Out → Option KernelModel → Out → Type 0
 GoesOnSoFar None out now out' = (now ≡ None) × (out' ≡ out)
-GoesOnSoFar (Some m) out now out' = ((m' : Mote) × (now ≡ Some m')) × BeginsWith out out'
+GoesOnSoFar (Some m) out now out' = ((m' : KernelModel) × (now ≡ Some m')) × BeginsWith out out'
 
-pub so_far_none : (m : Option Mote) (out : Out) → GoesOnSoFar m out m out
+pub so_far_none : (m : Option KernelModel) (out : Out) → GoesOnSoFar m out m out
 so_far_none None out = (refl, refl)
 so_far_none (Some m) out = ((m, refl), begins_same out)
 
 -- one more call that returned no error
-pub so_far_next : (gives : Mote → List Line → List Sent → Given) (old : Option Mote) (out : Out) (now : Option Mote)
-    (out1 : Out) (r : Ran) (new : Option Mote) (out2 : Out)
+pub so_far_next : (gives : KernelModel → List Line → List Sent → Given) (old : Option KernelModel) (out : Out) (now : Option KernelModel)
+    (out1 : Out) (r : Ran) (new : Option KernelModel) (out2 : Out)
     → GoesOnSoFar old out now out1 → MatchesOutcome gives now out1 (Ok r) new out2 → BeginsWith out1 out2
     → GoesOnSoFar old out new out2
 so_far_next gives None out None out1 r new out2 so_far matches more = let failed = matches.0 in cc
@@ -139,8 +139,8 @@ so_far_next gives (Some m) out (Some m1) out1 r new out2 so_far matches more =
     ((matches.0, matches.1), begins_further out out1 out2 so_far.1 more)
 
 -- one more call that returned an error
-pub so_far_fails : (gives : Mote → List Line → List Sent → Given) (old : Option Mote) (out : Out)
-    (now : Option Mote) (out1 : Out) (e : KernelError) (new : Option Mote) (out2 : Out)
+pub so_far_fails : (gives : KernelModel → List Line → List Sent → Given) (old : Option KernelModel) (out : Out)
+    (now : Option KernelModel) (out1 : Out) (e : KernelError) (new : Option KernelModel) (out2 : Out)
     → GoesOnSoFar old out now out1 → MatchesOutcome gives now out1 (Err e) new out2 → FailsAs old out e new out2
 so_far_fails gives None out None out1 e new out2 so_far matches = ((let failed = matches.0 in cc), matches.1, matches.2 ∙ so_far.1)
 so_far_fails gives None out (Some m) out1 e new out2 so_far matches = let none = so_far.0 in cc

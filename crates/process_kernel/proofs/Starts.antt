@@ -7,7 +7,7 @@ use Rattle.program_tree.specs.declared.event.Proc.TheVariants.{Own, Etimer, Ctim
 use Rattle.process_kernel.specs.declared.process.ProcessState.{ProcessState}
 use Rattle.process_kernel.specs.declared.process.ProcessState.TheVariants.{Off, Running}
 use Rattle.process_kernel.specs.Members.{place_of}
-use Rattle.process_kernel.specs.State.{State, Outcome, Ends, Goes}
+use Rattle.process_kernel.specs.State.{KernelState, Outcome, Ends, Goes}
 use Rattle.process_kernel.specs.Writes.{write_of}
 use Rattle.process_kernel.specs.Processes.{is_running_state, state_at, with_state}
 use Rattle.process_kernel.specs.ProcessList.{enlist_of}
@@ -16,7 +16,7 @@ pub on_ok_both : {A E : Type 0} (r : Result A E) (P P' Q : Type 0) → OnOk r P 
 on_ok_both (Ok a) P P' Q p p' f = f p p'
 on_ok_both (Err e) P P' Q p p' f = tt
 
-abbrev after : {A : Type 0} → Outcome A → State
+abbrev after : {A : Type 0} → Outcome A → KernelState
 after (Ends s) = s
 after (Goes a s) = s
 
@@ -26,14 +26,14 @@ written [] i x d h = absurd (omega arith)
 written (y ∷ ys) zero x d h = refl
 written (y ∷ ys) (suc i) x d h = written ys i x d (omega arith)
 
-states : (s : State) (p : Proc) → (after (enlist_of s p)).states ≡ slice_set s.states (place_of p) Running
+states : (s : KernelState) (p : Proc) → (after (enlist_of s p)).states ≡ slice_set s.states (place_of p) Running
 unfolding enlist_of write_of with_state
 states s (Own p) = refl
 states s Etimer = refl
 states s Ctimer = refl
 states s Radio = refl
 
-pub enlisted_runs : (s s1 : State) (p : Proc) → place_of p < length s.states → enlist_of s p ≡ Goes tt s1
+pub enlisted_runs : (s s1 : KernelState) (p : Proc) → place_of p < length s.states → enlist_of s p ≡ Goes tt s1
     → IsTrue (is_running_state (state_at s1.states p))
 enlisted_runs s s1 p within is =
     let same : s1.states ≡ slice_set s.states (place_of p) Running =

@@ -12,10 +12,10 @@ use Rattle.program_tree.specs.declared.event.SystemEvent.TheVariants.{Timer}
 use Rattle.mote_timers.specs.Numbers.{is_member, without_member}
 use Rattle.mote_timers.specs.Timer.{is_due}
 use Rattle.mote_timers.specs.TimerLists.{TimerLists, timer_at, stop_timer}
-use Rattle.mote_timers.specs.DueTimers.{behind, first_due}
+use Rattle.mote_timers.specs.DueTimers.{members_after, first_due}
 use Rattle.process_kernel.specs.declared.machine.Stop.{Stop}
 use Rattle.process_kernel.specs.declared.machine.Stop.TheVariants.{Halted, Memory}
-use Rattle.process_kernel.specs.State.{State, Outcome, Went, Goes, ◌>>=◌}
+use Rattle.process_kernel.specs.State.{KernelState, Outcome, Went, Goes, ◌>>=◌}
 use Rattle.process_kernel.specs.Posts.{post_of, poll_of}
 use Rattle.process_kernel.specs.Calls.{own_event}
 use Rattle.process_kernel.specs.Etimer.{fired_of, post_due, walk_timers, walks_of}
@@ -76,8 +76,8 @@ module _ (x a : ℕ) where
       (subst (λ l. P (cond (k == x) ks (after x ks)) l) (sym (after_first-cons a k ks))
       (rest_cons k ks (rest_behind ks))) h
 
-pub behind_rest : (after : Option ℕ) (ks : List ℕ) (x : ℕ) → length (behind (Some x) ks) < length (behind after ks)
-    → behind (Some x) ks ≡ after_first (λ o. o == x) (behind after ks)
+pub behind_rest : (after : Option ℕ) (ks : List ℕ) (x : ℕ) → length (members_after (Some x) ks) < length (members_after after ks)
+    → members_after (Some x) ks ≡ after_first (λ o. o == x) (members_after after ks)
 behind_rest None ks x h = refl
 behind_rest (Some a) ks x h = rest_behind x a ks h
 
@@ -87,7 +87,7 @@ passes p (k ∷ ks) x found =
     cond_both (p k) (Some k) (find p ks) (λ (o : Option ℕ). o ≡ Some x → p x ≡ true)
     (λ holds here. let same : k ≡ x = cc in rw (← same) holds) (λ _ there. passes p ks x there) found
 
-module _ (again : State → Went) (s : State) where
+module _ (again : KernelState → Went) (s : KernelState) where
   abbrev due : ℕ → Bool
   due t = is_due s.moment (timer_at s.timers.timers t)
 
@@ -118,7 +118,7 @@ module _ (again : State → Went) (s : State) where
       (λ holds here. cc) (λ fails there. rw fails (walk_none ts there)) found
 
 -- walks of which the first begins at the front of the list
-pub record Begun (n : ℕ) (s : State) : Type 0 where
+pub record Begun (n : ℕ) (s : KernelState) : Type 0 where
   pub left : ℕ
   pub enough : length s.timers.listed ≤ left + 1
   pub walks : walks_of n s ≡ walk_timers (walks_of left) s.timers.listed s
@@ -127,53 +127,53 @@ empty : (ks : List ℕ) → length ks ≤ 0 → ks ≡ []
 empty [] h = refl
 empty (k ∷ ks) h = absurd (omega arith)
 
-pub begin : (n : ℕ) (s : State) → length s.timers.listed ≤ n → Begun n s
+pub begin : (n : ℕ) (s : KernelState) → length s.timers.listed ≤ n → Begun n s
 begin zero s h = record { left = zero; enough = omega arith; walks = rw (empty s.timers.listed h) refl }
 begin (suc n) s h = record { left = n; enough = omega arith; walks = refl }
 
 -- after a halt no later step is taken
-pub halts_through : (A B : Type 0) (stop : Stop) (new : State) (o : Outcome A) (f : A → State → Outcome B)
+pub halts_through : (A B : Type 0) (stop : Stop) (new : KernelState) (o : Outcome A) (f : A → KernelState → Outcome B)
     → StepMatches {A = A} (Err stop) new o → StepMatches {A = B} (Err stop) new (o >>= f)
 halts_through A B Halted new o f is = ap (λ x. x >>= f) is
 halts_through A B Memory new o f is = tt
 
 -- the first timer that was found due, and its owner
-pub record Found (s : State) (after : Option ℕ) (x : ℕ) (o : Proc) : Type 0 where
+pub record Found (s : KernelState) (after : Option ℕ) (x : ℕ) (o : Proc) : Type 0 where
   pub first : Some x ≡ first_due s.timers s.moment after
   pub owner : (timer_at s.timers.timers x).owner ≡ Some o
 
-module _ (s : State) (after : Option ℕ) (x : ℕ) (o : Proc) (left : ℕ) (at : Found s after x o) where
-  pub step : walk_timers (walks_of left) (behind after s.timers.listed) s
+module _ (s : KernelState) (after : Option ℕ) (x : ℕ) (o : Proc) (left : ℕ) (at : Found s after x o) where
+  pub step : walk_timers (walks_of left) (members_after after s.timers.listed) s
       ≡ (post_of s (One o) (own_event Timer x)
       >>= λ full s1. if full
-      then walk_timers (walks_of left) (after_first (λ y. y == x) (behind after s.timers.listed))
+      then walk_timers (walks_of left) (after_first (λ y. y == x) (members_after after s.timers.listed))
       (poll_of s1 Etimer) else walks_of left (fired_of s1 x))
   unfolding first_due
   step =
-      walk_found (walks_of left) s (behind after s.timers.listed) x (sym at.first)
+      walk_found (walks_of left) s (members_after after s.timers.listed) x (sym at.first)
       ∙ ap (post_due (walks_of left)
-      (walk_timers (walks_of left) (after_first (λ y. y == x) (behind after s.timers.listed))) s x) at.owner
+      (walk_timers (walks_of left) (after_first (λ y. y == x) (members_after after s.timers.listed))) s x) at.owner
 
-  pub full_step : (s1 s2 : State) → post_of s (One o) (own_event Timer x) ≡ Goes true s1 → s2 ≡ poll_of s1 Etimer
+  pub full_step : (s1 s2 : KernelState) → post_of s (One o) (own_event Timer x) ≡ Goes true s1 → s2 ≡ poll_of s1 Etimer
       → s2.timers ≡ s.timers
-      → length (behind (Some x) s.timers.listed) < length (behind after s.timers.listed)
-      → walk_timers (walks_of left) (behind after s.timers.listed) s
-      ≡ walk_timers (walks_of left) (behind (Some x) s2.timers.listed) s2
+      → length (members_after (Some x) s.timers.listed) < length (members_after after s.timers.listed)
+      → walk_timers (walks_of left) (members_after after s.timers.listed) s
+      ≡ walk_timers (walks_of left) (members_after (Some x) s2.timers.listed) s2
   full_step s1 s2 full polled same nearer =
-      let rest : behind (Some x) s2.timers.listed ≡ after_first (λ y. y == x) (behind after s.timers.listed) =
-      ap (λ (t : TimerLists). behind (Some x) t.listed) same ∙ behind_rest after s.timers.listed x nearer in
+      let rest : members_after (Some x) s2.timers.listed ≡ after_first (λ y. y == x) (members_after after s.timers.listed) =
+      ap (λ (t : TimerLists). members_after (Some x) t.listed) same ∙ behind_rest after s.timers.listed x nearer in
       step ∙ rw full (rw (rest, ← polled) refl)
 
-  pub fired_step : (s1 s2 : State) → post_of s (One o) (own_event Timer x) ≡ Goes false s1 → s2 ≡ fired_of s1 x
+  pub fired_step : (s1 s2 : KernelState) → post_of s (One o) (own_event Timer x) ≡ Goes false s1 → s2 ≡ fired_of s1 x
       → length s2.timers.listed ≤ left
       → (more : ℕ) × (length s2.timers.listed ≤ more + 1)
-      × (walk_timers (walks_of left) (behind after s.timers.listed) s
+      × (walk_timers (walks_of left) (members_after after s.timers.listed) s
       ≡ walk_timers (walks_of more) s2.timers.listed s2)
   fired_step s1 s2 room fired fewer =
       let b = begin left s2 fewer in (b.left, b.enough, step ∙ rw (room, ← fired) b.walks)
 
-  pub halt_step : (stop : Stop) (new : State) → StepMatches {A = Bool} (Err stop) new (post_of s (One o) (own_event Timer x))
-      → StepMatches {A = Unit {0}} (Err stop) new (walk_timers (walks_of left) (behind after s.timers.listed) s)
+  pub halt_step : (stop : Stop) (new : KernelState) → StepMatches {A = Bool} (Err stop) new (post_of s (One o) (own_event Timer x))
+      → StepMatches {A = Unit {0}} (Err stop) new (walk_timers (walks_of left) (members_after after s.timers.listed) s)
   halt_step stop new is = rw step (halts_through Bool (Unit {0}) stop new (post_of s (One o) (own_event Timer x)) _ is)
 
 few : (f : ℕ → Bool) (ks : List ℕ) → length (filter f ks) ≤ length ks

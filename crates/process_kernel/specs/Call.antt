@@ -6,7 +6,7 @@ use Rattle.program_tree.specs.declared.event.SystemEvent.TheVariants.{Exit}
 use Rattle.protothread.specs.declared.answer.PtState.{PtState}
 use Rattle.protothread.specs.declared.answer.PtState.TheVariants.{Waiting, Yielded, Exited, Ended}
 use Rattle.process_kernel.specs.declared.process.ProcessState.TheVariants.{Running, Called}
-use Rattle.process_kernel.specs.State.{State, Went, Ends, Goes, ◌>>=◌}
+use Rattle.process_kernel.specs.State.{KernelState, Went, Ends, Goes, ◌>>=◌}
 use Rattle.process_kernel.specs.Processes.{is_running, with_state}
 use Rattle.process_kernel.specs.Writes.{spend_of, halted_of}
 use Rattle.process_kernel.specs.Calls.{Calls, is_system_event}
@@ -21,11 +21,11 @@ has_ended Exited = true
 has_ended Ended = true
 
 -- after its answer, a process is exited on its own behalf, or is running again
-unfoldable pub answered : Calls → State → Proc → (ended : Bool) → Went
+unfoldable pub answered : Calls → KernelState → Proc → (ended : Bool) → Went
 answered calls s p ended = if ended then exit_of calls s p p else Goes tt (with_state s p Running)
 
 -- A running process is called, which costs a unit of work. If the process isn't running, nothing happens.
-unfoldable pub call_of : Calls → State → Proc → Event → Went
+unfoldable pub call_of : Calls → KernelState → Proc → Event → Went
 call_of calls s p e =
     if is_running s p then (spend_of s >>= λ _ s1. react_of calls (with_state s1 p Called) p e >>= λ answer s2.
     answered calls s2 p (has_ended answer || is_system_event Exit e))

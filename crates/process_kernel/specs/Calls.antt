@@ -9,7 +9,7 @@ use Rattle.protothread.specs.declared.answer.PtState.{PtState}
 use Rattle.protothread.specs.Remainder.{Remainder}
 use Rattle.process_kernel.specs.declared.process.Member.{Member}
 use Rattle.process_kernel.specs.Members.{is_same}
-use Rattle.process_kernel.specs.State.{State, Outcome, Went, Goes, ◌>>=◌}
+use Rattle.process_kernel.specs.State.{KernelState, Outcome, Went, Goes, ◌>>=◌}
 use Rattle.process_kernel.specs.Processes.{is_on_list}
 
 -- an event of the kernel itself, with a word
@@ -26,11 +26,11 @@ Answer = PtState × Remainder
 -- The calls that a rule may make: the call of a process with an event, and the run of a thread of a process up to its
 -- answer.
 pub record Calls : Type 0 where
-  pub call : State → Proc → Event → Went
-  pub run : State → Code → Remainder → (process : ℕ) → Event → Outcome Answer
+  pub call : KernelState → Proc → Event → Went
+  pub run : KernelState → Code → Remainder → (process : ℕ) → Event → Outcome Answer
 
 -- calls each of these incarnations that is on the process list when its turn comes, except those of one process
-abbrev pub walk_of : Calls → Event → (skipped : Proc) → List Member → State → Went
+abbrev pub walk_of : Calls → Event → (skipped : Proc) → List Member → KernelState → Went
 walk_of calls e skipped [] s = Goes tt s
 walk_of calls e skipped (m ∷ ms) s =
     (if not (is_same m.process skipped) && is_on_list s m then calls.call s m.process e else Goes tt s)

@@ -5,12 +5,12 @@ use Rattle.program_tree.specs.declared.event.SystemEvent.TheVariants.{Timer}
 use Rattle.protothread.specs.declared.part.Part.TheVariants.{Callback}
 use Rattle.protothread.specs.Remainder.{fresh_of}
 use Rattle.mote_timers.specs.Numbers.{is_member, without_member}
-use Rattle.process_kernel.specs.State.{State, Went, Goes, ◌>>=◌}
+use Rattle.process_kernel.specs.State.{KernelState, Went, Goes, ◌>>=◌}
 use Rattle.process_kernel.specs.TimerOperations.{has_timer}
 use Rattle.process_kernel.specs.Calls.{Calls, is_system_event}
 
 -- the callback of this timer runs on behalf of the timer's process
-unfoldable pub callback_of : Calls → State → Event → Went
+unfoldable pub callback_of : Calls → KernelState → Event → Went
 callback_of calls s e =
     elim (slice_get s.program.timers e.word) [
       | None ↦ Goes tt s
@@ -21,11 +21,11 @@ callback_of calls s e =
     ]
 
 -- the callback of this timer waits for the timer
-abbrev pub waits_for : State → (timer : ℕ) → Bool
+abbrev pub waits_for : KernelState → (timer : ℕ) → Bool
 waits_for s timer = has_timer s timer && is_member timer s.callbacks
 
 -- a callback that waits for its timer is removed from the callback list and runs
-unfoldable pub ctimer_of : Calls → State → Event → Went
+unfoldable pub ctimer_of : Calls → KernelState → Event → Went
 ctimer_of calls s e =
     if is_system_event Timer e && waits_for s e.word
     then callback_of calls (record s { callbacks = without_member e.word s.callbacks }) e

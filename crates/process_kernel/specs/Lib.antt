@@ -13,7 +13,7 @@ pub mod Kill
 pub mod Laws
 pub mod Looks
 pub mod Members
-pub mod Mote
+pub mod KernelModel
 pub mod Operation
 pub mod Polls
 pub mod Posts

@@ -4,7 +4,7 @@ use Rattle.protothread.specs.Looks.{Looks}
 use Rattle.mote_timers.specs.declared.timer.Timer.{Timer}
 use Rattle.process_kernel.specs.declared.process.ProcessState.{ProcessState}
 use Rattle.process_kernel.specs.Processes.{is_alive}
-use Rattle.process_kernel.specs.State.{State}
+use Rattle.process_kernel.specs.State.{KernelState}
 
 abbrev pub is_unowned : Timer → Bool
 is_unowned t = elim t.owner [ Some p ↦ false | None ↦ true ]
@@ -25,5 +25,5 @@ looks_at moment mote timers states semaphores = record {
   counts = semaphores;
 }
 
-abbrev pub looks_of : State → Looks
+abbrev pub looks_of : KernelState → Looks
 looks_of s = looks_at s.moment s.mote s.timers.timers s.states s.semaphores

@@ -11,7 +11,7 @@ use Rattle.protothread.specs.declared.step.Step.TheVariants as step
 use Rattle.protothread.specs.Remainder.{Remainder}
 use Rattle.protothread.specs.Step.{answered_of}
 use Rattle.trace_lines.specs.declared.line.What.TheVariants as what
-use Rattle.process_kernel.specs.State.{State, Outcome, Went, Ends, Goes, ◌>>=◌}
+use Rattle.process_kernel.specs.State.{KernelState, Outcome, Went, Ends, Goes, ◌>>=◌}
 use Rattle.process_kernel.specs.Posts.{post_of, poll_of, send_of}
 use Rattle.process_kernel.specs.TimerOperations.{set_of, reset_of, restart_of, stop_of}
 use Rattle.process_kernel.specs.Writes.{write_of, halted_of}
@@ -20,10 +20,10 @@ use Rattle.process_kernel.specs.Calls.{Calls, Answer}
 use Rattle.process_kernel.specs.Start.{start_of}
 use Rattle.process_kernel.specs.Kill.{kill_of}
 
-unfoldable pub take_of : State → ℕ → State
+unfoldable pub take_of : KernelState → ℕ → KernelState
 take_of s k = record s { semaphores = slice_set s.semaphores k (slice_index s.semaphores k - 1) }
 
-unfoldable pub signal_of : State → ℕ → State
+unfoldable pub signal_of : KernelState → ℕ → KernelState
 signal_of s k = record s { semaphores = slice_set s.semaphores k ((slice_index s.semaphores k + 1) % 2 ^ 16) }
 
 -- an event that a program posts has no sender
@@ -33,7 +33,7 @@ posted number word = record { number = number; word = word; sender = 0 }
 -- An operation without a result, for the current process: the process whose body, handler or callback is being
 -- executed. Only a post has a result, so `perform_of` performs it. Its line here is never used, and only makes the
 -- definition total.
-unfoldable pub act_of : Calls → State → (current : ℕ) → Op → Went
+unfoldable pub act_of : Calls → KernelState → (current : ℕ) → Op → Went
 act_of calls s current (op.Post t e w) = Goes tt s
 act_of calls s current (op.Synch p e w) = calls.call s p (posted e w)
 act_of calls s current (op.Poll p) = Goes tt (poll_of s p)
@@ -49,26 +49,26 @@ act_of calls s current (op.Take k) = Goes tt (take_of s k)
 act_of calls s current (op.Signal k) = Goes tt (signal_of s k)
 
 -- a thread is informed whether the queue was full
-abbrev pub answered_with : Option (List ℕ) → State → Remainder → (process : ℕ) → (answer : ℕ) → Outcome Remainder
+abbrev pub answered_with : Option (List ℕ) → KernelState → Remainder → (process : ℕ) → (answer : ℕ) → Outcome Remainder
 answered_with (Some variables) s r p answer =
     let a = answered_of r variables answer in
     Goes a.remainder (record s { variables = slice_set s.variables p a.variables })
 answered_with None s r p answer = Goes r s
 
-unfoldable pub answer_of : State → Remainder → (process : ℕ) → Bool → Outcome Remainder
+unfoldable pub answer_of : KernelState → Remainder → (process : ℕ) → Bool → Outcome Remainder
 answer_of s r p full = answered_with (slice_get s.variables p) s r p (if full then 1 else 0)
 
 -- an operation is performed; the thread changes only if it gets the result of a post
-unfoldable pub perform_of : Calls → State → Remainder → (current : ℕ) → Op → Outcome Remainder
+unfoldable pub perform_of : Calls → KernelState → Remainder → (current : ℕ) → Op → Outcome Remainder
 perform_of calls s r current (op.Post t e w) = post_of s t (posted e w) >>= λ full s1. answer_of s1 r current full
 perform_of calls s r current o = act_of calls s current o >>= λ _ s1. Goes r s1
 
 -- the effect of a step of a thread
-abbrev pub after_step : Calls → Code → (process : ℕ) → Event → Step → Remainder → State → Outcome Answer
+abbrev pub after_step : Calls → Code → (process : ℕ) → Event → Step → Remainder → KernelState → Outcome Answer
 after_step calls code p e (step.Op o) r s = perform_of calls s r p o >>= λ r1 s1. calls.run s1 code r1 p e
 after_step calls code p e (step.Done answer) r s = Goes (answer, r) s
 after_step calls code p e step.Runaway r s = Ends (halted_of s)
 
 -- a thread runs up to its answer: it waits, yields, exits or ends
-unfoldable pub run_of : Calls → State → Code → Remainder → (process : ℕ) → Event → Outcome Answer
+unfoldable pub run_of : Calls → KernelState → Code → Remainder → (process : ℕ) → Event → Outcome Answer
 run_of calls s code r p e = let m = stepped_of s code r p e in after_step calls code p e m.step m.remainder m.state

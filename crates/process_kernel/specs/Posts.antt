@@ -5,13 +5,13 @@ use Rattle.program_tree.specs.declared.event.Target.{Target}
 use Rattle.program_tree.specs.declared.event.Event.{Event}
 use Rattle.event_queue.specs.Queue.{with_posted}
 use Rattle.trace_lines.specs.declared.line.What.TheVariants as what
-use Rattle.process_kernel.specs.State.{State, Outcome, Went, Ends, Goes, ◌>>=◌}
+use Rattle.process_kernel.specs.State.{KernelState, Outcome, Went, Ends, Goes, ◌>>=◌}
 use Rattle.process_kernel.specs.Processes.{process_state, is_alive, with_needs_poll}
 use Rattle.process_kernel.specs.Writes.{write_of, halted_of}
 
 -- An event is posted. The result is whether the queue was full. A mote that has accepted 2 to the power of 62 events
 -- halts.
-unfoldable pub post_of : State → Target → Event → Outcome Bool
+unfoldable pub post_of : KernelState → Target → Event → Outcome Bool
 post_of s t e =
     if nat_le (2 ^ 62) s.queue.accepted then Ends (halted_of s)
     else (if nat_le s.queue.capacity (length s.queue.events)
@@ -20,11 +20,11 @@ post_of s t e =
     >>= λ _ s1. Goes false s1))
 
 -- a process that is running or called is to be polled
-unfoldable pub poll_of : State → Proc → State
+unfoldable pub poll_of : KernelState → Proc → KernelState
 poll_of s p = if is_alive (process_state s p) then record (with_needs_poll s p true) { poll_requested = true } else s
 
 -- a packet is sent; a mote that has sent 2 to the power of 62 packets halts
-unfoldable pub send_of : State → ℕ → Went
+unfoldable pub send_of : KernelState → ℕ → Went
 send_of s value =
     if nat_le (2 ^ 62) s.sent then Ends (halted_of s)
     else write_of (record s {

@@ -9,12 +9,12 @@ use Rattle.trace_lines.specs.declared.line.What.TheVariants as what
 use Rattle.process_kernel.specs.declared.process.ProcessState.TheVariants.{Off, Running}
 use Rattle.process_kernel.specs.declared.process.Member.{Member}
 use Rattle.process_kernel.specs.Members.{is_same}
-use Rattle.process_kernel.specs.State.{State, Went}
+use Rattle.process_kernel.specs.State.{KernelState, Went}
 use Rattle.process_kernel.specs.Processes.{with_state, with_exiting}
 use Rattle.process_kernel.specs.Writes.{write_of}
 
 -- the remainder of the body of a process
-unfoldable pub put_remainder : State → (process : ℕ) → Remainder → State
+unfoldable pub put_remainder : KernelState → (process : ℕ) → Remainder → KernelState
 put_remainder s p r = record s { remainders = slice_set s.remainders p r }
 
 -- the process with this number has its whole body before it again
@@ -24,17 +24,17 @@ fresh_at (c ∷ cs) [] p = []
 fresh_at (c ∷ cs) (r ∷ rs) zero = fresh_of c Body ∷ rs
 fresh_at (c ∷ cs) (r ∷ rs) (suc p) = r ∷ fresh_at cs rs p
 
-abbrev pub with_fresh_body : State → (process : ℕ) → State
+abbrev pub with_fresh_body : KernelState → (process : ℕ) → KernelState
 with_fresh_body s p = record s { remainders = fresh_at s.program.codes s.remainders p }
 
-abbrev pub with_fresh_process : State → Proc → State
+abbrev pub with_fresh_process : KernelState → Proc → KernelState
 with_fresh_process s (Own p) = with_fresh_body s p
 with_fresh_process s Etimer = s
 with_fresh_process s Ctimer = s
 with_fresh_process s Radio = s
 
 -- a new incarnation is put at the front of the list; it is running, and its body is fresh
-unfoldable pub enlist_of : State → Proc → Went
+unfoldable pub enlist_of : KernelState → Proc → Went
 enlist_of s p =
     write_of (with_fresh_process (with_state (record s {
       members = record { process = p; incarnation = s.started } ∷ s.members;
@@ -42,14 +42,14 @@ enlist_of s p =
     }) p Running) p) (what.Start p)
 
 -- the exit of the process has begun
-unfoldable pub exiting_of : State → Proc → State
+unfoldable pub exiting_of : KernelState → Proc → KernelState
 exiting_of s p = with_exiting (with_state s p Off) p true
 
-unfoldable pub unlisted_of : State → Proc → State
+unfoldable pub unlisted_of : KernelState → Proc → KernelState
 unlisted_of s p = record s { members = filter (λ m. not (is_same m.process p)) s.members }
 
 -- the process leaves the list, and its exit has ended
-unfoldable pub leave_of : State → Proc → Went
+unfoldable pub leave_of : KernelState → Proc → Went
 leave_of s p = write_of (unlisted_of (with_exiting s p false) p) (what.Leave p)
 
 -- the same list, with its incarnations numbered from k on

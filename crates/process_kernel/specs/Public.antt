@@ -12,28 +12,29 @@ use Rattle.process_kernel.specs.declared.kernel.KernelError.{KernelError}
 use Rattle.process_kernel.specs.declared.kernel.KernelError.TheVariants as error
 use Rattle.process_kernel.specs.declared.machine.Stop.{Stop}
 use Rattle.process_kernel.specs.declared.machine.Stop.TheVariants as stop
-use Rattle.process_kernel.specs.Mote.{Mote}
+use Rattle.process_kernel.specs.KernelModel.{KernelModel}
 use Rattle.process_kernel.specs.Given.{Given}
-use Rattle.process_kernel.specs.Views.{mote_of}
+use Rattle.process_kernel.specs.Views.{kernel_model_of}
 
 -- The mote that a kernel with this program represents. A kernel that ran out of memory represents none. The remainders
 -- of the kernel's threads depend on the program.
-unfoldable pub mote_in : Tree → Kernel → Option Mote
-mote_in program k = if k.failed then None else Some (mote_of program k.machine k.booted k.halted)
+unfoldable pub kernel_in : Tree → Kernel → Option KernelModel
+kernel_in program k = if k.failed then None else Some (kernel_model_of program k.machine k.booted k.halted)
 
 -- A boot or a run has the outcome of the definition, or runs out of memory; in that case there is no mote from then
 -- on.
-abbrev pub MatchesOutcome : (Mote → List Line → List Sent → Given) → Option Mote → Out → Result Ran KernelError
-    → Option Mote → Out → Type 0
+abbrev pub MatchesOutcome : (KernelModel → List Line → List Sent → Given) → Option KernelModel → Out
+    → Result Ran KernelError
+    → Option KernelModel → Out → Type 0
 MatchesOutcome gives None out result new out' = (result ≡ Err error.Failed) × (new ≡ None) × (out' ≡ out)
 MatchesOutcome gives (Some m) out (Ok r) new out' =
-    (m' : Mote) × (new ≡ Some m') × (gives m out.lines.items out.sends.items
+    (m' : KernelModel) × (new ≡ Some m') × (gives m out.lines.items out.sends.items
     ≡ record { ran = r; mote = m'; lines = out'.lines.items; sends = out'.sends.items })
 MatchesOutcome gives (Some m) out (Err e) new out' = (e ≡ error.Memory) × (new ≡ None) × BeginsWith out out'
 
 -- After an error: if the kernel had failed before, the error is `Failed`, and nothing changes. Otherwise the kernel
 -- ran out of memory: there is no mote from then on, and everything that was written before is still there.
-abbrev pub FailsAs : Option Mote → Out → KernelError → Option Mote → Out → Type 0
+abbrev pub FailsAs : Option KernelModel → Out → KernelError → Option KernelModel → Out → Type 0
 FailsAs None out e new out' = (e ≡ error.Failed) × (new ≡ None) × (out' ≡ out)
 FailsAs (Some m) out e new out' = (e ≡ error.Memory) × (new ≡ None) × BeginsWith out out'
 

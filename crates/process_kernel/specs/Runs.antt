@@ -3,7 +3,7 @@ use Rattle.std.specs.Prelude.{ℕ, zero, suc}
 use Rattle.process_kernel.specs.declared.kernel.Ran.{Ran}
 use Rattle.process_kernel.specs.declared.kernel.Ran.TheVariants as ran
 use Rattle.process_kernel.specs.Given.{run_given}
-use Rattle.process_kernel.specs.Underway.{Underway, after}
+use Rattle.process_kernel.specs.Underway.{Underway, underway_after}
 
 -- a run that leaves work is followed by the others
 abbrev pub follow : Ran → (others : Underway → Underway) → Underway → Underway
@@ -15,4 +15,4 @@ follow (ran.Left (suc n)) others u = others u
 unfoldable pub runs_of : (most : ℕ) → (moment : ℕ) → Underway → Underway
 runs_of zero moment u = u
 runs_of (suc most) moment u =
-    let given = run_given moment u.mote u.lines u.sends in follow given.ran (runs_of most moment) (after given)
+    let given = run_given moment u.mote u.lines u.sends in follow given.ran (runs_of most moment) (underway_after given)

@@ -16,7 +16,7 @@ use Rattle.radio_packet.specs.declared.sent.Sent.{Sent}
 -- requested; the event queue; the counts of the semaphores; the timers with the timer list; the callback list; the
 -- packets in the receive ring; the number of packets that were sent; the moment. For the current run: the number of
 -- units of work that are left, and the lines and packets so far.
-pub record State : Type 0 where
+pub record KernelState : Type 0 where
   pub program : Tree
   pub mote : ℕ
   pub states : List ProcessState
@@ -40,12 +40,12 @@ pub record State : Type 0 where
 
 -- the end of a step: the mote halts, or it continues with a result
 pub data Outcome (A : Type 0) : Type 0 where
-  Ends : State → Outcome A
-  Goes : A → State → Outcome A
+  Ends : KernelState → Outcome A
+  Goes : A → KernelState → Outcome A
 
 -- the next step, unless the mote has halted
 infixl 10 ◌>>=◌
-abbrev pub ◌>>=◌ : {A B : Type 0} → Outcome A → (A → State → Outcome B) → Outcome B
+abbrev pub ◌>>=◌ : {A B : Type 0} → Outcome A → (A → KernelState → Outcome B) → Outcome B
 Ends s >>= f = Ends s
 Goes a s >>= f = f a s
 

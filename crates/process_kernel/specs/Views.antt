@@ -22,27 +22,27 @@ use Rattle.program_tree.specs.declared.event.Proc.{Proc}
 use Rattle.protothread.specs.declared.part.Part.{Part}
 use Rattle.process_kernel.specs.Looks.{looks_at}
 use Rattle.process_kernel.specs.Processes.{is_running_state, state_at}
-use Rattle.process_kernel.specs.State.{State, Outcome, Went, Ends, Goes, ◌>>=◌}
-use Rattle.process_kernel.specs.Mote.{Mote, at_rest}
+use Rattle.process_kernel.specs.State.{KernelState, Outcome, Went, Ends, Goes, ◌>>=◌}
+use Rattle.process_kernel.specs.KernelModel.{KernelModel, at_rest}
 use Rattle.process_kernel.specs.Calls.{Calls, Answer}
 
 -- the remainder of the body of a process with this code; the whole body, while the body is taken out of the table
-abbrev pub body_of : Code → Option (Box Thread) → Remainder
-body_of c None = fresh_of c Body
-body_of c (Some t) = remainder_of c t.value
+abbrev pub remainder_of_body : Code → Option (Box Thread) → Remainder
+remainder_of_body c None = fresh_of c Body
+remainder_of_body c (Some t) = remainder_of c t.value
 
 -- the remainder of each body, found by the code of its process
 abbrev pub remainders_of : List Code → List (Option (Box Thread)) → List Remainder
 remainders_of [] ts = []
 remainders_of (c ∷ cs) [] = []
-remainders_of (c ∷ cs) (t ∷ ts) = body_of c t ∷ remainders_of cs ts
+remainders_of (c ∷ cs) (t ∷ ts) = remainder_of_body c t ∷ remainders_of cs ts
 
 -- the process list at the beginning of the boot or run
 abbrev pub first_list_of : Machine → List Member
 first_list_of m = if m.is_numbered then m.members.items else m.first_list.items
 
-abbrev pub state_of : Tree → Machine → State
-state_of program m = record {
+abbrev pub kernel_state_of : Tree → Machine → KernelState
+kernel_state_of program m = record {
   program = program;
   mote = m.shown.mote;
   states = m.shown.states.items;
@@ -69,7 +69,7 @@ abbrev pub looks_of_view : KernelView → Looks
 looks_of_view x = looks_at x.moment x.mote x.timers.timers x.states.items x.semaphores.items
 
 -- the result of a step and the state after it are this outcome; if memory ran out, nothing is claimed
-abbrev pub StepMatches : {A : Type 0} → Result A Stop → State → Outcome A → Type 0
+abbrev pub StepMatches : {A : Type 0} → Result A Stop → KernelState → Outcome A → Type 0
 StepMatches (Ok a) s o = o ≡ Goes a s
 StepMatches (Err Halted) s o = o ≡ Ends s
 StepMatches (Err Memory) s o = Unit {0}
@@ -84,13 +84,13 @@ remainder_model code thread (Ok done) = Ok (remainder_of code thread)
 remainder_model code thread (Err e) = Err e
 
 -- the output begins with these lines and packets
-unfoldable pub Begins : List Line → List Sent → Out → Type 0
-Begins lines sends out =
+unfoldable pub OutBegins : List Line → List Sent → Out → Type 0
+OutBegins lines sends out =
     ((more : List Line) × (out.lines.items ≡ lines ++ more)) × ((more : List Sent) × (out.sends.items ≡ sends ++ more))
 
 -- everything that was written before a step is still there, even if the step failed
 abbrev pub Grows : Out → Out → Type 0
-Grows old new = (lines : List Line) (sends : List Sent) → Begins lines sends old → Begins lines sends new
+Grows old new = (lines : List Line) (sends : List Sent) → OutBegins lines sends old → OutBegins lines sends new
 
 -- each start, except for this many, is paid for by a unit of work; the process list of the beginning stays known
 abbrev pub Spends : ℕ → Machine → Machine → Type 0
@@ -119,9 +119,14 @@ KeepsLists old new = (new.ring ≡ old.ring) × (new.shown.timers ≡ old.shown.
 abbrev pub OnlyAdds : Machine → Machine → Type 0
 OnlyAdds old new = KeepsLists old new × Grows old.out new.out
 
-abbrev pub mote_of : Tree → Machine → (booted halted : Bool) → Mote
-mote_of program m booted halted = record { state = at_rest (state_of program m); booted = booted; halted = halted }
+abbrev pub kernel_model_of : Tree → Machine → (booted halted : Bool) → KernelModel
+kernel_model_of program m booted halted = record {
+  state = at_rest
+      (kernel_state_of program m);
+  booted = booted;
+  halted = halted;
+}
 
 -- a handler or a callback runs from its beginning
-abbrev pub part_of : Calls → State → Code → Part → (process : ℕ) → Event → Went
+abbrev pub part_of : Calls → KernelState → Code → Part → (process : ℕ) → Event → Went
 part_of calls s code part p e = calls.run s code (fresh_of code part) p e >>= λ _ s1. Goes tt s1

@@ -2,18 +2,18 @@
 use Rattle.std.specs.Prelude.{◌==◌, ◌-◌, [], ◌∷◌, ◌++◌, if◌then◌else◌}
 use Rattle.trace_lines.specs.declared.line.What.{What}
 use Rattle.trace_lines.specs.declared.line.What.TheVariants.{Halt}
-use Rattle.process_kernel.specs.State.{State, Went, Ends, Goes}
+use Rattle.process_kernel.specs.State.{KernelState, Went, Ends, Goes}
 
-abbrev pub with_line : State → What → State
+abbrev pub with_line : KernelState → What → KernelState
 with_line s what = record s { lines = s.lines ++ record { at = s.moment; what = what } ∷ [] }
 
-unfoldable pub write_of : State → What → Went
+unfoldable pub write_of : KernelState → What → Went
 write_of s what = Goes tt (with_line s what)
 
 -- the mote writes a line about its halt, and nothing more
-unfoldable pub halted_of : State → State
+unfoldable pub halted_of : KernelState → KernelState
 halted_of s = with_line s Halt
 
 -- one unit of work is spent; if none is left, the mote halts
-unfoldable pub spend_of : State → Went
+unfoldable pub spend_of : KernelState → Went
 spend_of s = if s.units == 0 then Ends (halted_of s) else Goes tt (record s { units = s.units - 1 })

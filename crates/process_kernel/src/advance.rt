@@ -8,7 +8,7 @@ ghost use Rattle.protothread.specs.Step.{PaysFor};
 ghost use Rattle.process_kernel.specs.Thread.{stepped_of};
 ghost use Rattle.process_kernel.specs.Operation.{answer_of};
 ghost use Rattle.process_kernel.specs.State.{Goes};
-ghost use Rattle.process_kernel.specs.Views.{first_list_of, state_of, Grows, KeepsCounts};
+ghost use Rattle.process_kernel.specs.Views.{first_list_of, kernel_state_of, Grows, KeepsCounts};
 
 use crate::machine::Machine;
 use program_tree::{Event, ProcessText};
@@ -25,12 +25,12 @@ impl Machine {
         process: u8,
         event: &Event,
     ) -> Step
-        ensures exact { (t : Tree) → stepped_of (state_of t self.old) (code_of text.now)
+        ensures exact { (t : Tree) → stepped_of (kernel_state_of t self.old) (code_of text.now)
             (remainder_of (code_of text.now) thread.old) process event.now
             ≡ record {
               step = result;
               remainder = remainder_of (code_of text.now) thread.new;
-              state = state_of t self.new;
+              state = kernel_state_of t self.new;
             } }
         ensures pays { PaysFor result self.old.fuel self.new.fuel }
         ensures started { self.new.started ≡ self.old.started }
@@ -54,8 +54,8 @@ impl Machine {
     #[tactic(auto, unfolding(crate::specs::Operation::answer_of))]
     pub fn answer(&mut self, thread: &mut Thread, process: u8, is_full: bool)
         ensures exact { (t : Tree) (code : Code)
-            → answer_of (state_of t self.old) (remainder_of code thread.old) process is_full
-            ≡ Goes (remainder_of code thread.new) (state_of t self.new) }
+            → answer_of (kernel_state_of t self.old) (remainder_of code thread.old) process is_full
+            ≡ Goes (remainder_of code thread.new) (kernel_state_of t self.new) }
         ensures kept { KeepsCounts self.old self.new }
         ensures grows { Grows self.old.out self.new.out }
     {

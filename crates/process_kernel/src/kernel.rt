@@ -4,7 +4,7 @@ ghost use Rattle.std.specs.Prelude.{◌≡◌, ◌≤◌, ◌^◌, OnOk, IfOk, I
 ghost use Rattle.program_tree.specs.Code.{Tree};
 ghost use Rattle.program_tree.specs.Program.{tree_of};
 ghost use Rattle.mote_timers.specs.TimerLists.{next_expiration_of};
-ghost use Rattle.process_kernel.specs.Mote.{unbooted, with_poll, with_packet, has_room, is_pending};
+ghost use Rattle.process_kernel.specs.KernelModel.{unbooted, with_poll, with_packet, has_room, is_pending};
 
 use crate::machine::{Machine, Stop};
 use program_tree::{Proc, Program};
@@ -32,9 +32,9 @@ pub enum KernelError {
 }
 
 impl fmt::Display for KernelError {
-    ghost use Rattle.process_kernel.specs.KernelErrors.{text_of_error};
+    ghost use Rattle.process_kernel.specs.KernelErrors.{text_of_kernel_error};
 
-    ghost output = { λ e. Some (text_of_error e) };
+    ghost output = { λ e. Some (text_of_kernel_error e) };
 
     fn fmt<W: fmt::Write>(&self, f: &mut fmt::Formatter<W>) -> fmt::Result {
         match self {
@@ -71,7 +71,7 @@ impl Drop for Kernel {
 }
 
 impl Kernel {
-    ghost use Rattle.process_kernel.specs.Public.{mote_in, MatchesOutcome, FailsAs, BeginsWith};
+    ghost use Rattle.process_kernel.specs.Public.{kernel_in, MatchesOutcome, FailsAs, BeginsWith};
     ghost use Rattle.process_kernel.specs.Given.{boot_given, run_given};
     ghost use Rattle.process_kernel.specs.Public.{Closes};
     ghost use Rattle.process_kernel.specs.GoesOn.{GoesOn};
@@ -83,7 +83,7 @@ impl Kernel {
     /// # Errors
     ///
     /// `Memory`: out of memory.
-    #[tactic(auto, unfolding(crate::specs::Public::mote_in, crate::specs::Mote::unbooted))]
+    #[tactic(auto, unfolding(crate::specs::Public::kernel_in, crate::specs::KernelModel::unbooted))]
     pub fn new(
         alloc: Global,
         program: &Program,
@@ -92,7 +92,7 @@ impl Kernel {
     ) -> Result<Kernel, KernelError>
         requires some_room { 1 ≤ queue }
         requires limit { queue ≤ 128 }
-        ensures ok { IfOk result (λ k. mote_in (tree_of program.now) k
+        ensures ok { IfOk result (λ k. kernel_in (tree_of program.now) k
             ≡ Some (unbooted (tree_of program.now) mote queue)) }
         ensures err { IfErr result (λ e. e ≡ KernelError.Memory) }
     {
@@ -116,7 +116,7 @@ impl Kernel {
     pub fn boot(&mut self, program: &Program, now: u64, out: &mut Out) -> Result<Ran, KernelError>
         requires moment_bounded { now ≤ 2 ^ 40 }
         ensures tells { let t = tree_of program.now in
-            MatchesOutcome (boot_given now) (mote_in t self.old) out.old result (mote_in t self.new) out.new }
+            MatchesOutcome (boot_given now) (kernel_in t self.old) out.old result (kernel_in t self.new) out.new }
     {
         if self.failed {
             return Err(KernelError::Failed);
@@ -135,8 +135,8 @@ impl Kernel {
     fn run_on(&mut self, program: &Program, now: u64) -> Result<Ran, KernelError>
         requires moment_bounded { now ≤ 2 ^ 40 }
         ensures matches { let t = tree_of program.now in
-            MatchesOutcome (run_given now) (mote_in t self.old) self.old.machine.out result
-            (mote_in t self.new) self.new.machine.out }
+            MatchesOutcome (run_given now) (kernel_in t self.old) self.old.machine.out result
+            (kernel_in t self.new) self.new.machine.out }
         ensures begins { BeginsWith self.old.machine.out self.new.machine.out }
     {
         if self.failed {
@@ -159,7 +159,7 @@ impl Kernel {
     pub fn run(&mut self, program: &Program, now: u64, out: &mut Out) -> Result<Ran, KernelError>
         requires moment_bounded { now ≤ 2 ^ 40 }
         ensures tells { let t = tree_of program.now in
-            MatchesOutcome (run_given now) (mote_in t self.old) out.old result (mote_in t self.new) out.new }
+            MatchesOutcome (run_given now) (kernel_in t self.old) out.old result (kernel_in t self.new) out.new }
     {
         mem::swap(&mut self.machine.out, out);
         let ran = self.run_on(program, now);
@@ -172,11 +172,11 @@ impl Kernel {
     fn run_all_on(&mut self, program: &Program, now: u64, most: u8) -> Result<(), KernelError>
         requires moment_bounded { now ≤ 2 ^ 40 }
         ensures ok { let t = tree_of program.now in
-            OnOk result (GoesOn (runs_of most now) (mote_in t self.old) self.old.machine.out
-            (mote_in t self.new) self.new.machine.out) }
+            OnOk result (GoesOn (runs_of most now) (kernel_in t self.old) self.old.machine.out
+            (kernel_in t self.new) self.new.machine.out) }
         ensures err { let t = tree_of program.now in
-            IfErr result (λ e. FailsAs (mote_in t self.old) self.old.machine.out e
-            (mote_in t self.new) self.new.machine.out) }
+            IfErr result (λ e. FailsAs (kernel_in t self.old) self.old.machine.out e
+            (kernel_in t self.new) self.new.machine.out) }
     {
         'runs: for _run in 0..most {
             match self.run_on(program, now)? {
@@ -208,9 +208,9 @@ impl Kernel {
     ) -> Result<(), KernelError>
         requires moment_bounded { now ≤ 2 ^ 40 }
         ensures ok { let t = tree_of program.now in
-            OnOk result (GoesOn (runs_of most now) (mote_in t self.old) out.old (mote_in t self.new) out.new) }
+            OnOk result (GoesOn (runs_of most now) (kernel_in t self.old) out.old (kernel_in t self.new) out.new) }
         ensures err { let t = tree_of program.now in
-            IfErr result (λ e. FailsAs (mote_in t self.old) out.old e (mote_in t self.new) out.new) }
+            IfErr result (λ e. FailsAs (kernel_in t self.old) out.old e (kernel_in t self.new) out.new) }
     {
         mem::swap(&mut self.machine.out, out);
         let ran = self.run_all_on(program, now, most);
@@ -219,59 +219,60 @@ impl Kernel {
     }
 
     /// Asks for a poll of a process if it is running or called.
-    #[tactic(auto, unfolding(crate::specs::Public::mote_in, crate::specs::Mote::with_poll, crate::specs::Posts::poll_of, crate::specs::Processes::with_needs_poll))]
+    #[tactic(auto, unfolding(crate::specs::Public::kernel_in, crate::specs::KernelModel::with_poll, crate::specs::Posts::poll_of, crate::specs::Processes::with_needs_poll))]
     pub fn poll(&mut self, process: Proc)
-        ensures mote { (t : Tree) → mote_in t self.new ≡ option_map (λ m. with_poll m process) (mote_in t self.old) }
+        ensures model { (t : Tree)
+            → kernel_in t self.new ≡ option_map (λ m. with_poll m process) (kernel_in t self.old) }
     {
         self.machine.poll(process);
     }
 
     /// Returns `true` if an event is queued or a poll is requested.
-    #[tactic(auto, unfolding(crate::specs::Public::mote_in))]
+    #[tactic(auto, unfolding(crate::specs::Public::kernel_in))]
     pub fn pending(&self) -> bool
-        ensures mote { (t : Tree) → IfSome (mote_in t self.now) (λ m. result ≡ is_pending m) }
+        ensures model { (t : Tree) → IfSome (kernel_in t self.now) (λ m. result ≡ is_pending m) }
     {
         self.machine.queue.len() > 0 || self.machine.poll_requested
     }
 
     /// The earliest moment at which a timer on the timer list is due; `None` if the list is empty.
-    #[tactic(auto, unfolding(crate::specs::Public::mote_in))]
+    #[tactic(auto, unfolding(crate::specs::Public::kernel_in))]
     pub fn next_expiration(&self) -> Option<u64>
-        ensures mote { (t : Tree) → IfSome (mote_in t self.now) (λ m. result ≡ next_expiration_of m.state.timers) }
+        ensures model { (t : Tree) → IfSome (kernel_in t self.now) (λ m. result ≡ next_expiration_of m.state.timers) }
     {
         self.machine.shown.timers.next_expiration()
     }
 
     /// Appends a packet to the receive ring. Returns `true` if the ring had room; a full ring is unchanged.
-    #[tactic(auto, unfolding(crate::specs::Public::mote_in, crate::specs::Mote::with_packet))]
+    #[tactic(auto, unfolding(crate::specs::Public::kernel_in, crate::specs::KernelModel::with_packet))]
     pub fn accept_packet(&mut self, packet: Arrival) -> bool
-        ensures room { (t : Tree) → IfSome (mote_in t self.old) (λ m. result ≡ has_room m) }
-        ensures after { (t : Tree) → mote_in t self.new
-            ≡ option_map (λ m. if has_room m then with_packet m packet else m) (mote_in t self.old) }
+        ensures room { (t : Tree) → IfSome (kernel_in t self.old) (λ m. result ≡ has_room m) }
+        ensures after { (t : Tree) → kernel_in t self.new
+            ≡ option_map (λ m. if has_room m then with_packet m packet else m) (kernel_in t self.old) }
     {
         self.machine.accept_packet(packet)
     }
 
     /// The number of the kernel's mote.
-    #[tactic(auto, unfolding(crate::specs::Public::mote_in))]
+    #[tactic(auto, unfolding(crate::specs::Public::kernel_in))]
     pub fn number(&self) -> u16
-        ensures mote { (t : Tree) → IfSome (mote_in t self.now) (λ m. result ≡ m.state.mote) }
+        ensures model { (t : Tree) → IfSome (kernel_in t self.now) (λ m. result ≡ m.state.mote) }
     {
         self.machine.shown.mote
     }
 
     /// Returns `true` if the mote was booted.
-    #[tactic(auto, unfolding(crate::specs::Public::mote_in))]
+    #[tactic(auto, unfolding(crate::specs::Public::kernel_in))]
     pub fn is_booted(&self) -> bool
-        ensures mote { (t : Tree) → IfSome (mote_in t self.now) (λ m. result ≡ m.booted) }
+        ensures model { (t : Tree) → IfSome (kernel_in t self.now) (λ m. result ≡ m.booted) }
     {
         self.booted
     }
 
     /// Returns `true` if the mote has halted. It doesn't run any more then.
-    #[tactic(auto, unfolding(crate::specs::Public::mote_in))]
+    #[tactic(auto, unfolding(crate::specs::Public::kernel_in))]
     pub fn is_halted(&self) -> bool
-        ensures mote { (t : Tree) → IfSome (mote_in t self.now) (λ m. result ≡ m.halted) }
+        ensures model { (t : Tree) → IfSome (kernel_in t self.now) (λ m. result ≡ m.halted) }
     {
         self.halted
     }

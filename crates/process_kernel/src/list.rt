@@ -7,7 +7,8 @@ ghost use Rattle.process_kernel.specs.Members.{is_same as are_same, place_of, is
 ghost use Rattle.process_kernel.specs.ProcessList.{put_remainder, enlist_of, exiting_of, unlisted_of, leave_of};
 ghost use Rattle.process_kernel.specs.ProcessList.{numbered_from, with_fresh_body, with_fresh_process};
 ghost use Rattle.process_kernel.specs.Reaction.{remainder_at};
-ghost use Rattle.process_kernel.specs.Views.{body_of, first_list_of, state_of, StepMatches, Grows, KeepsCounts};
+ghost use Rattle.process_kernel.specs.Views.{remainder_of_body, first_list_of, kernel_state_of};
+ghost use Rattle.process_kernel.specs.Views.{StepMatches, Grows, KeepsCounts};
 
 use crate::machine::{MOST_PROCESSES, Machine, Stop};
 use crate::process::{Member, ProcessState};
@@ -44,7 +45,7 @@ impl Machine {
 
     /// Copies the process list of the beginning of a boot or run, before the list changes for the first time.
     fn keep_first_list(&mut self) -> Result<(), AllocError>
-        ensures exact { (t : Tree) → state_of t self.new ≡ state_of t self.old }
+        ensures exact { (t : Tree) → kernel_state_of t self.new ≡ kernel_state_of t self.old }
         ensures unnumbered { OnOk result (self.new.is_numbered ≡ false) }
         ensures first { OnOk result (self.new.first_list.items ≡ first_list_of self.old) }
         ensures members { self.new.members ≡ self.old.members }
@@ -65,7 +66,8 @@ impl Machine {
     #[tactic(auto, using(crate::proofs::Remainders::remainders_set, crate::proofs::Remainders::remainders_set_past), unfolding(crate::specs::ProcessList::put_remainder))]
     pub fn put_thread(&mut self, process: u8, thread: Box<Thread>)
         ensures exact { (t : Tree) (code : Code) → slice_get t.codes process ≡ Some code
-            → state_of t self.new ≡ put_remainder (state_of t self.old) process (remainder_of code thread.value) }
+            → kernel_state_of t self.new ≡ put_remainder (kernel_state_of t self.old) process
+            (remainder_of code thread.value) }
         ensures kept { KeepsCounts self.old self.new }
         ensures grows { Grows self.old.out self.new.out }
     {
@@ -80,8 +82,8 @@ impl Machine {
     #[tactic(auto, using(crate::proofs::Remainders::remainders_get, crate::proofs::Remainders::remainders_past, crate::proofs::Remainders::remainders_fresh, crate::proofs::Remainders::fresh_past))]
     fn lift_thread(&mut self, process: u8) -> Option<Box<Thread>>
         ensures exact { (t : Tree) (code : Code) → slice_get t.codes process ≡ Some code
-            → body_of code result ≡ remainder_at (state_of t self.old) code process }
-        ensures after { (t : Tree) → state_of t self.new ≡ with_fresh_body (state_of t self.old) process }
+            → remainder_of_body code result ≡ remainder_at (kernel_state_of t self.old) code process }
+        ensures after { (t : Tree) → kernel_state_of t self.new ≡ with_fresh_body (kernel_state_of t self.old) process }
         ensures kept { KeepsCounts self.old self.new }
         ensures grows { Grows self.old.out self.new.out }
     {
@@ -102,8 +104,8 @@ impl Machine {
     pub fn take_thread(&mut self, process: u8) -> Result<Box<Thread>, AllocError>
         ensures exact { (t : Tree) (code : Code) → slice_get t.codes process ≡ Some code
             → IfOk result (λ thread. remainder_of code thread.value
-            ≡ remainder_at (state_of t self.old) code process) }
-        ensures after { (t : Tree) → state_of t self.new ≡ with_fresh_body (state_of t self.old) process }
+            ≡ remainder_at (kernel_state_of t self.old) code process) }
+        ensures after { (t : Tree) → kernel_state_of t self.new ≡ with_fresh_body (kernel_state_of t self.old) process }
         ensures kept { KeepsCounts self.old self.new }
         ensures grows { Grows self.old.out self.new.out }
     {
@@ -116,7 +118,7 @@ impl Machine {
     /// Makes the body of a process fresh.
     #[tactic(auto, using(crate::proofs::Remainders::remainders_fresh, crate::proofs::Remainders::fresh_past))]
     fn refresh_body(&mut self, process: u8)
-        ensures exact { (t : Tree) → state_of t self.new ≡ with_fresh_body (state_of t self.old) process }
+        ensures exact { (t : Tree) → kernel_state_of t self.new ≡ with_fresh_body (kernel_state_of t self.old) process }
         ensures kept { KeepsCounts self.old self.new }
         ensures grows { Grows self.old.out self.new.out }
     {
@@ -128,7 +130,8 @@ impl Machine {
 
     /// Gives a process of the program a fresh body.
     fn refresh(&mut self, process: Proc)
-        ensures exact { (t : Tree) → state_of t self.new ≡ with_fresh_process (state_of t self.old) process }
+        ensures exact { (t : Tree)
+            → kernel_state_of t self.new ≡ with_fresh_process (kernel_state_of t self.old) process }
         ensures kept { KeepsCounts self.old self.new }
         ensures grows { Grows self.old.out self.new.out }
     {
@@ -144,7 +147,7 @@ impl Machine {
         requires away { is_found_in self.old.members.items process ≡ false }
         requires room { self.old.started + 1 < 2 ^ 32 }
         ensures exact { (t : Tree) → OnOk result
-            (state_of t self.new ≡ record (state_of t self.old) {
+            (kernel_state_of t self.new ≡ record (kernel_state_of t self.old) {
               members = record { process = process; incarnation = self.old.started } ∷ self.old.members.items;
               started = self.old.started + 1;
             }) }
@@ -174,8 +177,8 @@ impl Machine {
         requires process_exists { place_of process < length self.old.shown.states.items }
         requires away { is_found_in self.old.members.items process ≡ false }
         requires room { self.old.started + 1 < 2 ^ 32 }
-        ensures exact { (t : Tree) → StepMatches result (state_of t self.new)
-            (enlist_of (state_of t self.old) process) }
+        ensures exact { (t : Tree) → StepMatches result (kernel_state_of t self.new)
+            (enlist_of (kernel_state_of t self.old) process) }
         ensures counts { OnOk result ((self.new.fuel ≡ self.old.fuel) × (self.new.started ≡ self.old.started + 1)
             × (first_list_of self.new ≡ first_list_of self.old)) }
         ensures grows { Grows self.old.out self.new.out }
@@ -189,7 +192,7 @@ impl Machine {
     /// Begins the exit of a process.
     #[tactic(auto, unfolding(crate::specs::ProcessList::exiting_of))]
     pub fn begin_exit(&mut self, process: Proc)
-        ensures exact { (t : Tree) → state_of t self.new ≡ exiting_of (state_of t self.old) process }
+        ensures exact { (t : Tree) → kernel_state_of t self.new ≡ exiting_of (kernel_state_of t self.old) process }
         ensures kept { KeepsCounts self.old self.new }
         ensures grows { Grows self.old.out self.new.out }
     {
@@ -200,7 +203,8 @@ impl Machine {
     /// Removes a process from the list.
     #[tactic(auto, unfolding(crate::specs::ProcessList::unlisted_of))]
     fn unlist(&mut self, process: Proc) -> Result<(), AllocError>
-        ensures exact { (t : Tree) → OnOk result (state_of t self.new ≡ unlisted_of (state_of t self.old) process) }
+        ensures exact { (t : Tree)
+            → OnOk result (kernel_state_of t self.new ≡ unlisted_of (kernel_state_of t self.old) process) }
         ensures kept { OnOk result (KeepsCounts self.old self.new) }
         ensures grows { Grows self.old.out self.new.out }
     {
@@ -216,7 +220,8 @@ impl Machine {
     /// `Memory` if an allocation for the list or for the line fails. The error is never `Halted`.
     #[tactic(auto, unfolding(crate::specs::ProcessList::leave_of))]
     pub fn leave(&mut self, process: Proc) -> Result<(), Stop>
-        ensures exact { (t : Tree) → StepMatches result (state_of t self.new) (leave_of (state_of t self.old) process) }
+        ensures exact { (t : Tree)
+            → StepMatches result (kernel_state_of t self.new) (leave_of (kernel_state_of t self.old) process) }
         ensures kept { OnOk result (KeepsCounts self.old self.new) }
         ensures grows { Grows self.old.out self.new.out }
     {

@@ -6,7 +6,8 @@ ghost use Rattle.process_kernel.specs.State.{Goes};
 ghost use Rattle.process_kernel.specs.Writes.{write_of, spend_of, halted_of};
 ghost use Rattle.process_kernel.specs.Posts.{post_of, poll_of, send_of};
 ghost use Rattle.process_kernel.specs.Operation.{take_of, signal_of};
-ghost use Rattle.process_kernel.specs.Views.{first_list_of, state_of, StepMatches, Grows, KeepsCounts, KeepsLists};
+ghost use Rattle.process_kernel.specs.Views.{first_list_of, kernel_state_of};
+ghost use Rattle.process_kernel.specs.Views.{StepMatches, Grows, KeepsCounts, KeepsLists};
 ghost use Rattle.process_kernel.specs.Views.{OnlyAdds};
 
 use crate::machine::{Machine, Stop};
@@ -24,9 +25,10 @@ impl Machine {
     ///
     /// # Errors
     /// `Memory` if the allocation for the line fails. The error is never `Halted`.
-    #[tactic(auto, unfolding(crate::specs::Writes::write_of, crate::specs::Views::Begins))]
+    #[tactic(auto, unfolding(crate::specs::Writes::write_of, crate::specs::Views::OutBegins))]
     pub fn write(&mut self, what: What) -> Result<(), Stop>
-        ensures exact { (t : Tree) → StepMatches result (state_of t self.new) (write_of (state_of t self.old) what) }
+        ensures exact { (t : Tree)
+            → StepMatches result (kernel_state_of t self.new) (write_of (kernel_state_of t self.old) what) }
         ensures kept { KeepsCounts self.old self.new }
         ensures adds { OnlyAdds self.old self.new }
     {
@@ -39,7 +41,8 @@ impl Machine {
     #[inline(never)]
     #[tactic(auto, unfolding(crate::specs::Writes::write_of, crate::specs::Writes::halted_of))]
     pub fn halt(&mut self) -> Stop
-        ensures exact { (t : Tree) → result ≡ Stop.Halted → state_of t self.new ≡ halted_of (state_of t self.old) }
+        ensures exact { (t : Tree) → result ≡ Stop.Halted
+            → kernel_state_of t self.new ≡ halted_of (kernel_state_of t self.old) }
         ensures grows { Grows self.old.out self.new.out }
     {
         match self.write(What::Halt) {
@@ -55,7 +58,8 @@ impl Machine {
     #[inline(always)]
     #[tactic(auto, unfolding(crate::specs::Writes::spend_of))]
     pub fn spend(&mut self) -> Result<(), Stop>
-        ensures exact { (t : Tree) → StepMatches result (state_of t self.new) (spend_of (state_of t self.old)) }
+        ensures exact { (t : Tree)
+            → StepMatches result (kernel_state_of t self.new) (spend_of (kernel_state_of t self.old)) }
         ensures units { OnOk result ((self.new.fuel + 1 ≡ self.old.fuel) × (self.new.started ≡ self.old.started)
             × (first_list_of self.new ≡ first_list_of self.old)) }
         ensures grows { Grows self.old.out self.new.out }
@@ -74,8 +78,8 @@ impl Machine {
     #[inline(always)]
     #[tactic(auto, unfolding(crate::specs::Posts::post_of))]
     pub fn post(&mut self, target: Target, event: Event) -> Result<bool, Stop>
-        ensures exact { (t : Tree) → StepMatches result (state_of t self.new)
-            (post_of (state_of t self.old) target event) }
+        ensures exact { (t : Tree) → StepMatches result (kernel_state_of t self.new)
+            (post_of (kernel_state_of t self.old) target event) }
         ensures kept { OnOk result (KeepsCounts self.old self.new) }
         ensures lists { OnOk result (KeepsLists self.old self.new) }
         ensures grows { Grows self.old.out self.new.out }
@@ -98,7 +102,7 @@ impl Machine {
     /// Asks for a poll of a process if it is running or called.
     #[tactic(auto, unfolding(crate::specs::Processes::with_needs_poll, crate::specs::Posts::poll_of))]
     pub fn poll(&mut self, process: Proc)
-        ensures exact { (t : Tree) → state_of t self.new ≡ poll_of (state_of t self.old) process }
+        ensures exact { (t : Tree) → kernel_state_of t self.new ≡ poll_of (kernel_state_of t self.old) process }
         ensures kept { KeepsCounts self.old self.new }
         ensures adds { OnlyAdds self.old self.new }
     {
@@ -109,10 +113,10 @@ impl Machine {
     }
 
     /// Records a sent packet.
-    #[tactic(auto, unfolding(crate::specs::Views::Begins))]
+    #[tactic(auto, unfolding(crate::specs::Views::OutBegins))]
     fn put_sent(&mut self, packet: Sent) -> Result<(), Stop>
-        ensures exact { (t : Tree) → StepMatches result (state_of t self.new)
-            (Goes tt (record (state_of t self.old) { sends = self.old.out.sends.items ++ packet ∷ [] })) }
+        ensures exact { (t : Tree) → StepMatches result (kernel_state_of t self.new)
+            (Goes tt (record (kernel_state_of t self.old) { sends = self.old.out.sends.items ++ packet ∷ [] })) }
         ensures kept { KeepsCounts self.old self.new }
         ensures grows { Grows self.old.out self.new.out }
     {
@@ -127,7 +131,8 @@ impl Machine {
     /// `Halted` if the mote has sent 2^62 packets; `Memory` if an allocation for the packet or for a line fails.
     #[tactic(auto, unfolding(crate::specs::Posts::send_of))]
     pub fn send(&mut self, value: u16) -> Result<(), Stop>
-        ensures exact { (t : Tree) → StepMatches result (state_of t self.new) (send_of (state_of t self.old) value) }
+        ensures exact { (t : Tree)
+            → StepMatches result (kernel_state_of t self.new) (send_of (kernel_state_of t self.old) value) }
         ensures kept { OnOk result (KeepsCounts self.old self.new) }
         ensures grows { Grows self.old.out self.new.out }
     {
@@ -148,7 +153,7 @@ impl Machine {
     /// Subtracts one from a semaphore's count if it is above 0. If the mote has no such semaphore, nothing changes.
     #[tactic(auto, unfolding(crate::specs::Operation::take_of))]
     pub fn take_semaphore(&mut self, semaphore: u8)
-        ensures exact { (t : Tree) → state_of t self.new ≡ take_of (state_of t self.old) semaphore }
+        ensures exact { (t : Tree) → kernel_state_of t self.new ≡ take_of (kernel_state_of t self.old) semaphore }
         ensures kept { KeepsCounts self.old self.new }
         ensures grows { Grows self.old.out self.new.out }
     {
@@ -161,7 +166,7 @@ impl Machine {
     /// Adds one to a semaphore's count, modulo 65,536. If the mote has no such semaphore, nothing changes.
     #[tactic(auto, unfolding(crate::specs::Operation::signal_of))]
     pub fn signal_semaphore(&mut self, semaphore: u8)
-        ensures exact { (t : Tree) → state_of t self.new ≡ signal_of (state_of t self.old) semaphore }
+        ensures exact { (t : Tree) → kernel_state_of t self.new ≡ signal_of (kernel_state_of t self.old) semaphore }
         ensures kept { KeepsCounts self.old self.new }
         ensures grows { Grows self.old.out self.new.out }
     {

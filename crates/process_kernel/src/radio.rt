@@ -4,7 +4,7 @@ ghost use Rattle.std.specs.Prelude.{◌≡◌, ◌++◌, [], ◌∷◌, if◌the
 ghost use Rattle.program_tree.specs.Code.{Tree};
 ghost use Rattle.program_tree.specs.Program.{tree_of};
 ghost use Rattle.process_kernel.specs.Radio.{packet_of, hand_to, empty_ring, radio_of};
-ghost use Rattle.process_kernel.specs.Views.{state_of, StepMatches, Grows, KeepsCounts};
+ghost use Rattle.process_kernel.specs.Views.{kernel_state_of, StepMatches, Grows, KeepsCounts};
 
 use crate::event::is_event;
 use crate::machine::{Machine, Stop};
@@ -27,8 +27,9 @@ impl Machine {
     /// Appends a packet to the receive ring. Returns `true` if the ring had room; a full ring is unchanged.
     pub fn accept_packet(&mut self, packet: Arrival) -> bool
         ensures room { result ≡ nat_lt (length self.old.ring.items) 8 }
-        ensures after { (t : Tree) → state_of t self.new
-            ≡ (if result then record (state_of t self.old) { ring = self.old.ring.items ++ packet ∷ [] } else state_of t
+        ensures after { (t : Tree) → kernel_state_of t self.new
+            ≡ (if result then record
+            (kernel_state_of t self.old) { ring = self.old.ring.items ++ packet ∷ [] } else kernel_state_of t
             self.old) }
     {
         match self.ring.try_put(packet) {
@@ -40,8 +41,8 @@ impl Machine {
     /// Removes the oldest packet from the ring.
     fn take_packet(&mut self) -> Option<Arrival>
         ensures value { result ≡ slice_get self.old.ring.items 0 }
-        ensures after { (t : Tree) → state_of t self.new
-            ≡ record (state_of t self.old) { ring = drop 1 self.old.ring.items } }
+        ensures after { (t : Tree) → kernel_state_of t self.new
+            ≡ record (kernel_state_of t self.old) { ring = drop 1 self.old.ring.items } }
         ensures ring { self.new.ring.items ≡ drop 1 self.old.ring.items }
         ensures kept { KeepsCounts self.old self.new }
         ensures grows { Grows self.old.out self.new.out }
@@ -52,8 +53,8 @@ impl Machine {
     /// Posts a packet to the receiver. If there is no receiver, nobody hears the packet.
     #[tactic(auto, unfolding(crate::specs::Radio::hand_to))]
     fn hand_to(&mut self, receiver: Option<u8>, packet: &Arrival) -> Result<(), Stop>
-        ensures exact { (t : Tree) → StepMatches result (state_of t self.new)
-            (hand_to receiver (state_of t self.old) packet.now) }
+        ensures exact { (t : Tree) → StepMatches result (kernel_state_of t self.new)
+            (hand_to receiver (kernel_state_of t self.old) packet.now) }
         ensures kept { OnOk result (KeepsCounts self.old self.new) }
         ensures ring { OnOk result (self.new.ring ≡ self.old.ring) }
         ensures grows { Grows self.old.out self.new.out }
@@ -69,8 +70,8 @@ impl Machine {
 
     /// Removes the packets from the ring, the oldest first, and posts each of them.
     fn empty_ring(&mut self, receiver: Option<u8>) -> Result<(), Stop>
-        ensures exact { (t : Tree) → StepMatches result (state_of t self.new)
-            (empty_ring receiver self.old.ring.items (state_of t self.old)) }
+        ensures exact { (t : Tree) → StepMatches result (kernel_state_of t self.new)
+            (empty_ring receiver self.old.ring.items (kernel_state_of t self.old)) }
         ensures kept { OnOk result (KeepsCounts self.old self.new) }
         ensures grows { Grows self.old.out self.new.out }
     {
@@ -86,8 +87,8 @@ impl Machine {
     /// `Halted` if the mote halts meanwhile; `Memory` if an allocation fails.
     #[tactic(auto, unfolding(crate::specs::Radio::radio_of))]
     pub fn react_as_radio(&mut self, program: &Program, event: &Event) -> Result<(), Stop>
-        ensures exact { StepMatches result (state_of (tree_of program.now) self.new)
-            (radio_of (state_of (tree_of program.now) self.old) event.now) }
+        ensures exact { StepMatches result (kernel_state_of (tree_of program.now) self.new)
+            (radio_of (kernel_state_of (tree_of program.now) self.old) event.now) }
         ensures kept { OnOk result (KeepsCounts self.old self.new) }
         ensures grows { Grows self.old.out self.new.out }
     {

@@ -5,8 +5,8 @@ ghost use Rattle.mote_timers.specs.TimerLists.{new_timers};
 ghost use Rattle.program_tree.specs.Program.{tree_of};
 ghost use Rattle.protothread.specs.declared.part.Part.TheVariants.{Body};
 ghost use Rattle.protothread.specs.Remainder.{fresh_of};
-ghost use Rattle.process_kernel.specs.Mote.{unbooted};
-ghost use Rattle.process_kernel.specs.Views.{state_of, remainders_of};
+ghost use Rattle.process_kernel.specs.KernelModel.{unbooted};
+ghost use Rattle.process_kernel.specs.Views.{kernel_state_of, remainders_of};
 
 use crate::look::KernelView;
 use crate::machine::Machine;
@@ -74,7 +74,7 @@ fn first_shown(alloc: Global, program: &Program, mote: u16) -> Result<KernelView
 
 impl Machine {
     /// A kernel whose tables have no process yet.
-    #[tactic(auto, unfolding(crate::specs::Mote::unbooted))]
+    #[tactic(auto, unfolding(crate::specs::KernelModel::unbooted))]
     fn without_tables(
         alloc: Global,
         program: &Program,
@@ -84,7 +84,7 @@ impl Machine {
         requires some_room { 1 ≤ queue }
         requires limit { queue ≤ 128 }
         ensures state { let t = tree_of program.now in
-            IfOk result (λ m. state_of t m ≡ record
+            IfOk result (λ m. kernel_state_of t m ≡ record
             (unbooted t mote queue).state {
               exiting = [];
               needs_poll = [];
@@ -117,8 +117,8 @@ impl Machine {
     /// together.
     fn make_tables(&mut self, alloc: Global, program: &Program) -> Result<(), AllocError>
         ensures tables { let t = tree_of program.now in let n = length t.processes + 3 in
-            OnOk result (state_of t self.new
-            ≡ record (state_of t self.old) {
+            OnOk result (kernel_state_of t self.new
+            ≡ record (kernel_state_of t self.old) {
               exiting = replicate n false;
               needs_poll = replicate n false;
               remainders = map (λ c. fresh_of c Body) t.codes;
@@ -140,7 +140,7 @@ impl Machine {
     ///
     /// # Errors
     /// `AllocError` if an allocation fails.
-    #[tactic(auto, unfolding(crate::specs::Mote::unbooted))]
+    #[tactic(auto, unfolding(crate::specs::KernelModel::unbooted))]
     pub fn new(
         alloc: Global,
         program: &Program,
@@ -149,7 +149,7 @@ impl Machine {
     ) -> Result<Machine, AllocError>
         requires some_room { 1 ≤ queue }
         requires limit { queue ≤ 128 }
-        ensures state { IfOk result (λ m. state_of (tree_of program.now) m
+        ensures state { IfOk result (λ m. kernel_state_of (tree_of program.now) m
             ≡ (unbooted (tree_of program.now) mote queue).state) }
     {
         let mut machine = Machine::without_tables(alloc, program, mote, queue)?;

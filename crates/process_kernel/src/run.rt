@@ -5,7 +5,7 @@ ghost use Rattle.program_tree.specs.Code.{Tree};
 ghost use Rattle.process_kernel.specs.Follows.{Follows};
 ghost use Rattle.process_kernel.specs.ProcessList.{numbered_from};
 ghost use Rattle.process_kernel.specs.Run.{begun_of, kernel_of};
-ghost use Rattle.process_kernel.specs.Views.{state_of, Grows, HasRoom};
+ghost use Rattle.process_kernel.specs.Views.{kernel_state_of, Grows, HasRoom};
 
 use crate::machine::{Machine, Stop};
 use crate::process::Member;
@@ -34,7 +34,7 @@ impl Machine {
     #[tactic(auto, unfolding(crate::specs::Run::begun_of))]
     pub fn begin(&mut self, moment: u64)
         requires moment_bounded { moment ≤ 2 ^ 40 }
-        ensures exact { (t : Tree) → state_of t self.new ≡ begun_of (state_of t self.old) moment }
+        ensures exact { (t : Tree) → kernel_state_of t self.new ≡ begun_of (kernel_state_of t self.old) moment }
         ensures room { HasRoom 1 self.new }
         ensures grows { Grows self.old.out self.new.out }
     {
@@ -46,8 +46,8 @@ impl Machine {
 
     /// Numbers the incarnations on the process list from 0 on.
     fn number_members(&mut self)
-        ensures exact { (t : Tree) → state_of t self.new
-            ≡ record (state_of t self.old) { members = numbered_from 0 self.old.members.items } }
+        ensures exact { (t : Tree) → kernel_state_of t self.new
+            ≡ record (kernel_state_of t self.old) { members = numbered_from 0 self.old.members.items } }
         ensures counts { (self.new.fuel ≡ self.old.fuel) × (self.new.started ≡ self.old.started) }
         ensures grows { Grows self.old.out self.new.out }
     {

@@ -6,7 +6,7 @@ ghost use Rattle.process_kernel.specs.Members.{place_of, is_same as are_same, ho
 ghost use Rattle.process_kernel.specs.Processes.{state_at as state_of_process, at_process, is_running_state};
 ghost use Rattle.process_kernel.specs.Processes.{is_called_state, with_state, with_exiting, with_needs_poll};
 ghost use Rattle.process_kernel.specs.Processes.{is_alive as lives};
-ghost use Rattle.process_kernel.specs.Views.{first_list_of, state_of, Grows, KeepsCounts, OnlyAdds};
+ghost use Rattle.process_kernel.specs.Views.{first_list_of, kernel_state_of, Grows, KeepsCounts, OnlyAdds};
 
 use crate::machine::Machine;
 use crate::process::{Member, ProcessState};
@@ -159,7 +159,8 @@ impl Machine {
     /// Sets the state of a process. If the mote has no such process, nothing changes.
     #[tactic(auto, unfolding(crate::specs::Processes::with_state))]
     pub fn set_state(&mut self, process: Proc, state: ProcessState)
-        ensures exact { (t : Tree) → state_of t self.new ≡ with_state (state_of t self.old) process state }
+        ensures exact { (t : Tree)
+            → kernel_state_of t self.new ≡ with_state (kernel_state_of t self.old) process state }
         ensures kept { KeepsCounts self.old self.new }
         ensures grows { Grows self.old.out self.new.out }
     {
@@ -172,7 +173,8 @@ impl Machine {
     /// Records whether a process is being exited. If the mote has no such process, nothing changes.
     #[tactic(auto, unfolding(crate::specs::Processes::with_exiting))]
     pub fn set_exiting(&mut self, process: Proc, exiting: bool)
-        ensures exact { (t : Tree) → state_of t self.new ≡ with_exiting (state_of t self.old) process exiting }
+        ensures exact { (t : Tree)
+            → kernel_state_of t self.new ≡ with_exiting (kernel_state_of t self.old) process exiting }
         ensures kept { KeepsCounts self.old self.new }
         ensures grows { Grows self.old.out self.new.out }
     {
@@ -185,7 +187,8 @@ impl Machine {
     /// Records whether a process needs a poll. If the mote has no such process, nothing changes.
     #[tactic(auto, unfolding(crate::specs::Processes::with_needs_poll))]
     pub fn set_needs_poll(&mut self, process: Proc, needs_poll: bool)
-        ensures exact { (t : Tree) → state_of t self.new ≡ with_needs_poll (state_of t self.old) process needs_poll }
+        ensures exact { (t : Tree)
+            → kernel_state_of t self.new ≡ with_needs_poll (kernel_state_of t self.old) process needs_poll }
         ensures kept { KeepsCounts self.old self.new }
         ensures adds { OnlyAdds self.old self.new }
     {

@@ -8,7 +8,7 @@ ghost use Rattle.process_kernel.specs.Ctimer.{waits_for};
 ghost use Rattle.process_kernel.specs.TimerOperations.{is_callback as is_of_callback, owner_of, timer_is_set, set_of};
 ghost use Rattle.process_kernel.specs.TimerOperations.{reset_of, restart_of, stop_of};
 ghost use Rattle.process_kernel.specs.Etimer.{fired_of, pass_of, purge_of, etimer_of};
-ghost use Rattle.process_kernel.specs.Views.{state_of, StepMatches, Grows, KeepsCounts};
+ghost use Rattle.process_kernel.specs.Views.{kernel_state_of, StepMatches, Grows, KeepsCounts};
 
 use crate::event::{is_event, system_event};
 use crate::machine::{Machine, Stop};
@@ -36,8 +36,8 @@ impl Machine {
     /// Adds the callback of a timer to the callback list, if the timer has one.
     fn put_callback(&mut self, program: &Program, timer: u16)
         requires is_timer { timer < self.old.shown.timer_count }
-        ensures exact { state_of (tree_of program.now) self.new
-            ≡ record (state_of (tree_of program.now) self.old) {
+        ensures exact { kernel_state_of (tree_of program.now) self.new
+            ≡ record (kernel_state_of (tree_of program.now) self.old) {
               callbacks = if is_of_callback
                   (tree_of program.now) timer then with_member timer self.old.callbacks.members else
                   self.old.callbacks.members;
@@ -55,8 +55,8 @@ impl Machine {
     #[tactic(auto, unfolding(crate::specs::TimerOperations::timer_is_set))]
     fn timer_is_set(&mut self, program: &Program, timer: u16)
         requires is_timer { timer < self.old.shown.timer_count }
-        ensures exact { state_of (tree_of program.now) self.new
-            ≡ timer_is_set (state_of (tree_of program.now) self.old) timer }
+        ensures exact { kernel_state_of (tree_of program.now) self.new
+            ≡ timer_is_set (kernel_state_of (tree_of program.now) self.old) timer }
         ensures kept { KeepsCounts self.old self.new }
         ensures grows { Grows self.old.out self.new.out }
     {
@@ -69,8 +69,8 @@ impl Machine {
     /// nothing changes.
     #[tactic(auto, unfolding(crate::specs::TimerOperations::set_of))]
     pub fn set_timer(&mut self, program: &Program, timer: u16, interval: u16, current: u8)
-        ensures exact { state_of (tree_of program.now) self.new
-            ≡ set_of (state_of (tree_of program.now) self.old) timer interval current }
+        ensures exact { kernel_state_of (tree_of program.now) self.new
+            ≡ set_of (kernel_state_of (tree_of program.now) self.old) timer interval current }
         ensures kept { KeepsCounts self.old self.new }
         ensures grows { Grows self.old.out self.new.out }
     {
@@ -88,8 +88,8 @@ impl Machine {
     /// the mote has no such timer, nothing changes.
     #[tactic(auto, unfolding(crate::specs::TimerOperations::reset_of))]
     pub fn reset_timer(&mut self, program: &Program, timer: u16, current: u8)
-        ensures exact { state_of (tree_of program.now) self.new
-            ≡ reset_of (state_of (tree_of program.now) self.old) timer current }
+        ensures exact { kernel_state_of (tree_of program.now) self.new
+            ≡ reset_of (kernel_state_of (tree_of program.now) self.old) timer current }
         ensures kept { KeepsCounts self.old self.new }
         ensures grows { Grows self.old.out self.new.out }
     {
@@ -106,8 +106,8 @@ impl Machine {
     /// such timer, nothing changes.
     #[tactic(auto, unfolding(crate::specs::TimerOperations::restart_of))]
     pub fn restart_timer(&mut self, program: &Program, timer: u16, current: u8)
-        ensures exact { state_of (tree_of program.now) self.new
-            ≡ restart_of (state_of (tree_of program.now) self.old) timer current }
+        ensures exact { kernel_state_of (tree_of program.now) self.new
+            ≡ restart_of (kernel_state_of (tree_of program.now) self.old) timer current }
         ensures kept { KeepsCounts self.old self.new }
         ensures grows { Grows self.old.out self.new.out }
     {
@@ -122,7 +122,7 @@ impl Machine {
     /// no such timer, nothing changes.
     #[tactic(auto, unfolding(crate::specs::TimerOperations::stop_of))]
     pub fn stop_timer(&mut self, timer: u16)
-        ensures exact { (t : Tree) → state_of t self.new ≡ stop_of (state_of t self.old) timer }
+        ensures exact { (t : Tree) → kernel_state_of t self.new ≡ stop_of (kernel_state_of t self.old) timer }
         ensures kept { KeepsCounts self.old self.new }
         ensures grows { Grows self.old.out self.new.out }
     {
@@ -134,10 +134,10 @@ impl Machine {
 
     /// Removes the callback of a timer from the callback list. Returns `true` if it was on the list.
     pub fn takes_callback(&mut self, timer: u16) -> bool
-        ensures waited { (t : Tree) → result ≡ waits_for (state_of t self.old) timer }
-        ensures after { (t : Tree) → state_of t self.new
-            ≡ (if result then record (state_of t self.old)
-            { callbacks = without_member timer self.old.callbacks.members } else state_of t self.old) }
+        ensures waited { (t : Tree) → result ≡ waits_for (kernel_state_of t self.old) timer }
+        ensures after { (t : Tree) → kernel_state_of t self.new
+            ≡ (if result then record (kernel_state_of t self.old)
+            { callbacks = without_member timer self.old.callbacks.members } else kernel_state_of t self.old) }
         ensures kept { KeepsCounts self.old self.new }
         ensures grows { Grows self.old.out self.new.out }
     {
@@ -152,7 +152,8 @@ impl Machine {
     /// front of the list.
     #[tactic(auto, unfolding(crate::specs::Etimer::pass_of))]
     fn post_due_timers(&mut self) -> Result<(), Stop>
-        ensures exact { (t : Tree) → StepMatches result (state_of t self.new) (pass_of (state_of t self.old)) }
+        ensures exact { (t : Tree)
+            → StepMatches result (kernel_state_of t self.new) (pass_of (kernel_state_of t self.old)) }
         ensures kept { OnOk result (KeepsCounts self.old self.new) }
         ensures grows { Grows self.old.out self.new.out }
     {
@@ -173,7 +174,7 @@ impl Machine {
     /// Removes the timers of a process that has left from the timer list.
     #[tactic(auto, unfolding(crate::specs::Etimer::purge_of))]
     fn purge(&mut self, process: u16)
-        ensures exact { (t : Tree) → state_of t self.new ≡ purge_of (state_of t self.old) process }
+        ensures exact { (t : Tree) → kernel_state_of t self.new ≡ purge_of (kernel_state_of t self.old) process }
         ensures kept { KeepsCounts self.old self.new }
         ensures grows { Grows self.old.out self.new.out }
     {
@@ -188,8 +189,8 @@ impl Machine {
     /// `Halted` if the mote has accepted 2^62 events; `Memory` if the allocation for a line fails.
     #[tactic(auto, unfolding(crate::specs::Etimer::etimer_of))]
     pub fn react_as_etimer(&mut self, event: &Event) -> Result<(), Stop>
-        ensures exact { (t : Tree) → StepMatches result (state_of t self.new)
-            (etimer_of (state_of t self.old) event.now) }
+        ensures exact { (t : Tree) → StepMatches result (kernel_state_of t self.new)
+            (etimer_of (kernel_state_of t self.old) event.now) }
         ensures kept { OnOk result (KeepsCounts self.old self.new) }
         ensures grows { Grows self.old.out self.new.out }
     {

@@ -12,11 +12,11 @@ use Rattle.program_reader.specs.Head.{with_names, with_all, IsNew}
 use Rattle.program_tree.specs.InScope.{NamesInScope, with_new}
 use Rattle.program_reader.specs.Machine.{Symbol, Pending, Verdict, tell, fault, fault_or, first, unfit_at, new_name}
 use Rattle.program_reader.specs.Machine.{new_thread, from_on_poll, from_on_exit, from_body}
-use Rattle.program_tree.specs.InScope.{place_of}
+use Rattle.program_tree.specs.InScope.{place_in_names}
 use Rattle.program_tree.specs.Numbers.{named_of}
 use Rattle.program_tree.specs.Scope.{Within, block_fits, threads_fit, earlier_threads}
 use Rattle.program_tree.specs.Shapes.{Name, Named}
-use Rattle.program_reader.specs.Steps.{Reads, Extends, Finds, Fits, fixed, scope_of}
+use Rattle.program_reader.specs.Steps.{Reads, Extends, Finds, Fits, fixed, read_scope}
 use Rattle.program_reader.specs.declared.scope.Scope.{Scope as ScopeRead}
 use Rattle.program_tree.specs.FlatBlock.{tree_in}
 use Rattle.program_tree.specs.declared.flat_block.FlatBlock.{FlatBlock}
@@ -39,11 +39,11 @@ within_limits b before after h k l = record { shallow = h; small = omega arith }
 
 -- a name and its block
 pub block_read : {c : Class} {y : Pending → Pending} {place : Name → Context} {x : Name} {t : Body ℕ}
-    {old m0 new : List Token} (s : Scope) (a b : ScopeRead) → IsNew c s (scope_of a) x old m0
-    → Reads (scope_of a) (scope_of b) (machine.block (place x)) (λ n ms. block_marks (place x) (written n t) ms) m0 new
-    → fixed b ≡ fixed a → IsNumbered (scope_of a).names t
-    → ((f : Pending) → tell s (y f) old ≡ tell (scope_of a) (machine.block (place x) ∷ f) m0)
-    → IsNamedBlock c y place t s (scope_of b) old new
+    {old m0 new : List Token} (s : Scope) (a b : ScopeRead) → IsNew c s (read_scope a) x old m0
+    → Reads (read_scope a) (read_scope b) (machine.block (place x)) (λ n ms. block_marks (place x) (written n t) ms) m0 new
+    → fixed b ≡ fixed a → IsNumbered (read_scope a).names t
+    → ((f : Pending) → tell s (y f) old ≡ tell (read_scope a) (machine.block (place x) ∷ f) m0)
+    → IsNamedBlock c y place t s (read_scope b) old new
 block_read {x = x} {t = t} s a b r k e numbered steps =
     let names = fixed_names b a e in
     record {
@@ -82,7 +82,7 @@ last_at [] x = refl
 last_at (y ∷ ys) x = last_at ys x
 
 -- a thread that is found in the block of the last thread is an earlier one
-last_or_earlier : (xs : List Name) (x y : Name) (i : ℕ) → place_of (xs ++ x ∷ []) y ≡ Some i → bytes_eq x y ≡ false
+last_or_earlier : (xs : List Name) (x y : Name) (i : ℕ) → place_in_names (xs ++ x ∷ []) y ≡ Some i → bytes_eq x y ≡ false
     → i < length xs
 last_or_earlier xs x y i e other =
     let below : i < length (xs ++ x ∷ []) = place_below (xs ++ x ∷ []) y i e in
@@ -100,7 +100,7 @@ last_or_earlier xs x y i e other =
 covers_earlier : (n : NamesInScope) (x : Name) (xs : List Name) (c : Class) (y : Name) (i : ℕ) → n.threads ≡ xs ++ x ∷ []
     → Finds n (Some x) c y i → earlier_threads (length xs) c i ≡ true
 covers_earlier n x xs a_thread y i e f = lt-ltb i (length xs)
-    (last_or_earlier xs x y i (ap (λ z. place_of z y) (sym e) ∙ f.found) f.other)
+    (last_or_earlier xs x y i (ap (λ z. place_in_names z y) (sym e) ∙ f.found) f.other)
 covers_earlier n x xs c y i e f = refl
 
 pub spawns_earlier : (n : NamesInScope) (x : Name) (xs : List Name) (b : Body ℕ) → n.threads ≡ xs ++ x ∷ []
@@ -211,16 +211,16 @@ no_handler k y z s old new passed same = record {
 
 pub handler_read : {k : Keyword} {y z : Symbol} {t : Body ℕ} {old m0 new : List Token} (a b : ScopeRead)
     → old ≡ token.Keyword k ∷ m0
-    → Reads (scope_of a) (scope_of b) (machine.block at_simple) (λ n ms. block_marks at_simple (written n t) ms) m0 new
-    → fixed b ≡ fixed a → IsNumbered (scope_of a).names t → ((f : Pending)
-    → tell (scope_of a) (y ∷ f) (token.Keyword k ∷ m0) ≡ tell (scope_of a) (machine.block at_simple ∷ z ∷ f) m0)
-    → ReadsHandler k y z (Some t) (scope_of a) (scope_of b) old new
+    → Reads (read_scope a) (read_scope b) (machine.block at_simple) (λ n ms. block_marks at_simple (written n t) ms) m0 new
+    → fixed b ≡ fixed a → IsNumbered (read_scope a).names t → ((f : Pending)
+    → tell (read_scope a) (y ∷ f) (token.Keyword k ∷ m0) ≡ tell (read_scope a) (machine.block at_simple ∷ z ∷ f) m0)
+    → ReadsHandler k y z (Some t) (read_scope a) (read_scope b) old new
 handler_read {k = k} {y = y} {z = z} a b split r e numbered steps = record {
   names = fixed_names b a e;
   starting = fixed_starting b a e;
   numbered = numbered;
   spelled = λ n e ms h. split ∙ ap (λ ts. token.Keyword k ∷ ts) (r.spelled n e ms h);
-  goes_on = λ f. ap (tell (scope_of a) (y ∷ f)) split ∙ steps f ∙ r.goes_on (z ∷ f);
+  goes_on = λ f. ap (tell (read_scope a) (y ∷ f)) split ∙ steps f ∙ r.goes_on (z ∷ f);
 }
 
 pub no_on_poll_read : (s : Scope) (old new : List Token) → (first old ≡ Some (token.Keyword word.OnPoll) → ⊥)
@@ -253,14 +253,14 @@ unfit_body s more (token.Keyword word.Body ∷ ts) h = absurd (h refl)
 unfit_body s more ts h = refl
 
 pub body_read : {t : Body ℕ} {old m0 new : List Token} (a b : ScopeRead) → old ≡ token.Keyword word.Body ∷ m0
-    → Reads (scope_of a) (scope_of b) (machine.block at_body) (λ n ms. block_marks at_body (written n t) ms) m0 new
-    → fixed b ≡ fixed a → IsNumbered (scope_of a).names t → ReadsBody t (scope_of a) (scope_of b) old new
+    → Reads (read_scope a) (read_scope b) (machine.block at_body) (λ n ms. block_marks at_body (written n t) ms) m0 new
+    → fixed b ≡ fixed a → IsNumbered (read_scope a).names t → ReadsBody t (read_scope a) (read_scope b) old new
 body_read a b split r e numbered = record {
   names = fixed_names b a e;
   starting = fixed_starting b a e;
   numbered = numbered;
   spelled = λ n e ms h. split ∙ ap (λ ts. token.Keyword word.Body ∷ ts) (r.spelled n e ms h);
-  goes_on = λ f. ap (tell (scope_of a) (from_body ∷ f)) split ∙ r.goes_on (machine.last_brace ∷ f);
+  goes_on = λ f. ap (tell (read_scope a) (from_body ∷ f)) split ∙ r.goes_on (machine.last_brace ∷ f);
 }
 
 pub body_fails : (s : Scope) (old m0 : List Token) (v : Verdict) (more : Pending)

@@ -1,6 +1,6 @@
 -- The codes of a program, one by one, and their timers.
 use Rattle.program_reader.specs.Kept.{HasNoOwnNames}
-use Rattle.program_reader.specs.Steps.{scope_of}
+use Rattle.program_reader.specs.Steps.{read_scope}
 use Rattle.program_reader.specs.declared.scope.Scope.{Scope as ScopeRead}
 use Rattle.std.proofs.Common.{◌≡◌, ℕ, suc, ◌+◌, ◌<◌, ◌≤◌, List, [], ◌∷◌, ◌++◌, drop, length, map, replicate}
 use Rattle.std.proofs.Common.{slice_index_or, refl, sym, ap, subst, ◌∙◌, arith, append_assoc, true, false}
@@ -8,7 +8,7 @@ use Rattle.std.proofs.lemmas.List.{map-append, length-append, length-map, drop_a
 use Rattle.std.proofs.Math.Seq.{drop-cons}
 use Rattle.program_tree.specs.Code.{Code}
 use Rattle.program_reader.specs.CodeParts.{ReadsCode}
-use Rattle.program_reader.specs.Codes.{behind, HasCodes, all_timers}
+use Rattle.program_reader.specs.Codes.{names_behind, HasCodes, all_timers}
 use Rattle.program_tree.specs.Faults.{Scope}
 use Rattle.program_tree.specs.Grammar.{Mark, tokens, code_marks, codes_marks}
 use Rattle.program_tree.specs.InScope.{NamesInScope, outside}
@@ -22,18 +22,18 @@ use Rattle.program_tree.specs.declared.process_text.ProcessText.{ProcessText}
 use Rattle.program_tree.proofs.CountLaws.{length-codes_in}
 
 behind-append : (n : NamesInScope) (cs : List CodeShape) (c : CodeShape)
-    → behind n (cs ++ (c ∷ [])) ≡ outside (inside (behind n cs) c)
+    → names_behind n (cs ++ (c ∷ [])) ≡ outside (inside (names_behind n cs) c)
 behind-append n [] c = refl
 behind-append n (d ∷ cs) c = behind-append (outside (inside n d)) cs c
 
 codes_in-append : (k : ℕ) (n : NamesInScope) (cs : List CodeShape) (c : CodeShape) → codes_in k n (cs ++ (c ∷ []))
-    ≡ codes_in k n cs ++ (code_in (k + length cs) (inside (behind n cs) c) c ∷ [])
+    ≡ codes_in k n cs ++ (code_in (k + length cs) (inside (names_behind n cs) c) c ∷ [])
 codes_in-append k n [] c = let e : k ≡ k + 0 = omega arith in ap (λ i. code_in i (inside n c) c ∷ []) e
 codes_in-append k n (d ∷ cs) c =
     let e : k + 1 + length cs ≡ k + suc (length cs) = omega arith in
     ap (λ zs. code_in k (inside n d) d ∷ zs) (codes_in-append (k + 1) (outside (inside n d)) cs c
     ∙ ap (λ i. codes_in (k + 1) (outside (inside n d)) cs
-    ++ (code_in i (inside (behind (outside (inside n d)) cs) c) c ∷ [])) e)
+    ++ (code_in i (inside (names_behind (outside (inside n d)) cs) c) c ∷ [])) e)
 
 codes_marks-append : (ps : List (Name × CodeShape)) (p : Name × CodeShape) (ms : List Mark)
     → codes_marks (ps ++ (p ∷ [])) ms ≡ codes_marks ps (code_marks p ms)
@@ -41,7 +41,7 @@ codes_marks-append [] p ms = refl
 codes_marks-append (q ∷ ps) p ms = ap (code_marks q) (codes_marks-append ps p ms)
 
 -- the shape of a code is the same with the names in scope after other codes
-behind_shape : (n : NamesInScope) (cs : List CodeShape) (code : Code) → code_shape (behind n cs) code ≡ code_shape n code
+behind_shape : (n : NamesInScope) (cs : List CodeShape) (code : Code) → code_shape (names_behind n cs) code ≡ code_shape n code
 behind_shape n [] code = refl
 behind_shape n (c ∷ cs) code = behind_shape (outside (inside n c)) cs code
 
@@ -68,7 +68,7 @@ one_read s m s' x xs k trees code old mid rest h r e =
           (r.put_back ∙ ap (λ n. code_shape n code) h.names ∙ behind_shape s.names cs code)
           ∙ sym (map-append (code_shape s.names) trees (code ∷ []));
       names = r.left ∙ ap (λ n. outside (inside n r.shape)) h.names ∙ sym (behind-append s.names cs r.shape)
-          ∙ ap (behind s.names) (sym push);
+          ∙ ap (names_behind s.names) (sym push);
       spelled = λ ms q. h.spelled (code_marks (x, r.shape) ms) (sym (r.spelled ms q))
           ∙ ap tokens (sym (codes_marks-append h.shapes (x, r.shape) ms));
       goes_on = λ f. h.goes_on f ∙ r.goes_on xs f;
@@ -76,14 +76,14 @@ one_read s m s' x xs k trees code old mid rest h r e =
 
 -- The parts that a code leaves unchanged.
 
-pub behind_kept : (n : NamesInScope) (cs : List CodeShape) → ((behind n cs).events ≡ n.events)
-    × ((behind n cs).semaphores ≡ n.semaphores) × ((behind n cs).processes ≡ n.processes)
+pub behind_kept : (n : NamesInScope) (cs : List CodeShape) → ((names_behind n cs).events ≡ n.events)
+    × ((names_behind n cs).semaphores ≡ n.semaphores) × ((names_behind n cs).processes ≡ n.processes)
 behind_kept n [] = (refl, refl, refl)
 behind_kept n (c ∷ cs) = behind_kept (outside (inside n c)) cs
 
 -- none of the names of a code is in scope after it
 pub behind_none : (n : NamesInScope) (cs : List CodeShape) → n.variables ≡ [] → n.timers ≡ [] → n.threads ≡ []
-    → ((behind n cs).variables ≡ []) × ((behind n cs).timers ≡ []) × ((behind n cs).threads ≡ [])
+    → ((names_behind n cs).variables ≡ []) × ((names_behind n cs).timers ≡ []) × ((names_behind n cs).threads ≡ [])
 behind_none n [] e f g = (e, f, g)
 behind_none n (c ∷ cs) e f g = behind_none (outside (inside n c)) cs refl refl refl
 
@@ -99,10 +99,10 @@ second_empty (x ∷ xs) ys e = absurd cc
 
 -- a code may begin, because no name of the codes before it is in scope
 pub still_none : (a b : ScopeRead) (trees : List Code) (left : List Name) (old mid : List Token) → HasNoOwnNames a
-    → HasCodes trees left (scope_of a) (scope_of b) old mid → HasNoOwnNames b
+    → HasCodes trees left (read_scope a) (read_scope b) old mid → HasNoOwnNames b
 still_none a b trees left old mid h r =
     let timers : a.etimers ++ a.ctimers ≡ [] = ap (λ zs. zs ++ a.ctimers) h.etimers ∙ h.ctimers in
-    let none = behind_none (scope_of a).names (values_of r.shapes) h.variables timers h.threads in
+    let none = behind_none (read_scope a).names (values_of r.shapes) h.variables timers h.threads in
     let timerless : b.etimers ++ b.ctimers ≡ [] = ap (λ (n : NamesInScope). n.timers) r.names ∙ none.1 in
     record {
       variables = ap (λ (n : NamesInScope). n.variables) r.names ∙ none.0;
@@ -178,7 +178,7 @@ timers_of_all k n (c ∷ cs) =
     ∙ ap (λ zs. map (λ x. timer_of k false) c.etimers ++ (zs ++ timers_from (k + 1) cs))
     (sym (replicated (timer_of k true) c.ctimers))
 
-pub behind_first_timer : (k : ℕ) (n : NamesInScope) (cs : List CodeShape) → (behind n cs).first_timer ≡ n.first_timer
+pub behind_first_timer : (k : ℕ) (n : NamesInScope) (cs : List CodeShape) → (names_behind n cs).first_timer ≡ n.first_timer
     + length (timers_from k cs)
 behind_first_timer k n [] = omega arith
 behind_first_timer k n (c ∷ cs) =

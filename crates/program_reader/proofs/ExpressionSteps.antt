@@ -3,7 +3,7 @@ use Rattle.std.proofs.Common.{◌≡◌, ℕ, ◌+◌, ◌<◌, ◌≤◌, List,
 use Rattle.std.proofs.Common.{None, true, false, nat_lt}
 use Rattle.program_tree.specs.Faults.{Scope}
 use Rattle.program_tree.specs.Forms.{Operand, word_of, tells_of, alone}
-use Rattle.program_tree.specs.Grammar.{Context, inner, key, sign, valued, opening, operand_mark}
+use Rattle.program_tree.specs.Grammar.{Context, inner, key, sign, value_mark, opening, operand_mark}
 use Rattle.program_reader.specs.Machine.{Pending, tell, fault, first, first_broken, word_step, expression, operand}
 use Rattle.program_reader.specs.Machine.{operator, open_sign, close}
 use Rattle.program_tree.specs.InScope.{NamesInScope}
@@ -29,7 +29,7 @@ pub alone_start : (s : Scope) (c : Context) (f : Pending) (old : List Token) (k 
 alone_start s c f old k is e = taken s (expression c ∷ f) f old (token.Keyword k) (key k) is
     (ap (λ w. word_step c k w f) e) refl
 
-pub value_large : (s : Scope) (n : ℕ) → 65535 < n → first_broken s (valued n) ≡ Some NumberTooLarge
+pub value_large : (s : Scope) (n : ℕ) → 65535 < n → first_broken s (value_mark n) ≡ Some NumberTooLarge
 value_large s n h = let large : nat_lt 65535 n ≡ true = grind (arith, nat_tests) in rw large refl
 
 pub opens_sound : (s : Scope) (t : Token) (l : ℕ) → l ≤ 32 → first_broken s (opening t l) ≡ None
@@ -46,7 +46,7 @@ variable_start s c f (t ∷ ts) x e = let is : t ≡ token.Name x = cc in rw is 
 
 pub number_large : (s : Scope) (c : Context) (f : Pending) (old : List Token) (n : ℕ)
     → first old ≡ Some (token.Number n) → 65535 < n → tell s (expression c ∷ f) old ≡ fault NumberTooLarge (length old)
-number_large s c f old n is h = broken s (expression c ∷ f) f old (token.Number n) (valued n) NumberTooLarge is refl
+number_large s c f old n is h = broken s (expression c ∷ f) f old (token.Number n) (value_mark n) NumberTooLarge is refl
     (value_large s n h)
 
 pub bang_start : (s : Scope) (c : Context) (f : Pending) (old : List Token) → first old ≡ Some token.Bang

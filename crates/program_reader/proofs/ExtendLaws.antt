@@ -5,7 +5,7 @@ use Rattle.program_reader.specs.CodeParts.{IsNumbered, AllNumbered}
 use Rattle.program_reader.specs.Head.{with_all}
 use Rattle.program_tree.specs.InScope.{NamesInScope, names_of, with_new}
 use Rattle.program_tree.specs.Shapes.{Name}
-use Rattle.program_reader.specs.Steps.{scope_of, Fixed, fixed, IsFront, Extends}
+use Rattle.program_reader.specs.Steps.{read_scope, Fixed, fixed, IsFront, Extends}
 use Rattle.program_reader.specs.declared.scope.Scope.{Scope as ScopeRead}
 use Rattle.program_tree.specs.Tree.{Class, an_event, a_semaphore, a_process, a_variable, a_timer, a_thread, Body}
 
@@ -67,8 +67,8 @@ names_of_fixed s = record {
   threads = s.threads;
 }
 
-pub fixed_names : (a b : ScopeRead) → fixed a ≡ fixed b → (scope_of a).names ≡ (scope_of b).names
+pub fixed_names : (a b : ScopeRead) → fixed a ≡ fixed b → (read_scope a).names ≡ (read_scope b).names
 fixed_names a b e = ap names_of_fixed e
 
-pub fixed_starting : (a b : ScopeRead) → fixed a ≡ fixed b → (scope_of a).starting ≡ (scope_of b).starting
+pub fixed_starting : (a b : ScopeRead) → fixed a ≡ fixed b → (read_scope a).starting ≡ (read_scope b).starting
 fixed_starting a b e = ap (λ z. z.starting) e

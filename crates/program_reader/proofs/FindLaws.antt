@@ -7,7 +7,7 @@ use Rattle.std.specs.List.{position, position_or_len, prefix_len, starts_with}
 use Rattle.std.proofs.lemmas.Bool.{ltb-false}
 use Rattle.std.proofs.lemmas.List.Sums.{prefix_len-le-length}
 use Rattle.program_tree.specs.declared.token.Token.{Token as TokenRead}
-use Rattle.program_reader.specs.Front.{entry_of}
+use Rattle.program_reader.specs.Front.{token_entry}
 use Rattle.program_tree.specs.TokenMeaning.{token_of}
 use Rattle.program_tree.specs.Words.{lookup}
 
@@ -37,7 +37,7 @@ mapped f true x o = refl
 mapped f false x o = refl
 
 pub lookup_found : (table : List (Bor (List ℕ) × TokenRead)) (word : List ℕ)
-    → option_map (λ e. token_of e.1) (find (λ e. bytes_eq e.0.now word) table) ≡ lookup (map entry_of table) word
+    → option_map (λ e. token_of e.1) (find (λ e. bytes_eq e.0.now word) table) ≡ lookup (map token_entry table) word
 lookup_found [] word = refl
 lookup_found (e ∷ table) word =
     mapped (λ e. token_of e.1) (bytes_eq e.0.now word) e (find (λ e. bytes_eq e.0.now word) table)
@@ -50,9 +50,9 @@ mapped_twice None = refl
 mapped_twice (Some e) = refl
 
 pub sign_found : (signs : List (Bor (List ℕ) × TokenRead)) (text : List ℕ)
-    → option_map entry_of (find (λ s. starts_with nat_eq text s.0.now) signs) ≡ find (λ s. starts_with nat_eq text s.0)
-    (map entry_of signs)
+    → option_map token_entry (find (λ s. starts_with nat_eq text s.0.now) signs) ≡ find (λ s. starts_with nat_eq text s.0)
+    (map token_entry signs)
 sign_found [] text = refl
 sign_found (s ∷ signs) text =
-    mapped entry_of (starts_with nat_eq text s.0.now) s (find (λ s. starts_with nat_eq text s.0.now) signs)
-    ∙ ap (λ o. cond (starts_with nat_eq text s.0.now) (Some (entry_of s)) o) (sign_found signs text)
+    mapped token_entry (starts_with nat_eq text s.0.now) s (find (λ s. starts_with nat_eq text s.0.now) signs)
+    ∙ ap (λ o. cond (starts_with nat_eq text s.0.now) (Some (token_entry s)) o) (sign_found signs text)

@@ -10,7 +10,7 @@ use Rattle.program_tree.specs.Faults.{Scope, is_full}
 use Rattle.program_reader.specs.Head.{class_of_kind, with_names, IsNew, IsListed, IsValued}
 use Rattle.program_tree.specs.InScope.{NamesInScope, with_new, is_in_scope, is_a}
 use Rattle.program_reader.specs.Machine.{Pending, tell, fault, fault_or, first, new_name}
-use Rattle.program_tree.specs.InScope.{place_of}
+use Rattle.program_tree.specs.InScope.{place_in_names}
 use Rattle.program_tree.specs.Shapes.{Name}
 use Rattle.program_reader.specs.Steps.{ReadsSign}
 use Rattle.program_tree.specs.Tokens.{Token}
@@ -118,12 +118,12 @@ mapped_none n None h = refl
 mapped_none n (Some i) h = absurd cc
 
 -- a name that isn't on this list isn't on the last part of the list
-pub not_in_second : (xs ys : List Name) (x : Name) → is_some (place_of (xs ++ ys) x) ≡ false → place_of ys x ≡ None
-not_in_second xs ys x h = go (place_of xs x) refl
+pub not_in_second : (xs ys : List Name) (x : Name) → is_some (place_in_names (xs ++ ys) x) ≡ false → place_in_names ys x ≡ None
+not_in_second xs ys x h = go (place_in_names xs x) refl
   where
-    go : (o : Option ℕ) → place_of xs x ≡ o → place_of ys x ≡ None
-    go None e = mapped_none (length xs) (place_of ys x) (ap is_some (sym (place_right xs ys x e)) ∙ h)
-    go (Some i) e = let k : is_some (place_of (xs ++ ys) x) ≡ true = ap is_some (place_left xs ys x i e) in
+    go : (o : Option ℕ) → place_in_names xs x ≡ o → place_in_names ys x ≡ None
+    go None e = mapped_none (length xs) (place_in_names ys x) (ap is_some (sym (place_right xs ys x e)) ∙ h)
+    go (Some i) e = let k : is_some (place_in_names (xs ++ ys) x) ≡ true = ap is_some (place_left xs ys x i e) in
         absurd (cc (k, h))
 
 -- the names that a declaration adds

@@ -4,7 +4,7 @@ use Rattle.std.proofs.Common.{Option, Some, None}
 use Rattle.std.specs.Str.{bytes_eq}
 use Rattle.program_tree.specs.Forms.{Operand, Form, ends, tells, takes, values, Beginning, no_statement, action}
 use Rattle.program_tree.specs.Forms.{branches, loops, goes_on, beginning, Word, no_value, alone, tells_of, word_of}
-use Rattle.program_tree.specs.Grammar.{Context, at_thread, Mark, new, starts, sign, key, named, valued, begins_with}
+use Rattle.program_tree.specs.Grammar.{Context, at_thread, Mark, new, starts, sign, key, named, value_mark, begins_with}
 use Rattle.program_tree.specs.Grammar.{leaving, operand_mark, into_marks, word_marks, value_marks, expression_marks}
 use Rattle.program_tree.specs.Grammar.{form_marks, beginning_marks, keyword_marks, action_marks, items_marks}
 use Rattle.program_tree.specs.Grammar.{else_marks, block_marks, variable_marks, etimer_marks, ctimer_marks}
@@ -214,7 +214,7 @@ spell open_sign p rest = sign token.Open ∷ rest
 spell close p rest = sign token.Close ∷ rest
 spell open_brace p rest = sign token.OpenBrace ∷ rest
 spell operator o rest = sign (token.Op o) ∷ rest
-spell number_symbol n rest = valued n ∷ rest
+spell number_symbol n rest = value_mark n ∷ rest
 spell (operand c o) v rest = operand_mark c o v ∷ rest
 spell (expression c) e rest = expression_marks c e rest
 spell (into_end c) i rest = into_marks i rest

@@ -6,13 +6,13 @@ use Rattle.std.proofs.lemmas.Bool.{and_parts, or_parts}
 use Rattle.std.proofs.lemmas.Bool.Decides.{nat_tests}
 use Rattle.std.proofs.lemmas.List.{append_assoc, append-nil, map-append, length-drop}
 use Rattle.std.specs.List.{list_all, list_any, cons_option}
-use Rattle.program_reader.specs.Front.{BeginsWith}
+use Rattle.program_reader.specs.Front.{BeginsWithToken}
 use Rattle.program_tree.specs.declared.token.Token.{Token as TokenRead}
 use Rattle.program_tree.specs.Tokens.{Token}
 use Rattle.program_tree.specs.TokenMeaning.{token_of}
 use Rattle.program_tree.specs.Words.{is_word_byte}
 use Rattle.program_tree.specs.Text.{is_feed, Piece, Blank, Comment, Word, Sign, Other, bytes_of, token_at, FitsBefore}
-use Rattle.program_tree.specs.Text.{text_of, AllFit, tokens_of, lines_from, IsLexed}
+use Rattle.program_tree.specs.Text.{text_of, AllFit, tokens_of, line_numbers_from, IsLexed}
 use Rattle.program_reader.proofs.PieceLaws.{found_sign}
 
 -- ---- the LFs of a piece
@@ -54,7 +54,7 @@ feeds rest (Other b) fits = omega arith
 pub record HasRead (text : List ℕ) (tokens : List Token) (lines : List ℕ) (line : ℕ) (rest : List ℕ) : Type 0 where
   pub goes_on : (more : List Piece) → rest ≡ text_of more → AllFit more
       → (all : List Piece) × (text ≡ text_of all) × AllFit all × (tokens_of all ≡ tokens ++ tokens_of more)
-      × (lines_from 1 all ≡ lines ++ lines_from line more)
+      × (line_numbers_from 1 all ≡ lines ++ line_numbers_from line more)
 
 pub all_read : (text : List ℕ) (tokens : List Token) (lines : List ℕ) (line : ℕ) (rest : List ℕ)
     → HasRead text tokens lines line rest → length rest ≡ 0 → IsLexed text tokens (lines ++ line ∷ [])
@@ -69,7 +69,7 @@ joined xs ys (Some x) = sym (append_assoc xs (x ∷ []) ys)
 
 pub piece_read : (text : List ℕ) (tokens : List Token) (lines : List ℕ) (line : ℕ) (rest : List ℕ)
     (token : Option Token) (n : ℕ)
-    → HasRead text tokens lines line rest → BeginsWith rest token n
+    → HasRead text tokens lines line rest → BeginsWithToken rest token n
     → HasRead text (tokens ++ option_to_list token) (lines ++ option_to_list (option_map (λ t. line) token))
     (line + cond (is_feed (get_or rest 0 0)) 1 0) (drop n rest)
 piece_read text tokens lines line rest token n so_far front =
@@ -85,11 +85,11 @@ piece_read text tokens lines line rest token n so_far front =
             all.2,
             all.3 ∙ joined tokens (tokens_of more) (token_at piece)
                 ∙ ap (λ o. (tokens ++ option_to_list o) ++ tokens_of more) (sym front.is),
-            all.4 ∙ joined lines (lines_from (line + count_by is_feed (bytes_of piece)) more)
+            all.4 ∙ joined lines (line_numbers_from (line + count_by is_feed (bytes_of piece)) more)
                 (option_map (λ t. line) (token_at piece))
                 ∙ ap (λ o. (lines ++ option_to_list (option_map (λ t. line) o))
-                ++ lines_from (line + count_by is_feed (bytes_of piece)) more) (sym front.is)
-                ∙ ap (λ c. (lines ++ option_to_list (option_map (λ t. line) token)) ++ lines_from (line + c) more)
+                ++ line_numbers_from (line + count_by is_feed (bytes_of piece)) more) (sym front.is)
+                ∙ ap (λ c. (lines ++ option_to_list (option_map (λ t. line) token)) ++ line_numbers_from (line + c) more)
                 count,
           );
     }
@@ -107,7 +107,7 @@ same_line line (Some t) = refl
 -- one iteration of the loop
 pub turn : (text : List ℕ) (old new : List TokenRead) (old_lines new_lines : List ℕ) (line next : ℕ)
     (rest after : List ℕ) (token : Option TokenRead) (n : ℕ)
-    → HasRead text (map token_of old) old_lines line rest → BeginsWith rest (option_map token_of token) n
+    → HasRead text (map token_of old) old_lines line rest → BeginsWithToken rest (option_map token_of token) n
     → new ≡ old ++ option_to_list token → new_lines ≡ old_lines ++ option_to_list (option_map (λ t. line) token)
     → next ≡ line + cond (is_feed (get_or rest 0 0)) 1 0 → after ≡ drop n rest
     → HasRead text (map token_of new) new_lines next after

@@ -5,7 +5,7 @@ use Rattle.std.proofs.lemmas.List.{map-append, append-nil}
 use Rattle.std.proofs.lemmas.Result.{err_from_is_err_and}
 use Rattle.program_tree.specs.Faults.{Scope}
 use Rattle.program_tree.specs.Grammar.{Mark, tokens}
-use Rattle.program_reader.specs.Head.{with_all, HasDeclared, Declares, itself, HasNames, HasValues, IsListed, IsValued}
+use Rattle.program_reader.specs.Head.{with_all, HasDeclared, Declares, itself, DeclaresNames, HasValues, IsListed, IsValued}
 use Rattle.program_reader.specs.Head.{with_names}
 use Rattle.program_tree.specs.InScope.{NamesInScope, with_new}
 use Rattle.program_reader.specs.Machine.{Symbol, Pending, Verdict, tell, new_name}
@@ -35,7 +35,7 @@ none_declared c name_of y marks s old = record {
 }
 
 pub no_names_yet : (c : Class) (y : Symbol) (marks : List Name → List Mark → List Mark) (s : Scope) (old : List Token)
-    → HasNames c y marks s s old old
+    → DeclaresNames c y marks s s old old
 no_names_yet c y marks s old = ([], none_declared c itself y marks s old)
 
 pub no_values_yet : (c : Class) (y : Symbol) (marks : List Valued → List Mark → List Mark) (s : Scope)
@@ -62,12 +62,12 @@ one_declared {c = c} {name_of = name_of} {marks = marks} {items = items} {s = s}
 -- a further declaration: the tokens of its marks, and the step at its keyword
 
 pub names_more : {c : Class} {y : Symbol} {k : Keyword} {marks : List Name → List Mark → List Mark} {s m s' : Scope}
-    {old rest m0 new : List Token} → HasNames c y marks s m old rest → rest ≡ token.Keyword k ∷ m0
+    {old rest m0 new : List Token} → DeclaresNames c y marks s m old rest → rest ≡ token.Keyword k ∷ m0
     → IsListed c m s' m0 new
     → ((x : Name) (more : List Name) (ms : List Mark) → tokens (marks (x ∷ more) ms)
     ≡ token.Keyword k ∷ token.Name x ∷ token.Semicolon ∷ tokens (marks more ms))
     → ((f : Pending) → tell m (y ∷ f) (token.Keyword k ∷ m0) ≡ tell m (new_name c ∷ machine.semicolon ∷ y ∷ f) m0)
-    → HasNames c y marks s s' old new
+    → DeclaresNames c y marks s s' old new
 names_more {y = y} {k = k} {m = m} h split p spells steps = (
   h.0 ++ p.name ∷ [],
   one_declared p.name h.1 p.added (λ more ms e. split ∙ ap (λ ts. token.Keyword k ∷ ts)

@@ -1,12 +1,12 @@
 -- The next steps of reading after a name is looked up.
 use Rattle.std.proofs.Common.{◌≡◌, ℕ, List, [], ◌∷◌, drop, length, refl, sym, ap, ◌∙◌, Option, Some, None, Bool, true}
 use Rattle.std.proofs.Common.{false, not, ◌&&◌, ◌||◌}
-use Rattle.program_tree.specs.Faults.{Scope, scope_after, is_other, is_own}
+use Rattle.program_tree.specs.Faults.{Scope, scope_after, is_other, is_own_name}
 use Rattle.program_tree.specs.Grammar.{Context, Mark, named, uses, spawns, used, operand_mark}
 use Rattle.program_tree.specs.InScope.{NamesInScope, is_a, is_in_scope, number_in, name_in}
 use Rattle.program_reader.specs.Machine.{Pending, step, take, tell, fault, first, first_broken, operand}
 use Rattle.program_tree.specs.Shapes.{Name}
-use Rattle.program_reader.specs.Steps.{look, Finds, IsNamed, IsFound, Numbered, Fits, Reads}
+use Rattle.program_reader.specs.Steps.{look, Finds, IsNameInScope, IsFound, Numbered, Fits, Reads}
 use Rattle.program_tree.specs.Tokens.{Token}
 use Rattle.program_tree.specs.Tree.{Class, a_thread}
 use Rattle.program_tree.specs.declared.error.ReadErrorKind.{ReadErrorKind}
@@ -48,7 +48,7 @@ uses_none : (s : Scope) (k : Class) (x : Name) → is_in_scope s.names x ≡ tru
 uses_none s k x e f = rw (e, f) refl
 
 spawns_none : (s : Scope) (own : Option Name) (x : Name) → is_in_scope s.names x ≡ true
-    → is_a s.names a_thread x ≡ true → is_own own x ≡ false → first_broken s (named x (spawns own x)) ≡ None
+    → is_a s.names a_thread x ≡ true → is_own_name own x ≡ false → first_broken s (named x (spawns own x)) ≡ None
 spawns_none s own x e f g = rw (e, f, g) refl
 
 uses_unknown : (s : Scope) (k : Class) (x : Name) → is_in_scope s.names x ≡ false → first_broken s (named x (uses k x))
@@ -69,9 +69,9 @@ uses_other s k x e f = let g : not (is_a s.names k x) ≡ true = ap (λ b. b && 
     ∙ other_at _ f in rw (e, g) refl
 
 spawns_other : (s : Scope) (own : Option Name) (x : Name) → is_in_scope s.names x ≡ true
-    → (is_other s.names a_thread x || is_own own x) ≡ true → first_broken s (named x (spawns own x)) ≡ Some BadTarget
-spawns_other s own x e f = let g : (not (is_a s.names a_thread x) || is_own own x) ≡ true =
-    ap (λ b. (b && not (is_a s.names a_thread x)) || is_own own x) (sym e) ∙ f in rw (e, g) refl
+    → (is_other s.names a_thread x || is_own_name own x) ≡ true → first_broken s (named x (spawns own x)) ≡ Some BadTarget
+spawns_other s own x e f = let g : (not (is_a s.names a_thread x) || is_own_name own x) ≡ true =
+    ap (λ b. (b && not (is_a s.names a_thread x)) || is_own_name own x) (sym e) ∙ f in rw (e, g) refl
 
 used_none : (s : Scope) (c : Context) (k : Class) (x : Name) (i : ℕ) → Finds s.names c.thread k x i
     → first_broken s (named x (used c k x)) ≡ None
@@ -108,19 +108,19 @@ name_reads s c k x i old new is f from = record {
 }
 
 pub is_named : (n : NamesInScope) (own : Option Name) (k : Class) (x : Name) (i : ℕ) (old : List Token)
-    → first old ≡ Some (token.Name x) → Finds n own k x i → IsNamed n own k i old
+    → first old ≡ Some (token.Name x) → Finds n own k x i → IsNameInScope n own k i old
 is_named n own k x i old is f = record { name = x; here = is; finds = f }
 
 pub named_reads : (s : Scope) (c : Context) (k : Class) (i : ℕ) (old new : List Token)
-    → IsNamed s.names c.thread k i old → new ≡ drop 1 old
+    → IsNameInScope s.names c.thread k i old → new ≡ drop 1 old
     → Reads s s (operand c (form.name k)) (λ n ms. operand_mark c (form.name k) (name_in n k i) ∷ ms) old new
 named_reads s c k i old new h from = name_reads s c k h.name i old new h.here h.finds from
 
-pub named_numbered : (n : NamesInScope) (own : Option Name) (k : Class) (i : ℕ) (old : List Token) → IsNamed n own k i old
+pub named_numbered : (n : NamesInScope) (own : Option Name) (k : Class) (i : ℕ) (old : List Token) → IsNameInScope n own k i old
     → Numbered n (λ n'. number_in n' k (name_in n' k i)) i
 named_numbered n own k i old f = λ n' h. number_again n n' own k f.name i f.finds h
 
-pub named_fits : (n : NamesInScope) (own : Option Name) (k : Class) (i : ℕ) (old : List Token) → IsNamed n own k i old
+pub named_fits : (n : NamesInScope) (own : Option Name) (k : Class) (i : ℕ) (old : List Token) → IsNameInScope n own k i old
     → Fits n own (λ w. w k i)
 named_fits n own k i old f = λ w h. h k f.name i f.finds
 

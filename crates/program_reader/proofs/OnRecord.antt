@@ -5,7 +5,7 @@ use Rattle.std.proofs.Common.{inl, inr}
 use Rattle.std.proofs.lemmas.List.{map-append, length-append, append-nil}
 use Rattle.std.proofs.lemmas.Bool.{ltb-true, ltb-false}
 use Rattle.program_tree.specs.Grammar.{Mark, tokens, program_marks}
-use Rattle.program_reader.specs.Machine.{Symbol, Pending, Step, unfit, take, step, tell, after, end_kind, Verdict}
+use Rattle.program_reader.specs.Machine.{Symbol, Pending, Step, unfit, take, step, tell, verdict_after, end_kind, Verdict}
 use Rattle.program_reader.specs.Machine.{whole, fault, from_events, from_semaphores, first_process, first_broken_of}
 use Rattle.program_reader.specs.Machine.{rules_on_marks, first_broken, fault_or, unfit_kind, operand}
 use Rattle.program_tree.specs.Shapes.{ProgramShape}
@@ -548,7 +548,7 @@ law (t ∷ ts) before ms f s r clean = go (step f t) refl
     go : (x : Step) → step f t ≡ x →
         ((m : Mark) (f' : Pending) → Reached (before ++ (t ∷ [])) (ms ++ (m ∷ [])) f' (scope_after s m)
         → Clean (before ++ (t ∷ [])) ts → Judged (tell (scope_after s m) f' ts) ((before ++ (t ∷ [])) ++ ts)) →
-        Judged (after s (suc (length ts)) t x (λ n g. tell n g ts)) (before ++ (t ∷ ts))
+        Judged (verdict_after s (suc (length ts)) t x (λ n g. tell n g ts)) (before ++ (t ∷ ts))
     go unfit is ih = unexpected t refl is
     go (take m f') is ih = on_mark before ts ms f s t m f'
         (record { reached = r; is = is; clean = clean; go_on = ih m f' }) (first_broken s m) refl

@@ -8,10 +8,10 @@ use Rattle.std.proofs.lemmas.List.{take-append-drop, length-take-le, length-appe
 use Rattle.std.proofs.lemmas.List.Sums.{take_while-cons, prefix_len-le-length}
 use Rattle.std.proofs.lemmas.Slice.Eq.{starts_is}
 use Rattle.std.specs.List.{list_all, list_any, prefix_len, take_while, find, starts_with}
-use Rattle.program_reader.specs.Front.{BeginsWith, BeginsOther}
+use Rattle.program_reader.specs.Front.{BeginsWithToken, BeginsOther}
 use Rattle.program_tree.specs.Tokens.{Token, Bad}
 use Rattle.program_tree.specs.Words.{begins, is_word_byte, word_token}
-use Rattle.program_tree.specs.Text.{is_feed, is_blank, signs, sign_at, begins_comment, ends_line, Blank, Comment, Word}
+use Rattle.program_tree.specs.Text.{is_feed, is_blank, signs, sign_at, begins_comment, line_ends_here, Blank, Comment, Word}
 use Rattle.program_tree.specs.Text.{Sign, Other}
 
 -- ---- the longest prefix whose bytes pass the test
@@ -41,7 +41,7 @@ no_feed (x ∷ xs) h =
     let first : is_feed x ≡ false = grind (arith, nat_tests) in
     rw (first, no_feed xs parts.1) refl
 
-line_ends : (xs : List ℕ) → begins (λ b. not (is_feed b)) xs ≡ false → ends_line xs ≡ true
+line_ends : (xs : List ℕ) → begins (λ b. not (is_feed b)) xs ≡ false → line_ends_here xs ≡ true
 line_ends [] h = refl
 line_ends (x ∷ xs) h = grind (arith, nat_tests)
 
@@ -124,7 +124,7 @@ comment_split text h = (starts_is Decides-eqb text (codes "//") (begins_comment 
 
 -- ---- the beginning of a text, for each kind of piece
 
-pub blank_front : (s : List ℕ) → 0 < length s → is_blank (get_or s 0 0) ≡ true → BeginsWith s None 1
+pub blank_front : (s : List ℕ) → 0 < length s → is_blank (get_or s 0 0) ≡ true → BeginsWithToken s None 1
 blank_front [] l h = absurd (omega arith)
 blank_front (b ∷ s) l h = record { piece = Blank b; split = refl; len_is = refl; fits = h; is = refl }
 
@@ -133,7 +133,7 @@ word_some [] h = absurd cc
 word_some (b ∷ s) h = rw h (omega arith)
 
 pub word_front : (s : List ℕ) (n : ℕ) → is_word_byte (get_or s 0 0) ≡ true → n ≡ prefix_len is_word_byte s
-    → BeginsWith s (Some (word_token (take n s))) n
+    → BeginsWithToken s (Some (word_token (take n s))) n
 word_front s n h e =
     let some : 0 < n = omega (arith, word_some s h) in
     let within : n ≤ length s = omega (arith, prefix_len-le-length is_word_byte s) in
@@ -152,7 +152,7 @@ word_front s n h e =
     }
 
 comment_at : (t : List ℕ) (n : ℕ) → n ≡ prefix_len (λ b. not (is_feed b)) t
-    → BeginsWith (codes "//" ++ t) None (suc (suc n))
+    → BeginsWithToken (codes "//" ++ t) None (suc (suc n))
 comment_at t n e =
     let within : n ≤ length t = omega (arith, prefix_len-le-length (λ b. not (is_feed b)) t) in
     let len : length (take n t) ≡ n = length-take-le n t within in
@@ -169,13 +169,13 @@ comment_at t n e =
     }
 
 pub comment_front : (s : List ℕ) (n m : ℕ) → begins_comment s ≡ true → n ≡ prefix_len (λ b. not (is_feed b)) (drop 2 s)
-    → m ≡ 2 + n → BeginsWith s None m
+    → m ≡ 2 + n → BeginsWithToken s None m
 comment_front s n m h e two =
     let is : m ≡ suc (suc n) = omega arith in
-    rw is (subst (λ t. BeginsWith t None (suc (suc n))) (sym (comment_split s h)) (comment_at (drop 2 s) n e))
+    rw is (subst (λ t. BeginsWithToken t None (suc (suc n))) (sym (comment_split s h)) (comment_at (drop 2 s) n e))
 
 pub sign_front : (s bytes : List ℕ) (token : Token) → BeginsOther s → sign_at s ≡ Some (bytes, token)
-    → BeginsWith s (Some token) (length bytes)
+    → BeginsWithToken s (Some token) (length bytes)
 sign_front s bytes token other h =
     let split = (found_sign s bytes token h).split in
     record {
@@ -190,7 +190,7 @@ sign_front s bytes token other h =
       is = refl;
     }
 
-pub other_front : (s : List ℕ) → BeginsOther s → sign_at s ≡ None → BeginsWith s (Some Bad) 1
+pub other_front : (s : List ℕ) → BeginsOther s → sign_at s ≡ None → BeginsWithToken s (Some Bad) 1
 other_front [] other h = absurd (omega (arith, other.some))
 other_front (b ∷ s) other h = record {
   piece = Other b;

@@ -4,7 +4,7 @@ use Rattle.std.proofs.Common.{arith, Bool, true, false, Option, Some, None, opti
 use Rattle.std.proofs.lemmas.Bool.{ltb-true, ltb-false}
 use Rattle.std.specs.List.{position, position_or_len}
 use Rattle.std.specs.Str.{bytes_eq}
-use Rattle.program_tree.specs.InScope.{place_of}
+use Rattle.program_tree.specs.InScope.{place_in_names}
 
 position_step : (b : Bool) (m n : ℕ) (v w : Bool) → nat_lt (cond (not b) (1 + m) 0) (suc n) ≡ v → nat_lt m n ≡ w
     → cond v (Some (cond (not b) (1 + m) 0)) None ≡ cond b (Some 0) (option_map (λ i. 1 + i) (cond w (Some m) None))
@@ -58,20 +58,20 @@ position_right p (x ∷ xs) ys e =
     position-cons p x (xs ++ ys) ∙ ap (λ b. cond b (Some 0) (option_map (λ i. 1 + i) (position p (xs ++ ys)))) h.0
     ∙ ap (option_map (λ i. 1 + i)) (position_right p xs ys h.1) ∙ shifted (length xs) (position p ys)
 
-pub place_left : (xs ys : List (List ℕ)) (x : List ℕ) (i : ℕ) → place_of xs x ≡ Some i → place_of (xs ++ ys) x ≡ Some i
-unfolding place_of
+pub place_left : (xs ys : List (List ℕ)) (x : List ℕ) (i : ℕ) → place_in_names xs x ≡ Some i → place_in_names (xs ++ ys) x ≡ Some i
+unfolding place_in_names
 place_left xs ys x i e = position_left (λ y. bytes_eq x y) xs ys i e
 
-pub place_right : (xs ys : List (List ℕ)) (x : List ℕ) → place_of xs x ≡ None
-    → place_of (xs ++ ys) x ≡ option_map (λ i. length xs + i) (place_of ys x)
-unfolding place_of
+pub place_right : (xs ys : List (List ℕ)) (x : List ℕ) → place_in_names xs x ≡ None
+    → place_in_names (xs ++ ys) x ≡ option_map (λ i. length xs + i) (place_in_names ys x)
+unfolding place_in_names
 place_right xs ys x e = position_right (λ y. bytes_eq x y) xs ys e
 
-pub place_in_second : (xs ys : List (List ℕ)) (x : List ℕ) (i n : ℕ) → place_of xs x ≡ None → place_of ys x ≡ Some i
-    → n ≡ length xs → place_of (xs ++ ys) x ≡ Some (n + i)
+pub place_in_second : (xs ys : List (List ℕ)) (x : List ℕ) (i n : ℕ) → place_in_names xs x ≡ None → place_in_names ys x ≡ Some i
+    → n ≡ length xs → place_in_names (xs ++ ys) x ≡ Some (n + i)
 place_in_second xs ys x i n e f h = place_right xs ys x e ∙ ap (option_map (λ i. length xs + i)) f
     ∙ ap (λ m. Some (m + i)) (sym h)
 
-pub place_in_neither : (xs ys : List (List ℕ)) (x : List ℕ) → place_of xs x ≡ None → place_of ys x ≡ None
-    → place_of (xs ++ ys) x ≡ None
+pub place_in_neither : (xs ys : List (List ℕ)) (x : List ℕ) → place_in_names xs x ≡ None → place_in_names ys x ≡ None
+    → place_in_names (xs ++ ys) x ≡ None
 place_in_neither xs ys x e f = place_right xs ys x e ∙ ap (option_map (λ i. length xs + i)) f

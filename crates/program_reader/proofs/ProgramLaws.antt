@@ -14,7 +14,7 @@ use Rattle.program_tree.specs.InScope.{NamesInScope, no_names, with_new, number_
 use Rattle.program_reader.specs.Machine.{whole, tell, from_events, codes_form}
 use Rattle.program_tree.specs.Numbers.{named_of, values_of, codes_in, timers_from, timer_of, program_names}
 use Rattle.program_tree.specs.Numbers.{tree_of_shape}
-use Rattle.program_tree.specs.Made.{AreLexed, WasRead, IsMade}
+use Rattle.program_tree.specs.Made.{AreLexed, WasRead, IsProgramTree}
 use Rattle.program_tree.specs.Reading.{IsTreeOfTokens}
 use Rattle.program_tree.specs.ShapeOf.{code_shape, shape_of}
 use Rattle.program_tree.specs.Shapes.{Name, CodeShape, ProgramShape}
@@ -322,7 +322,7 @@ module _ (text m5 : List Token) (s4 s5 : Scope) (counts autostart : List ℕ) (r
       (omega (arith, each_process, length-map r.shapes (λ p. p.1))))
 
   pub is_made : AreLexed text → length s5.names.events ≤ 117 → length s5.names.semaphores ≤ 64
-      → length s5.names.processes ≤ 64 → s5.names.first_timer ≤ 64 → IsMade tree
+      → length s5.names.processes ≤ 64 → s5.names.first_timer ≤ 64 → IsProgramTree tree
   is_made lexed few_events few_semaphores few_processes low = record {
     few_events = few_events;
     few_semaphores = few_semaphores;

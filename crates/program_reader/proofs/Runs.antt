@@ -6,8 +6,8 @@ use Rattle.program_tree.specs.Forms.{Beginning, beginning}
 use Rattle.program_tree.specs.Grammar.{Context, Mark, begins_with, target, tokens, sign, action_marks, statement_marks}
 use Rattle.program_tree.specs.InScope.{NamesInScope, name_in, number_in}
 use Rattle.program_reader.specs.Machine.{Symbol, Pending, tell, items, items_else, equals, expression, semicolon}
-use Rattle.program_reader.specs.Steps.{Extends, Reads, ReadsSign, ReadsStatement, ReadsElse, Begins, IsTarget}
-use Rattle.program_reader.specs.Steps.{pending_of, fixed, scope_of, Numbered, Fits, Covers}
+use Rattle.program_reader.specs.Steps.{Extends, Reads, ReadsSign, ReadsStatement, ReadsElse, BeginsStatement, IsTarget}
+use Rattle.program_reader.specs.Steps.{pending_of, fixed, read_scope, Numbered, Fits, Covers}
 use Rattle.program_tree.specs.Scope.{Within, action_fits, statement_fits}
 use Rattle.program_tree.specs.Shapes.{Name}
 use Rattle.program_tree.specs.Tokens as token
@@ -17,8 +17,8 @@ use Rattle.program_reader.specs.declared.scope.Scope.{Scope as ScopeRead}
 use Rattle.program_tree.specs.Tree.{a_variable, Action, action_map, Statement, statement_map}
 use Rattle.program_reader.proofs.ExtendLaws.{fixed_names}
 
-pub same_names : (a b : ScopeRead) → a ≡ b → (scope_of a).names ≡ (scope_of b).names
-same_names a b e = ap (λ z. (scope_of z).names) e
+pub same_names : (a b : ScopeRead) → a ≡ b → (read_scope a).names ≡ (read_scope b).names
+same_names a b e = ap (λ z. (read_scope z).names) e
 
 pub renumbered : {T : Type 0} (n n1 : NamesInScope) (again : NamesInScope → T) (t : T) → n1 ≡ n → Numbered n1 again t
     → Numbered n again t
@@ -40,23 +40,23 @@ pub record Begun (s s' : Scope) (own : Option Name) (front back : Pending → Pe
 
 -- a keyword
 pub begun : {own : Option Name} {c : Context} {k : Keyword} {g : Beginning} {old new : List Token} (a b : ScopeRead)
-    → fixed b ≡ fixed a → Begins (scope_of a) (scope_of b) c k old new → beginning k ≡ g
-    → Begun (scope_of a) (scope_of b) own (λ f. items c ∷ f) (pending_of c g) (λ n ms. begins_with c k ∷ ms)
+    → fixed b ≡ fixed a → BeginsStatement (read_scope a) (read_scope b) c k old new → beginning k ≡ g
+    → Begun (read_scope a) (read_scope b) own (λ f. items c ∷ f) (pending_of c g) (λ n ms. begins_with c k ∷ ms)
     (λ n. Unit {0}) (λ w. true) old new
 begun {c = c} {k = k} {new = new} a b e h is = record {
   names = fixed_names b a e;
   spelled = λ n u ms q. h.spelled ∙ ap (λ ts. token.Keyword k ∷ ts) (sym q);
-  goes_on = λ f. h.goes_on f ∙ ap (λ z. tell (scope_of b) (pending_of c z f) new) is;
+  goes_on = λ f. h.goes_on f ∙ ap (λ z. tell (read_scope b) (pending_of c z f) new) is;
   numbered = λ n u. tt;
   fit = λ w u. refl;
 }
 
 -- the variable of an assignment
 pub targeted : {own : Option Name} {c : Context} {i : ℕ} {old new : List Token} (a b : ScopeRead) → fixed b ≡ fixed a
-    → IsTarget (scope_of a) (scope_of b) c i old new
-    → Numbered (scope_of a).names (λ n. number_in n a_variable (name_in n a_variable i)) i
-    → Fits (scope_of a).names own (λ w. w a_variable i)
-    → Begun (scope_of a) (scope_of b) own (λ f. items c ∷ f) (λ f. equals ∷ expression c ∷ semicolon ∷ items c ∷ f)
+    → IsTarget (read_scope a) (read_scope b) c i old new
+    → Numbered (read_scope a).names (λ n. number_in n a_variable (name_in n a_variable i)) i
+    → Fits (read_scope a).names own (λ w. w a_variable i)
+    → Begun (read_scope a) (read_scope b) own (λ f. items c ∷ f) (λ f. equals ∷ expression c ∷ semicolon ∷ items c ∷ f)
     (λ n ms. target (name_in n a_variable i) ∷ ms) (λ n. number_in n a_variable (name_in n a_variable i) ≡ i)
     (λ w. w a_variable i) old new
 targeted {i = i} a b e h numbered fits = record {
@@ -102,22 +102,22 @@ followed {s = s} {s1 = s1} {own = own} {marks' = marks'} r e spelled goes number
 pub with_part : {T : Type 0} {s : Scope} {own : Option Name} {y : Symbol} {front back : Pending → Pending}
     {marks marks' : NamesInScope → List Mark → List Mark} {again : NamesInScope → Type 0} {again' : NamesInScope → T} {t : T}
     {fits fits' : Within → Bool} {old mid new : List Token} {a b : ScopeRead} → b ≡ a
-    → Begun s (scope_of a) own front (λ f. y ∷ back f) marks again fits old mid
-    → Reads (scope_of a) (scope_of a) y marks' mid new → Numbered (scope_of a).names again' t
-    → Fits (scope_of a).names own fits'
-    → Begun s (scope_of b) own front back (λ n ms. marks n (marks' n ms)) (λ n. again n × (again' n ≡ t))
+    → Begun s (read_scope a) own front (λ f. y ∷ back f) marks again fits old mid
+    → Reads (read_scope a) (read_scope a) y marks' mid new → Numbered (read_scope a).names again' t
+    → Fits (read_scope a).names own fits'
+    → Begun s (read_scope b) own front back (λ n ms. marks n (marks' n ms)) (λ n. again n × (again' n ≡ t))
     (λ w. fits w && fits' w) old new
 with_part {back = back} {new = new} {a = a} {b = b} e r k = followed r (same_names b a e) k.spelled
-    (λ f. k.goes_on (back f) ∙ ap (λ z. tell (scope_of z) (back f) new) (sym e))
+    (λ f. k.goes_on (back f) ∙ ap (λ z. tell (read_scope z) (back f) new) (sym e))
 
 -- a block
 pub with_block : {T : Type 0} {s : Scope} {own : Option Name} {y : Symbol} {front back : Pending → Pending}
     {marks marks' : NamesInScope → List Mark → List Mark} {again : NamesInScope → Type 0} {again' : NamesInScope → T} {t : T}
     {fits fits' : Within → Bool} {old mid new : List Token} (a b : ScopeRead) → fixed b ≡ fixed a
-    → Begun s (scope_of a) own front (λ f. y ∷ back f) marks again fits old mid
-    → Reads (scope_of a) (scope_of b) y marks' mid new → Numbered (scope_of a).names again' t
-    → Fits (scope_of a).names own fits'
-    → Begun s (scope_of b) own front back (λ n ms. marks n (marks' n ms)) (λ n. again n × (again' n ≡ t))
+    → Begun s (read_scope a) own front (λ f. y ∷ back f) marks again fits old mid
+    → Reads (read_scope a) (read_scope b) y marks' mid new → Numbered (read_scope a).names again' t
+    → Fits (read_scope a).names own fits'
+    → Begun s (read_scope b) own front back (λ n ms. marks n (marks' n ms)) (λ n. again n × (again' n ≡ t))
     (λ w. fits w && fits' w) old new
 with_block {back = back} a b e r k = followed r (fixed_names b a e) k.spelled (λ f. k.goes_on (back f))
 
@@ -125,10 +125,10 @@ with_block {back = back} a b e r k = followed r (fixed_names b a e) k.spelled (�
 pub with_else : {T : Type 0} {s : Scope} {own : Option Name} {c : Context} {front : Pending → Pending}
     {marks marks' : NamesInScope → List Mark → List Mark} {again : NamesInScope → Type 0} {again' : NamesInScope → T} {t : T}
     {fits fits' : Within → Bool} {old mid new : List Token} (a b : ScopeRead) → fixed b ≡ fixed a
-    → Begun s (scope_of a) own front (λ f. items_else c ∷ f) marks again fits old mid
-    → ReadsElse (scope_of a) (scope_of b) c marks' mid new → Numbered (scope_of a).names again' t
-    → Fits (scope_of a).names own fits'
-    → Begun s (scope_of b) own front (λ f. items c ∷ f) (λ n ms. marks n (marks' n ms)) (λ n. again n × (again' n ≡ t))
+    → Begun s (read_scope a) own front (λ f. items_else c ∷ f) marks again fits old mid
+    → ReadsElse (read_scope a) (read_scope b) c marks' mid new → Numbered (read_scope a).names again' t
+    → Fits (read_scope a).names own fits'
+    → Begun s (read_scope b) own front (λ f. items c ∷ f) (λ n ms. marks n (marks' n ms)) (λ n. again n × (again' n ≡ t))
     (λ w. fits w && fits' w) old new
 with_else a b e r k = followed r (fixed_names b a e) k.spelled k.goes_on
 

@@ -2,7 +2,7 @@
 use Rattle.std.proofs.Common.{◌≡◌, ℕ, ◌+◌, ◌-◌, List, [], ◌++◌, refl, sym, ap, ◌∙◌, arith, Option, Some, None}
 use Rattle.std.proofs.Common.{option_map, Bool, true, false, not, ◌&&◌, ◌||◌, is_some, slice_index_or}
 use Rattle.program_tree.specs.InScope.{NamesInScope, names_of, is_a, is_in_scope, number_in, name_in, or_zero}
-use Rattle.program_tree.specs.InScope.{place_of}
+use Rattle.program_tree.specs.InScope.{place_in_names}
 use Rattle.program_tree.specs.Shapes.{Name}
 use Rattle.program_reader.specs.Steps.{look, is_own_thread, Finds, IsFound, Extends}
 use Rattle.program_tree.specs.Tree.{Class, an_event, a_semaphore, a_process, a_variable, a_timer, a_thread}
@@ -20,15 +20,15 @@ not_mapped (Some j) n e = absurd cc
 
 -- the place among the names of its class
 pub placed : (n : NamesInScope) (c : Class) (x : Name) (i : ℕ) → look n c x ≡ Some i → (j : ℕ)
-    × (place_of (names_of n c) x ≡ Some j)
-placed n a_timer x i e = let q = mapped (place_of n.timers x) n.first_timer i e in (q.0, q.1)
+    × (place_in_names (names_of n c) x ≡ Some j)
+placed n a_timer x i e = let q = mapped (place_in_names n.timers x) n.first_timer i e in (q.0, q.1)
 placed n c x i e = (i, e)
 
 pub found_is_a : (n : NamesInScope) (c : Class) (x : Name) (i : ℕ) → look n c x ≡ Some i → is_a n c x ≡ true
 found_is_a n c x i e = ap is_some (placed n c x i e).1
 
 pub none_is_a : (n : NamesInScope) (c : Class) (x : Name) → look n c x ≡ None → is_a n c x ≡ false
-none_is_a n a_timer x e = ap is_some (not_mapped (place_of n.timers x) n.first_timer e)
+none_is_a n a_timer x e = ap is_some (not_mapped (place_in_names n.timers x) n.first_timer e)
 none_is_a n c x e = ap is_some e
 
 or_first : (a b : Bool) → a ≡ true → (a || b) ≡ true
@@ -66,25 +66,25 @@ found_other n own c x e h = (h, or_first _ _ (and_both _ _ h (none_is_a n c x e)
 
 pub number_found : (n : NamesInScope) (c : Class) (x : Name) (i : ℕ) → look n c x ≡ Some i → number_in n c x ≡ i
 number_found n a_timer x i e =
-    let q = mapped (place_of n.timers x) n.first_timer i e in
+    let q = mapped (place_in_names n.timers x) n.first_timer i e in
     ap (λ o. n.first_timer + or_zero o) q.1 ∙ sym q.2
 number_found n c x i e = ap or_zero e
 
 pub name_found : (n : NamesInScope) (c : Class) (x : Name) (i : ℕ) → look n c x ≡ Some i → name_in n c i ≡ x
 name_found n a_timer x i e =
-    let q = mapped (place_of n.timers x) n.first_timer i e in
+    let q = mapped (place_in_names n.timers x) n.first_timer i e in
     let d : i - n.first_timer ≡ q.0 = omega (arith, q.2) in
     ap (λ k. slice_index_or n.timers k []) d ∙ laws.name_at n.timers x q.0 q.1
 name_found n c x i e = laws.name_at (names_of n c) x i e
 
-grown : (xs ys : List Name) (x : Name) (i : ℕ) → (more : List Name) × (ys ≡ xs ++ more) → place_of xs x ≡ Some i
-    → place_of ys x ≡ Some i
-grown xs ys x i m e = ap (λ zs. place_of zs x) m.1 ∙ place_left xs m.0 x i e
+grown : (xs ys : List Name) (x : Name) (i : ℕ) → (more : List Name) × (ys ≡ xs ++ more) → place_in_names xs x ≡ Some i
+    → place_in_names ys x ≡ Some i
+grown xs ys x i m e = ap (λ zs. place_in_names zs x) m.1 ∙ place_left xs m.0 x i e
 
 pub still_found : (n n' : NamesInScope) (c : Class) (x : Name) (i : ℕ) → Extends n n' → look n c x ≡ Some i
     → look n' c x ≡ Some i
 still_found n n' a_timer x i h e =
-    let q = mapped (place_of n.timers x) n.first_timer i e in
+    let q = mapped (place_in_names n.timers x) n.first_timer i e in
     ap (option_map (λ k. n'.first_timer + k)) (grown n.timers n'.timers x q.0 (h.front a_timer) q.1)
     ∙ ap (λ k. Some (k + q.0)) h.first_timer ∙ ap Some (sym q.2)
 still_found n n' c x i h e = grown _ _ x i (h.front c) e

@@ -11,7 +11,7 @@ use Rattle.program_reader.specs.Head.{with_starting, CanStart, IsStarting, HasSt
 use Rattle.program_tree.specs.InScope.{NamesInScope, is_in_scope, or_zero, number_in, name_in}
 use Rattle.program_reader.specs.Machine.{Pending, Verdict, tell, fault, first, first_broken, starting, more_starting}
 use Rattle.program_reader.specs.Machine.{from_autostart, from_receiver, codes, semicolon, operand}
-use Rattle.program_tree.specs.InScope.{place_of}
+use Rattle.program_tree.specs.InScope.{place_in_names}
 use Rattle.program_tree.specs.Scope.{Within}
 use Rattle.program_tree.specs.Shapes.{Name}
 use Rattle.program_reader.specs.Steps.{ReadsSign, Reads, Numbered, Fits, Finds}
@@ -33,16 +33,16 @@ pub start_unknown : (s : Scope) (x : Name) → is_in_scope s.names x ≡ false �
     ≡ Some UnknownName
 start_unknown s x h = rw h refl
 
-pub start_twice : (s : Scope) (x : Name) (i : ℕ) → is_in_scope s.names x ≡ true → place_of s.starting x ≡ Some i
+pub start_twice : (s : Scope) (x : Name) (i : ℕ) → is_in_scope s.names x ≡ true → place_in_names s.starting x ≡ Some i
     → first_broken s (named x (starts x)) ≡ Some NameTwice
 start_twice s x i h k = rw (h, k) refl
 
-pub start_other : (s : Scope) (x : Name) → is_in_scope s.names x ≡ true → place_of s.starting x ≡ None
-    → place_of s.names.processes x ≡ None → first_broken s (named x (starts x)) ≡ Some BadTarget
+pub start_other : (s : Scope) (x : Name) → is_in_scope s.names x ≡ true → place_in_names s.starting x ≡ None
+    → place_in_names s.names.processes x ≡ None → first_broken s (named x (starts x)) ≡ Some BadTarget
 start_other s x h k l = rw (h, k, l) refl
 
-pub can_start : (s : Scope) (x : Name) (i : ℕ) → is_in_scope s.names x ≡ true → place_of s.starting x ≡ None
-    → place_of s.names.processes x ≡ Some i → CanStart s x i
+pub can_start : (s : Scope) (x : Name) (i : ℕ) → is_in_scope s.names x ≡ true → place_in_names s.starting x ≡ None
+    → place_in_names s.names.processes x ≡ Some i → CanStart s x i
 can_start s x i h k l = record { declared = h; fresh = k; known = l }
 
 pub ruleset startable_steps = (start_unknown, start_twice, start_other, can_start)
@@ -76,7 +76,7 @@ pub ruleset starting_steps = (start_fails, is_starting)
 all_one : (n i : ℕ) → i < n → All (λ k. k < n) (i ∷ [])
 all_one n i h = All-cons (λ k. k < n) i [] h (All-nil (λ k. k < n))
 
-number_is : (n : NamesInScope) (x : Name) (i : ℕ) → place_of n.processes x ≡ Some i → number_in n a_process x ≡ i
+number_is : (n : NamesInScope) (x : Name) (i : ℕ) → place_in_names n.processes x ≡ Some i → number_in n a_process x ≡ i
 number_is n x i e = ap or_zero e
 
 pub has_first : (s s' : Scope) (n0 n1 : List ℕ) (old m0 rest : List Token) → n0 ≡ []
@@ -102,8 +102,8 @@ has_first s s' n0 n1 old m0 rest none split r =
 pub has_more : (s m s' : Scope) (n1 n2 : List ℕ) (old rest m0 new : List Token) → HasStarting s m n1 old rest
     → rest ≡ token.Comma ∷ m0 → IsStarting m s' n1 n2 m0 new → HasStarting s s' n2 old new
 has_more s m s' n1 n2 old rest m0 new h split r =
-    let known : place_of s.names.processes r.name ≡ Some r.number =
-    ap (λ z. place_of z.names.processes r.name) (sym h.added) ∙ r.known in
+    let known : place_in_names s.names.processes r.name ≡ Some r.number =
+    ap (λ z. place_in_names z.names.processes r.name) (sym h.added) ∙ r.known in
     record {
       first = h.first;
       others = h.others ++ r.name ∷ [];

@@ -8,7 +8,7 @@ use Rattle.program_tree.specs.InScope.{NamesInScope, is_a, is_in_scope, name_in,
 use Rattle.program_reader.specs.Machine.{Pending, step, take, tell, fault, first, first_broken, begin_step, items}
 use Rattle.program_reader.specs.Machine.{expression, equals, semicolon, into_end, operand}
 use Rattle.program_tree.specs.Shapes.{Name}
-use Rattle.program_reader.specs.Steps.{Finds, IsFound, Numbered, Fits, pending_of, IsStatement, Begins, IsTarget}
+use Rattle.program_reader.specs.Steps.{Finds, IsFound, Numbered, Fits, pending_of, IsStatement, BeginsStatement, IsTarget}
 use Rattle.program_reader.specs.Steps.{Reads, ReadsSign}
 use Rattle.program_tree.specs.Tokens.{Token}
 use Rattle.program_tree.specs.Tree.{a_variable}
@@ -57,7 +57,7 @@ items_at c k f h = step_of c k (beginning k) f h
 
 pub begin_ok : (s s' : Scope) (c : Context) (k : Keyword) (old new : List Token) → first old ≡ Some (token.Keyword k)
     → IsStatement (beginning k) → (c.simple && waits k) ≡ false → s.statements < 4096 → s' ≡ counted s
-    → new ≡ drop 1 old → Begins s s' c k old new
+    → new ≡ drop 1 old → BeginsStatement s s' c k old new
 begin_ok s s' c k old new is h e low one from = record {
   spelled = front_of old (token.Keyword k) is ∙ ap (λ ts. token.Keyword k ∷ ts) (sym from);
   goes_on = λ f.

@@ -7,12 +7,12 @@ use Rattle.std.proofs.lemmas.Bool.Decides.{nat_tests}
 use Rattle.std.proofs.lemmas.List.{append_cancel_left, length-append, length-drop}
 use Rattle.std.proofs.lemmas.List.Sums.{take_while-cons}
 use Rattle.std.specs.List.{list_all, list_any, take_while, cons_option}
-use Rattle.program_reader.specs.Front.{BeginsWith, BeginsOther}
+use Rattle.program_reader.specs.Front.{BeginsWithToken, BeginsOther}
 use Rattle.program_tree.specs.Tokens.{Token}
 use Rattle.program_tree.specs.Words.{begins, is_word_byte}
-use Rattle.program_tree.specs.Text.{is_feed, is_blank, signs, sign_at, begins_comment, ends_line, Piece, Blank}
+use Rattle.program_tree.specs.Text.{is_feed, is_blank, signs, sign_at, begins_comment, line_ends_here, Piece, Blank}
 use Rattle.program_tree.specs.Text.{Comment, Word, Sign, Other, bytes_of, token_at, FitsBefore, text_of, AllFit}
-use Rattle.program_tree.specs.Text.{tokens_of, lines_from, IsLexed}
+use Rattle.program_tree.specs.Text.{tokens_of, line_numbers_from, IsLexed}
 use Rattle.program_reader.proofs.PieceLaws.{blank_front, word_front, comment_front, sign_front, other_front}
 use Rattle.program_reader.proofs.PieceLaws.{found_sign, comment_split}
 
@@ -23,7 +23,7 @@ lines_more : (line : ℕ) (o : Option Token) (ls : List ℕ) (ts : List Token) �
 lines_more line None ls ts e = e
 lines_more line (Some t) ls ts e = omega arith
 
-length-lines_from : (line : ℕ) (pieces : List Piece) → length (lines_from line pieces) ≡ length (tokens_of pieces) + 1
+length-lines_from : (line : ℕ) (pieces : List Piece) → length (line_numbers_from line pieces) ≡ length (tokens_of pieces) + 1
 length-lines_from line [] = refl
 length-lines_from line (p ∷ ps) = lines_more line (token_at p) _ (tokens_of ps)
     (length-lines_from (line + count_by is_feed (bytes_of p)) ps)
@@ -39,7 +39,7 @@ length-lines text tokens lines lexed = ap length lexed.placed ∙ length-lines_f
 record Begins (s : List ℕ) : Type 0 where
   token : Option Token
   len : ℕ
-  front : BeginsWith s token len
+  front : BeginsWithToken s token len
 
 by_sign : (s : List ℕ) (found : Option (List ℕ × Token)) → BeginsOther s → sign_at s ≡ found → Begins s
 by_sign s None other h = record { token = _; len = _; front = other_front s other h }
@@ -96,7 +96,7 @@ pub every_text : (text : List ℕ) → (tokens : List Token) × (lines : List �
 every_text text =
     let all = pieces_within (length text) text (omega arith) in (
       tokens_of all.pieces,
-      lines_from 1 all.pieces,
+      line_numbers_from 1 all.pieces,
       record {
         pieces = all.pieces;
         spelled = all.spelled;
@@ -120,7 +120,7 @@ no_feeds : (xs : List ℕ) → list_any is_feed xs ≡ false → list_all (λ b.
 no_feeds [] h = refl
 no_feeds (x ∷ xs) h = let parts = or_parts (is_feed x) (list_any is_feed xs) h in rw (parts.0, no_feeds xs parts.1) refl
 
-line_stops : (rest : List ℕ) → ends_line rest ≡ true → begins (λ b. not (is_feed b)) rest ≡ false
+line_stops : (rest : List ℕ) → line_ends_here rest ≡ true → begins (λ b. not (is_feed b)) rest ≡ false
 line_stops [] h = refl
 line_stops (b ∷ rest) h = let feed : is_feed b ≡ true = h in rw feed refl
 
@@ -195,4 +195,4 @@ pub one_lexing : (text : List ℕ) (ts us : List Token) (ls ms : List ℕ) → I
     → (ts ≡ us) × (ls ≡ ms)
 one_lexing text ts us ls ms a b =
     let same = same_pieces a.pieces b.pieces (sym a.spelled ∙ b.spelled) a.fit b.fit in
-    (a.matches ∙ ap tokens_of same ∙ sym b.matches, a.placed ∙ ap (lines_from 1) same ∙ sym b.placed)
+    (a.matches ∙ ap tokens_of same ∙ sym b.matches, a.placed ∙ ap (line_numbers_from 1) same ∙ sym b.placed)

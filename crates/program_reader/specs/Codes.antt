@@ -17,9 +17,9 @@ use Rattle.program_reader.specs.declared.scope.Scope.{Scope as ScopeRead}
 use Rattle.program_tree.specs.declared.timer.Timer.{Timer}
 
 -- the names in scope after some codes
-abbrev pub behind : NamesInScope → List CodeShape → NamesInScope
-behind n [] = n
-behind n (c ∷ cs) = behind (outside (inside n c)) cs
+abbrev pub names_behind : NamesInScope → List CodeShape → NamesInScope
+names_behind n [] = n
+names_behind n (c ∷ cs) = names_behind (outside (inside n c)) cs
 
 -- the codes of the first processes are read, and the codes of the processes `left` are not
 pub record HasCodes (trees : List Code) (left : List Name) (s s' : Scope) (old rest : List Token) : Type 0 where
@@ -27,7 +27,7 @@ pub record HasCodes (trees : List Code) (left : List Name) (s s' : Scope) (old r
   pub named : s.names.processes ≡ named_of shapes ++ left
   pub numbered : trees ≡ codes_in 0 s.names (values_of shapes)
   pub put_back : values_of shapes ≡ map (code_shape s.names) trees
-  pub names : s'.names ≡ behind s.names (values_of shapes)
+  pub names : s'.names ≡ names_behind s.names (values_of shapes)
   pub spelled : (ms : List Mark) → tokens ms ≡ rest → old ≡ tokens (codes_marks shapes ms)
   pub goes_on : (f : Pending) → tell s (codes_form s.names.processes f) old ≡ tell s' (codes_form left f) rest
 

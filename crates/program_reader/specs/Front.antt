@@ -8,11 +8,11 @@ use Rattle.program_tree.specs.Words.{is_word_byte}
 use Rattle.program_tree.specs.Text.{Piece, bytes_of, token_at, FitsBefore, is_blank, begins_comment}
 
 -- an entry of a table: a text and its token
-abbrev pub entry_of : Bor (List ℕ) × TokenRead → List ℕ × Token
-entry_of entry = (entry.0.now, token_of entry.1)
+abbrev pub token_entry : Bor (List ℕ) × TokenRead → List ℕ × Token
+token_entry entry = (entry.0.now, token_of entry.1)
 
 -- the text begins with a piece of this many bytes, which fits before the rest of the text and has this token
-pub record BeginsWith (text : List ℕ) (token : Option Token) (len : ℕ) : Type 0 where
+pub record BeginsWithToken (text : List ℕ) (token : Option Token) (len : ℕ) : Type 0 where
   pub piece : Piece
   pub split : text ≡ bytes_of piece ++ drop len text
   pub len_is : length (bytes_of piece) ≡ len

@@ -8,7 +8,7 @@ use Rattle.program_tree.specs.Grammar.{Mark, tokens, sign, named, starting_marks
 use Rattle.program_tree.specs.InScope.{NamesInScope, with_new, is_in_scope, number_in, name_in}
 use Rattle.program_reader.specs.Machine as machine
 use Rattle.program_reader.specs.Machine.{Symbol, Pending, tell, fault, first_broken, new_name}
-use Rattle.program_tree.specs.InScope.{place_of}
+use Rattle.program_tree.specs.InScope.{place_in_names}
 use Rattle.program_tree.specs.Numbers.{values_of}
 use Rattle.program_tree.specs.Shapes.{Name, Valued}
 use Rattle.program_tree.specs.Tokens as token
@@ -94,9 +94,10 @@ abbrev pub itself : Name → Name
 itself x = x
 
 -- some events or event timers are read
-abbrev pub HasNames : Class → Symbol → (List Name → List Mark → List Mark) → Scope → Scope → List Token → List Token
+abbrev pub DeclaresNames : Class → Symbol → (List Name → List Mark → List Mark) → Scope → Scope → List Token
+    → List Token
     → Type 0
-HasNames c y marks s s' old rest = (items : List Name) × HasDeclared c itself y marks items s s' old rest
+DeclaresNames c y marks s s' old rest = (items : List Name) × HasDeclared c itself y marks items s s' old rest
 
 abbrev pub ReadsNames : Class → Symbol → Symbol → (List Name → List Mark → List Mark) → Scope → Scope → List Token
     → List Token → Type 0
@@ -145,14 +146,14 @@ pub record ReadsProcesses (s s' : Scope) (old new : List Token) : Type 0 where
 -- `autostart` may list this name, which is the name of the process with this number
 pub record CanStart (s : Scope) (x : Name) (number : ℕ) : Type 0 where
   pub declared : is_in_scope s.names x ≡ true
-  pub fresh : place_of s.starting x ≡ None
-  pub known : place_of s.names.processes x ≡ Some number
+  pub fresh : place_in_names s.starting x ≡ None
+  pub known : place_in_names s.names.processes x ≡ Some number
 
 -- one process of `autostart` is read
 pub record IsStarting (s s' : Scope) (numbers numbers' : List ℕ) (old new : List Token) : Type 0 where
   pub name : Name
   pub number : ℕ
-  pub known : place_of s.names.processes name ≡ Some number
+  pub known : place_in_names s.names.processes name ≡ Some number
   pub added : s' ≡ with_starting s (s.starting ++ name ∷ [])
   pub pushed : numbers' ≡ numbers ++ number ∷ []
   pub spelled : old ≡ token.Name name ∷ new

@@ -7,7 +7,7 @@ use Rattle.program_tree.specs.Forms as form
 use Rattle.program_tree.specs.Forms.{Operand, Form, ends, tells, takes, values, Beginning, no_statement, action}
 use Rattle.program_tree.specs.Forms.{branches, loops, goes_on, beginning, Word, no_value, alone, tells_of, word_of}
 use Rattle.program_tree.specs.Grammar.{Context, inner, at_body, at_simple, at_thread, Mark, new, uses, starts, sign}
-use Rattle.program_tree.specs.Grammar.{key, named, opening, valued, used, target, begins_with, leaving}
+use Rattle.program_tree.specs.Grammar.{key, named, opening, value_mark, used, target, begins_with, leaving}
 use Rattle.program_tree.specs.Shapes.{Name}
 use Rattle.program_tree.specs.Tokens as token
 use Rattle.program_tree.specs.Tokens.{Token}
@@ -108,7 +108,7 @@ word_step c k alone f = take (key k) f
 word_step c k (tells_of o) f = take (key k) (open_sign ∷ operand c o ∷ close ∷ f)
 
 abbrev pub expression_step : Context → Pending → Token → Step
-expression_step c f (token.Number n) = take (valued n) f
+expression_step c f (token.Number n) = take (value_mark n) f
 expression_step c f (token.Name x) = take (named x (uses a_variable x)) f
 expression_step c f (token.Keyword k) = word_step c k (word_of k) f
 expression_step c f token.Bang = take (opening token.Bang (c.level + 1)) (expression (inner c) ∷ f)
@@ -219,7 +219,7 @@ step (open_sign ∷ f) token.Open = take (sign token.Open) f
 step (close ∷ f) token.Close = take (sign token.Close) f
 step (open_brace ∷ f) token.OpenBrace = take (sign token.OpenBrace) f
 step (operator ∷ f) (token.Op o) = take (sign (token.Op o)) f
-step (number ∷ f) (token.Number n) = take (valued n) f
+step (number ∷ f) (token.Number n) = take (value_mark n) f
 step (operand c o ∷ f) t = operand_step c o f t
 step (expression c ∷ f) t = expression_step c f t
 step (into_end c ∷ f) token.Semicolon = take (sign token.Semicolon) f
@@ -294,13 +294,13 @@ unfit_at None = Unexpected
 unfit_at (Some t) = unfit_kind t
 
 -- the verdict at a token; `on` is the verdict on the tokens after it
-abbrev pub after : Scope → (left : ℕ) → Token → Step → (Scope → Pending → Verdict) → Verdict
-after s left t unfit on = fault (unfit_kind t) left
-after s left t (take m f) on = fault_or (first_broken s m) left (on (scope_after s m) f)
+abbrev pub verdict_after : Scope → (left : ℕ) → Token → Step → (Scope → Pending → Verdict) → Verdict
+verdict_after s left t unfit on = fault (unfit_kind t) left
+verdict_after s left t (take m f) on = fault_or (first_broken s m) left (on (scope_after s m) f)
 
 abbrev pub tell : Scope → Pending → List Token → Verdict
 tell s f [] = at_end f
-tell s f (t ∷ ts) = after s (suc (length ts)) t (step f t) (λ s' f'. tell s' f' ts)
+tell s f (t ∷ ts) = verdict_after s (suc (length ts)) t (step f t) (λ s' f'. tell s' f' ts)
 
 -- the next token, if there is one
 abbrev pub first : List Token → Option Token

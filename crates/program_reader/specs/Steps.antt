@@ -3,13 +3,13 @@
 use Rattle.std.specs.Prelude.{◌≡◌, ℕ, ◌+◌, List, ◌∷◌, ◌++◌, Bool, true, false, ◌||◌, Option, Some, option_map, Result}
 use Rattle.std.specs.Prelude.{Err}
 pub use Rattle.program_tree.specs.Classes.{class_of}
-use Rattle.program_tree.specs.Faults.{Scope, is_other, is_own}
+use Rattle.program_tree.specs.Faults.{Scope, is_other, is_own_name}
 use Rattle.program_tree.specs.Forms.{Beginning, no_statement, action, branches, loops, goes_on, beginning}
 use Rattle.program_tree.specs.Grammar.{Context, Mark, tokens}
 use Rattle.program_tree.specs.InScope.{NamesInScope, names_of, name_in, is_in_scope}
 use Rattle.program_reader.specs.Machine.{Symbol, Pending, fault, tell, first, semicolon, equals, open_sign, close}
 use Rattle.program_reader.specs.Machine.{open_brace, expression, block, items, items_else, symbols_of}
-use Rattle.program_tree.specs.InScope.{place_of}
+use Rattle.program_tree.specs.InScope.{place_in_names}
 use Rattle.program_tree.specs.Scope.{Within}
 use Rattle.program_tree.specs.Shapes.{Name}
 use Rattle.program_tree.specs.Tokens as token
@@ -28,8 +28,8 @@ use Rattle.program_reader.specs.declared.scope.Scope.{Scope as ScopeRead}
 
 -- The meaning of the types of `src/scope.rt` and `src/cursor.rt`.
 
-abbrev pub scope_of : ScopeRead → Scope
-scope_of s = record {
+abbrev pub read_scope : ScopeRead → Scope
+read_scope s = record {
   names = record {
     events = s.events;
     semaphores = s.semaphores;
@@ -69,11 +69,11 @@ token_of_sign read_sign.OpenBrace = token.OpenBrace
 
 -- the number of a name that belongs to this class
 abbrev pub look : NamesInScope → Class → Name → Option ℕ
-look n a_timer x = option_map (λ i. n.first_timer + i) (place_of n.timers x)
-look n c x = place_of (names_of n c) x
+look n a_timer x = option_map (λ i. n.first_timer + i) (place_in_names n.timers x)
+look n c x = place_in_names (names_of n c) x
 
 abbrev pub is_own_thread : Option Name → Class → Name → Bool
-is_own_thread own a_thread x = is_own own x
+is_own_thread own a_thread x = is_own_name own x
 is_own_thread own c x = false
 
 -- the name has this number, and isn't the name of the thread that is being read
@@ -82,7 +82,7 @@ pub record Finds (n : NamesInScope) (own : Option Name) (c : Class) (x : Name) (
   pub other : is_own_thread own c x ≡ false
 
 -- the first token is a name with this number
-pub record IsNamed (n : NamesInScope) (own : Option Name) (c : Class) (i : ℕ) (old : List Token) : Type 0 where
+pub record IsNameInScope (n : NamesInScope) (own : Option Name) (c : Class) (i : ℕ) (old : List Token) : Type 0 where
   pub name : Name
   pub here : first old ≡ Some (token.Name name)
   pub finds : Finds n own c name i
@@ -171,7 +171,7 @@ IsInside (Some token.CloseBrace) = ⊥
 IsInside t = Unit {0}
 
 -- the keyword of a statement is read, and the statement is counted
-pub record Begins (s s' : Scope) (c : Context) (k : Keyword) (old new : List Token) : Type 0 where
+pub record BeginsStatement (s s' : Scope) (c : Context) (k : Keyword) (old new : List Token) : Type 0 where
   pub spelled : old ≡ token.Keyword k ∷ new
   pub goes_on : (f : Pending) → tell s (items c ∷ f) old ≡ tell s' (pending_of c (beginning k) f) new
 

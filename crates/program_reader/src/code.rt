@@ -13,7 +13,7 @@ ghost use Rattle.program_tree.specs.Program.{code_of};
 ghost use Rattle.program_tree.specs.Scope.{threads_fit, earlier_threads};
 ghost use Rattle.program_tree.specs.Shapes.{Name};
 ghost use Rattle.program_reader.specs.Kept.{HasNoOwnNames};
-ghost use Rattle.program_reader.specs.Steps.{scope_of};
+ghost use Rattle.program_reader.specs.Steps.{read_scope};
 ghost use Rattle.program_tree.specs.Tokens as token;
 ghost use Rattle.program_tree.specs.FlatBlock.{tree_in};
 ghost use Rattle.program_tree.specs.Tree.{IsWithinLimits};
@@ -114,7 +114,7 @@ impl Scope {
         ensures etimers { result.etimers ≡ self.old.etimers }
         ensures ctimers { result.ctimers ≡ self.old.ctimers }
         ensures threads { result.threads ≡ self.old.threads }
-        ensures left { scope_of self.new ≡ with_names (scope_of self.old) (outside (scope_of self.old).names) }
+        ensures left { read_scope self.new ≡ with_names (read_scope self.old) (outside (read_scope self.old).names) }
     {
         let first_timer = self.first_timer;
         let variables = mem::replace(&mut self.variables, Names::new(alloc));
@@ -145,9 +145,9 @@ impl Reader<'_> {
         ensures earlier { IfOk result (λ c. threads_fit earlier_threads 0 (map tree_in c.thread_blocks.items) ≡ true) }
         ensures ok { IfOk result (λ c. ReadsContent self.new.scope.etimers self.new.scope.ctimers c.starts.items
             (map tree_in c.callbacks.items) (map tree_in c.thread_blocks.items)
-            (option_map tree_in c.on_poll) (option_map tree_in c.on_exit) (tree_in c.body) (scope_of self.old.scope)
-            (scope_of self.new.scope) self.old.cursor self.new.cursor) }
-        ensures err { FailsIn (scope_of self.old.scope) (machine.from_variables ∷ []) self.old.cursor result }
+            (option_map tree_in c.on_poll) (option_map tree_in c.on_exit) (tree_in c.body) (read_scope self.old.scope)
+            (read_scope self.new.scope) self.old.cursor self.new.cursor) }
+        ensures err { FailsIn (read_scope self.old.scope) (machine.from_variables ∷ []) self.old.cursor result }
     {
         let starts = self.variables()?;
         self.etimers()?;
@@ -173,9 +173,9 @@ impl Reader<'_> {
         requires own { HasNoOwnNames self.old.scope }
         ensures ok { IfOk result (λ t. ReadsCode (slice_index_or self.old.scope.processes process []) process
             (code_of t)
-            (scope_of self.old.scope) (scope_of self.new.scope) self.old.cursor self.new.cursor) }
+            (read_scope self.old.scope) (read_scope self.new.scope) self.old.cursor self.new.cursor) }
         ensures err { (f : Fault) → result ≡ Err (ReadFailure.Fault f) → (xs : List Name) (more : machine.Pending) →
-            machine.tell (scope_of self.old.scope) (machine.codes (slice_index_or self.old.scope.processes process [])
+            machine.tell (read_scope self.old.scope) (machine.codes (slice_index_or self.old.scope.processes process [])
             xs ∷ more) self.old.cursor ≡ machine.fault f.kind f.left }
     {
         self.cursor.opening_of(&self.scope, process)?;

@@ -5,11 +5,11 @@ ghost use Rattle.program_reader.specs.Head.{FailsIn};
 ghost use Rattle.program_reader.specs.Machine as machine;
 ghost use Rattle.program_tree.specs.Faults.{nothing_yet, Scope};
 ghost use Rattle.program_tree.specs.Program.{code_of, tree_of};
-ghost use Rattle.program_tree.specs.Made.{AreLexed, IsMade};
+ghost use Rattle.program_tree.specs.Made.{AreLexed, IsProgramTree};
 ghost use Rattle.program_tree.specs.Reading.{IsTreeOfTokens};
 ghost use Rattle.program_tree.specs.TokenMeaning.{token_of};
 ghost use Rattle.program_reader.specs.Kept.{HasNoOwnNames};
-ghost use Rattle.program_reader.specs.Steps.{scope_of};
+ghost use Rattle.program_reader.specs.Steps.{read_scope};
 ghost use Rattle.program_reader.specs.declared.fault.Fault.{Fault};
 
 use crate::cursor::Cursor;
@@ -57,10 +57,10 @@ impl Reader<'_> {
     /// Reads the codes of the processes, in the order of the processes.
     fn codes(&mut self) -> Result<Vec<ProcessText>, ReadFailure>
         requires has_no_own_names { HasNoOwnNames self.old.scope }
-        ensures ok { IfOk result (λ codes. HasCodes (map code_of codes.items) [] (scope_of self.old.scope)
-            (scope_of self.new.scope) self.old.cursor self.new.cursor) }
+        ensures ok { IfOk result (λ codes. HasCodes (map code_of codes.items) [] (read_scope self.old.scope)
+            (read_scope self.new.scope) self.old.cursor self.new.cursor) }
         ensures err { (f : Fault) → result ≡ Err (ReadFailure.Fault f) → (more : machine.Pending) →
-            machine.tell (scope_of self.old.scope) (machine.codes_form self.old.scope.processes more) self.old.cursor
+            machine.tell (read_scope self.old.scope) (machine.codes_form self.old.scope.processes more) self.old.cursor
             ≡ machine.fault f.kind f.left }
     {
         let mut codes = Vec::new(self.alloc);
@@ -98,9 +98,9 @@ struct Head {
 impl Reader<'_> {
     /// Reads the parts before the codes.
     fn head(&mut self) -> Result<Head, ReadFailure>
-        ensures ok { IfOk result (λ h. ReadsHead h.counts.items h.autostart.items h.receiver (scope_of self.old.scope)
-            (scope_of self.new.scope) self.old.cursor self.new.cursor) }
-        ensures err { FailsIn (scope_of self.old.scope) (machine.from_events ∷ []) self.old.cursor result }
+        ensures ok { IfOk result (λ h. ReadsHead h.counts.items h.autostart.items h.receiver (read_scope self.old.scope)
+            (read_scope self.new.scope) self.old.cursor self.new.cursor) }
+        ensures err { FailsIn (read_scope self.old.scope) (machine.from_events ∷ []) self.old.cursor result }
     {
         self.events()?;
         let counts = self.semaphores()?;
@@ -128,10 +128,10 @@ impl Reader<'_> {
     /// Reads the codes, and checks that the text ends after them.
     fn last_codes(&mut self) -> Result<Vec<ProcessText>, ReadFailure>
         requires has_no_own_names { HasNoOwnNames self.old.scope }
-        ensures ok { IfOk result (λ codes. HasCodes (map code_of codes.items) [] (scope_of self.old.scope)
-            (scope_of self.new.scope) self.old.cursor []) }
+        ensures ok { IfOk result (λ codes. HasCodes (map code_of codes.items) [] (read_scope self.old.scope)
+            (read_scope self.new.scope) self.old.cursor []) }
         ensures err { (f : Fault) → result ≡ Err (ReadFailure.Fault f) →
-            machine.tell (scope_of self.old.scope) (machine.codes_form self.old.scope.processes []) self.old.cursor
+            machine.tell (read_scope self.old.scope) (machine.codes_form self.old.scope.processes []) self.old.cursor
             ≡ machine.fault f.kind f.left }
     {
         let codes = self.codes()?;
@@ -141,9 +141,9 @@ impl Reader<'_> {
 
     /// Reads all parts of a text, beginning at its first token.
     fn parts(&mut self) -> Result<Parts, ReadFailure>
-        requires fresh { scope_of self.old.scope ≡ nothing_yet }
+        requires fresh { read_scope self.old.scope ≡ nothing_yet }
         requires lexed { AreLexed self.old.cursor }
-        ensures made { IfOk result (λ p. IsMade (tree_with self.new.scope p)) }
+        ensures made { IfOk result (λ p. IsProgramTree (tree_with self.new.scope p)) }
         ensures tree { IfOk result (λ p. IsTreeOfTokens self.old.cursor (tree_with self.new.scope p)) }
         ensures err { (f : Fault) → result ≡ Err (ReadFailure.Fault f)
             → machine.tell nothing_yet (machine.from_events ∷ []) self.old.cursor ≡ machine.fault f.kind f.left }
@@ -160,7 +160,7 @@ impl Reader<'_> {
 
     /// The program with these parts, and with the names that are in scope after them.
     fn into_program(self, parts: Parts) -> Program
-        requires is_made { IsMade (tree_with self.scope parts) }
+        requires is_made { IsProgramTree (tree_with self.scope parts) }
         ensures tree { tree_of result ≡ tree_with self.entry.scope parts }
     {
         Program::new(

@@ -5,7 +5,7 @@ ghost use Rattle.program_reader.specs.Head.{class_of_kind, with_names, IsNew, Is
 ghost use Rattle.program_tree.specs.InScope.{is_a, with_new};
 ghost use Rattle.program_reader.specs.Machine as machine;
 ghost use Rattle.program_reader.specs.Machine.{new_name};
-ghost use Rattle.program_reader.specs.Steps.{scope_of, ReadsSign, FailsSign};
+ghost use Rattle.program_reader.specs.Steps.{read_scope, ReadsSign, FailsSign};
 ghost use Rattle.program_tree.specs.Tokens as token;
 
 use crate::cursor::{Cursor, Sign};
@@ -47,7 +47,7 @@ const LARGEST: u32 = 65535;
 impl Scope {
     /// Returns `true` if no further name of this kind may be declared.
     fn is_full(&self, kind: Kind) -> bool
-        ensures value { result ≡ is_full (scope_of self.now).names (class_of_kind kind) }
+        ensures value { result ≡ is_full (read_scope self.now).names (class_of_kind kind) }
     {
         match kind {
             Kind::Event => self.events.len() >= EVENTS,
@@ -64,13 +64,13 @@ impl Scope {
     /// Declares a name, which is in scope from then on.
     #[tactic(auto, using(crate::proofs::HeadLaws::not_in_second))]
     fn declare(&mut self, alloc: Global, kind: Kind, name: &str) -> Result<(), AllocError>
-        requires fresh { is_a (scope_of self.old).names (class_of_kind kind) name.now ≡ false }
-        requires room { is_full (scope_of self.old).names (class_of_kind kind) ≡ false }
+        requires fresh { is_a (read_scope self.old).names (class_of_kind kind) name.now ≡ false }
+        requires room { is_full (read_scope self.old).names (class_of_kind kind) ≡ false }
         requires etimer { kind ≡ Kind.Etimer → self.old.ctimers ≡ [] }
         ensures etimers { kind ≢ Kind.Etimer → self.new.etimers ≡ self.old.etimers }
         ensures ctimers { kind ≢ Kind.Ctimer → self.new.ctimers ≡ self.old.ctimers }
-        ensures ok { OnOk result (scope_of self.new ≡ with_names (scope_of self.old)
-            (with_new (scope_of self.old).names (class_of_kind kind) name.now)) }
+        ensures ok { OnOk result (read_scope self.new ≡ with_names (read_scope self.old)
+            (with_new (read_scope self.old).names (class_of_kind kind) name.now)) }
     {
         match kind {
             Kind::Event => self.events.add(alloc, name),
@@ -118,9 +118,9 @@ impl<'a> Cursor<'a> {
         ensures no_longer { OnOk result (length self.new ≤ length self.old) }
         ensures etimers { OnOk result (kind ≢ Kind.Etimer → scope.new.etimers ≡ scope.old.etimers) }
         ensures ctimers { OnOk result (kind ≢ Kind.Ctimer → scope.new.ctimers ≡ scope.old.ctimers) }
-        ensures ok { IfOk result (λ x. IsNew (class_of_kind kind) (scope_of scope.old) (scope_of scope.new) x.now
+        ensures ok { IfOk result (λ x. IsNew (class_of_kind kind) (read_scope scope.old) (read_scope scope.new) x.now
             self.old self.new) }
-        ensures err { FailsIn (scope_of scope.old) (new_name (class_of_kind kind) ∷ []) self.old result }
+        ensures err { FailsIn (read_scope scope.old) (new_name (class_of_kind kind) ∷ []) self.old result }
     {
         match self.peek() {
             Some(Token::Name(name)) => {
@@ -146,9 +146,9 @@ impl Reader<'_> {
         requires etimers_first { kind ≡ Kind.Etimer → self.old.scope.ctimers ≡ [] }
         ensures no_longer { OnOk result (length self.new.cursor ≤ length self.old.cursor) }
         ensures ctimers { OnOk result (kind ≢ Kind.Ctimer → self.new.scope.ctimers ≡ self.old.scope.ctimers) }
-        ensures ok { OnOk result (IsListed (class_of_kind kind) (scope_of self.old.scope) (scope_of self.new.scope)
+        ensures ok { OnOk result (IsListed (class_of_kind kind) (read_scope self.old.scope) (read_scope self.new.scope)
             self.old.cursor self.new.cursor) }
-        ensures err { FailsIn (scope_of self.old.scope) (new_name (class_of_kind kind) ∷ machine.semicolon ∷ [])
+        ensures err { FailsIn (read_scope self.old.scope) (new_name (class_of_kind kind) ∷ machine.semicolon ∷ [])
             self.old.cursor result }
     {
         self.cursor.new_name(self.alloc, &mut self.scope, kind)?;
@@ -166,9 +166,9 @@ impl Reader<'_> {
         ensures no_longer { OnOk result (length self.new.cursor ≤ length self.old.cursor) }
         ensures etimers { OnOk result (self.new.scope.etimers ≡ self.old.scope.etimers) }
         ensures ctimers { OnOk result (kind ≢ Kind.Ctimer → self.new.scope.ctimers ≡ self.old.scope.ctimers) }
-        ensures ok { OnOk result (IsValued (class_of_kind kind) (scope_of self.old.scope) (scope_of self.new.scope)
+        ensures ok { OnOk result (IsValued (class_of_kind kind) (read_scope self.old.scope) (read_scope self.new.scope)
             values.old.items values.new.items self.old.cursor self.new.cursor) }
-        ensures err { FailsIn (scope_of self.old.scope)
+        ensures err { FailsIn (read_scope self.old.scope)
             (new_name (class_of_kind kind) ∷ machine.equals ∷ machine.number ∷ machine.semicolon ∷ []) self.old.cursor
             result }
     {

@@ -5,7 +5,7 @@ ghost use Rattle.program_reader.specs.Head.{FailsIn};
 ghost use Rattle.program_tree.specs.InScope.{name_in, number_in};
 ghost use Rattle.program_reader.specs.Machine.{first, expression, operator, close};
 ghost use Rattle.program_tree.specs.Scope.{expression_fits};
-ghost use Rattle.program_reader.specs.Steps.{scope_of, context_of, ReadsSign, FailsSign, Numbered, Fits};
+ghost use Rattle.program_reader.specs.Steps.{read_scope, context_of, ReadsSign, FailsSign, Numbered, Fits};
 ghost use Rattle.program_tree.specs.Tokens as token;
 ghost use Rattle.program_tree.specs.Meaning.{expression_of};
 ghost use Rattle.program_tree.specs.Tree.{expression_map, binary};
@@ -144,19 +144,19 @@ impl Reader<'_> {
         requires shallow { place.now.level ≤ LEVELS }
         ensures no_longer { length self.new.cursor ≤ length self.old.cursor }
         ensures same { self.new.scope ≡ self.old.scope }
-        ensures ok { IfOk result (λ x. ReadsSides (scope_of self.old.scope) (context_of place.now) x.operator
+        ensures ok { IfOk result (λ x. ReadsSides (read_scope self.old.scope) (context_of place.now) x.operator
             (expression_of x.left) (expression_of x.right) self.old.cursor self.new.cursor) }
-        ensures left_numbered { IfOk result (λ x. Numbered (scope_of self.old.scope).names
+        ensures left_numbered { IfOk result (λ x. Numbered (read_scope self.old.scope).names
             (λ n. expression_map (number_in n) (expression_map (name_in n) (expression_of x.left)))
             (expression_of x.left)) }
-        ensures right_numbered { IfOk result (λ x. Numbered (scope_of self.old.scope).names
+        ensures right_numbered { IfOk result (λ x. Numbered (read_scope self.old.scope).names
             (λ n. expression_map (number_in n) (expression_map (name_in n) (expression_of x.right)))
             (expression_of x.right)) }
-        ensures left_fits { IfOk result (λ x. Fits (scope_of self.old.scope).names (context_of place.now).thread
+        ensures left_fits { IfOk result (λ x. Fits (read_scope self.old.scope).names (context_of place.now).thread
             (λ w. expression_fits w (expression_of x.left))) }
-        ensures right_fits { IfOk result (λ x. Fits (scope_of self.old.scope).names (context_of place.now).thread
+        ensures right_fits { IfOk result (λ x. Fits (read_scope self.old.scope).names (context_of place.now).thread
             (λ w. expression_fits w (expression_of x.right))) }
-        ensures err { FailsIn (scope_of self.old.scope)
+        ensures err { FailsIn (read_scope self.old.scope)
             (expression (context_of place.now) ∷ operator ∷ expression (context_of place.now) ∷ close ∷ [])
             self.old.cursor result }
     {

@@ -5,9 +5,9 @@ ghost use Rattle.program_reader.specs.Head.{FailsIn, ReadsProcesses, CanStart, I
 ghost use Rattle.program_reader.specs.Head.{ReadsReceiver, with_starting};
 ghost use Rattle.program_reader.specs.Machine as machine;
 ghost use Rattle.program_reader.specs.Machine.{first, first_broken};
-ghost use Rattle.program_tree.specs.InScope.{place_of};
+ghost use Rattle.program_tree.specs.InScope.{place_in_names};
 ghost use Rattle.program_tree.specs.Shapes.{Name};
-ghost use Rattle.program_reader.specs.Steps.{scope_of};
+ghost use Rattle.program_reader.specs.Steps.{read_scope};
 ghost use Rattle.program_tree.specs.Tokens as token;
 ghost use Rattle.program_reader.specs.declared.fault.Fault.{Fault};
 ghost use Rattle.program_tree.specs.declared.keyword.Keyword.TheVariants as word;
@@ -27,8 +27,9 @@ impl Scope {
     /// Returns the number of the process with this name, if `autostart` may list the process.
     #[tactic(auto, using(crate::proofs::StartLaws::startable_steps))]
     fn startable(&self, name: &str) -> Result<u8, ReadErrorKind>
-        ensures ok { IfOk result (λ i. CanStart (scope_of self.now) name.now i) }
-        ensures err { IfErr result (λ k. first_broken (scope_of self.now) (named name.now (starts name.now)) ≡ Some k) }
+        ensures ok { IfOk result (λ i. CanStart (read_scope self.now) name.now i) }
+        ensures err { IfErr result
+            (λ k. first_broken (read_scope self.now) (named name.now (starts name.now)) ≡ Some k) }
     {
         if !self.contains(name) {
             return Err(ReadErrorKind::UnknownName);
@@ -50,8 +51,8 @@ impl Scope {
         number: u8,
         numbers: &mut Vec<u8>,
     ) -> Result<(), ReadFailure>
-        requires not_yet_listed { place_of self.old.starting name.now ≡ None }
-        ensures scope { OnOk result (scope_of self.new ≡ with_starting (scope_of self.old)
+        requires not_yet_listed { place_in_names self.old.starting name.now ≡ None }
+        ensures scope { OnOk result (read_scope self.new ≡ with_starting (read_scope self.old)
             (self.old.starting ++ name.now ∷ [])) }
         ensures numbers { OnOk result (numbers.new.items ≡ numbers.old.items ++ number ∷ []) }
         ensures memory { IfErr result (λ e. e ≡ ReadFailure.Memory) }
@@ -72,9 +73,9 @@ impl Cursor<'_> {
         numbers: &mut Vec<u8>,
     ) -> Result<(), ReadFailure>
         ensures no_longer { OnOk result (length self.new ≤ length self.old) }
-        ensures ok { OnOk result (IsStarting (scope_of scope.old) (scope_of scope.new) numbers.old.items
+        ensures ok { OnOk result (IsStarting (read_scope scope.old) (read_scope scope.new) numbers.old.items
             numbers.new.items self.old self.new) }
-        ensures err { FailsIn (scope_of scope.old) (machine.starting ∷ []) self.old result }
+        ensures err { FailsIn (read_scope scope.old) (machine.starting ∷ []) self.old result }
     {
         match self.peek() {
             Some(Token::Name(name)) => match scope.startable(name) {
@@ -94,9 +95,9 @@ impl Reader<'_> {
     #[tactic(auto, using(crate::proofs::LineLaws::line_steps))]
     pub(crate) fn processes(&mut self) -> Result<(), ReadFailure>
         requires at_keyword { first self.old.cursor ≡ Some (token.Keyword word.Semaphore) → ⊥ }
-        ensures ok { OnOk result (ReadsProcesses (scope_of self.old.scope) (scope_of self.new.scope) self.old.cursor
+        ensures ok { OnOk result (ReadsProcesses (read_scope self.old.scope) (read_scope self.new.scope) self.old.cursor
             self.new.cursor) }
-        ensures err { FailsIn (scope_of self.old.scope) (machine.from_semaphores ∷ []) self.old.cursor result }
+        ensures err { FailsIn (read_scope self.old.scope) (machine.from_semaphores ∷ []) self.old.cursor result }
     {
         if self.cursor.left() == 0 {
             return Err(self.cursor.fault(ReadErrorKind::NoProcess));
@@ -115,11 +116,11 @@ impl Reader<'_> {
 
     /// Reads the processes that start at boot, and returns their numbers.
     pub(crate) fn autostart(&mut self) -> Result<Vec<u8>, ReadFailure>
-        ensures ok { IfOk result (λ numbers. ReadsAutostart (scope_of self.old.scope) (scope_of self.new.scope)
+        ensures ok { IfOk result (λ numbers. ReadsAutostart (read_scope self.old.scope) (read_scope self.new.scope)
             numbers.items self.old.cursor self.new.cursor) }
         ensures err { (f : Fault) → result ≡ Err (ReadFailure.Fault f)
             → (x : Name) (xs : List Name) (more : machine.Pending) →
-            machine.tell (scope_of self.old.scope) (machine.from_autostart x xs ∷ more) self.old.cursor
+            machine.tell (read_scope self.old.scope) (machine.from_autostart x xs ∷ more) self.old.cursor
             ≡ machine.fault f.kind f.left }
     {
         let mut numbers = Vec::new(self.alloc);
@@ -131,11 +132,12 @@ impl Reader<'_> {
     #[tactic(auto, using(crate::proofs::StartLaws::autostart_steps))]
     fn starting_names(&mut self, numbers: &mut Vec<u8>) -> Result<(), ReadFailure>
         requires none_yet { numbers.old.items ≡ [] }
-        ensures ok { OnOk result (ReadsAutostart (scope_of self.old.scope) (scope_of self.new.scope) numbers.new.items
+        ensures ok { OnOk result
+            (ReadsAutostart (read_scope self.old.scope) (read_scope self.new.scope) numbers.new.items
             self.old.cursor self.new.cursor) }
         ensures err { (f : Fault) → result ≡ Err (ReadFailure.Fault f)
             → (x : Name) (xs : List Name) (more : machine.Pending) →
-            machine.tell (scope_of self.old.scope) (machine.from_autostart x xs ∷ more) self.old.cursor
+            machine.tell (read_scope self.old.scope) (machine.from_autostart x xs ∷ more) self.old.cursor
             ≡ machine.fault f.kind f.left }
     {
         if !self.cursor.accept(Keyword::Autostart) {
@@ -152,11 +154,11 @@ impl Reader<'_> {
     #[tactic(auto, using(crate::proofs::StartLaws::receiver_steps))]
     pub(crate) fn receiver(&mut self) -> Result<Option<u8>, ReadFailure>
         ensures same { self.new.scope ≡ self.old.scope }
-        ensures ok { IfOk result (λ receiver. ReadsReceiver (scope_of self.old.scope) receiver self.old.cursor
+        ensures ok { IfOk result (λ receiver. ReadsReceiver (read_scope self.old.scope) receiver self.old.cursor
             self.new.cursor) }
         ensures err { (f : Fault) → result ≡ Err (ReadFailure.Fault f)
             → (x : Name) (xs : List Name) (more : machine.Pending) →
-            machine.tell (scope_of self.old.scope) (machine.from_receiver x xs ∷ more) self.old.cursor
+            machine.tell (read_scope self.old.scope) (machine.from_receiver x xs ∷ more) self.old.cursor
             ≡ machine.fault f.kind f.left }
     {
         if !self.cursor.accept(Keyword::Receiver) {

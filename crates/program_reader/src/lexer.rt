@@ -5,7 +5,7 @@ ghost use Rattle.std.specs.List.{prefix_len, starts_with};
 ghost use Rattle.program_tree.specs.TokenMeaning.{token_of};
 ghost use Rattle.program_tree.specs.Words.{is_word_byte};
 ghost use Rattle.program_tree.specs.Text.{IsLexed, is_feed, is_blank};
-ghost use Rattle.program_reader.specs.Front.{BeginsWith, BeginsOther, entry_of};
+ghost use Rattle.program_reader.specs.Front.{BeginsWithToken, BeginsOther, token_entry};
 
 use crate::words::{self, Entry};
 use program_tree::token::Token;
@@ -78,7 +78,8 @@ fn line_len(rest: &[u8]) -> usize
 
 /// The first of these signs with which a text begins.
 fn first_sign(signs: &'static [Entry<'static>], rest: &[u8]) -> Option<Entry<'static>>
-    ensures value { option_map entry_of result ≡ find (λ s. starts_with nat_eq rest.now s.0) (map entry_of signs.now) }
+    ensures value { option_map token_entry result ≡ find (λ s. starts_with nat_eq rest.now s.0)
+        (map token_entry signs.now) }
 {
     signs.iter().find(|sign| rest.starts_with(sign.0)).copied()
 }
@@ -86,7 +87,7 @@ fn first_sign(signs: &'static [Entry<'static>], rest: &[u8]) -> Option<Entry<'st
 /// The sign or the bad byte with which a text begins.
 fn sign_or_bad<'a>(rest: &[u8]) -> Front<'a>
     requires begins_other { BeginsOther rest.now }
-    ensures piece { BeginsWith rest.now (option_map token_of result.token) result.len }
+    ensures piece { BeginsWithToken rest.now (option_map token_of result.token) result.len }
     ensures moves { 0 < result.len }
     ensures within { result.len ≤ length rest.now }
 {
@@ -105,7 +106,7 @@ fn sign_or_bad<'a>(rest: &[u8]) -> Front<'a>
 /// The piece with which a text begins.
 fn first_piece<'a>(rest: &'a [u8]) -> Front<'a>
     requires not_empty { 0 < length rest.now }
-    ensures piece { BeginsWith rest.now (option_map token_of result.token) result.len }
+    ensures piece { BeginsWithToken rest.now (option_map token_of result.token) result.len }
     ensures moves { 0 < result.len }
     ensures within { result.len ≤ length rest.now }
 {

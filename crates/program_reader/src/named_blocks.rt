@@ -10,7 +10,7 @@ ghost use Rattle.program_reader.specs.Machine as machine;
 ghost use Rattle.program_reader.specs.Machine.{new_name};
 ghost use Rattle.program_tree.specs.Scope.{block_fits, threads_fit, earlier_threads};
 ghost use Rattle.program_reader.specs.Kept.{KeepsTimers};
-ghost use Rattle.program_reader.specs.Steps.{scope_of, context_of, fixed, Reads, Fails, Numbered, Fits};
+ghost use Rattle.program_reader.specs.Steps.{read_scope, context_of, fixed, Reads, Fails, Numbered, Fits};
 ghost use Rattle.program_tree.specs.FlatBlock.{tree_in};
 ghost use Rattle.program_tree.specs.Tree.{a_timer, a_thread, body_map, IsWithinLimits};
 ghost use Rattle.program_tree.specs.declared.keyword.Keyword.TheVariants as word;
@@ -36,15 +36,15 @@ impl Reader<'_> {
         ensures names { fixed self.new.scope ≡ fixed self.old.scope }
         ensures no_longer { OnOk result (length self.new.cursor ≤ length self.old.cursor) }
         ensures within { IfOk result (λ b. IsWithinLimits (tree_in b)) }
-        ensures ok { IfOk result (λ b. Reads (scope_of self.old.scope) (scope_of self.new.scope)
+        ensures ok { IfOk result (λ b. Reads (read_scope self.old.scope) (read_scope self.new.scope)
             (machine.block (context_of place.now))
             (λ n ms. block_marks (context_of place.now) (body_map (name_in n) (tree_in b)) ms) self.old.cursor
             self.new.cursor) }
-        ensures numbered { IfOk result (λ b. Numbered (scope_of self.old.scope).names
+        ensures numbered { IfOk result (λ b. Numbered (read_scope self.old.scope).names
             (λ n. body_map (number_in n) (body_map (name_in n) (tree_in b))) (tree_in b)) }
-        ensures fits { IfOk result (λ b. Fits (scope_of self.old.scope).names (context_of place.now).thread
+        ensures fits { IfOk result (λ b. Fits (read_scope self.old.scope).names (context_of place.now).thread
             (λ w. block_fits w (tree_in b))) }
-        ensures err { Fails (scope_of self.old.scope) (machine.block (context_of place.now)) self.old.cursor result }
+        ensures err { Fails (read_scope self.old.scope) (machine.block (context_of place.now)) self.old.cursor result }
     {
         let block = self.block(place)?;
         let flat = FlatBlock::new(self.alloc, block)?;
@@ -59,8 +59,8 @@ impl Reader<'_> {
         ensures within { IfOk result (λ b. IsWithinLimits (tree_in b)) }
         ensures ok { IfOk result (λ b. IsNamedBlock a_timer (λ f. new_name a_timer ∷ machine.block at_simple ∷ f)
             (λ x. at_simple) (tree_in b)
-            (scope_of self.old.scope) (scope_of self.new.scope) self.old.cursor self.new.cursor) }
-        ensures err { FailsIn (scope_of self.old.scope) (new_name a_timer ∷ machine.block at_simple ∷ [])
+            (read_scope self.old.scope) (read_scope self.new.scope) self.old.cursor self.new.cursor) }
+        ensures err { FailsIn (read_scope self.old.scope) (new_name a_timer ∷ machine.block at_simple ∷ [])
             self.old.cursor result }
     {
         self.cursor
@@ -77,8 +77,8 @@ impl Reader<'_> {
         ensures within { IfOk result (λ blocks. All (λ b. IsWithinLimits (tree_in b)) blocks.items) }
         ensures ok { IfOk result (λ blocks. ReadsBlocks a_timer machine.from_ctimers machine.from_threads ctimer_marks
             (map tree_in blocks.items)
-            (scope_of self.old.scope) (scope_of self.new.scope) self.old.cursor self.new.cursor) }
-        ensures err { FailsIn (scope_of self.old.scope) (machine.from_ctimers ∷ []) self.old.cursor result }
+            (read_scope self.old.scope) (read_scope self.new.scope) self.old.cursor self.new.cursor) }
+        ensures err { FailsIn (read_scope self.old.scope) (machine.from_ctimers ∷ []) self.old.cursor result }
     {
         let mut blocks = Vec::new(self.alloc);
         'ctimers: while self.cursor.accept(Keyword::Ctimer) {
@@ -97,8 +97,8 @@ impl Reader<'_> {
         ensures earlier { IfOk result (λ b. block_fits (earlier_threads (length self.old.scope.threads)) (tree_in b)
             ≡ true) }
         ensures ok { IfOk result (λ b. IsNamedBlock a_thread (λ f. machine.new_thread ∷ f) at_thread (tree_in b)
-            (scope_of self.old.scope) (scope_of self.new.scope) self.old.cursor self.new.cursor) }
-        ensures err { FailsIn (scope_of self.old.scope) (machine.new_thread ∷ []) self.old.cursor result }
+            (read_scope self.old.scope) (read_scope self.new.scope) self.old.cursor self.new.cursor) }
+        ensures err { FailsIn (read_scope self.old.scope) (machine.new_thread ∷ []) self.old.cursor result }
     {
         let name = self
             .cursor
@@ -122,8 +122,8 @@ impl Reader<'_> {
         ensures earlier { IfOk result (λ blocks. threads_fit earlier_threads 0 (map tree_in blocks.items) ≡ true) }
         ensures ok { IfOk result (λ blocks. ReadsBlocks a_thread machine.from_threads machine.from_on_poll thread_marks
             (map tree_in blocks.items)
-            (scope_of self.old.scope) (scope_of self.new.scope) self.old.cursor self.new.cursor) }
-        ensures err { FailsIn (scope_of self.old.scope) (machine.from_threads ∷ []) self.old.cursor result }
+            (read_scope self.old.scope) (read_scope self.new.scope) self.old.cursor self.new.cursor) }
+        ensures err { FailsIn (read_scope self.old.scope) (machine.from_threads ∷ []) self.old.cursor result }
     {
         let mut blocks = Vec::new(self.alloc);
         'threads: while self.cursor.accept(Keyword::Thread) {
@@ -140,8 +140,8 @@ impl Reader<'_> {
         ensures within { IfOk result (λ block. ForSome block (λ b. IsWithinLimits (tree_in b))) }
         ensures ok { IfOk result (λ block. ReadsHandler word.OnPoll machine.from_on_poll machine.from_on_exit
             (option_map tree_in block)
-            (scope_of self.old.scope) (scope_of self.new.scope) self.old.cursor self.new.cursor) }
-        ensures err { FailsIn (scope_of self.old.scope) (machine.from_on_poll ∷ []) self.old.cursor result }
+            (read_scope self.old.scope) (read_scope self.new.scope) self.old.cursor self.new.cursor) }
+        ensures err { FailsIn (read_scope self.old.scope) (machine.from_on_poll ∷ []) self.old.cursor result }
     {
         if !self.cursor.accept(Keyword::OnPoll) {
             return Ok(None);
@@ -157,8 +157,8 @@ impl Reader<'_> {
         ensures within { IfOk result (λ block. ForSome block (λ b. IsWithinLimits (tree_in b))) }
         ensures ok { IfOk result (λ block. ReadsHandler word.OnExit machine.from_on_exit machine.from_body
             (option_map tree_in block)
-            (scope_of self.old.scope) (scope_of self.new.scope) self.old.cursor self.new.cursor) }
-        ensures err { FailsIn (scope_of self.old.scope) (machine.from_on_exit ∷ []) self.old.cursor result }
+            (read_scope self.old.scope) (read_scope self.new.scope) self.old.cursor self.new.cursor) }
+        ensures err { FailsIn (read_scope self.old.scope) (machine.from_on_exit ∷ []) self.old.cursor result }
     {
         if !self.cursor.accept(Keyword::OnExit) {
             return Ok(None);
@@ -172,9 +172,9 @@ impl Reader<'_> {
     pub(crate) fn body(&mut self) -> Result<FlatBlock, ReadFailure>
         ensures fixed { fixed self.new.scope ≡ fixed self.old.scope }
         ensures within { IfOk result (λ b. IsWithinLimits (tree_in b)) }
-        ensures ok { IfOk result (λ b. ReadsBody (tree_in b) (scope_of self.old.scope) (scope_of self.new.scope)
+        ensures ok { IfOk result (λ b. ReadsBody (tree_in b) (read_scope self.old.scope) (read_scope self.new.scope)
             self.old.cursor self.new.cursor) }
-        ensures err { FailsIn (scope_of self.old.scope) (machine.from_body ∷ []) self.old.cursor result }
+        ensures err { FailsIn (read_scope self.old.scope) (machine.from_body ∷ []) self.old.cursor result }
     {
         if !self.cursor.accept(Keyword::Body) {
             return Err(self.cursor.unfit());

@@ -7,7 +7,8 @@ ghost use Rattle.program_tree.specs.Grammar.{operand_mark};
 ghost use Rattle.program_tree.specs.InScope.{name_in, number_in};
 ghost use Rattle.program_reader.specs.Machine.{operand};
 ghost use Rattle.program_tree.specs.Scope.{cast_fits, sent_fits, any_fits};
-ghost use Rattle.program_reader.specs.Steps.{scope_of, context_of, class_of, most_of, IsNamed, Reads, Fails, Numbered};
+ghost use Rattle.program_reader.specs.Steps.{read_scope, context_of, class_of, most_of};
+ghost use Rattle.program_reader.specs.Steps.{IsNameInScope, Reads, Fails, Numbered};
 ghost use Rattle.program_reader.specs.Steps.{Fits};
 ghost use Rattle.program_tree.specs.Tree.{an_event};
 
@@ -33,10 +34,10 @@ impl Reader<'_> {
     /// The number of the next name, if the name refers to something of this class.
     #[tactic(auto, using(crate::proofs::NameSteps::number_steps))]
     fn number(&self, place: &Context, class: Class) -> Result<u8, ReadFailure>
-        ensures ok { IfOk result (λ i. IsNamed (scope_of self.now.scope).names (context_of place.now).thread
+        ensures ok { IfOk result (λ i. IsNameInScope (read_scope self.now.scope).names (context_of place.now).thread
             (class_of class) i self.now.cursor) }
         ensures bounded { IfOk result (λ i. i < most_of (class_of class)) }
-        ensures err { Fails (scope_of self.now.scope) (operand (context_of place.now) (name (class_of class)))
+        ensures err { Fails (read_scope self.now.scope) (operand (context_of place.now) (name (class_of class)))
             self.now.cursor result }
     {
         match self.cursor.peek() {
@@ -54,16 +55,16 @@ impl Reader<'_> {
     pub(crate) fn name(&mut self, place: &Context, class: Class) -> Result<u8, ReadFailure>
         ensures no_longer { length self.new.cursor ≤ length self.old.cursor }
         ensures same { self.new.scope ≡ self.old.scope }
-        ensures ok { IfOk result (λ i. Reads (scope_of self.old.scope) (scope_of self.old.scope)
+        ensures ok { IfOk result (λ i. Reads (read_scope self.old.scope) (read_scope self.old.scope)
             (operand (context_of place.now) (name (class_of class)))
             (λ n ms. operand_mark (context_of place.now) (name (class_of class)) (name_in n (class_of class) i) ∷ ms)
             self.old.cursor self.new.cursor) }
         ensures bounded { IfOk result (λ i. i < most_of (class_of class)) }
-        ensures numbered { IfOk result (λ i. Numbered (scope_of self.old.scope).names
+        ensures numbered { IfOk result (λ i. Numbered (read_scope self.old.scope).names
             (λ n. number_in n (class_of class) (name_in n (class_of class) i)) i) }
-        ensures fits { IfOk result (λ i. Fits (scope_of self.old.scope).names (context_of place.now).thread
+        ensures fits { IfOk result (λ i. Fits (read_scope self.old.scope).names (context_of place.now).thread
             (λ w. w (class_of class) i)) }
-        ensures err { Fails (scope_of self.old.scope) (operand (context_of place.now) (name (class_of class)))
+        ensures err { Fails (read_scope self.old.scope) (operand (context_of place.now) (name (class_of class)))
             self.old.cursor result }
     {
         let number = self.number(place, class)?;
@@ -76,15 +77,15 @@ impl Reader<'_> {
     pub(crate) fn cast(&mut self, place: &Context) -> Result<BroadcastEvent, ReadFailure>
         ensures no_longer { length self.new.cursor ≤ length self.old.cursor }
         ensures same { self.new.scope ≡ self.old.scope }
-        ensures ok { IfOk result (λ e. Reads (scope_of self.old.scope) (scope_of self.old.scope)
+        ensures ok { IfOk result (λ e. Reads (read_scope self.old.scope) (read_scope self.old.scope)
             (operand (context_of place.now) cast)
             (λ n ms. operand_mark (context_of place.now) cast (cast_map (name_in n an_event) (cast_of e)) ∷ ms)
             self.old.cursor self.new.cursor) }
-        ensures numbered { IfOk result (λ e. Numbered (scope_of self.old.scope).names
+        ensures numbered { IfOk result (λ e. Numbered (read_scope self.old.scope).names
             (λ n. cast_map (number_in n an_event) (cast_map (name_in n an_event) (cast_of e))) (cast_of e)) }
-        ensures fits { IfOk result (λ e. Fits (scope_of self.old.scope).names (context_of place.now).thread
+        ensures fits { IfOk result (λ e. Fits (read_scope self.old.scope).names (context_of place.now).thread
             (λ w. cast_fits w (cast_of e))) }
-        ensures err { Fails (scope_of self.old.scope) (operand (context_of place.now) cast) self.old.cursor result }
+        ensures err { Fails (read_scope self.old.scope) (operand (context_of place.now) cast) self.old.cursor result }
     {
         match self.cursor.peek() {
             Some(Token::Name(_)) => {
@@ -115,15 +116,15 @@ impl Reader<'_> {
     pub(crate) fn sent(&mut self, place: &Context) -> Result<PostedEvent, ReadFailure>
         ensures no_longer { length self.new.cursor ≤ length self.old.cursor }
         ensures same { self.new.scope ≡ self.old.scope }
-        ensures ok { IfOk result (λ e. Reads (scope_of self.old.scope) (scope_of self.old.scope)
+        ensures ok { IfOk result (λ e. Reads (read_scope self.old.scope) (read_scope self.old.scope)
             (operand (context_of place.now) sent)
             (λ n ms. operand_mark (context_of place.now) sent (sent_map (name_in n an_event) (sent_of e)) ∷ ms)
             self.old.cursor self.new.cursor) }
-        ensures numbered { IfOk result (λ e. Numbered (scope_of self.old.scope).names
+        ensures numbered { IfOk result (λ e. Numbered (read_scope self.old.scope).names
             (λ n. sent_map (number_in n an_event) (sent_map (name_in n an_event) (sent_of e))) (sent_of e)) }
-        ensures fits { IfOk result (λ e. Fits (scope_of self.old.scope).names (context_of place.now).thread
+        ensures fits { IfOk result (λ e. Fits (read_scope self.old.scope).names (context_of place.now).thread
             (λ w. sent_fits w (sent_of e))) }
-        ensures err { Fails (scope_of self.old.scope) (operand (context_of place.now) sent) self.old.cursor result }
+        ensures err { Fails (read_scope self.old.scope) (operand (context_of place.now) sent) self.old.cursor result }
     {
         match self.cursor.peek() {
             Some(Token::Keyword(Keyword::Exit)) => {
@@ -138,15 +139,15 @@ impl Reader<'_> {
     pub(crate) fn any(&mut self, place: &Context) -> Result<TestedEvent, ReadFailure>
         ensures no_longer { length self.new.cursor ≤ length self.old.cursor }
         ensures same { self.new.scope ≡ self.old.scope }
-        ensures ok { IfOk result (λ e. Reads (scope_of self.old.scope) (scope_of self.old.scope)
+        ensures ok { IfOk result (λ e. Reads (read_scope self.old.scope) (read_scope self.old.scope)
             (operand (context_of place.now) any)
             (λ n ms. operand_mark (context_of place.now) any (any_map (name_in n an_event) (any_of e)) ∷ ms)
             self.old.cursor self.new.cursor) }
-        ensures numbered { IfOk result (λ e. Numbered (scope_of self.old.scope).names
+        ensures numbered { IfOk result (λ e. Numbered (read_scope self.old.scope).names
             (λ n. any_map (number_in n an_event) (any_map (name_in n an_event) (any_of e))) (any_of e)) }
-        ensures fits { IfOk result (λ e. Fits (scope_of self.old.scope).names (context_of place.now).thread
+        ensures fits { IfOk result (λ e. Fits (read_scope self.old.scope).names (context_of place.now).thread
             (λ w. any_fits w (any_of e))) }
-        ensures err { Fails (scope_of self.old.scope) (operand (context_of place.now) any) self.old.cursor result }
+        ensures err { Fails (read_scope self.old.scope) (operand (context_of place.now) any) self.old.cursor result }
     {
         match self.cursor.peek() {
             Some(Token::Keyword(Keyword::Init)) => {

@@ -81,12 +81,12 @@ pub(crate) struct Scope {
 impl Scope {
     ghost use Rattle.program_tree.specs.Faults.{nothing_yet};
     ghost use Rattle.program_tree.specs.InScope.{is_in_scope};
-    ghost use Rattle.program_tree.specs.InScope.{place_of};
+    ghost use Rattle.program_tree.specs.InScope.{place_in_names};
     ghost use Rattle.program_tree.specs.Tree.{a_timer};
-    ghost use Rattle.program_reader.specs.Steps.{scope_of, context_of, class_of, look, most_of, IsFound};
+    ghost use Rattle.program_reader.specs.Steps.{read_scope, context_of, class_of, look, most_of, IsFound};
 
     pub(crate) fn new(alloc: Global) -> Scope
-        ensures empty { scope_of result ≡ nothing_yet }
+        ensures empty { read_scope result ≡ nothing_yet }
     {
         Scope {
             events: Names::new(alloc),
@@ -104,7 +104,7 @@ impl Scope {
 
     /// Returns `true` if the name refers to anything.
     pub(crate) fn contains(&self, name: &str) -> bool
-        ensures value { result ≡ is_in_scope (scope_of self.now).names name.now }
+        ensures value { result ≡ is_in_scope (read_scope self.now).names name.now }
     {
         self.events.place_of(name).is_some()
             || self.semaphores.place_of(name).is_some()
@@ -116,8 +116,8 @@ impl Scope {
 
     /// The place of a name among the timers of the code, if it is the name of one of them.
     fn timer(&self, name: &str) -> Option<usize>
-        ensures place { result ≡ place_of (scope_of self.now).names.timers name.now }
-        ensures within { IfSome result (λ i. i < length (scope_of self.now).names.timers) }
+        ensures place { result ≡ place_in_names (read_scope self.now).names.timers name.now }
+        ensures within { IfSome result (λ i. i < length (read_scope self.now).names.timers) }
     {
         match self.etimers.place_of(name) {
             Some(place) => Some(place),
@@ -131,7 +131,7 @@ impl Scope {
     /// The number of a timer of the code, by the timer's name.
     fn timer_number(&self, name: &str) -> Option<usize>
         ensures bounded { IfSome result (λ i. i < 64) }
-        ensures value { result ≡ look (scope_of self.now).names a_timer name.now }
+        ensures value { result ≡ look (read_scope self.now).names a_timer name.now }
     {
         let place = self.timer(name)?;
         Some(self.first_timer + place)
@@ -140,7 +140,7 @@ impl Scope {
     /// The number of a name of this class, before it is converted to a byte.
     fn place_of(&self, class: Class, name: &str) -> Option<usize>
         ensures bounded { IfSome result (λ i. i < most_of (class_of class)) }
-        ensures value { result ≡ look (scope_of self.now).names (class_of class) name.now }
+        ensures value { result ≡ look (read_scope self.now).names (class_of class) name.now }
     {
         match class {
             Class::Event => self.events.place_of(name),
@@ -155,7 +155,7 @@ impl Scope {
     /// The number of a name of this class.
     fn number_of(&self, class: Class, name: &str) -> Option<u8>
         ensures bounded { IfSome result (λ i. i < most_of (class_of class)) }
-        ensures value { result ≡ look (scope_of self.now).names (class_of class) name.now }
+        ensures value { result ≡ look (read_scope self.now).names (class_of class) name.now }
     {
         let place = self.place_of(class, name)?;
         Some(place as u8)
@@ -165,7 +165,7 @@ impl Scope {
     #[tactic(auto, using(crate::proofs::ScopeLaws::find_steps))]
     pub(crate) fn find(&self, place: &Context, class: Class, name: &str) -> Found
         ensures bounded { (i : ℕ) → result ≡ Found.Here i → i < most_of (class_of class) }
-        ensures value { IsFound (scope_of self.now).names (context_of place.now).thread (class_of class) name.now
+        ensures value { IsFound (read_scope self.now).names (context_of place.now).thread (class_of class) name.now
             result }
     {
         match self.number_of(class, name) {

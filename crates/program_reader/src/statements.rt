@@ -8,7 +8,8 @@ ghost use Rattle.program_tree.specs.InScope.{name_in, number_in};
 ghost use Rattle.program_reader.specs.Machine.{first, into_end, items, items_else, block};
 ghost use Rattle.program_reader.specs.Plain.{BeginsPlain, bare_keyword, valued_keyword, about_keyword};
 ghost use Rattle.program_tree.specs.Scope.{into_fits, other_fits, block_fits};
-ghost use Rattle.program_reader.specs.Steps.{scope_of, context_of, fixed, IsStatement, IsPlain, IsInside, Begins};
+ghost use Rattle.program_reader.specs.Steps.{read_scope, context_of, fixed};
+ghost use Rattle.program_reader.specs.Steps.{IsStatement, IsPlain, IsInside, BeginsStatement};
 ghost use Rattle.program_reader.specs.Steps.{Finds, IsTarget, Reads, ReadsElse, Fails, Numbered, Fits};
 ghost use Rattle.program_tree.specs.Tokens as token;
 ghost use Rattle.program_tree.specs.Tree.{a_variable, body_map, otherwise_map, height};
@@ -55,7 +56,7 @@ impl Reader<'_> {
         requires statement { IsStatement (beginning keyword) }
         ensures no_wait { OnOk result ((place.now.simple && waits keyword) ≡ false) }
         ensures room { OnOk result (self.now.scope.statements < STATEMENTS) }
-        ensures err { Fails (scope_of self.now.scope) (items (context_of place.now)) self.now.cursor result }
+        ensures err { Fails (read_scope self.now.scope) (items (context_of place.now)) self.now.cursor result }
     {
         if place.simple && is_wait(keyword) {
             return Err(self.cursor.fault(ReadErrorKind::WaitInSimpleBlock));
@@ -74,9 +75,10 @@ impl Reader<'_> {
         ensures names { fixed self.new.scope ≡ fixed self.old.scope }
         ensures shorter { OnOk result (length self.new.cursor < length self.old.cursor) }
         ensures counts { OnOk result (self.old.scope.statements < self.new.scope.statements) }
-        ensures ok { OnOk result (Begins (scope_of self.old.scope) (scope_of self.new.scope) (context_of place.now)
+        ensures ok { OnOk result
+            (BeginsStatement (read_scope self.old.scope) (read_scope self.new.scope) (context_of place.now)
             keyword self.old.cursor self.new.cursor) }
-        ensures err { Fails (scope_of self.old.scope) (items (context_of place.now)) self.old.cursor result }
+        ensures err { Fails (read_scope self.old.scope) (items (context_of place.now)) self.old.cursor result }
     {
         self.may_begin(place, keyword)?;
         self.scope.statements += 1;
@@ -88,10 +90,10 @@ impl Reader<'_> {
     #[tactic(auto, using(crate::proofs::StatementSteps::may_assign_steps))]
     fn may_assign(&self, place: &Context, name: &str) -> Result<u8, ReadFailure>
         requires at_name { first self.now.cursor ≡ Some (token.Name name.now) }
-        ensures finds { IfOk result (λ i. Finds (scope_of self.now.scope).names (context_of place.now).thread
+        ensures finds { IfOk result (λ i. Finds (read_scope self.now.scope).names (context_of place.now).thread
             a_variable name.now i) }
         ensures room { OnOk result (self.now.scope.statements < STATEMENTS) }
-        ensures err { Fails (scope_of self.now.scope) (items (context_of place.now)) self.now.cursor result }
+        ensures err { Fails (read_scope self.now.scope) (items (context_of place.now)) self.now.cursor result }
     {
         match self.scope.find(place, Class::Variable, name) {
             Found::Unknown => Err(self.cursor.fault(ReadErrorKind::UnknownName)),
@@ -110,13 +112,13 @@ impl Reader<'_> {
         ensures names { fixed self.new.scope ≡ fixed self.old.scope }
         ensures shorter { OnOk result (length self.new.cursor < length self.old.cursor) }
         ensures counts { OnOk result (self.old.scope.statements < self.new.scope.statements) }
-        ensures ok { IfOk result (λ i. IsTarget (scope_of self.old.scope) (scope_of self.new.scope)
+        ensures ok { IfOk result (λ i. IsTarget (read_scope self.old.scope) (read_scope self.new.scope)
             (context_of place.now) i self.old.cursor self.new.cursor) }
-        ensures numbered { IfOk result (λ i. Numbered (scope_of self.old.scope).names
+        ensures numbered { IfOk result (λ i. Numbered (read_scope self.old.scope).names
             (λ n. number_in n a_variable (name_in n a_variable i)) i) }
-        ensures fits { IfOk result (λ i. Fits (scope_of self.old.scope).names (context_of place.now).thread
+        ensures fits { IfOk result (λ i. Fits (read_scope self.old.scope).names (context_of place.now).thread
             (λ w. w a_variable i)) }
-        ensures err { Fails (scope_of self.old.scope) (items (context_of place.now)) self.old.cursor result }
+        ensures err { Fails (read_scope self.old.scope) (items (context_of place.now)) self.old.cursor result }
     {
         let variable = self.may_assign(place, name)?;
         self.scope.statements += 1;
@@ -129,14 +131,14 @@ impl Reader<'_> {
     fn into_end(&mut self, place: &Context) -> Result<Option<u8>, ReadFailure>
         ensures no_longer { length self.new.cursor ≤ length self.old.cursor }
         ensures same { self.new.scope ≡ self.old.scope }
-        ensures ok { IfOk result (λ i. Reads (scope_of self.old.scope) (scope_of self.old.scope)
+        ensures ok { IfOk result (λ i. Reads (read_scope self.old.scope) (read_scope self.old.scope)
             (into_end (context_of place.now))
             (λ n ms. into_marks (option_map (name_in n a_variable) i) ms) self.old.cursor self.new.cursor) }
-        ensures numbered { IfOk result (λ i. Numbered (scope_of self.old.scope).names
+        ensures numbered { IfOk result (λ i. Numbered (read_scope self.old.scope).names
             (λ n. option_map (number_in n a_variable) (option_map (name_in n a_variable) i)) i) }
-        ensures fits { IfOk result (λ i. Fits (scope_of self.old.scope).names (context_of place.now).thread
+        ensures fits { IfOk result (λ i. Fits (read_scope self.old.scope).names (context_of place.now).thread
             (λ w. into_fits w i)) }
-        ensures err { Fails (scope_of self.old.scope) (into_end (context_of place.now)) self.old.cursor result }
+        ensures err { Fails (read_scope self.old.scope) (into_end (context_of place.now)) self.old.cursor result }
     {
         match self.cursor.peek() {
             Some(Token::Semicolon) => {
@@ -283,7 +285,7 @@ impl Reader<'_> {
 
     #[cycle(statement)]
     fn branch(&mut self, place: &Context) -> Result<Stmt, ReadFailure>
-        requires low { place.now.level ≤ LEVELS }
+        requires level_bounded { place.now.level ≤ LEVELS }
         requires at_keyword { first self.old.cursor ≡ Some (token.Keyword Keyword.If) }
         ensures answers_statement { AnswersStatement self.old self.new place.now result }
     {
@@ -296,7 +298,7 @@ impl Reader<'_> {
 
     #[cycle(statement)]
     fn repeat(&mut self, place: &Context) -> Result<Stmt, ReadFailure>
-        requires low { place.now.level ≤ LEVELS }
+        requires level_bounded { place.now.level ≤ LEVELS }
         requires at_keyword { first self.old.cursor ≡ Some (token.Keyword Keyword.While) }
         ensures answers_statement { AnswersStatement self.old self.new place.now result }
     {
@@ -309,7 +311,7 @@ impl Reader<'_> {
     /// Reads a statement of a block.
     #[cycle(statement)]
     fn statement(&mut self, place: &Context) -> Result<Stmt, ReadFailure>
-        requires low { place.now.level ≤ LEVELS }
+        requires level_bounded { place.now.level ≤ LEVELS }
         requires inside { IsInside (first self.old.cursor) }
         ensures answers_statement { AnswersStatement self.old self.new place.now result }
     {
@@ -324,23 +326,23 @@ impl Reader<'_> {
     #[cycle(statement)]
     #[tactic(auto, using(crate::proofs::Blocks::else_start))]
     fn otherwise(&mut self, place: &Context) -> Result<Option<Block>, ReadFailure>
-        requires low { place.now.level ≤ LEVELS }
+        requires level_bounded { place.now.level ≤ LEVELS }
         ensures names { fixed self.new.scope ≡ fixed self.old.scope }
         ensures no_longer { OnOk result (length self.new.cursor ≤ length self.old.cursor) }
-        ensures ok { IfOk result (λ o. ReadsElse (scope_of self.old.scope) (scope_of self.new.scope)
+        ensures ok { IfOk result (λ o. ReadsElse (read_scope self.old.scope) (read_scope self.new.scope)
             (context_of place.now)
             (λ n ms. else_marks (context_of place.now) (otherwise_map (name_in n)
             (otherwise_of (option_map block_of o))) ms) self.old.cursor self.new.cursor) }
-        ensures numbered { IfOk result (λ o. Numbered (scope_of self.old.scope).names
+        ensures numbered { IfOk result (λ o. Numbered (read_scope self.old.scope).names
             (λ n. otherwise_map (number_in n) (otherwise_map (name_in n) (otherwise_of (option_map block_of o))))
             (otherwise_of (option_map block_of o))) }
-        ensures fits { IfOk result (λ o. Fits (scope_of self.old.scope).names (context_of place.now).thread
+        ensures fits { IfOk result (λ o. Fits (read_scope self.old.scope).names (context_of place.now).thread
             (λ w. other_fits w (otherwise_of (option_map block_of o)))) }
         ensures shallow { IfOk result (λ o. place.now.level + other_height (otherwise_of (option_map block_of o))
             ≤ LEVELS) }
         ensures counts { IfOk result (λ o. other_size (otherwise_of (option_map block_of o))
             + self.old.scope.statements ≤ self.new.scope.statements) }
-        ensures err { Fails (scope_of self.old.scope) (items_else (context_of place.now)) self.old.cursor result }
+        ensures err { Fails (read_scope self.old.scope) (items_else (context_of place.now)) self.old.cursor result }
     {
         match self.cursor.peek() {
             Some(Token::Keyword(Keyword::Else)) => {
@@ -355,13 +357,13 @@ impl Reader<'_> {
     /// Reads the opening brace of a block.
     #[tactic(auto, using(crate::proofs::Blocks::brace_deep))]
     fn opening_brace(&mut self, place: &Context) -> Result<(), ReadFailure>
-        requires low { place.now.level ≤ LEVELS }
+        requires level_bounded { place.now.level ≤ LEVELS }
         ensures same { self.new.scope ≡ self.old.scope }
         ensures no_longer { length self.new.cursor ≤ length self.old.cursor }
         ensures found { OnOk result (first self.old.cursor ≡ Some token.OpenBrace) }
         ensures room { OnOk result (place.now.level < LEVELS) }
         ensures read { OnOk result (self.new.cursor ≡ drop 1 self.old.cursor) }
-        ensures err { Fails (scope_of self.old.scope) (block (context_of place.now)) self.old.cursor result }
+        ensures err { Fails (read_scope self.old.scope) (block (context_of place.now)) self.old.cursor result }
     {
         match self.cursor.peek() {
             Some(Token::OpenBrace) => {}
@@ -377,20 +379,20 @@ impl Reader<'_> {
     /// Reads a block in this context.
     #[cycle(statement)]
     pub(crate) fn block(&mut self, place: &Context) -> Result<Block, ReadFailure>
-        requires low { place.now.level ≤ LEVELS }
+        requires level_bounded { place.now.level ≤ LEVELS }
         ensures names { fixed self.new.scope ≡ fixed self.old.scope }
         ensures no_longer { OnOk result (length self.new.cursor ≤ length self.old.cursor) }
-        ensures ok { IfOk result (λ b. Reads (scope_of self.old.scope) (scope_of self.new.scope)
+        ensures ok { IfOk result (λ b. Reads (read_scope self.old.scope) (read_scope self.new.scope)
             (block (context_of place.now))
             (λ n ms. block_marks (context_of place.now) (body_map (name_in n) (block_of b)) ms) self.old.cursor
             self.new.cursor) }
-        ensures numbered { IfOk result (λ b. Numbered (scope_of self.old.scope).names
+        ensures numbered { IfOk result (λ b. Numbered (read_scope self.old.scope).names
             (λ n. body_map (number_in n) (body_map (name_in n) (block_of b))) (block_of b)) }
-        ensures fits { IfOk result (λ b. Fits (scope_of self.old.scope).names (context_of place.now).thread
+        ensures fits { IfOk result (λ b. Fits (read_scope self.old.scope).names (context_of place.now).thread
             (λ w. block_fits w (block_of b))) }
         ensures shallow { IfOk result (λ b. place.now.level + height (block_of b) ≤ LEVELS) }
         ensures counts { IfOk result (λ b. size (block_of b) + self.old.scope.statements ≤ self.new.scope.statements) }
-        ensures err { Fails (scope_of self.old.scope) (block (context_of place.now)) self.old.cursor result }
+        ensures err { Fails (read_scope self.old.scope) (block (context_of place.now)) self.old.cursor result }
     {
         self.opening_brace(place)?;
         let within = place.inner();

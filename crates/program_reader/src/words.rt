@@ -5,7 +5,7 @@ ghost use Rattle.std.specs.List.{list_all};
 ghost use Rattle.std.specs.Str.Parse.{digits_value};
 ghost use Rattle.program_tree.specs.TokenMeaning.{token_of};
 ghost use Rattle.program_tree.specs.Tokens.{Name, Bad};
-ghost use Rattle.program_reader.specs.Front.{entry_of};
+ghost use Rattle.program_reader.specs.Front.{token_entry};
 ghost use Rattle.program_tree.specs.Words as spec;
 
 use program_tree::keyword::Keyword;
@@ -126,7 +126,7 @@ fn begins_lowercase(word: &[u8]) -> bool
 
 /// The token that a table has for a text.
 fn lookup(table: &'static [Entry<'static>], word: &[u8]) -> Option<Token<'static>>
-    ensures value { option_map token_of result ≡ spec.lookup (map entry_of table.now) word.now }
+    ensures value { option_map token_of result ≡ spec.lookup (map token_entry table.now) word.now }
 {
     table
         .iter()

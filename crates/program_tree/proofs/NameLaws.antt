@@ -8,7 +8,7 @@ use Rattle.std.proofs.lemmas.List.{length-map, map-append}
 use Rattle.std.proofs.lemmas.Bool.{ltb-false}
 use Rattle.std.proofs.lemmas.Slice.Eq.{bytes_eq-Decides}
 use Rattle.std.proofs.lemmas.List.Quantifiers.{position-Some}
-use Rattle.program_tree.specs.InScope.{place_of}
+use Rattle.program_tree.specs.InScope.{place_in_names}
 
 position_or_len-map : {X Y : Type 0} (p : Y → Bool) (f : X → Y) (xs : List X) → position_or_len p (map f xs) ≡ position_or_len (λ x. p (f x)) xs
 position_or_len-map p f [] = refl
@@ -20,8 +20,8 @@ position-map p f xs =
     ∙ ap (λ n. cond (nat_lt (position_or_len (λ x. p (f x)) xs) n) (Some (position_or_len (λ x. p (f x)) xs)) None) (length-map xs f)
 
 -- the place of a name among texts
-pub place_among : (keys : List (String Global)) (names : List (List ℕ)) (x : List ℕ) → map string_bytes keys ≡ names → position (λ k. bytes_eq x (string_bytes k)) keys ≡ place_of names x
-unfolding place_of
+pub place_among : (keys : List (String Global)) (names : List (List ℕ)) (x : List ℕ) → map string_bytes keys ≡ names → position (λ k. bytes_eq x (string_bytes k)) keys ≡ place_in_names names x
+unfolding place_in_names
 place_among keys names x is = sym (position-map (λ y. bytes_eq x y) string_bytes keys) ∙ ap (λ ns. position (λ y. bytes_eq x y) ns) is
 
 none_step : (b : Bool) (n m : ℕ) (r : Bool) → suc n ≤ cond (not b) (1 + m) 0 → (n ≤ m → r ≡ false) → (b || r) ≡ false
@@ -40,7 +40,7 @@ absent : {X : Type 0} (p : X → Bool) (xs : List X) → position p xs ≡ None 
 absent p xs h = none_before p xs (ltb-false _ _ (none_at (position_or_len p xs) (nat_lt (position_or_len p xs) (length xs)) h))
 
 -- a new name is the last
-pub added : (keys keys' : List (String Global)) (names : List (List ℕ)) (name : String Global) (x : List ℕ) → map string_bytes keys ≡ names → string_bytes name ≡ x → place_of names x ≡ None
+pub added : (keys keys' : List (String Global)) (names : List (List ℕ)) (name : String Global) (x : List ℕ) → map string_bytes keys ≡ names → string_bytes name ≡ x → place_in_names names x ≡ None
     → keys' ≡ (if list_any (λ k. bytes_eq (string_bytes name) (string_bytes k)) keys then keys else keys ++ name ∷ []) → map string_bytes keys' ≡ names ++ x ∷ []
 added keys keys' names name x is same new after =
     let none : list_any (λ k. bytes_eq (string_bytes name) (string_bytes k)) keys ≡ false =
@@ -55,20 +55,20 @@ pub bytes_same : (x : List ℕ) → bytes_eq x x ≡ true
 bytes_same x = (bytes_eq-Decides x x).1 refl
 
 -- the name at the place where a name was found
-pub name_at : (names : List (List ℕ)) (x : List ℕ) (i : ℕ) → place_of names x ≡ Some i → slice_index_or names i [] ≡ x
-unfolding place_of
+pub name_at : (names : List (List ℕ)) (x : List ℕ) (i : ℕ) → place_in_names names x ≡ Some i → slice_index_or names i [] ≡ x
+unfolding place_in_names
 name_at names x i e = sym (same_bytes _ _ (position-Some (λ y. bytes_eq x y) names i [] e).1)
 
-pub place_below : (names : List (List ℕ)) (x : List ℕ) (i : ℕ) → place_of names x ≡ Some i → i < length names
-unfolding place_of
+pub place_below : (names : List (List ℕ)) (x : List ℕ) (i : ℕ) → place_in_names names x ≡ Some i → i < length names
+unfolding place_in_names
 place_below names x i e = (position-Some (λ y. bytes_eq x y) names i [] e).0
 
-pub place_in_none : (x : List ℕ) → place_of [] x ≡ None
-unfolding place_of
+pub place_in_none : (x : List ℕ) → place_in_names [] x ≡ None
+unfolding place_in_names
 place_in_none x = refl
 
-pub place_is : (names : List (List ℕ)) (x : List ℕ) (i : ℕ) → place_of names x ≡ Some i → place_of names (slice_index_or names i []) ≡ Some i
-place_is names x i e = ap (place_of names) (name_at names x i e) ∙ e
+pub place_is : (names : List (List ℕ)) (x : List ℕ) (i : ℕ) → place_in_names names x ≡ Some i → place_in_names names (slice_index_or names i []) ≡ Some i
+place_is names x i e = ap (place_in_names names) (name_at names x i e) ∙ e
 
 pub is_none : (o : Option ℕ) (b : Bool) → b ≡ is_some o → b ≡ false → o ≡ None
 is_none None b e f = refl

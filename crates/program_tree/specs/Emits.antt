@@ -21,7 +21,7 @@ LeadFrom all place (i ∷ is) = Leads (rest_in all) i (rest_in all place) × Lea
 
 -- `new` is `old` with instructions added. The added instructions have the local property if their rests are at their
 -- places in the list of all rests, and if the rest at `after` is the rest that follows them.
-pub record Adds (added : (rest : List (Statement ℕ)) → List (List (Statement ℕ))) (count after : ℕ)
+pub record AddsStatements (added : (rest : List (Statement ℕ)) → List (List (Statement ℕ))) (count after : ℕ)
     (old new : List Instruction) : Type 0 where
   pub more : List Instruction
   pub extends : new ≡ old ++ more
@@ -31,13 +31,13 @@ pub record Adds (added : (rest : List (Statement ℕ)) → List (List (Statement
       → rest_in all after ≡ rest → LeadFrom all (length old) more
 
 abbrev pub Emits : Body ℕ → (after : ℕ) → (old new : List Instruction) → Type 0
-Emits b after old new = Adds (λ rest. rests b rest) (size b) after old new
+Emits b after old new = AddsStatements (λ rest. rests b rest) (size b) after old new
 
 abbrev pub EmitsStatement : Statement ℕ → (after : ℕ) → (old new : List Instruction) → Type 0
-EmitsStatement s after old new = Adds (λ rest. statement_rests s rest) (statement_size s) after old new
+EmitsStatement s after old new = AddsStatements (λ rest. statement_rests s rest) (statement_size s) after old new
 
 abbrev pub EmitsOther : Otherwise ℕ → (after : ℕ) → (old new : List Instruction) → Type 0
-EmitsOther o after old new = Adds (λ rest. other_rests o rest) (other_size o) after old new
+EmitsOther o after old new = AddsStatements (λ rest. other_rests o rest) (other_size o) after old new
 
 -- the same for the first statements of a block; the statements `later` follow them
 pub record EmitsFirst (b later : Body ℕ) (after : ℕ) (old new : List Instruction) : Type 0 where

@@ -59,9 +59,9 @@ is_full n a_thread = nat_le 7 (length n.threads)
 abbrev pub is_other : NamesInScope → Class → Name → Bool
 is_other n c x = is_in_scope n x && not (is_a n c x)
 
-abbrev pub is_own : Option Name → Name → Bool
-is_own None x = false
-is_own (Some own) x = bytes_eq own x
+abbrev pub is_own_name : Option Name → Name → Bool
+is_own_name None x = false
+is_own_name (Some own) x = bytes_eq own x
 
 -- the role of the token breaks this rule in this scope, the scope of the marks before the token
 abbrev pub role_breaks : ReadErrorKind → Scope → Role → Bool
@@ -74,7 +74,7 @@ role_breaks NumberTooLarge s (value n) = nat_lt 65535 n
 role_breaks TooDeep s (opens level) = nat_lt 32 level
 role_breaks TooMany s (new c x) = is_full s.names c
 role_breaks BadTarget s (uses c x) = is_other s.names c x
-role_breaks BadTarget s (spawns own x) = is_other s.names a_thread x || is_own own x
+role_breaks BadTarget s (spawns own x) = is_other s.names a_thread x || is_own_name own x
 role_breaks BadTarget s (starts x) = is_other s.names a_process x
 role_breaks k s r = false
 

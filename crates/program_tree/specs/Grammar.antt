@@ -84,8 +84,8 @@ named x r = record { token = token.Name x; role = r; begins = none_begins }
 abbrev pub opening : Token → (level : ℕ) → Mark
 opening t level = record { token = t; role = opens level; begins = none_begins }
 
-abbrev pub valued : ℕ → Mark
-valued n = record { token = token.Number n; role = value n; begins = none_begins }
+abbrev pub value_mark : ℕ → Mark
+value_mark n = record { token = token.Number n; role = value n; begins = none_begins }
 
 -- the first tokens of statements
 abbrev pub target : Name → Mark
@@ -138,7 +138,7 @@ abbrev pub value_marks : Context → (k : Keyword) → WordShape (word_of k) →
 value_marks c k v after = key k ∷ word_marks c (word_of k) v after
 
 abbrev pub expression_marks : Context → Expression Name → (after : List Mark) → List Mark
-expression_marks c (number n) after = valued n ∷ after
+expression_marks c (number n) after = value_mark n ∷ after
 expression_marks c (variable x) after = named x (uses a_variable x) ∷ after
 expression_marks c tree.word after = value_marks c word.Data tt after
 expression_marks c sender after = value_marks c word.From tt after
@@ -227,7 +227,7 @@ abbrev pub variable_marks : List Valued → (after : List Mark) → List Mark
 variable_marks [] after = after
 variable_marks (v ∷ vs) after =
     key word.Var ∷ (named v.0 (new a_variable v.0)
-    ∷ (sign token.Equals ∷ (valued v.1 ∷ (sign token.Semicolon ∷ variable_marks vs after))))
+    ∷ (sign token.Equals ∷ (value_mark v.1 ∷ (sign token.Semicolon ∷ variable_marks vs after))))
 
 abbrev pub etimer_marks : List Name → (after : List Mark) → List Mark
 etimer_marks [] after = after
@@ -278,7 +278,7 @@ abbrev pub semaphore_marks : List Valued → (after : List Mark) → List Mark
 semaphore_marks [] after = after
 semaphore_marks (v ∷ vs) after =
     key word.Semaphore ∷ (named v.0 (new a_semaphore v.0)
-    ∷ (sign token.Equals ∷ (valued v.1 ∷ (sign token.Semicolon ∷ semaphore_marks vs after))))
+    ∷ (sign token.Equals ∷ (value_mark v.1 ∷ (sign token.Semicolon ∷ semaphore_marks vs after))))
 
 -- the names of the process line after the first, each after a comma, and the semicolon of the line
 abbrev pub process_marks : List (Name × CodeShape) → (after : List Mark) → List Mark

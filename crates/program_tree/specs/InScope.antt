@@ -6,8 +6,8 @@ use Rattle.program_tree.specs.Tree.{Class, an_event, a_semaphore, a_process, a_v
 use Rattle.std.specs.Str.{bytes_eq}
 
 -- the place of a name on this list, if the name is on it
-unfoldable pub place_of : List (List ℕ) → List ℕ → Option ℕ
-place_of names x = position (λ y. bytes_eq x y) names
+unfoldable pub place_in_names : List (List ℕ) → List ℕ → Option ℕ
+place_in_names names x = position (λ y. bytes_eq x y) names
 
 -- Each list is in the order of declaration. Variables, timers and threads are those of one code; `first_timer` is the
 -- number of timers that the program has before them.
@@ -53,7 +53,7 @@ abbrev pub outside : NamesInScope → NamesInScope
 outside n = record n { variables = []; first_timer = n.first_timer + length n.timers; timers = []; threads = [] }
 
 abbrev pub is_among : List Name → Name → Bool
-is_among names x = is_some (place_of names x)
+is_among names x = is_some (place_in_names names x)
 
 abbrev pub is_a : NamesInScope → Class → Name → Bool
 is_a n c x = is_among (names_of n c) x
@@ -69,8 +69,8 @@ or_zero None = 0
 or_zero (Some i) = i
 
 abbrev pub number_in : NamesInScope → Class → Name → ℕ
-number_in n a_timer x = n.first_timer + or_zero (place_of n.timers x)
-number_in n c x = or_zero (place_of (names_of n c) x)
+number_in n a_timer x = n.first_timer + or_zero (place_in_names n.timers x)
+number_in n c x = or_zero (place_in_names (names_of n c) x)
 
 -- the name with this number
 abbrev pub name_in : NamesInScope → Class → ℕ → Name

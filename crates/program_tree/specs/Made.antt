@@ -27,7 +27,7 @@ abbrev pub WasRead : Tree → Type 0
 WasRead tree = ∥ IsOfText tree ∥₁
 
 -- the tree is that of some text, and is within the limits of programs
-pub record IsMade (tree : Tree) : Type 0 where
+pub record IsProgramTree (tree : Tree) : Type 0 where
   pub few_events : length tree.events ≤ 117
   pub few_semaphores : length tree.semaphores ≤ 64
   pub each_count : length tree.counts ≡ length tree.semaphores

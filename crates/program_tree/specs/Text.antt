@@ -50,9 +50,9 @@ abbrev pub begins_comment : List ℕ → Bool
 begins_comment text = starts_with nat_eq text (codes "//")
 
 -- the line ends here: the text continues with LF, or has ended
-abbrev pub ends_line : List ℕ → Bool
-ends_line [] = true
-ends_line (b ∷ bs) = is_feed b
+abbrev pub line_ends_here : List ℕ → Bool
+line_ends_here [] = true
+line_ends_here (b ∷ bs) = is_feed b
 
 pub data Piece : Type 0 where
   Blank : (byte : ℕ) → Piece
@@ -81,7 +81,7 @@ token_at (Other byte) = Some Bad
 -- the piece is of its kind and as long as possible, if this text is after it
 abbrev pub FitsBefore : List ℕ → Piece → Type 0
 FitsBefore rest (Blank byte) = is_blank byte ≡ true
-FitsBefore rest (Comment bytes) = (list_any is_feed bytes ≡ false) × (ends_line rest ≡ true)
+FitsBefore rest (Comment bytes) = (list_any is_feed bytes ≡ false) × (line_ends_here rest ≡ true)
 FitsBefore rest (Word bytes) = (bytes ≢ []) × (list_all is_word_byte bytes ≡ true) × (begins is_word_byte rest ≡ false)
 FitsBefore rest (Sign bytes token) =
     (sign_at (bytes ++ rest) ≡ Some (bytes, token)) × (begins_comment (bytes ++ rest) ≡ false)
@@ -100,11 +100,11 @@ abbrev pub tokens_of : List Piece → List Token
 tokens_of pieces = filter_map token_at pieces
 
 -- the line of each token and of the end, if the pieces begin on this line; each LF begins another line
-abbrev pub lines_from : ℕ → List Piece → List ℕ
-lines_from line [] = line ∷ []
-lines_from line (piece ∷ pieces) =
+abbrev pub line_numbers_from : ℕ → List Piece → List ℕ
+line_numbers_from line [] = line ∷ []
+line_numbers_from line (piece ∷ pieces) =
     cons_option (option_map (λ token. line) (token_at piece))
-    (lines_from (line + count_by is_feed (bytes_of piece)) pieces)
+    (line_numbers_from (line + count_by is_feed (bytes_of piece)) pieces)
 
 -- the text has these tokens, on these lines; the last line is the line of its end
 pub record IsLexed (text : List ℕ) (tokens : List Token) (lines : List ℕ) : Type 0 where
@@ -112,4 +112,4 @@ pub record IsLexed (text : List ℕ) (tokens : List Token) (lines : List ℕ) : 
   pub spelled : text ≡ text_of pieces
   pub fit : AllFit pieces
   pub matches : tokens ≡ tokens_of pieces
-  pub placed : lines ≡ lines_from 1 pieces
+  pub placed : lines ≡ line_numbers_from 1 pieces

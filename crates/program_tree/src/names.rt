@@ -1,7 +1,7 @@
 //! Names in the order of their declaration.
 ghost use Rattle.std.specs.Prelude.{◌≡◌, ◌==◌, ◌<◌, ◌≤◌, ◌++◌, [], ◌∷◌, List, length, None, OnOk, OnErr, IfSome};
 ghost use Rattle.std.specs.Prelude.{slice_index_or, map, string_bytes};
-ghost use Rattle.program_tree.specs.InScope.{place_of};
+ghost use Rattle.program_tree.specs.InScope.{place_in_names};
 
 use indexmap::IndexSet;
 use std::alloc::{AllocError, Global};
@@ -54,7 +54,7 @@ impl Names {
 
     /// The number of a name, if the name was declared.
     pub fn place_of(&self, name: &str) -> Option<usize>
-        ensures place { result ≡ place_of self.now name.now }
+        ensures place { result ≡ place_in_names self.now name.now }
         ensures within { IfSome result (λ i. i < length self.now) }
     {
         self.set.get_index_of(name)
@@ -73,7 +73,7 @@ impl Names {
     /// # Errors
     /// `AllocError` if an allocation fails.
     pub fn add(&mut self, alloc: Global, name: &str) -> Result<(), AllocError>
-        requires not_yet_listed { place_of self.old name.now ≡ None }
+        requires not_yet_listed { place_in_names self.old name.now ≡ None }
         ensures ok { OnOk result (self.new ≡ self.old ++ name.now ∷ []) }
         ensures err { OnErr result (self.new ≡ self.old) }
     {

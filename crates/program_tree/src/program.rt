@@ -6,7 +6,7 @@ ghost use Rattle.std.specs.Prelude.{◌≡◌, ◌<◌, ◌≤◌, length, map, 
 ghost use Rattle.std.specs.Option.{ForSome};
 ghost use Rattle.std.specs.List.{All};
 ghost use Rattle.program_tree.specs.ProcessText.{code_of};
-ghost use Rattle.program_tree.specs.Made.{WasRead, IsMade};
+ghost use Rattle.program_tree.specs.Made.{WasRead, IsProgramTree};
 
 use crate::event_name::FIRST_DECLARED;
 use crate::names::Names;
@@ -87,7 +87,7 @@ impl Program {
         codes: Vec<ProcessText>,
         timers: Vec<Timer>,
     ) -> Program
-        requires is_made { IsMade (record {
+        requires is_made { IsProgramTree (record {
           events = events;
           semaphores = semaphores;
           counts = counts.items;

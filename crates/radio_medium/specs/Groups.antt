@@ -6,19 +6,19 @@ use Rattle.radio_medium.specs.declared.place.Place.{Place}
 use Rattle.radio_medium.specs.Medium.{square, square_distance}
 
 -- a place whose distance from the centre, along each axis, is at most that of the group
-pub record Holds (group : Group) (place : Place) : Type 0 where
+pub record HoldsPlace (group : Group) (place : Place) : Type 0 where
   pub x : unsigned_abs (group.centre.x -ℤ place.x) ≤ group.far_x
   pub y : unsigned_abs (group.centre.y -ℤ place.y) ≤ group.far_y
 
 -- each place that the group holds is farther from the place `from` than the range
 abbrev pub IsBeyond : Group → (range : ℕ) → (from : Place) → Type 0
 IsBeyond group range from =
-    (place : Place) → Holds group place → nat_le (square_distance from place) (square range) ≡ false
+    (place : Place) → HoldsPlace group place → nat_le (square_distance from place) (square range) ≡ false
 
 -- the group holds the places of the motes from number `first` up to, but not including, number `after`
 abbrev pub HoldsMotes : List Place → (first after : ℕ) → Group → Type 0
 HoldsMotes places first after group =
-    (k : ℕ) (any : Place) → first ≤ k → k < after → Holds group (slice_index_or places k any)
+    (k : ℕ) (any : Place) → first ≤ k → k < after → HoldsPlace group (slice_index_or places k any)
 
 -- the groups of all motes: the first 32 motes, the next 32, and so on; no group is empty
 pub record AreGroups (places : List Place) (groups : List Group) : Type 0 where

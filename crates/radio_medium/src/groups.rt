@@ -1,7 +1,7 @@
 //! Groups of motes by number. If a whole group is too far away to hear a mote, none of its motes is tested.
 
 ghost use Rattle.std.specs.Prelude.{◌≡◌, ◌*◌, ◌-◌, ◌-ℤ◌, ◌<◌, ◌≤◌, ℕ, false, nat_le, unsigned_abs, IfOk, length};
-ghost use Rattle.radio_medium.specs.Groups.{AreGroups, HoldsMotes, Holds, IsBeyond};
+ghost use Rattle.radio_medium.specs.Groups.{AreGroups, HoldsMotes, HoldsPlace, IsBeyond};
 
 use crate::place::{Place, gap};
 use std::alloc::{AllocError, Global};
@@ -21,8 +21,8 @@ pub(crate) struct Group {
 impl Group {
     /// The group with one more mote.
     fn with(self, place: Place) -> Group
-        ensures place { Holds result place }
-        ensures others { (p : Place) → Holds self p → Holds result p }
+        ensures place { HoldsPlace result place }
+        ensures others { (p : Place) → HoldsPlace self p → HoldsPlace result p }
     {
         Group {
             centre: self.centre,

@@ -10,7 +10,7 @@ use Rattle.protothread.specs.declared.part.Part.{Part}
 use Rattle.protothread.specs.declared.part.Part.TheVariants as part
 use Rattle.protothread.specs.Remainder.{statements_of, thread_block, whole_of}
 use Rattle.mote_program.specs.Complete.{IsComplete}
-use Rattle.mote_program.specs.Declarations.{Declarations, IsOneOf, NamesDeclared, of_process, at_callback, at_thread, IsDeclaredIn, IsDeclared}
+use Rattle.mote_program.specs.Declarations.{Declarations, IsOneOf, NamesDeclared, of_process, at_callback, declared_at_thread, IsDeclaredIn, IsDeclared}
 use Rattle.mote_program.specs.Named.{named_by_cast, named_by_sent, named_by_expression, named_by_action, named_by_statement, named_by_block, named_by_otherwise}
 use Rattle.report_laws.proofs.Blocks.{FitsCast, FitsSent, FitsAction, FitsStatement, FitsBlock, FitsOther, AllFit, FitsCode, listed_fit}
 use Rattle.report_laws.proofs.States.{HasReceiver, IsWhole}
@@ -92,7 +92,7 @@ some_fits t (Some b) h = listed_fit t b (h b refl)
 
 module _ (t : Tree) (c : Code) (is : IsDeclaredIn t c) where
   thread_fits : (k : ℕ) → AllFit t (thread_block c k)
-  thread_fits k = some_fits t (slice_get c.thread_bodies k) (λ b e. declared_fits t (at_thread t c k) refl refl b (is.threads k b e))
+  thread_fits k = some_fits t (slice_get c.thread_bodies k) (λ b e. declared_fits t (declared_at_thread t c k) refl refl b (is.threads k b e))
 
   callback_fits : (timer : ℕ) → AllFit t (statements_of (callback_at c timer))
   callback_fits timer = by (nat_le (c.first_timer + length c.etimers) timer)

@@ -8,7 +8,7 @@ use Rattle.program_tree.specs.Code.{Tree}
 use Rattle.program_tree.specs.Faults.{Scope, nothing_yet, scope_after, scope_from, scope_of, role_breaks, begun_breaks, IsProgram}
 use Rattle.program_tree.specs.Grammar.{Mark, tokens, event_marks, semaphore_marks, process_marks, program_marks}
 use Rattle.program_tree.specs.InScope.{NamesInScope, with_new, is_a, is_among, is_in_scope}
-use Rattle.program_tree.specs.InScope.{place_of}
+use Rattle.program_tree.specs.InScope.{place_in_names}
 use Rattle.program_tree.specs.Numbers.{named_of, tree_of_shape}
 use Rattle.program_tree.specs.Reading.{IsTreeOf}
 use Rattle.program_tree.specs.Shapes.{Name, Valued, CodeShape, ProgramShape}
@@ -40,7 +40,7 @@ no_place true n h = absurd (h refl)
 no_place false n h = refl
 
 new_among : (names : List Name) (x : Name) → (is_among names x ≡ true → ⊥) → IsNew names x
-unfolding place_of
+unfolding place_in_names
 new_among names x h =
     let at = position_or_len (λ (y : Name). bytes_eq x y) names in
     not_found names x (ltb-false at (length names) (no_place (nat_lt at (length names)) at h))

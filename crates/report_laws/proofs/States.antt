@@ -22,7 +22,7 @@ use Rattle.process_kernel.specs.declared.process.ProcessState.{ProcessState}
 use Rattle.process_kernel.specs.declared.process.ProcessState.TheVariants.{Running}
 use Rattle.process_kernel.specs.declared.process.Member.{Member}
 use Rattle.process_kernel.specs.Members.{is_same}
-use Rattle.process_kernel.specs.State.{State, Outcome, Ends, Goes, ◌>>=◌}
+use Rattle.process_kernel.specs.State.{KernelState, Outcome, Ends, Goes, ◌>>=◌}
 use Rattle.process_kernel.specs.Processes.{is_alive, process_state, with_state, with_exiting, with_needs_poll}
 use Rattle.process_kernel.specs.ProcessList.{put_remainder, fresh_at, with_fresh_body, with_fresh_process, enlist_of, exiting_of, unlisted_of, leave_of, numbered_from}
 use Rattle.process_kernel.specs.Posts.{post_of, poll_of, send_of}
@@ -76,7 +76,7 @@ pub record Seen : Type 0 where
   pub timers : List Timer
   pub lines : List Line
 
-abbrev pub seen : State → Seen
+abbrev pub seen : KernelState → Seen
 seen s = record {
   program = s.program;
   events = s.queue.events;
@@ -126,7 +126,7 @@ pub record IsWhole (t : Tree) : Type 0 where
   pub receiver : HasReceiver t t.receiver
 
 module _ (t : Tree) (whole : IsWhole t) where
-  abbrev pub Is : State → Type 0
+  abbrev pub Is : KernelState → Type 0
   Is s = Sound t (seen s)
 
   -- the end of a step: such a state and, if the step continues, a result of this kind
@@ -142,27 +142,27 @@ module _ (t : Tree) (whole : IsWhole t) where
 
   -- chains of steps
 
-  bind_after : (A B : Type 0) (P : A → Type 0) (Q : B → Type 0) (o : Outcome A) (f : A → State → Outcome B) → After P o → ((a : A) (s : State) → Is s → P a → Lead B Q (f a s)) → After Q (o >>= f)
+  bind_after : (A B : Type 0) (P : A → Type 0) (Q : B → Type 0) (o : Outcome A) (f : A → KernelState → Outcome B) → After P o → ((a : A) (s : KernelState) → Is s → P a → Lead B Q (f a s)) → After Q (o >>= f)
   bind_after A B P Q (Ends s) f h go = h
   bind_after A B P Q (Goes a s) f h go = (go a s h.0 h.1).after
 
-  pub bind : {A B : Type 0} (P : A → Type 0) (Q : B → Type 0) (o : Outcome A) (f : A → State → Outcome B) → Lead A P o → ((a : A) (s : State) → Is s → P a → Lead B Q (f a s)) → Lead B Q (o >>= f)
+  pub bind : {A B : Type 0} (P : A → Type 0) (Q : B → Type 0) (o : Outcome A) (f : A → KernelState → Outcome B) → Lead A P o → ((a : A) (s : KernelState) → Is s → P a → Lead B Q (f a s)) → Lead B Q (o >>= f)
   bind {A} {B} P Q o f h go = record { after = bind_after A B P Q o f h.after go }
 
-  pub goes : {A : Type 0} (P : A → Type 0) (a : A) (s : State) → Is s → P a → Lead A P (Goes a s)
+  pub goes : {A : Type 0} (P : A → Type 0) (a : A) (s : KernelState) → Is s → P a → Lead A P (Goes a s)
   goes P a s h p = record { after = (h, p) }
 
   pub either : {A : Type 0} (P : A → Type 0) (b : Bool) (o q : Outcome A) → Lead A P o → Lead A P q → Lead A P (if b then o else q)
   either P true o q h i = h
   either P false o q h i = i
 
-  pub is_if : (b : Bool) (s u : State) → Is s → Is u → Is (if b then s else u)
+  pub is_if : (b : Bool) (s u : KernelState) → Is s → Is u → Is (if b then s else u)
   is_if true s u h i = h
   is_if false s u h i = i
 
   -- lines
 
-  pub is_line : (s : State) (w : What) → Is s → HasNames t w → Is (with_line s w)
+  pub is_line : (s : KernelState) (w : What) → Is s → HasNames t w → Is (with_line s w)
   is_line s w h n = record {
     program = h.program;
     events = h.events;
@@ -172,42 +172,42 @@ module _ (t : Tree) (whole : IsWhole t) where
     lines = each_push (FitsLine t) s.lines _ h.lines n;
   }
 
-  pub writes : (s : State) (w : What) → Is s → HasNames t w → Lead (Unit {0}) Nothing (write_of s w)
+  pub writes : (s : KernelState) (w : What) → Is s → HasNames t w → Lead (Unit {0}) Nothing (write_of s w)
   unfolding write_of
   writes s w h n = goes Nothing tt _ (is_line s w h n) tt
 
-  pub halts : {A : Type 0} (P : A → Type 0) (s : State) → Is s → Lead A P (Ends (halted_of s))
+  pub halts : {A : Type 0} (P : A → Type 0) (s : KernelState) → Is s → Lead A P (Ends (halted_of s))
   unfolding halted_of
   halts P s h = record { after = is_line s what.Halt h tt }
 
-  pub spends : (s : State) → Is s → Lead (Unit {0}) Nothing (spend_of s)
+  pub spends : (s : KernelState) → Is s → Lead (Unit {0}) Nothing (spend_of s)
   unfolding spend_of
   spends s h = either Nothing (s.units == 0) _ _ (halts Nothing s h) (goes Nothing tt _ h tt)
 
   -- states of processes
 
-  pub is_state : (s : State) (p : Proc) (x : ProcessState) → Is s → Is (with_state s p x)
+  pub is_state : (s : KernelState) (p : Proc) (x : ProcessState) → Is s → Is (with_state s p x)
   unfolding with_state
   is_state s p x h = h
 
-  pub is_exiting : (s : State) (p : Proc) → Is s → Is (exiting_of s p)
+  pub is_exiting : (s : KernelState) (p : Proc) → Is s → Is (exiting_of s p)
   unfolding exiting_of with_exiting with_state
   is_exiting s p h = h
 
-  pub is_needing : (s : State) (p : Proc) (b : Bool) → Is s → Is (with_needs_poll s p b)
+  pub is_needing : (s : KernelState) (p : Proc) (b : Bool) → Is s → Is (with_needs_poll s p b)
   unfolding with_needs_poll
   is_needing s p b h = h
 
-  pub is_polled : (s : State) (p : Proc) → Is s → Is (poll_of s p)
+  pub is_polled : (s : KernelState) (p : Proc) → Is s → Is (poll_of s p)
   unfolding poll_of with_needs_poll
   is_polled s p h = is_if (is_alive (process_state s p)) _ s h h
 
   -- remainders
 
-  pub is_with_remainders : (s : State) (rs : List Remainder) → Is s → Each (FitsRest t) rs → Is (record s { remainders = rs })
+  pub is_with_remainders : (s : KernelState) (rs : List Remainder) → Is s → Each (FitsRest t) rs → Is (record s { remainders = rs })
   is_with_remainders s rs h r = record { program = h.program; events = h.events; members = h.members; remainders = r; timers = h.timers; lines = h.lines }
 
-  pub is_put : (s : State) (p : ℕ) (r : Remainder) → Is s → FitsRest t r → Is (put_remainder s p r)
+  pub is_put : (s : KernelState) (p : ℕ) (r : Remainder) → Is s → FitsRest t r → Is (put_remainder s p r)
   unfolding put_remainder
   is_put s p r h f = is_with_remainders s _ h (each_set (FitsRest t) s.remainders p r h.remainders f)
 
@@ -217,13 +217,13 @@ module _ (t : Tree) (whole : IsWhole t) where
   fresh_each (x ∷ cs) (r ∷ rs) zero c h = (fresh_fits t x c.0 Body, h.1)
   fresh_each (x ∷ cs) (r ∷ rs) (suc p) c h = (h.0, fresh_each cs rs p c.1 h.1)
 
-  pub codes_in : (s : State) → Is s → Each (FitsCode t) s.program.codes
+  pub codes_in : (s : KernelState) → Is s → Each (FitsCode t) s.program.codes
   codes_in s h = subst (λ (x : Tree). Each (FitsCode t) x.codes) (sym h.program) whole.codes
 
-  pub is_fresh : (s : State) (p : ℕ) → Is s → Is (with_fresh_body s p)
+  pub is_fresh : (s : KernelState) (p : ℕ) → Is s → Is (with_fresh_body s p)
   is_fresh s p h = is_with_remainders s _ h (fresh_each s.program.codes s.remainders p (codes_in s h) h.remainders)
 
-  is_fresh_process : (s : State) (p : Proc) → Is s → Is (with_fresh_process s p)
+  is_fresh_process : (s : KernelState) (p : Proc) → Is s → Is (with_fresh_process s p)
   is_fresh_process s (Own p) h = is_fresh s p h
   is_fresh_process s Etimer h = h
   is_fresh_process s Ctimer h = h
@@ -231,15 +231,15 @@ module _ (t : Tree) (whole : IsWhole t) where
 
   -- the process list
 
-  is_with_members : (s : State) (ms : List Member) (n : ℕ) → Is s → Each (FitsMember t) ms → Is (record s { members = ms; started = n })
+  is_with_members : (s : KernelState) (ms : List Member) (n : ℕ) → Is s → Each (FitsMember t) ms → Is (record s { members = ms; started = n })
   is_with_members s ms n h m = record { program = h.program; events = h.events; members = m; remainders = h.remainders; timers = h.timers; lines = h.lines }
 
-  pub enlists : (s : State) (p : Proc) → Is s → HasProcess t p → Lead (Unit {0}) Nothing (enlist_of s p)
+  pub enlists : (s : KernelState) (p : Proc) → Is s → HasProcess t p → Lead (Unit {0}) Nothing (enlist_of s p)
   unfolding enlist_of
   enlists s p h n =
       writes _ (what.Start p) (is_fresh_process _ p (is_state _ p Running (is_with_members s (record { process = p; incarnation = s.started } ∷ s.members) (s.started + 1) h (n, h.members)))) n
 
-  pub leaves : (s : State) (p : Proc) → Is s → HasProcess t p → Lead (Unit {0}) Nothing (leave_of s p)
+  pub leaves : (s : KernelState) (p : Proc) → Is s → HasProcess t p → Lead (Unit {0}) Nothing (leave_of s p)
   unfolding leave_of unlisted_of with_exiting
   leaves s p h n =
       writes _ (what.Leave p) (is_with_members (with_exiting s p false) (filter (λ m. not (is_same m.process p)) s.members) s.started h (every_filter (FitsMember t) (FitsMember t) _ (λ x k e. k) s.members h.members)) n
@@ -250,10 +250,10 @@ module _ (t : Tree) (whole : IsWhole t) where
 
   -- timers
 
-  with_timers : (s : State) (xs : List Timer) → Is s → Each (FitsTimer t) xs → Sound t (record (seen s) { timers = xs })
+  with_timers : (s : KernelState) (xs : List Timer) → Is s → Each (FitsTimer t) xs → Sound t (record (seen s) { timers = xs })
   with_timers s xs h x = record { program = h.program; events = h.events; members = h.members; remainders = h.remainders; timers = x; lines = h.lines }
 
-  pub timer_fits : (s : State) (id : ℕ) → Is s → FitsTimer t (timer_at s.timers.timers id)
+  pub timer_fits : (s : KernelState) (id : ℕ) → Is s → FitsTimer t (timer_at s.timers.timers id)
   timer_fits s id h = each_at (FitsTimer t) s.timers.timers id unset h.timers tt
 
   owner_fits : (program : Tree) (timer current : ℕ) → current < length t.processes → HasProcess t (owner_of program timer current)
@@ -263,40 +263,40 @@ module _ (t : Tree) (whole : IsWhole t) where
       chosen true = tt
       chosen false = n
 
-  is_timer_set : (s : State) (timer : ℕ) → Is s → Is (timer_is_set s timer)
+  is_timer_set : (s : KernelState) (timer : ℕ) → Is s → Is (timer_is_set s timer)
   unfolding timer_is_set
   is_timer_set s timer h = is_polled _ Etimer h
 
-  pub is_set : (s : State) (timer n current : ℕ) → Is s → current < length t.processes → Is (set_of s timer n current)
+  pub is_set : (s : KernelState) (timer n current : ℕ) → Is s → current < length t.processes → Is (set_of s timer n current)
   unfolding set_of set_timer
   is_set s timer n current h c =
       is_if (has_timer s timer) _ s (is_timer_set _ timer (with_timers s _ h (each_set (FitsTimer t) s.timers.timers timer _ h.timers (owner_fits s.program timer current c)))) h
 
-  pub is_reset : (s : State) (timer current : ℕ) → Is s → current < length t.processes → Is (reset_of s timer current)
+  pub is_reset : (s : KernelState) (timer current : ℕ) → Is s → current < length t.processes → Is (reset_of s timer current)
   unfolding reset_of reset_timer
   is_reset s timer current h c =
       is_if (has_timer s timer) _ s (is_timer_set _ timer (with_timers s _ h (each_set (FitsTimer t) s.timers.timers timer _ h.timers (owner_fits s.program timer current c)))) h
 
-  pub is_restarted : (s : State) (timer current : ℕ) → Is s → current < length t.processes → Is (restart_of s timer current)
+  pub is_restarted : (s : KernelState) (timer current : ℕ) → Is s → current < length t.processes → Is (restart_of s timer current)
   unfolding restart_of restart_timer
   is_restarted s timer current h c =
       is_if (has_timer s timer) _ s (is_timer_set _ timer (with_timers s _ h (each_set (FitsTimer t) s.timers.timers timer _ h.timers (owner_fits s.program timer current c)))) h
 
-  pub is_stopped : (s : State) (timer : ℕ) → Is s → Is (stop_of s timer)
+  pub is_stopped : (s : KernelState) (timer : ℕ) → Is s → Is (stop_of s timer)
   unfolding stop_of stop_timer
   is_stopped s timer h = is_if (has_timer s timer) _ s (with_timers s _ h (each_set (FitsTimer t) s.timers.timers timer _ h.timers tt)) h
 
-  pub is_fired : (s : State) (timer : ℕ) → Is s → Is (fired_of s timer)
+  pub is_fired : (s : KernelState) (timer : ℕ) → Is s → Is (fired_of s timer)
   unfolding fired_of stop_timer
   is_fired s timer h = with_timers s _ h (each_set (FitsTimer t) s.timers.timers timer _ h.timers tt)
 
-  pub is_purged : (s : State) (p : ℕ) → Is s → Is (purge_of s p)
+  pub is_purged : (s : KernelState) (p : ℕ) → Is s → Is (purge_of s p)
   unfolding purge_of purge_timers
   is_purged s p h = is_if (nat_lt p 256) _ s h h
 
   -- events and packets
 
-  pub posts : (s : State) (to : Target) (e : Event) → Is s → HasTarget t to → HasEvent t e.number → Lead Bool Nothing (post_of s to e)
+  pub posts : (s : KernelState) (to : Target) (e : Event) → Is s → HasTarget t to → HasEvent t e.number → Lead Bool Nothing (post_of s to e)
   unfolding post_of
   posts s to e h n k =
       let after : Is (record s { queue = with_posted s.queue to e }) = record {
@@ -309,6 +309,6 @@ module _ (t : Tree) (whole : IsWhole t) where
       } in
       either Nothing (nat_le (2 ^ 62) s.queue.accepted) _ _ (halts Nothing s h) (either Nothing (nat_le s.queue.capacity (length s.queue.events)) _ _ (bind Nothing Nothing _ _ (writes s _ h (n, k)) (λ a u i d. goes Nothing true u i tt)) (bind Nothing Nothing _ _ (writes _ _ after (n, k)) (λ a u i d. goes Nothing false u i tt)))
 
-  pub sends : (s : State) (v : ℕ) → Is s → Lead (Unit {0}) Nothing (send_of s v)
+  pub sends : (s : KernelState) (v : ℕ) → Is s → Lead (Unit {0}) Nothing (send_of s v)
   unfolding send_of
   sends s v h = either Nothing (nat_le (2 ^ 62) s.sent) _ _ (halts Nothing s h) (writes _ (what.Send s.sent v) h tt)

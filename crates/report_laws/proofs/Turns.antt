@@ -15,15 +15,15 @@ use Rattle.process_kernel.specs.declared.kernel.Ran.TheVariants as ran
 use Rattle.radio_packet.specs.declared.arrival.Arrival.{Arrival}
 use Rattle.radio_packet.specs.declared.sent.Sent.{Sent}
 use Rattle.trace_lines.specs.declared.line.Line.{Line}
-use Rattle.process_kernel.specs.State.{State, Outcome, Ends, Goes}
+use Rattle.process_kernel.specs.State.{KernelState, Outcome, Ends, Goes}
 use Rattle.process_kernel.specs.Processes.{is_alive, process_state, with_needs_poll}
 use Rattle.process_kernel.specs.Posts.{poll_of}
 use Rattle.process_kernel.specs.Call.{calls_of}
 use Rattle.process_kernel.specs.Run.{begun_of, most_units}
-use Rattle.process_kernel.specs.Mote.{Mote, unbooted, has_room, with_packet, with_poll}
+use Rattle.process_kernel.specs.KernelModel.{KernelModel, unbooted, has_room, with_packet, with_poll}
 use Rattle.process_kernel.specs.Given.{Given, given, begun, unless_halted, boot_given, run_given}
 use Rattle.mote_node.specs.Node.{Node, new_node}
-use Rattle.mote_node.specs.Underway.{Underway, with_mote, with_lines, after}
+use Rattle.mote_node.specs.Underway.{Underway, with_mote, with_lines, underway_after}
 use Rattle.mote_node.specs.Arrivals.{received_line, lost_line, collision_line, hear, hear_each, took_some, hear_all, is_collision, with_collisions}
 use Rattle.mote_node.specs.Turn.{most_runs, boot_due, is_some_due, poll_due, follow, runs_of, work_of, mote_turn, net_turn, turn_of}
 use Rattle.report_laws.proofs.Blocks.{FitsCode}
@@ -33,13 +33,13 @@ use Rattle.report_laws.proofs.States.{Sound, Seen, seen, FitsRest, FitsTimer, Fi
 use Rattle.report_laws.proofs.Calls.{calls_led, kernel_led, boot_led}
 
 -- the mote names only processes and events of this program, and so do these lines
-abbrev pub IsSound : Tree → Mote → List Line → Type 0
+abbrev pub IsSound : Tree → KernelModel → List Line → Type 0
 IsSound t m lines = Sound t (record (seen m.state) { lines = lines })
 
-pub with_lines_sound : (t : Tree) (m : Mote) (old new : List Line) → IsSound t m old → Each (FitsLine t) new → IsSound t m new
+pub with_lines_sound : (t : Tree) (m : KernelModel) (old new : List Line) → IsSound t m old → Each (FitsLine t) new → IsSound t m new
 with_lines_sound t m old new h l = record { program = h.program; events = h.events; members = h.members; remainders = h.remainders; timers = h.timers; lines = l }
 
-polled_same : (s : State) (p : Proc) → seen (poll_of s p) ≡ seen s
+polled_same : (s : KernelState) (p : Proc) → seen (poll_of s p) ≡ seen s
 unfolding poll_of with_needs_poll
 polled_same s p = by (is_alive (process_state s p))
   where
@@ -48,7 +48,7 @@ polled_same s p = by (is_alive (process_state s p))
     by false = refl
 
 module _ (t : Tree) (whole : IsWhole t) where
-  begun_sound : (moment : ℕ) (m : Mote) (lines : List Line) (sends : List Sent) → IsSound t m lines → Is t whole (begun m moment lines sends)
+  begun_sound : (moment : ℕ) (m : KernelModel) (lines : List Line) (sends : List Sent) → IsSound t m lines → Is t whole (begun m moment lines sends)
   unfolding begun_of
   begun_sound moment m lines sends h = record {
     program = h.program;
@@ -63,7 +63,7 @@ module _ (t : Tree) (whole : IsWhole t) where
   given_sound (Ends s) h = h.after
   given_sound (Goes a s) h = h.after.0
 
-  unless_sound : (m : Mote) (lines : List Line) (sends : List Sent) (o : Outcome ℕ) → IsSound t m lines → Lead t whole ℕ (Nothing t whole) o
+  unless_sound : (m : KernelModel) (lines : List Line) (sends : List Sent) (o : Outcome ℕ) → IsSound t m lines → Lead t whole ℕ (Nothing t whole) o
       → IsSound t (unless_halted m lines sends (given o)).mote (unless_halted m lines sends (given o)).lines
   unless_sound m lines sends o h l = by m.halted
     where
@@ -71,12 +71,12 @@ module _ (t : Tree) (whole : IsWhole t) where
       by true = h
       by false = given_sound o l
 
-  pub boot_sound : (moment : ℕ) (m : Mote) (lines : List Line) (sends : List Sent) → IsSound t m lines → let g = boot_given moment m lines sends in IsSound t g.mote g.lines
+  pub boot_sound : (moment : ℕ) (m : KernelModel) (lines : List Line) (sends : List Sent) → IsSound t m lines → let g = boot_given moment m lines sends in IsSound t g.mote g.lines
   unfolding boot_given
   boot_sound moment m lines sends h =
       unless_sound m lines sends _ h (boot_led t whole (calls_of (most_units + 1)) (calls_led t whole (most_units + 1)) _ (begun_sound moment m lines sends h))
 
-  pub run_sound : (moment : ℕ) (m : Mote) (lines : List Line) (sends : List Sent) → IsSound t m lines → let g = run_given moment m lines sends in IsSound t g.mote g.lines
+  pub run_sound : (moment : ℕ) (m : KernelModel) (lines : List Line) (sends : List Sent) → IsSound t m lines → let g = run_given moment m lines sends in IsSound t g.mote g.lines
   unfolding run_given
   run_sound moment m lines sends h =
       unless_sound m lines sends _ h (kernel_led t whole (calls_of (most_units + 1)) (calls_led t whole (most_units + 1)) _ (begun_sound moment m lines sends h))
@@ -140,8 +140,8 @@ module _ (t : Tree) (whole : IsWhole t) where
   runs_go zero moment u h = h
   runs_go (suc most) moment u h =
       let g = run_given moment u.mote u.lines u.sends in
-      let i : Stays (after g) = run_sound moment u.mote u.lines u.sends h in
-      follow_goes g.ran (runs_of most moment) (after g) i (runs_go most moment (after g) i)
+      let i : Stays (underway_after g) = run_sound moment u.mote u.lines u.sends h in
+      follow_goes g.ran (runs_of most moment) (underway_after g) i (runs_go most moment (underway_after g) i)
 
   work_goes : (moment : ℕ) (packets : List Arrival) (u : Underway) → Stays u → Stays (work_of moment packets u)
   unfolding work_of

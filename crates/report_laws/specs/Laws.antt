@@ -35,32 +35,33 @@ pub record IsRunOf (net : NetModel) (r : ReportModel) : Type 0 where
   pub numbers : Is64Report r
 
 -- two nets with the same motes, whose ends, media and collisions may differ
-pub record AreComparable (m n : NetModel) : Type 0 where
-  pub motes : n.motes ≡ m.motes
+pub record AreComparable (m model : NetModel) : Type 0 where
+  pub motes : model.motes ≡ m.motes
   pub declare : ProgramsDeclare m
   pub differ : NetNamesDiffer m
 
 -- Equal bytes mean equal runs: two runs of the same motes that write the same text have the same traces, the same log,
 -- and the same number of copies left.
 abbrev pub ComparingBytesIsComparingRuns : Type 0
-ComparingBytesIsComparingRuns = (m n : NetModel) → AreComparable m n → (a b : ReportModel) → IsRunOf m a → IsRunOf n b
-    → report_text m a ≡ report_text n b → a ≡ b
+ComparingBytesIsComparingRuns = (m model : NetModel) → AreComparable m model → (a b : ReportModel) → IsRunOf m a
+    → IsRunOf model b
+    → report_text m a ≡ report_text model b → a ≡ b
 
 -- the text of neither run is a proper prefix of the other's text
 abbrev pub NoRunBeginsAnother : Type 0
-NoRunBeginsAnother = (m n : NetModel) → AreComparable m n → (a b : ReportModel) → IsRunOf m a → IsRunOf n b
-    → (more : List ℕ) → report_text n b ≡ report_text m a ++ more → more ≡ []
+NoRunBeginsAnother = (m model : NetModel) → AreComparable m model → (a b : ReportModel) → IsRunOf m a → IsRunOf model b
+    → (more : List ℕ) → report_text model b ≡ report_text m a ++ more → more ≡ []
 
 -- The same law for the nets of two scenarios' texts, if the nets have the same motes. Its only other premise is about
 -- the numbers.
-pub record AreScenarios (x y : List ℕ) (m n : NetModel) : Type 0 where
+pub record AreScenarios (x y : List ℕ) (m model : NetModel) : Type 0 where
   pub first : TellsNet x m
-  pub second : TellsNet y n
-  pub motes : n.motes ≡ m.motes
+  pub second : TellsNet y model
+  pub motes : model.motes ≡ m.motes
 
 abbrev pub ScenariosAreComparable : Type 0
-ScenariosAreComparable = (x y : List ℕ) (m n : NetModel) → AreScenarios x y m n → AreComparable m n
+ScenariosAreComparable = (x y : List ℕ) (m model : NetModel) → AreScenarios x y m model → AreComparable m model
 
 abbrev pub SameBytesOfScenarios : Type 0
-SameBytesOfScenarios = (x y : List ℕ) (m n : NetModel) → AreScenarios x y m n
-    → (a b : ReportModel) → IsRunOf m a → IsRunOf n b → report_text m a ≡ report_text n b → a ≡ b
+SameBytesOfScenarios = (x y : List ℕ) (m model : NetModel) → AreScenarios x y m model
+    → (a b : ReportModel) → IsRunOf m a → IsRunOf model b → report_text m a ≡ report_text model b → a ≡ b

@@ -10,7 +10,7 @@ use Rattle.window_laws.specs.Agenda.{Item, Wake, Packet, moment_of, mote_of, com
 use Rattle.window_laws.specs.Order.{in_order}
 use Rattle.net_agenda.specs.NetSystem.{system_of}
 use Rattle.window_laws.specs.NetStep.{NetState, Run, Done, Turn, turn_at}
-use Rattle.serial_run.specs.Counted.{turns, is_for, IsGivenAll, TurnsAreGivenAll}
+use Rattle.serial_run.specs.Counted.{turns, is_copy_for, IsGivenAll, TurnsAreGivenAll}
 use Rattle.window_laws.proofs.Agenda.{due_has}
 use Rattle.window_laws.proofs.Lists.{every_weaker}
 use Rattle.window_laws.proofs.Serial.{all_from}
@@ -34,10 +34,10 @@ second_none [] ys e = e
 second_none (x ∷ xs) ys e = cc
 
 -- if all events are later, none is for this mote at this moment
-none_for : (t m : ℕ) (items : List Item) → AllByRecursion (λ item. is_from t (suc m) item ≡ true) items → filter (is_for t m) (packets items) ≡ []
+none_for : (t m : ℕ) (items : List Item) → AllByRecursion (λ item. is_from t (suc m) item ≡ true) items → filter (is_copy_for t m) (packets items) ≡ []
 none_for t m [] h = refl
 none_for t m (Wake u k ∷ items) h = none_for t m items h.1
-none_for t m (Packet c ∷ items) h = let f : is_for t m c ≡ false = not_for t m c.at c.to h.0 in rw f (none_for t m items h.1)
+none_for t m (Packet c ∷ items) h = let f : is_copy_for t m c ≡ false = not_for t m c.at c.to h.0 in rw f (none_for t m items h.1)
 
 first_from : (t m u k : ℕ) (agenda : List Item) → IsLeast u k agenda → AllByRecursion (λ item. is_from t m item ≡ true) agenda → is_from t m (Wake u k) ≡ true
 first_from t m u k agenda least from = due_has (λ v j. is_from t m (Wake v j) ≡ true) u k agenda least.is_there from
@@ -53,19 +53,19 @@ module _ {S L : Type 0} (system : System S L) (fine : RunsForward system) where
 
   -- the copies of the log for this mote at this moment
   abbrev sent_for : (t m : ℕ) → NetState S L → List RadioCopy
-  sent_for t m net = filter (is_for t m) (flat_map system.copies net.log)
+  sent_for t m net = filter (is_copy_for t m) (flat_map system.copies net.log)
 
-  none_new : (t m u k : ℕ) (net : NetState S L) → IsFrom t (suc m) (turn_at system u k net) → filter (is_for t m) (more system u k net) ≡ []
+  none_new : (t m u k : ℕ) (net : NetState S L) → IsFrom t (suc m) (turn_at system u k net) → filter (is_copy_for t m) (more system u k net) ≡ []
   none_new t m u k net from =
       let kept = packets (filter (is_left u k) net.agenda) in
-      second_none (filter (is_for t m) kept) _ (
-      sym (filter-append (is_for t m) kept (more system u k net))
-      ∙ (sym (ap (filter (is_for t m)) (packets-turn system u k net)) ∙ none_for t m (turn_at system u k net).agenda from))
+      second_none (filter (is_copy_for t m) kept) _ (
+      sym (filter-append (is_copy_for t m) kept (more system u k net))
+      ∙ (sym (ap (filter (is_copy_for t m)) (packets-turn system u k net)) ∙ none_for t m (turn_at system u k net).agenda from))
 
   same_log : (t m u k : ℕ) (net : NetState S L) → IsFrom t (suc m) (turn_at system u k net) → sent_for t m (turn_at system u k net) ≡ sent_for t m net
   same_log t m u k net from =
-      ap (filter (is_for t m)) (log-turn system u k net)
-      ∙ (filter-append (is_for t m) (flat_map system.copies net.log) (more system u k net)
+      ap (filter (is_copy_for t m)) (log-turn system u k net)
+      ∙ (filter-append (is_copy_for t m) (flat_map system.copies net.log) (more system u k net)
       ∙ (ap (λ l. sent_for t m net ++ l) (none_new t m u k net from) ∙ append-nil _))
 
   same_later : {end : ℕ} {net last : NetState S L} → Run system end net last → (t m : ℕ) → IsFrom t (suc m) net → sent_for t m last ≡ sent_for t m net
@@ -76,17 +76,17 @@ module _ {S L : Type 0} (system : System S L) (fine : RunsForward system) where
       same_later run t m next ∙ same_log t m u k net next
 
   given_all : {end : ℕ} {net last : NetState S L} (run : Run system end net last) (t m : ℕ) → IsFrom t m net
-      → ((u k : ℕ) → is_from t m (Wake u k) ≡ true → HasAll system (is_for u k) net)
+      → ((u k : ℕ) → is_from t m (Wake u k) ≡ true → HasAll system (is_copy_for u k) net)
       → AllByRecursion (IsGivenAll (flat_map system.copies last.log)) (turns run)
   given_all (Done h) t m from has = tt
   given_all {net = net} (Turn u k least le run) t m from has =
       let here = first_from t m u k net.agenda least from in
       let next = turn_ahead system fine u k net least.is_first in (
         ap in_order (packets_filter (comes_at u k) net.agenda ∙ (has u k here ∙ sym (same_later run u k next ∙ same_log u k u k net next))),
-        given_all run u (suc k) next (λ v j h. all_turn system (is_for v j) u k net (λ c e. not_both u k v j c.at c.to h e) (has v j (still_from t m u k v j here h))),
+        given_all run u (suc k) next (λ v j h. all_turn system (is_copy_for v j) u k net (λ c e. not_both u k v j c.at c.to h e) (has v j (still_from t m u k v j here h))),
       )
 
 pub turns_are_given_all : TurnsAreGivenAll
 unfolding system_of
 turns_are_given_all n r report fault placed =
-    given_all (system_of n) (system_is n fault placed) report.run 0 0 (boot_from (up_to (system_of n).motes)) (λ u k h. all_boot (system_of n) (is_for u k))
+    given_all (system_of n) (system_is n fault placed) report.run 0 0 (boot_from (up_to (system_of n).motes)) (λ u k h. all_boot (system_of n) (is_copy_for u k))

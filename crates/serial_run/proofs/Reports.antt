@@ -9,7 +9,7 @@ use Rattle.std.proofs.lemmas.List.{map-append}
 use Rattle.trace_lines.specs.declared.line.Line.{Line}
 use Rattle.mote_net.specs.Net.{NetModel}
 use Rattle.mote_net.specs.declared.report.Report.{Report}
-use Rattle.mote_net.specs.Report.{lines_in, report_of}
+use Rattle.mote_net.specs.Report.{trace_lines_in, report_of}
 use Rattle.serial_run.specs.declared.engine.Engine.{Engine}
 use Rattle.window_laws.specs.Agenda.{packets, up_to}
 use Rattle.serial_run.specs.NetRun.{report_at, IsReportOf}
@@ -43,9 +43,9 @@ report_is n engine report whole at traces log left = record {
   matches = rw (traces, log, left, all, at.in_state.log) refl;
 }
   where
-    all : map lines_in engine.traces.items ≡ map at.last.traces (up_to (length n.motes))
+    all : map trace_lines_in engine.traces.items ≡ map at.last.traces (up_to (length n.motes))
     all =
-        family lines_in at.last.traces engine.traces.items (λ k h d. at.in_state.traces k (let e = whole.traces in omega arith) d)
+        family trace_lines_in at.last.traces engine.traces.items (λ k h d. at.in_state.traces k (let e = whole.traces in omega arith) d)
         ∙ ap (λ j. map at.last.traces (up_to j)) whole.traces
 
 pub all_in_order : (n : NetModel) (engine : Engine) → IsWhole n engine → HasEnded n engine → All (λ (v : Vec Line Global). IsInOrder v.items) engine.traces.items

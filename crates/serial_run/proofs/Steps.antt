@@ -24,7 +24,7 @@ use Rattle.mote_net.specs.Net.{NetModel}
 use Rattle.mote_net.specs.Report.{line_model}
 use Rattle.serial_run.specs.declared.engine.Engine.{Engine}
 use Rattle.window_laws.specs.Agenda.{Item, Packet, comes_at, is_wake_of, is_left, wake_items}
-use Rattle.net_agenda.specs.Buckets.{Holds, arrivals_at, wake_but_at}
+use Rattle.net_agenda.specs.Buckets.{HoldsItems, arrivals_at, wake_but_at}
 use Rattle.net_agenda.specs.NetSystem.{system_of, tree_at}
 use Rattle.serial_run.specs.NetRun.{packet_with_fates}
 use Rattle.window_laws.specs.NetStep.{NetState, stamped, turn_at}
@@ -80,7 +80,7 @@ module _ (n : NetModel) (t m : ℕ) (state : NetState Node Line) where
       → tree ≡ tree_at n m → packets ≡ arrivals_at t m state.agenda
       → OneTakesTurn tree t packets m old.motes.items new.motes.items out → PacketsBear t m out.sends.items
       → AddsLines m out.lines.items old.traces.items new.traces.items
-      → Holds new.agenda.buckets (agenda_after out.wake out.sends.items)
+      → HoldsItems new.agenda.buckets (agenda_after out.wake out.sends.items)
       → map line_model new.log.items ≡ map line_model old.log.items ++ map (packet_with_fates n.radio) out.sends.items
       → IsEngineAt n new (turn_at (system_of n) t m state)
   unfolding system_of
@@ -101,7 +101,7 @@ module _ (n : NetModel) (t m : ℕ) (state : NetState Node Line) where
         log ∙ (ap (λ l. l ++ map (packet_with_fates n.radio) out.sends.items) at.log
         ∙ (ap (λ l. map (packet_with_fates n.radio) state.log ++ map (packet_with_fates n.radio) l) sent
         ∙ sym (map-append (packet_with_fates n.radio) state.log (map (stamped t m) turned.sends))));
-    agenda = subst (λ l. Holds new.agenda.buckets l) same agenda;
+    agenda = subst (λ l. HoldsItems new.agenda.buckets l) same agenda;
   }
     where
       inside : m < length old.motes.items

@@ -23,13 +23,13 @@ is_by end copy = not (is_after end copy)
 
 -- the copies on the agenda at the end are exactly the copies of the log's packets that arrive after the end
 abbrev pub LateCopiesStay : Type 0
-LateCopiesStay = (n : NetModel) (r : ReportModel) (report : IsReportOf n r) → packets report.last.agenda
-    ≡ filter (is_after n.end) (flat_map (copies n.radio) report.last.log)
+LateCopiesStay = (model : NetModel) (r : ReportModel) (report : IsReportOf model r) → packets report.last.agenda
+    ≡ filter (is_after model.end) (flat_map (copies model.radio) report.last.log)
 
 -- the number of copies left in a report is the number of copies of the log's packets that arrive after the end
 abbrev pub LeftIsCounted : Type 0
-LeftIsCounted = (n : NetModel) (r : ReportModel) (report : IsReportOf n r) → r.left
-    ≡ count_by (is_after n.end) (flat_map (copies n.radio) report.last.log)
+LeftIsCounted = (model : NetModel) (r : ReportModel) (report : IsReportOf model r) → r.left
+    ≡ count_by (is_after model.end) (flat_map (copies model.radio) report.last.log)
 
 -- the copy isn't lost, and arrives after the end
 abbrev pub is_late : (end : ℕ) → Fate → Bool
@@ -37,8 +37,8 @@ is_late end fate = option_map_or (nat_lt end) fate.at false
 
 -- the number of copies left in a report is the number of fates in it with an arrival after the end
 abbrev pub FatesTellLeft : Type 0
-FatesTellLeft = (n : NetModel) (r : ReportModel) → IsReportOf n r → r.left
-    ≡ count_by (is_late n.end) (flat_map (λ packet. packet.fates) r.log)
+FatesTellLeft = (model : NetModel) (r : ReportModel) → IsReportOf model r → r.left
+    ≡ count_by (is_late model.end) (flat_map (λ packet. packet.fates) r.log)
 
 -- a turn of a run: its moment, its mote, and the copies that it gets
 pub record TurnTaken : Type 0 where
@@ -55,8 +55,8 @@ turns {net = net} (Turn moment mote least le rest) =
 
 -- the copies of the log that arrive at or before the end are given to the turns of the run, each exactly once
 abbrev pub CopiesAreGiven : Type 0
-CopiesAreGiven = (n : NetModel) (r : ReportModel) (report : IsReportOf n r)
-    → IsPermutation (filter (is_by n.end) (flat_map (copies n.radio) report.last.log))
+CopiesAreGiven = (model : NetModel) (r : ReportModel) (report : IsReportOf model r)
+    → IsPermutation (filter (is_by model.end) (flat_map (copies model.radio) report.last.log))
     (flat_map (λ turn. turn.given) (turns report.run))
 
 abbrev pub IsGivenInTime : TurnTaken → Type 0
@@ -64,19 +64,19 @@ IsGivenInTime turn = AllByRecursion (λ (copy : RadioCopy). (copy.at ≡ turn.mo
 
 -- each copy is given to a turn of its receiver at the moment of its arrival
 abbrev pub CopiesComeInTime : Type 0
-CopiesComeInTime = (n : NetModel) (r : ReportModel) (report : IsReportOf n r)
+CopiesComeInTime = (model : NetModel) (r : ReportModel) (report : IsReportOf model r)
     → AllByRecursion IsGivenInTime (turns report.run)
 
 -- a copy for this mote that arrives at this moment
-abbrev pub is_for : (moment mote : ℕ) → RadioCopy → Bool
-is_for moment mote copy = (copy.at == moment) && (copy.to == mote)
+abbrev pub is_copy_for : (moment mote : ℕ) → RadioCopy → Bool
+is_copy_for moment mote copy = (copy.at == moment) && (copy.to == mote)
 
 abbrev pub IsGivenAll : List RadioCopy → TurnTaken → Type 0
-IsGivenAll sent turn = turn.given ≡ in_order (filter (is_for turn.moment turn.mote) sent)
+IsGivenAll sent turn = turn.given ≡ in_order (filter (is_copy_for turn.moment turn.mote) sent)
 
 -- if the medium has no error and has a place for each mote, a turn gets all copies of the log for its mote and its
 -- moment
 abbrev pub TurnsAreGivenAll : Type 0
-TurnsAreGivenAll = (n : NetModel) (r : ReportModel) (report : IsReportOf n r) → medium_fault n.radio ≡ None
-    → length n.radio.places ≡ length n.motes
-    → AllByRecursion (IsGivenAll (flat_map (copies n.radio) report.last.log)) (turns report.run)
+TurnsAreGivenAll = (model : NetModel) (r : ReportModel) (report : IsReportOf model r) → medium_fault model.radio ≡ None
+    → length model.radio.places ≡ length model.motes
+    → AllByRecursion (IsGivenAll (flat_map (copies model.radio) report.last.log)) (turns report.run)

@@ -15,18 +15,18 @@ AreNumbered net = (k : ℕ) → (net.states k).mote.state.mote ≡ k
 
 -- The engine's state is the state after a prefix of the run: each run that continues from this state is the rest of a
 -- run from the boot.
-pub record HasReached (n : NetModel) (engine : Engine) : Type 0 where
+pub record HasReached (model : NetModel) (engine : Engine) : Type 0 where
   pub state : NetState Node Line
-  pub in_state : IsEngineAt n engine state
-  pub kept : KeepsWakes n state
+  pub in_state : IsEngineAt model engine state
+  pub kept : KeepsWakes model state
   pub numbered : AreNumbered state
   pub at : ℕ
   pub on_time : IsOnTime at state
-  pub led : (last : NetState Node Line) → Run (system_of n) n.end state last
-      → Run (system_of n) n.end (boot (system_of n)) last
+  pub led : (last : NetState Node Line) → Run (system_of model) model.end state last
+      → Run (system_of model) model.end (boot (system_of model)) last
 
 -- the engine's state is the last state of the run
-pub record HasEnded (n : NetModel) (engine : Engine) : Type 0 where
+pub record HasEnded (model : NetModel) (engine : Engine) : Type 0 where
   pub last : NetState Node Line
-  pub in_state : IsEngineAt n engine last
-  pub run : Run (system_of n) n.end (boot (system_of n)) last
+  pub in_state : IsEngineAt model engine last
+  pub run : Run (system_of model) model.end (boot (system_of model)) last

@@ -15,7 +15,7 @@ use Rattle.mote_net.specs.Net.{NetModel}
 use Rattle.mote_net.specs.Report.{line_model}
 use Rattle.serial_run.specs.declared.engine.Engine.{Engine}
 use Rattle.window_laws.specs.Agenda.{mote_of, is_wake_of, wake_items}
-use Rattle.net_agenda.specs.Buckets.{Holds}
+use Rattle.net_agenda.specs.Buckets.{HoldsItems}
 use Rattle.net_agenda.specs.NetSystem.{system_of, tree_at}
 use Rattle.serial_run.specs.NetRun.{packet_with_fates}
 use Rattle.serial_run.specs.OnTime.{CanTurn}
@@ -33,7 +33,7 @@ pub record IsEngineAt (n : NetModel) (engine : Engine) (net : NetState Node Line
   pub nodes : (k : ℕ) → k < length n.motes → OneNode n engine.motes.items net k
   pub traces : (k : ℕ) → k < length n.motes → OneTrace engine.traces.items net k
   pub log : map line_model engine.log.items ≡ map (packet_with_fates n.radio) net.log
-  pub agenda : Holds engine.agenda.buckets net.agenda
+  pub agenda : HoldsItems engine.agenda.buckets net.agenda
 
 -- each mote has a node and a trace
 pub record IsWhole (n : NetModel) (engine : Engine) : Type 0 where

@@ -15,7 +15,7 @@ use Rattle.window_laws.specs.Sorts.{is_sooner}
 use Rattle.window_laws.specs.Agenda.{Item, is_wake_of, up_to}
 use Rattle.window_laws.specs.NetStep.{NetState, Run, Done, Turn}
 use Rattle.window_laws.specs.Windows.{LoneMote, first_mote, IsJoined, IsLeft, Windows}
-use Rattle.net_agenda.specs.Buckets.{Buckets, Holds}
+use Rattle.net_agenda.specs.Buckets.{Buckets, HoldsItems}
 use Rattle.net_agenda.specs.Items.{AreSameItems, WakesDiffer, items_of}
 use Rattle.net_agenda.specs.NetSystem.{system_of}
 use Rattle.mote_net.specs.Report.{ReportModel}
@@ -23,34 +23,34 @@ use Rattle.serial_run.specs.NetRun.{packet_with_fates, IsReportOf}
 
 -- a net has at most one report
 abbrev pub ReportIsOne : Type 0
-ReportIsOne = (n : NetModel) (a b : ReportModel) → IsReportOf n a → IsReportOf n b → b ≡ a
+ReportIsOne = (model : NetModel) (a b : ReportModel) → IsReportOf model a → IsReportOf model b → b ≡ a
 
 -- A net whose medium has no error and has a place for each mote, as every `Net`, runs forward: each wake is later than
 -- the turn that sets it, and each copy arrives no sooner than the lookahead, which is above 0, after its packet was
 -- sent.
 abbrev pub NetsRunForward : Type 0
-NetsRunForward = (n : NetModel) → medium_fault n.radio ≡ None → length n.radio.places ≡ length n.motes
-    → RunsForward (system_of n)
+NetsRunForward = (model : NetModel) → medium_fault model.radio ≡ None → length model.radio.places ≡ length model.motes
+    → RunsForward (system_of model)
 
 -- a net that runs forward has a report
 abbrev pub ReportIsThere : Type 0
-ReportIsThere = (n : NetModel) → medium_fault n.radio ≡ None → length n.radio.places ≡ length n.motes
-    → (r : ReportModel) × IsReportOf n r
+ReportIsThere = (model : NetModel) → medium_fault model.radio ≡ None → length model.radio.places ≡ length model.motes
+    → (r : ReportModel) × IsReportOf model r
 
 -- the packets that the motes sent, sorted by moment, sender and number
-pub record IsMediumLog (n : NetModel) (motes : (number : ℕ) → LoneMote Node Line) (log : List Sent) : Type 0 where
+pub record IsMediumLog (model : NetModel) (motes : (number : ℕ) → LoneMote Node Line) (log : List Sent) : Type 0 where
   pub joined : List Sent
-  pub is_joined : IsJoined (system_of n) motes joined
+  pub is_joined : IsJoined (system_of model) motes joined
   pub same : IsPermutation joined log
   pub sorted : IsSortedBy is_sooner log
 
 -- the report if each mote ran by itself: the lines of each mote, the packets of all motes as a log, and the number of
 -- copies left
-abbrev pub report_by : (n : NetModel) → (motes : (number : ℕ) → LoneMote Node Line) → (log : List Sent)
+abbrev pub report_by : (model : NetModel) → (motes : (number : ℕ) → LoneMote Node Line) → (log : List Sent)
     → (rest : List RadioCopy) → ReportModel
-report_by n motes log rest = record {
-  traces = map (λ number. (motes number).lines) (up_to (length n.motes));
-  log = map (packet_with_fates n.radio) log;
+report_by model motes log rest = record {
+  traces = map (λ number. (motes number).lines) (up_to (length model.motes));
+  log = map (packet_with_fates model.radio) log;
   left = length rest;
 }
 
@@ -59,20 +59,23 @@ report_by n motes log rest = record {
 -- in a window is free. Then the lines of each mote, the medium's log sorted by moment, sender and number, and the
 -- copies that arrive after the end are those of the net's run.
 abbrev pub WindowsCommuteInNets : Type 0
-WindowsCommuteInNets = (n : NetModel) → medium_fault n.radio ≡ None → length n.radio.places ≡ length n.motes
-    → (motes : (number : ℕ) → LoneMote Node Line) → Windows (system_of n) 0 (suc n.end) (first_mote (system_of n)) motes
-    → (log : List Sent) → IsMediumLog n motes log → (rest : List RadioCopy) → IsLeft (system_of n) n.end motes rest
-    → IsReportOf n (report_by n motes log rest)
+WindowsCommuteInNets = (model : NetModel) → medium_fault model.radio ≡ None
+    → length model.radio.places ≡ length model.motes
+    → (motes : (number : ℕ) → LoneMote Node Line)
+    → Windows (system_of model) 0 (suc model.end) (first_mote (system_of model)) motes
+    → (log : List Sent) → IsMediumLog model motes log → (rest : List RadioCopy)
+    → IsLeft (system_of model) model.end motes rest
+    → IsReportOf model (report_by model motes log rest)
 
 -- in the lines of each mote, each accepted event is delivered in order, nothing follows a halt, and a process starts
 -- only if it isn't listed
 abbrev pub TracesHandOn : Type 0
-TracesHandOn = (n : NetModel) (r : ReportModel) (report : IsReportOf n r) (k : ℕ) → k < length n.motes
+TracesHandOn = (model : NetModel) (r : ReportModel) (report : IsReportOf model r) (k : ℕ) → k < length model.motes
     → IsInOrder (report.last.traces k)
 
 -- the items in the buckets of an agenda are the items of the list that the buckets represent
 abbrev pub BucketsHoldItems : Buckets → Type 0
-BucketsHoldItems buckets = (items : List Item) → Holds buckets items → AreSameItems items (items_of buckets)
+BucketsHoldItems buckets = (items : List Item) → HoldsItems buckets items → AreSameItems items (items_of buckets)
 
 -- the lists of pending events before each turn of a run and at its end
 abbrev pub agendas : {S L : Type 0} {system : System S L} {end : ℕ} {net last : NetState S L} → Run system end net last
@@ -86,9 +89,10 @@ OneWake items = (mote : ℕ) → length (filter (is_wake_of mote) items) ≤ 1
 
 -- before each turn of a run and at its end, there is at most one wake for each mote
 abbrev pub AlwaysOneWake : Type 0
-AlwaysOneWake = (n : NetModel) (r : ReportModel) (report : IsReportOf n r) → AllByRecursion OneWake (agendas report.run)
+AlwaysOneWake = (model : NetModel) (r : ReportModel) (report : IsReportOf model r)
+    → AllByRecursion OneWake (agendas report.run)
 
 -- so no mote has two wakes at one moment, before any turn or at the end
 abbrev pub WakesAlwaysDiffer : Type 0
-WakesAlwaysDiffer = (n : NetModel) (r : ReportModel) (report : IsReportOf n r)
+WakesAlwaysDiffer = (model : NetModel) (r : ReportModel) (report : IsReportOf model r)
     → AllByRecursion WakesDiffer (agendas report.run)

@@ -16,14 +16,14 @@ packet_with_fates radio sent = record { sent = sent; fates = fates radio sent }
 -- the report of a net whose run has ended: the trace of each mote, each packet with the fates of its copies, and the
 -- number of copies that are still on their way
 abbrev pub report_at : NetModel → NetState Node Line → ReportModel
-report_at n last = record {
-  traces = map last.traces (up_to (length n.motes));
-  log = map (packet_with_fates n.radio) last.log;
+report_at model last = record {
+  traces = map last.traces (up_to (length model.motes));
+  log = map (packet_with_fates model.radio) last.log;
   left = length (packets last.agenda);
 }
 
 -- the run of the net, from the state before the first turns, ends with this report
-pub record IsReportOf (n : NetModel) (r : ReportModel) : Type 0 where
+pub record IsReportOf (model : NetModel) (r : ReportModel) : Type 0 where
   pub last : NetState Node Line
-  pub run : Run (system_of n) n.end (boot (system_of n)) last
-  pub matches : r ≡ report_at n last
+  pub run : Run (system_of model) model.end (boot (system_of model)) last
+  pub matches : r ≡ report_at model last

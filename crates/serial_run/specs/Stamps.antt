@@ -12,7 +12,7 @@ use Rattle.serial_run.specs.NetRun.{IsReportOf}
 
 -- no line of a trace is earlier than the line before it
 abbrev pub TracesNeverGoBack : Type 0
-TracesNeverGoBack = (n : NetModel) (r : ReportModel) → IsReportOf n r → All NeverGoBack r.traces
+TracesNeverGoBack = (model : NetModel) (r : ReportModel) → IsReportOf model r → All NeverGoBack r.traces
 
 -- the packets that this mote sent
 abbrev pub sent_by : (mote : ℕ) → List Sent → List Sent
@@ -20,7 +20,7 @@ sent_by mote sends = filter (λ x. x.sender == mote) sends
 
 -- in the medium's log the packets of each mote are numbered 0, 1, 2 and so on, in order
 abbrev pub LogCountsUp : Type 0
-LogCountsUp = (n : NetModel) (r : ReportModel) → IsReportOf n r → (mote : ℕ)
+LogCountsUp = (model : NetModel) (r : ReportModel) → IsReportOf model r → (mote : ℕ)
     → AreNumberedFrom 0 (sent_by mote (map (λ p. p.sent) r.log))
 
 -- in each turn of a run the packets already have the moment and the mote with which they are stamped
@@ -31,4 +31,4 @@ AreStamped {system = system} {net = net} (Turn moment mote least le rest) =
     let turned = turned_at system moment mote net in (sends_of moment mote turned ≡ turned.sends) × AreStamped rest
 
 abbrev pub SendsAreStamped : Type 0
-SendsAreStamped = (n : NetModel) (r : ReportModel) (report : IsReportOf n r) → AreStamped report.run
+SendsAreStamped = (model : NetModel) (r : ReportModel) (report : IsReportOf model r) → AreStamped report.run

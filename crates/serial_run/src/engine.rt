@@ -88,8 +88,9 @@ impl Engine {
     /// # Errors
     /// `AllocError` if an allocation fails.
     pub fn boot(alloc: Global, net: &Net) -> Result<Engine, AllocError>
-        ensures in_state { let n = net_of net.now in IfOk result (λ engine. IsEngineAt n engine (boot (system_of n))) }
-        ensures is_whole { let n = net_of net.now in IfOk result (λ engine. IsWhole n engine) }
+        ensures in_state { let model = net_of net.now in IfOk result
+            (λ engine. IsEngineAt model engine (boot (system_of model))) }
+        ensures is_whole { let model = net_of net.now in IfOk result (λ engine. IsWhole model engine) }
     {
         let mut engine = Engine {
             motes: Vec::new(alloc),

@@ -26,9 +26,9 @@ pub enum RunError {
 }
 
 impl fmt::Display for RunError {
-    ghost use Rattle.serial_run.specs.RunErrors.{text_of_error};
+    ghost use Rattle.serial_run.specs.RunErrors.{text_of_run_error};
 
-    ghost output = { λ e. Some (text_of_error e) };
+    ghost output = { λ e. Some (text_of_run_error e) };
 
     fn fmt<W: fmt::Write>(&self, f: &mut fmt::Formatter<W>) -> fmt::Result {
         match self {

@@ -4,7 +4,7 @@ ghost use Rattle.std.specs.Prelude.{◌≡◌, ◌<◌, ◌≤◌, ◌^◌, ◌+
 ghost use Rattle.std.specs.List.{flat_map, AllByRecursion};
 ghost use Rattle.radio_medium.specs.Medium.{copies};
 ghost use Rattle.window_laws.specs.Agenda.{Packet};
-ghost use Rattle.net_agenda.specs.Changes.{Adds};
+ghost use Rattle.net_agenda.specs.Changes.{AddsItems};
 ghost use Rattle.mote_net.specs.Report.{line_model};
 ghost use Rattle.serial_run.specs.NetRun.{packet_with_fates};
 
@@ -26,7 +26,7 @@ pub fn send_all(
 ) -> Result<(), AllocError>
     requires sendable { AllByRecursion
         (λ sent. (sent.sender < length medium.now.places) × (sent.at ≤ 2 ^ 40)) sends.now }
-    ensures agenda { OnOk result (Adds agenda.old.buckets agenda.new.buckets
+    ensures agenda { OnOk result (AddsItems agenda.old.buckets agenda.new.buckets
         (map Packet (flat_map (copies medium.now) sends.now))) }
     ensures log { OnOk result (map line_model log.new.items ≡ map line_model log.old.items
         ++ map (packet_with_fates medium.now) sends.now) }

@@ -18,7 +18,7 @@ use std::alloc::{AllocError, Global};
 /// Takes turns until no event is pending at or before the end.
 fn run_to_end(engine: &mut Engine, net: &Net) -> Result<(), AllocError>
     requires is_whole { IsWhole (net_of net.now) engine.old }
-    requires boot { let n = net_of net.now in IsEngineAt n engine.old (boot (system_of n)) }
+    requires boot { let model = net_of net.now in IsEngineAt model engine.old (boot (system_of model)) }
     ensures is_whole { OnOk result (IsWhole (net_of net.now) engine.new) }
     ensures ended { OnOk result (HasEnded (net_of net.now) engine.new) }
 {

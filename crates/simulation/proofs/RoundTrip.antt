@@ -26,7 +26,7 @@ use Rattle.simulation.specs.declared.options.CutKind.TheVariants as cut
 use Rattle.simulation.specs.Laws.{CommandLineRoundTrip}
 use Rattle.simulation.specs.Simulation.{MayRun, MayWork, way_by, way_of}
 use Rattle.simulation.specs.Words.{AskedIn, AsksFor, Choices, FaultOf, ReadsCount, ReadsWorkers, app_with, cut_of, sync_of}
-use Rattle.simulation.specs.Written.{cut_value, sync_value, words_of}
+use Rattle.simulation.specs.Written.{cut_value, sync_value, command_words}
 use Rattle.simulation.proofs.WordWalk.{Good, Plain, at_end, faultless, found, matches}
 
 -- ---- arguments that are written out
@@ -37,12 +37,12 @@ four_with_marks name = record {
   options = record { workers = Some 4; cut = cut.Block; sync = sync.Marks };
 }
 
-brief_words : words_of false true (codes "motesim") (four_with_marks (codes "net.toml"))
+brief_words : command_words false true (codes "motesim") (four_with_marks (codes "net.toml"))
     ≡ codes "motesim" ∷ codes "--workers" ∷ codes "4" ∷ codes "--sync" ∷ codes "marks" ∷ codes "net.toml" ∷ []
 unfolding digits
 brief_words = refl
 
-full_words : words_of true false (codes "motesim") (four_with_marks (codes "-v"))
+full_words : command_words true false (codes "motesim") (four_with_marks (codes "-v"))
     ≡ codes "motesim" ∷ codes "--workers=4" ∷ codes "--cut=block" ∷ codes "--sync=marks" ∷ codes "--" ∷ codes "-v" ∷ []
 unfolding digits
 full_words = refl
@@ -162,7 +162,7 @@ module _ (joined brief : Bool) (program : Text) (asked : Asked) (may : MayRun (w
   allowed = may_work w asked.options.sync may
 
   abbrev words_written : List Text
-  words_written = words_of joined brief program asked
+  words_written = command_words joined brief program asked
 
   module _ (cuts syncs : Choices) (cuts_are : map (λ x. x.now) cuts.now ≡ codes "block" ∷ codes "stripe" ∷ [])
       (syncs_are : map (λ x. x.now) syncs.now ≡ codes "joins" ∷ codes "marks" ∷ []) where

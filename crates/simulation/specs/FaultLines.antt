@@ -6,7 +6,7 @@ use Rattle.radio_medium.specs.declared.error.MediumError.TheVariants as medium
 use Rattle.net_scenario.specs.FaultNumbers.{scenario_fault_number}
 use Rattle.net_scenario.specs.declared.error.ScenarioError.{ScenarioError}
 use Rattle.net_scenario.specs.declared.error.ScenarioError.TheVariants as scenario
-use Rattle.serial_run.specs.RunErrors.{text_of_error}
+use Rattle.serial_run.specs.RunErrors.{text_of_run_error}
 use Rattle.trace_printer.specs.declared.error.PrintError.TheVariants as print
 use Rattle.simulation.specs.declared.error.SimError.{SimError}
 use Rattle.simulation.specs.declared.error.SimError.TheVariants as fault
@@ -27,7 +27,7 @@ fault_line fault.Read = codes "read fault"
 fault_line fault.TooLong = codes "scenario too long"
 fault_line fault.NotText = codes "scenario is not UTF-8"
 fault_line (fault.Scenario e) = scenario_line e
-fault_line (fault.Run e) = text_of_error e
+fault_line (fault.Run e) = text_of_run_error e
 fault_line (fault.Print print.Write) = codes "write fault"
 fault_line (fault.Print print.Memory) = memory_line
 fault_line fault.Memory = memory_line

@@ -9,7 +9,7 @@ use Rattle.net_scenario.specs.Reading.{TellsNet}
 use Rattle.serial_run.specs.NetRun.{IsReportOf}
 use Rattle.simulation.specs.Simulation.{MayRun, Way, SimulatedWith, way_of}
 use Rattle.simulation.specs.Words.{AsksFor, FaultOf}
-use Rattle.simulation.specs.Written.{words_of}
+use Rattle.simulation.specs.Written.{command_words}
 use Rattle.simulation.specs.declared.command_line.Asked.{Asked}
 
 -- The same scenario has the same report, on one thread or with any number of workers of either kind: if two runs read
@@ -20,7 +20,7 @@ OneReport = (bytes old a b : List ℕ) (v w : Way)
 
 -- The net of each scenario's text has a report.
 abbrev pub ScenarioHasReport : Type 0
-ScenarioHasReport = (text : List ℕ) (n : NetModel) → TellsNet text n → (r : ReportModel) × IsReportOf n r
+ScenarioHasReport = (text : List ℕ) (model : NetModel) → TellsNet text model → (r : ReportModel) × IsReportOf model r
 
 -- The arguments ask for exactly this request, and have no error, though an allocation may fail.
 pub record AskForOnly (words : List Text) (asked : Asked) : Type 0 where
@@ -33,4 +33,4 @@ pub record AskForOnly (words : List Text) (asked : Asked) : Type 0 where
 -- ask for exactly that request, in both notations, with the defaults or without them.
 abbrev pub CommandLineRoundTrip : Type 0
 CommandLineRoundTrip = (joined brief : Bool) (program : Text) (asked : Asked) → MayRun (way_of asked.options)
-    → AskForOnly (words_of joined brief program asked) asked
+    → AskForOnly (command_words joined brief program asked) asked

@@ -1,4 +1,4 @@
--- The request of the arguments of a command line, by the matches or the errors of `clap` for them.
+-- What a command line asks for, as the matches or errors that `clap` finds in it decide.
 use Rattle.std.specs.Prelude.{◌≡◌, ◌⊎◌, ℕ, pos, List, [], ◌∷◌, Option, Some, None}
 use Rattle.std.specs.Prelude.{codes, map, option_map, if◌then◌else◌}
 use Rattle.std.specs.Str.{bytes_eq}

@@ -33,8 +33,8 @@ file_words None = []
 file_words (Some name) = if starts_with_minus name then codes "--" ∷ name ∷ [] else name ∷ []
 
 -- the program's name, the options and the file
-abbrev pub words_of : (joined brief : Bool) → (program : Text) → Asked → List Text
-words_of joined brief program asked = program
+abbrev pub command_words : (joined brief : Bool) → (program : Text) → Asked → List Text
+command_words joined brief program asked = program
     ∷ (option_words joined (codes "workers") (option_map decimal asked.options.workers)
     ++ (option_words joined (codes "cut") (cut_value brief asked.options.cut)
     ++ (option_words joined (codes "sync") (sync_value brief asked.options.sync)

@@ -74,7 +74,7 @@ fn asked_of<'a>(matches: &ArgMatches<'a>) -> Asked<'a>
 
 fn workers_arg<'a>(alloc: Global) -> Arg<'a>
     ensures rule { rule_of result ≡ workers_rule }
-    ensures local { result.global ≡ false }
+    ensures not_global { result.global ≡ false }
 {
     Arg::new(alloc, "workers")
         .long("workers")
@@ -88,7 +88,7 @@ fn workers_arg<'a>(alloc: Global) -> Arg<'a>
 fn cut_arg<'a>(alloc: Global) -> Arg<'a>
     ensures rule { (names : Choices) × (rule_of result ≡ choice_rule (codes "cut") (codes "block") names)
         × (texts_of names.now ≡ codes "block" ∷ codes "stripe" ∷ []) }
-    ensures local { result.global ≡ false }
+    ensures not_global { result.global ≡ false }
 {
     Arg::new(alloc, "cut")
         .long("cut")
@@ -103,7 +103,7 @@ fn cut_arg<'a>(alloc: Global) -> Arg<'a>
 fn sync_arg<'a>(alloc: Global) -> Arg<'a>
     ensures rule { (names : Choices) × (rule_of result ≡ choice_rule (codes "sync") (codes "joins") names)
         × (texts_of names.now ≡ codes "joins" ∷ codes "marks" ∷ []) }
-    ensures local { result.global ≡ false }
+    ensures not_global { result.global ≡ false }
 {
     Arg::new(alloc, "sync")
         .long("sync")
@@ -118,7 +118,7 @@ fn sync_arg<'a>(alloc: Global) -> Arg<'a>
 
 fn file_arg<'a>(alloc: Global) -> Arg<'a>
     ensures rule { rule_of result ≡ new_rule (codes "FILE") }
-    ensures local { result.global ≡ false }
+    ensures not_global { result.global ≡ false }
 {
     Arg::new(alloc, "FILE").help("The scenario; without it, standard input is read")
 }

@@ -121,7 +121,7 @@ impl Write for Sink {
 #[derive(Drop)]
 struct Watch<'a> {
     /// The worker of each mote.
-    of: &'a [u16],
+    owners: &'a [u16],
     shut: Option<u16>,
     starts: AtomicU64,
     own: AtomicU64,
@@ -130,7 +130,7 @@ struct Watch<'a> {
 
 impl Gate for Watch<'_> {
     fn inside(&self, worker: u16, _moment: u64, mote: u16) {
-        if self.of.get(usize::from(mote)) == Some(&worker) {
+        if self.owners.get(usize::from(mote)) == Some(&worker) {
             self.own.fetch_add(1, SeqCst);
         } else {
             self.others.fetch_add(1, SeqCst);
@@ -176,7 +176,7 @@ struct Trial<'a> {
     /// The text that the reader returns instead of the scenario.
     instead: Option<&'a [u8]>,
     /// The worker of each mote.
-    of: &'a [u16],
+    owners: &'a [u16],
     /// The worker that isn't allowed to start.
     shut: Option<u16>,
     /// The number of bytes that the reader returns per call, and the number of calls after which it fails.
@@ -194,7 +194,7 @@ struct Trial<'a> {
 const PRINTING: Trial<'static> = Trial {
     on_record: PRINT_THEN_YIELD,
     instead: None,
-    of: &[0],
+    owners: &[0],
     shut: None,
     gives: 16,
     reads: usize::MAX,
@@ -206,7 +206,7 @@ const PRINTING: Trial<'static> = Trial {
 /// The same streams with three motes, each of which has its own worker.
 const SENDING: Trial<'static> = Trial {
     on_record: TWO_SENDERS,
-    of: &[0, 1, 2],
+    owners: &[0, 1, 2],
     ..PRINTING
 };
 
@@ -250,7 +250,7 @@ where
     };
     let mut writer = Sink::new(rt.alloc(), trial.takes, trial.writes, trial.fails);
     let gate = Watch {
-        of: trial.of,
+        owners: trial.owners,
         shut: trial.shut,
         starts: AtomicU64::new(0),
         own: AtomicU64::new(0),

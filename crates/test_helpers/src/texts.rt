@@ -13,7 +13,7 @@ pub fn same_text(actual: &str, want: &str) -> Result<(), Fail> {
     if actual == want {
         return Ok(());
     }
-    Err(Fail::new(format_args!("{actual} in place of {want}")))
+    Err(Fail::new(format_args!("{actual} instead of {want}")))
 }
 
 /// Writes down each copy: the moment of its arrival, its receiver, its sender, its number and its value.

@@ -6,7 +6,7 @@ use Rattle.trace_lines.specs.declared.line.Line.{Line}
 use Rattle.trace_lines.specs.declared.line.What.{What}
 use Rattle.trace_lines.specs.declared.line.What.TheVariants.{Start}
 use Rattle.mote_net.specs.Report.{ReportModel}
-use Rattle.trace_printer.specs.NamedCases.{OneProcessDiffers, TextsMeetWithoutNames, tree_with}
+use Rattle.trace_printer.specs.NamedCases.{OneProcessDiffers, TextsMeetWithoutNames, tree_of_processes}
 use Rattle.trace_printer.proofs.ProgramNames.{AreApart, names_differ}
 use Rattle.trace_printer.proofs.Separated.{numbers_differ}
 
@@ -17,7 +17,7 @@ one_apart name (suc i) j x a b = absurd (cc)
 
 pub one_process_differs : OneProcessDiffers
 unfolding word_token keywords
-one_process_differs = names_differ (tree_with (codes "a" ∷ [])) (record {
+one_process_differs = names_differ (tree_of_processes (codes "a" ∷ [])) (record {
   events = tt;
   processes = ((refl, refl), tt);
   events_apart = λ i j x a b. absurd (cc);

@@ -4,7 +4,7 @@ use Rattle.std.specs.List.{flat_map}
 use Rattle.program_tree.specs.Code.{Tree}
 use Rattle.trace_lines.specs.declared.line.Line.{Line}
 use Rattle.mote_net.specs.Net.{MoteSetup}
-use Rattle.mote_net.specs.Report.{lines_in}
+use Rattle.mote_net.specs.Report.{trace_lines_in}
 use Rattle.trace_printer.specs.ReportText.{line_text, mote_text, motes_text}
 use Rattle.trace_printer.specs.Words.{line_of}
 
@@ -68,18 +68,18 @@ mote_shows n m name tree lines named grown =
 -- the mote at i, which has the number n, is the next of the motes from i on
 pub mote_next : (n : ℕ) (ms : List MoteSetup) (ts : List (Vec Line Global)) (i : ℕ) (t : Vec Line Global) (name : List ℕ) (tree : Tree) (lines : List Line) → i < length ms → length ts ≡ length ms
     → option_map (λ m. m.program) (slice_get ms i) ≡ Some name → option_map (λ m. m.tree) (slice_get ms i) ≡ Some tree → lines ≡ (get_or ts i t).items
-    → motes_text n (drop i ms) (map lines_in (drop i ts))
-    ≡ (line_of (codes "mote") (decimal n ∷ name ∷ []) ++ flat_map (line_text tree) lines) ++ motes_text (n + 1) (drop (i + 1) ms) (map lines_in (drop (i + 1) ts))
+    → motes_text n (drop i ms) (map trace_lines_in (drop i ts))
+    ≡ (line_of (codes "mote") (decimal n ∷ name ∷ []) ++ flat_map (line_text tree) lines) ++ motes_text (n + 1) (drop (i + 1) ms) (map trace_lines_in (drop (i + 1) ts))
 mote_next n [] ts i t name tree lines h same named grown is = absurd (omega arith)
 mote_next n (m ∷ ms) [] i t name tree lines h same named grown is = absurd (omega arith)
 mote_next n (m ∷ ms) (x ∷ ts) zero t name tree lines h same named grown is =
-    ap (λ l. l ++ motes_text (n + 1) ms (map lines_in ts))
+    ap (λ l. l ++ motes_text (n + 1) ms (map trace_lines_in ts))
     (ap (mote_text n m) (sym is) ∙ mote_shows n m name tree lines named grown)
 mote_next n (m ∷ ms) (x ∷ ts) (suc i) t name tree lines h same named grown is =
     simp add-one (simp add-one at (mote_next n ms ts i t name tree lines (omega arith) (omega arith) named grown is))
 
 -- no mote is left
-pub motes_end : (n : ℕ) (ms : List MoteSetup) (ts : List (Vec Line Global)) (i : ℕ) → length ms ≤ i → length ts ≡ length ms → motes_text n (drop i ms) (map lines_in (drop i ts)) ≡ []
+pub motes_end : (n : ℕ) (ms : List MoteSetup) (ts : List (Vec Line Global)) (i : ℕ) → length ms ≤ i → length ts ≡ length ms → motes_text n (drop i ms) (map trace_lines_in (drop i ts)) ≡ []
 motes_end n [] [] zero h same = refl
 motes_end n [] [] (suc i) h same = refl
 motes_end n [] (t ∷ ts) i h same = absurd (omega arith)

@@ -2,7 +2,7 @@
 use Rattle.std.proofs.Common.{◌≡◌, ℕ, suc, ◌+◌, ◌-◌, ◌*◌, ◌/◌, ◌%◌, ◌<◌, ◌≤◌, List, [], ◌∷◌, ◌++◌, ap, sym, subst, ◌∙◌, arith, mod-lt, le_trans, lt_of_le_of_lt, lt_of_mul-lt-mul_right, le_of_mul-le-mul_right, eq-or-lt_of_le, inl, inr}
 use Rattle.std.proofs.lemmas.Nat.{div-add-mod'}
 use Rattle.std.specs.List.{AllByRecursion as Each}
-use Rattle.trace_printer.specs.Parts.{IsShare}
+use Rattle.trace_printer.specs.Parts.{IsEvenPart}
 use Rattle.trace_printer.specs.declared.part.Part.{Part}
 
 -- one of `suc k` shares of the lines that are left, and the lines that are then left for the others
@@ -52,6 +52,6 @@ shares_at_first count workers some =
     let small : count % workers < workers = mod-lt count some in
     (omega arith, omega arith)
 
-pub shares_push : (count workers : ℕ) (ps : List Part) (p : Part) → Each (IsShare count workers) ps → IsShare count workers p → Each (IsShare count workers) (ps ++ p ∷ [])
+pub shares_push : (count workers : ℕ) (ps : List Part) (p : Part) → Each (IsEvenPart count workers) ps → IsEvenPart count workers p → Each (IsEvenPart count workers) (ps ++ p ∷ [])
 shares_push count workers [] p all one = (one, tt)
 shares_push count workers (x ∷ ps) p all one = (all.0, shares_push count workers ps p all.1 one)

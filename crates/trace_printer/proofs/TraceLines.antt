@@ -11,10 +11,10 @@ use Rattle.std.proofs.Math.Seq.{take-nil, drop-nil, take-add}
 use Rattle.program_tree.specs.Code.{Tree}
 use Rattle.trace_lines.specs.declared.line.Line.{Line}
 use Rattle.mote_net.specs.Net.{MoteSetup, NetModel}
-use Rattle.mote_net.specs.Report.{Packet, lines_in, line_model}
+use Rattle.mote_net.specs.Report.{Packet, trace_lines_in, line_model}
 use Rattle.mote_net.specs.declared.report.LogLine.{LogLine}
 use Rattle.trace_printer.specs.ReportText.{line_text, medium_text, motes_text, packet_text}
-use Rattle.trace_printer.specs.TraceLines.{mote_lines, lines_from, lines_of, medium_lines, part_text}
+use Rattle.trace_printer.specs.TraceLines.{mote_lines, lines_from, net_lines, medium_lines, part_text}
 use Rattle.trace_printer.specs.Words.{line_of}
 
 -- a part of no lines
@@ -82,28 +82,28 @@ part_first f head trace lines (suc c) some is =
 -- the mote at i, which has the number n, is the next of the motes from i on
 pub lines_next : (n : ℕ) (ms : List MoteSetup) (ts : List (Vec Line Global)) (i : ℕ) (t : Vec Line Global) (name : List ℕ) (tree : Tree) (lines : List Line) → i < length ms → length ts ≡ length ms
     → option_map (λ m. m.program) (slice_get ms i) ≡ Some name → option_map (λ m. m.tree) (slice_get ms i) ≡ Some tree → lines ≡ (get_or ts i t).items
-    → lines_from n (drop i ms) (map lines_in (drop i ts))
-    ≡ (line_of (codes "mote") (decimal n ∷ name ∷ []) ∷ map (line_text tree) lines) ++ lines_from (n + 1) (drop (i + 1) ms) (map lines_in (drop (i + 1) ts))
+    → lines_from n (drop i ms) (map trace_lines_in (drop i ts))
+    ≡ (line_of (codes "mote") (decimal n ∷ name ∷ []) ∷ map (line_text tree) lines) ++ lines_from (n + 1) (drop (i + 1) ms) (map trace_lines_in (drop (i + 1) ts))
 lines_next n [] ts i t name tree lines h same named grown is = absurd (omega arith)
 lines_next n (m ∷ ms) [] i t name tree lines h same named grown is = absurd (omega arith)
 lines_next n (m ∷ ms) (x ∷ ts) zero t name tree lines h same named grown is =
-    ap (λ l. l ++ lines_from (n + 1) ms (map lines_in ts))
+    ap (λ l. l ++ lines_from (n + 1) ms (map trace_lines_in ts))
     (ap (mote_lines n m) (sym is) ∙ mote_shows n m name tree lines named grown)
 lines_next n (m ∷ ms) (x ∷ ts) (suc i) t name tree lines h same named grown is =
     simp add-one (simp add-one at (lines_next n ms ts i t name tree lines (omega arith) (omega arith) named grown is))
 
 -- no mote is left
-pub lines_end : (n : ℕ) (ms : List MoteSetup) (ts : List (Vec Line Global)) (i : ℕ) → length ms ≤ i → lines_from n (drop i ms) (map lines_in (drop i ts)) ≡ []
+pub lines_end : (n : ℕ) (ms : List MoteSetup) (ts : List (Vec Line Global)) (i : ℕ) → length ms ≤ i → lines_from n (drop i ms) (map trace_lines_in (drop i ts)) ≡ []
 lines_end n ms ts i h = rw (drop_of_length-le ms h) refl
 
 -- the number of lines that the motes show
-pub lines_counted : (n : ℕ) (ms : List MoteSetup) (ts : List (Vec Line Global)) → length ts ≡ length ms → length (lines_from n ms (map lines_in ts)) ≡ sum_by (λ t. length t.items + 1) ts
+pub lines_counted : (n : ℕ) (ms : List MoteSetup) (ts : List (Vec Line Global)) → length ts ≡ length ms → length (lines_from n ms (map trace_lines_in ts)) ≡ sum_by (λ t. length t.items + 1) ts
 lines_counted n [] [] same = refl
 lines_counted n [] (t ∷ ts) same = absurd (omega arith)
 lines_counted n (m ∷ ms) [] same = absurd (omega arith)
 lines_counted n (m ∷ ms) (t ∷ ts) same =
     let rest = lines_counted (n + 1) ms ts (omega arith) in
-    omega (arith, rest, length-append (mote_lines n m t.items) (lines_from (n + 1) ms (map lines_in ts)), length-map t.items (line_text m.tree), sum_by-cons (λ (v : Vec Line Global). length v.items + 1) t ts)
+    omega (arith, rest, length-append (mote_lines n m t.items) (lines_from (n + 1) ms (map trace_lines_in ts)), length-map t.items (line_text m.tree), sum_by-cons (λ (v : Vec Line Global). length v.items + 1) t ts)
 
 -- the text of all lines is that of the motes
 pub lines_text : (n : ℕ) (ms : List MoteSetup) (ts : List (List Line)) → concat (lines_from n ms ts) ≡ motes_text n ms ts
@@ -127,6 +127,6 @@ packets_some log some skip count is =
 
 -- the text of all lines is that of the motes, and then that of the medium
 pub all_text : (net : NetModel) (ts : List (List Line)) (log : List Packet)
-    → concat (lines_of net ts ++ medium_lines log) ≡ motes_text 0 net.motes ts ++ medium_text log
+    → concat (net_lines net ts ++ medium_lines log) ≡ motes_text 0 net.motes ts ++ medium_text log
 all_text net ts log =
-    rw (concat-append (lines_of net ts) (medium_lines log), lines_text 0 net.motes ts, mapped_lines packet_text log) refl
+    rw (concat-append (net_lines net ts) (medium_lines log), lines_text 0 net.motes ts, mapped_lines packet_text log) refl

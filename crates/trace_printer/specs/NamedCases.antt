@@ -9,8 +9,8 @@ use Rattle.trace_printer.specs.Named.{NamesDiffer}
 use Rattle.trace_printer.specs.ReportText.{report_text}
 
 -- a program with these processes, and nothing else
-abbrev pub tree_with : (processes : List (List ℕ)) → Tree
-tree_with processes = record {
+abbrev pub tree_of_processes : (processes : List (List ℕ)) → Tree
+tree_of_processes processes = record {
   events = [];
   semaphores = [];
   counts = [];
@@ -22,7 +22,7 @@ tree_with processes = record {
 }
 
 abbrev pub OneProcessDiffers : Type 0
-OneProcessDiffers = NamesDiffer (tree_with (codes "a" ∷ []))
+OneProcessDiffers = NamesDiffer (tree_of_processes (codes "a" ∷ []))
 
 -- one mote, which runs that program
 abbrev pub one_mote : NetModel
@@ -30,7 +30,7 @@ one_mote = record {
   end = 0;
   collide = false;
   radio = record { places = []; range = 0; base = 1; per = 1; losses = [] };
-  motes = record { program = codes "p"; tree = tree_with (codes "a" ∷ []); queue = 1 } ∷ [];
+  motes = record { program = codes "p"; tree = tree_of_processes (codes "a" ∷ []); queue = 1 } ∷ [];
 }
 
 -- the report in which the mote starts the process with this number

@@ -1,14 +1,14 @@
 -- The text of the traces and the medium in parts.
 use Rattle.std.specs.Prelude.{◌≡◌, ◌≤◌, ℕ, ◌+◌, ◌/◌, List, [], ◌∷◌, ◌++◌, length, map}
 use Rattle.mote_net.specs.Meaning.{net_of}
-use Rattle.mote_net.specs.Report.{lines_in, line_model}
-use Rattle.trace_printer.specs.TraceLines.{lines_of, medium_lines, part_text}
+use Rattle.mote_net.specs.Report.{trace_lines_in, line_model}
+use Rattle.trace_printer.specs.TraceLines.{net_lines, medium_lines, part_text}
 use Rattle.trace_printer.specs.declared.part.Part.{Part}
 use Rattle.trace_printer.specs.declared.part.Traces.{Traces}
 
 -- the lines that all motes show
 abbrev pub trace_texts : Traces → List (List ℕ)
-trace_texts t = lines_of (net_of t.net.now) (map lines_in t.traces.now)
+trace_texts t = net_lines (net_of t.net.now) (map trace_lines_in t.traces.now)
 
 -- there is one trace for each mote, and their lines are counted
 abbrev pub HasTraces : Traces → Type 0
@@ -24,8 +24,8 @@ Adjoin first [] last = first ≡ last
 Adjoin first (p ∷ ps) last = (p.skip ≡ first) × (p.page ≡ []) × Adjoin (first + p.count) ps last
 
 -- the part has the number of lines that each worker gets if `count` lines are divided evenly, or one more
-abbrev pub IsShare : (count workers : ℕ) → Part → Type 0
-IsShare count workers p = (count / workers ≤ p.count) × (p.count ≤ count / workers + 1)
+abbrev pub IsEvenPart : (count workers : ℕ) → Part → Type 0
+IsEvenPart count workers p = (count / workers ≤ p.count) × (p.count ≤ count / workers + 1)
 
 -- the lines of the part are on its page
 abbrev pub IsPut : Traces → (old new : Part) → Type 0

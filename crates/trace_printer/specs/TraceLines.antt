@@ -18,8 +18,8 @@ lines_from mote [] ts = []
 lines_from mote (m ∷ ms) [] = []
 
 -- the lines that the motes of a net show
-abbrev pub lines_of : NetModel → List (List Line) → List (List ℕ)
-lines_of net traces = lines_from 0 net.motes traces
+abbrev pub net_lines : NetModel → List (List Line) → List (List ℕ)
+net_lines net traces = lines_from 0 net.motes traces
 
 -- the line that begins the log of the medium, and the lines of its packets
 abbrev pub medium_lines : List Packet → List (List ℕ)

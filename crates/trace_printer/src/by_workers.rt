@@ -3,11 +3,11 @@ ghost use Rattle.std.specs.Prelude.{◌≡◌, ◌≤◌, ◌<◌, ◌+◌, ◌^
 ghost use Rattle.std.specs.List.{concat};
 ghost use Rattle.mote_net.specs.Net.{NetModel};
 ghost use Rattle.mote_net.specs.Meaning.{net_of};
-ghost use Rattle.mote_net.specs.Report.{lines_in, report_of};
+ghost use Rattle.mote_net.specs.Report.{trace_lines_in, report_of};
 ghost use Rattle.trace_printer.specs.Writes.{Writes};
 ghost use Rattle.trace_printer.specs.Page.{Prints};
 ghost use Rattle.trace_printer.specs.ReportText.{report_text};
-ghost use Rattle.trace_printer.specs.TraceLines.{lines_of};
+ghost use Rattle.trace_printer.specs.TraceLines.{net_lines};
 ghost use Rattle.trace_printer.specs.Parts.{HasTraces, texts_of_lines};
 
 use crate::error::PrintError;
@@ -57,7 +57,7 @@ fn write_traces<R: Threads + Wait + Sync, W: Write>(
 /// requires at least two workers and at least `MANY` lines in the traces.
 fn many_lines(workers: u16, traces: &[Vec<Line>], log: &[LogLine]) -> Option<usize>
     ensures lines { (net : NetModel) → length traces.now ≡ length net.motes
-        → IfSome result (λ count. length (lines_of net (map lines_in traces.now)) ≡ count) }
+        → IfSome result (λ count. length (net_lines net (map trace_lines_in traces.now)) ≡ count) }
     ensures all { IfSome result (λ count. count + length log.now + 1 < 2 ^ 64) }
 {
     if workers < 2 {
@@ -81,7 +81,7 @@ fn write_by<R: Threads + Wait + Sync, W: Write>(
 ) -> Result<(), PrintError>
     requires positive { 1 ≤ workers }
     requires traces { vec_len report.now.traces ≡ length (net_of net.now).motes }
-    requires lines { length (lines_of (net_of net.now) (report_of report.now).traces) ≡ lines }
+    requires lines { length (net_lines (net_of net.now) (report_of report.now).traces) ≡ lines }
     requires all { lines + vec_len report.now.medium + 1 < 2 ^ 64 }
     ensures writes { let text = report_text (net_of net.now) (report_of report.now)
         in Writes (W.contents writer.old) (W.contents writer.new) result text }

@@ -5,10 +5,10 @@ ghost use Rattle.std.specs.List.{flat_map};
 ghost use Rattle.program_tree.specs.Program.{tree_of};
 ghost use Rattle.mote_net.specs.Net.{NetModel};
 ghost use Rattle.mote_net.specs.Meaning.{net_of};
-ghost use Rattle.mote_net.specs.Report.{lines_in, line_model};
+ghost use Rattle.mote_net.specs.Report.{trace_lines_in, line_model};
 ghost use Rattle.trace_printer.specs.Parts.{HasTraces, texts_of_lines};
 ghost use Rattle.trace_printer.specs.ReportText.{line_text, packet_text};
-ghost use Rattle.trace_printer.specs.TraceLines.{part_text, lines_of, medium_lines};
+ghost use Rattle.trace_printer.specs.TraceLines.{part_text, net_lines, medium_lines};
 ghost use Rattle.trace_printer.specs.Words.{line_of};
 
 use crate::lines::{put_head, put_medium, put_packet, put_trace_line};
@@ -23,7 +23,7 @@ use trace_lines::Line;
 /// them. It is `None` if the count overflows.
 pub fn count_lines(traces: &[Vec<Line>]) -> Option<usize>
     ensures count { (net : NetModel) → length traces.now ≡ length net.motes
-        → IfSome result (λ count. length (lines_of net (map lines_in traces.now)) ≡ count) }
+        → IfSome result (λ count. length (net_lines net (map trace_lines_in traces.now)) ≡ count) }
 {
     let mut count: usize = 0;
     for trace in traces {
@@ -86,7 +86,7 @@ pub fn put_part(
     count: usize,
 ) -> Result<(), AllocError>
     requires traces { length traces.now ≡ length (net_of net.now).motes }
-    ensures appended { let lines = lines_of (net_of net.now) (map lines_in traces.now)
+    ensures appended { let lines = net_lines (net_of net.now) (map trace_lines_in traces.now)
         in OnOk result (page.new ≡ page.old ++ part_text lines skip count) }
 {
     let mut before = skip;

@@ -3,7 +3,7 @@ ghost use Rattle.std.specs.Prelude.{◌≡◌, ◌++◌, ◌∷◌, [], length, 
 ghost use Rattle.std.specs.List.{flat_map};
 ghost use Rattle.program_tree.specs.Program.{tree_of};
 ghost use Rattle.mote_net.specs.Meaning.{net_of};
-ghost use Rattle.mote_net.specs.Report.{lines_in, line_model, report_of};
+ghost use Rattle.mote_net.specs.Report.{trace_lines_in, line_model, report_of};
 ghost use Rattle.trace_printer.specs.Writes.{Writes};
 ghost use Rattle.trace_printer.specs.Page.{Prints};
 ghost use Rattle.trace_printer.specs.ReportText.{line_text, motes_text, packet_text, medium_text, left_text};
@@ -82,7 +82,7 @@ fn print_motes<W: Write>(
     traces: &[Vec<Line>],
 ) -> Result<(), PrintError>
     requires traces { length traces.now ≡ length (net_of net.now).motes }
-    ensures prints { let text = motes_text 0 (net_of net.now).motes (map lines_in traces.now)
+    ensures prints { let text = motes_text 0 (net_of net.now).motes (map trace_lines_in traces.now)
         in Prints (W.contents writer.old) (W.contents writer.new) page.old page.new result text }
 {
     for mote in 0..net.motes() {

@@ -4,7 +4,7 @@ ghost use Rattle.std.specs.Prelude.{◌≡◌, ◌<◌, ◌≤◌, ◌+◌, ◌^
 ghost use Rattle.std.specs.List.{flat_map, AllByRecursion as Each};
 ghost use Rattle.trace_printer.specs.Page.{Prints};
 ghost use Rattle.trace_printer.specs.TraceLines.{part_text};
-ghost use Rattle.trace_printer.specs.Parts.{Adjoin, HasTraces, IsShare, texts_of_lines, page_of};
+ghost use Rattle.trace_printer.specs.Parts.{Adjoin, HasTraces, IsEvenPart, texts_of_lines, page_of};
 
 use crate::error::PrintError;
 use crate::numbered::put_all_part;
@@ -23,7 +23,7 @@ fn cut(alloc: Global, workers: u16, skip: usize, count: usize) -> Result<Vec<Par
     requires positive { 1 ≤ workers }
     requires end_bounded { skip + count < 2 ^ 64 }
     ensures adjoin { IfOk result (λ parts. Adjoin skip parts.items (skip + count)) }
-    ensures even { IfOk result (λ parts. Each (IsShare count workers) parts.items) }
+    ensures even { IfOk result (λ parts. Each (IsEvenPart count workers) parts.items) }
 {
     let mut parts = Vec::with_capacity(alloc, usize::from(workers))?;
     let mut begin = skip;

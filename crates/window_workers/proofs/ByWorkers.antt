@@ -29,7 +29,7 @@ use Rattle.all_workers.specs.declared.workers.WorkerGroup.{WorkerGroup}
 use Rattle.all_workers.specs.WorkerGroup.{IsAt, IsWorkerAt}
 use Rattle.all_workers.proofs.Lookups.{there, read, zip_inside, zip_long}
 use Rattle.mote_net.specs.declared.report.Report.{Report}
-use Rattle.mote_net.specs.Report.{Packet, ReportModel, lines_in, line_model, report_of}
+use Rattle.mote_net.specs.Report.{Packet, ReportModel, trace_lines_in, line_model, report_of}
 use Rattle.window_workers.specs.Crossed.{Pair, logged_packets, CrossedTo, AllCrossed}
 use Rattle.serial_run.specs.NetRun.{packet_with_fates, IsReportOf}
 use Rattle.window_workers.specs.Over.{TellsWhatItKept, logs_of, IsLogOf, AreTracesOf}
@@ -43,7 +43,7 @@ use Rattle.window_workers.proofs.Waiting.{taken_by_end}
 abbrev reported_of : List (List Line) → List Packet → ℕ → ReportModel
 reported_of traces log left = record { traces = traces; log = log; left = left }
 
-module _ (n : NetModel) (fault : medium_fault n.radio ≡ None) (placed : length n.radio.places ≡ length n.motes) (of : List ℕ) (group : WorkerGroup) (at : IsAt n of (suc n.end) group) (ended : List Ended) (ends : AllZip TellsWhatItKept group.shares.items ended) where
+module _ (n : NetModel) (fault : medium_fault n.radio ≡ None) (placed : length n.radio.places ≡ length n.motes) (owners : List ℕ) (group : WorkerGroup) (at : IsAt n owners (suc n.end) group) (ended : List Ended) (ends : AllZip TellsWhatItKept group.shares.items ended) where
   fine : RunsForward (system_of n)
   fine = system_is n fault placed
 
@@ -54,7 +54,7 @@ module _ (n : NetModel) (fault : medium_fault n.radio ≡ None) (placed : length
   by_windows : (log : List Packet) (is : IsLogOf n (logs_of ended) log) → IsReportOf n (reported_of (map (λ number. (at.motes number).lines) (up_to (length n.motes))) (map (packet_with_fates n.radio) is.sorted) all_left)
   by_windows log is = windows_commute n fault placed at.motes at.led is.sorted (record {
     joined = logs_of ended;
-    is_joined = is_joined n fine of group at ended ends;
+    is_joined = is_joined n fine owners group at ended ends;
     same = is.same;
     sorted = is.in_order;
   }) (coming (system_of n) fine (suc n.end) at.motes) (pending_left (system_of n) at.motes (coming (system_of n) fine (suc n.end) at.motes) n.end (coming_pending (system_of n) fine (suc n.end) at.motes at.led))
@@ -72,41 +72,41 @@ module _ (n : NetModel) (fault : medium_fault n.radio ≡ None) (placed : length
       }
 
   -- the joined results of the workers are the report of the net
-  pub reported_equals : (r : Report) → AreTracesOf of ended r.traces.items → IsLogOf n (logs_of ended) (map line_model r.medium.items)
+  pub reported_equals : (r : Report) → AreTracesOf owners ended r.traces.items → IsLogOf n (logs_of ended) (map line_model r.medium.items)
       → sum_by (λ (one : Ended). one.left) ended + sum_by (λ (pair : Pair). length (gathered_by pair.1)) (zip group.inboxes.items group.takers.items)
       ≡ r.left + sum_by (λ (pair : Pair). length (taken_by pair.1)) (zip group.inboxes.items group.takers.items)
       → IsReportOf n (report_of r)
   reported_equals r traces log sums =
-      report_is (report_of r) (traces_are n fine of group at ended ends r.traces.items traces) log
-      (left_is n fine of group at ended ends r.left (zip group.inboxes.items group.takers.items) (zip_long group.inboxes.items group.takers.items (takers_long n fine of group at ended ends))
+      report_is (report_of r) (traces_are n fine owners group at ended ends r.traces.items traces) log
+      (left_is n fine owners group at ended ends r.left (zip group.inboxes.items group.takers.items) (zip_long group.inboxes.items group.takers.items (takers_long n fine owners group at ended ends))
       (λ v pair e. second_at group.inboxes.items group.takers.items v pair e) sums)
 
   -- the report's packets are those of the motes, in order
   packets_are : (r : ReportModel) → IsReportOf n r → logged_packets r ≡ as_log (logs_of ended)
   packets_are r report =
-      let by = is_report n fine of group at ended ends in
+      let by = is_report n fine owners group at ended ends in
       ap logged_packets report.matches
       ∙ (sent_packets n report.last.log
       ∙ (ap (λ net. net.log) (run_is_one (system_of n) n.end by.run report.run) ∙ sym by.log_is))
 
-  crossed_to : (r : ReportModel) → IsReportOf n r → (v : ℕ) → v < length group.inboxes.items → (taker : TakerView) → slice_get group.takers.items v ≡ Some taker → CrossedTo n of (logged_packets r) v taker
+  crossed_to : (r : ReportModel) → IsReportOf n r → (v : ℕ) → v < length group.inboxes.items → (taker : TakerView) → slice_get group.takers.items v ≡ Some taker → CrossedTo n owners (logged_packets r) v taker
   unfolding system_of
   crossed_to r report v h taker e =
       let s = there group.shares.items v (subst (λ l. v < l) (sym at.shares) h) in
-      let here : IsWorkerAt n of (suc n.end) at.motes group.first_out v (get_or group.shares.items v s.0) taker =
-      subst (λ x. IsWorkerAt n of (suc n.end) at.motes group.first_out v (get_or group.shares.items v s.0) x) (read group.takers.items v taker taker e) (at.each v h s.0 taker) in
+      let here : IsWorkerAt n owners (suc n.end) at.motes group.first_out v (get_or group.shares.items v s.0) taker =
+      subst (λ x. IsWorkerAt n owners (suc n.end) at.motes group.first_out v (get_or group.shares.items v s.0) x) (read group.takers.items v taker taker e) (at.each v h s.0 taker) in
       record {
-        gathered = rw (packets_are r report) (crossed_once (system_of n) fine of at.motes v _ (logs_of ended) (senders (system_of n) fine (suc n.end) at.motes at.led) (is_joined n fine of group at ended ends) here.gathered);
-        taken = taken_by_end n fine of (suc n.end) at.motes at.led group.first_out at.first v (get_or group.shares.items v s.0) taker here n.end refl;
+        gathered = rw (packets_are r report) (crossed_once (system_of n) fine owners at.motes v _ (logs_of ended) (senders (system_of n) fine (suc n.end) at.motes at.led) (is_joined n fine owners group at ended ends) here.gathered);
+        taken = taken_by_end n fine owners (suc n.end) at.motes at.led group.first_out at.first v (get_or group.shares.items v s.0) taker here n.end refl;
       }
 
-  pub all_crossed : (r : ReportModel) → IsReportOf n r → AllCrossed n of r (zip group.inboxes.items group.takers.items)
+  pub all_crossed : (r : ReportModel) → IsReportOf n r → AllCrossed n owners r (zip group.inboxes.items group.takers.items)
   all_crossed r report v pair e = crossed_to r report v (zip_inside group.inboxes.items group.takers.items v pair e) pair.1 (second_at group.inboxes.items group.takers.items v pair e)
 
 -- ---- the properties of every report
 pub one_trace_each : (n : NetModel) (r : Report) → IsReportOf n (report_of r) → length r.traces.items ≡ length n.motes
 one_trace_each n r report =
-    sym (length-map r.traces.items lines_in) ∙ (ap (λ (t : ReportModel). length t.traces) report.matches ∙ (length-map (up_to (length n.motes)) report.last.traces ∙ counted (length n.motes)))
+    sym (length-map r.traces.items trace_lines_in) ∙ (ap (λ (t : ReportModel). length t.traces) report.matches ∙ (length-map (up_to (length n.motes)) report.last.traces ∙ counted (length n.motes)))
   where
     counted : (k : ℕ) → length (up_to k) ≡ k
     counted zero = refl
@@ -115,5 +115,5 @@ one_trace_each n r report =
 pub all_hand_on : (n : NetModel) (r : Report) → IsReportOf n (report_of r) → All (λ (v : Vec Line Global). IsInOrder v.items) r.traces.items
 all_hand_on n r report =
     All-from_recursion (λ (v : Vec Line Global). IsInOrder v.items) r.traces.items
-    (each_mapped IsInOrder lines_in r.traces.items (subst (Each IsInOrder) (sym (ap (λ (t : ReportModel). t.traces) report.matches)) (every_map IsInOrder report.last.traces (up_to (length n.motes))
+    (each_mapped IsInOrder trace_lines_in r.traces.items (subst (Each IsInOrder) (sym (ap (λ (t : ReportModel). t.traces) report.matches)) (every_map IsInOrder report.last.traces (up_to (length n.motes))
     (every_weaker (λ k. k < length n.motes) (λ k. IsInOrder (report.last.traces k)) (λ k h. traces_hand_on n (report_of r) report k h) (up_to (length n.motes)) (below_all (length n.motes))))))

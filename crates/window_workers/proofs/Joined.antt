@@ -32,24 +32,24 @@ use Rattle.all_workers.specs.declared.workers.WorkerGroup.{WorkerGroup}
 use Rattle.all_workers.specs.WorkerGroup.{IsAt, IsWorkerAt}
 use Rattle.all_workers.proofs.Lookups.{there, inside, read, beside, as_long, none_of, one_of}
 use Rattle.all_workers.proofs.Step.{own_by, some_worker}
-use Rattle.mote_net.specs.Report.{lines_in}
+use Rattle.mote_net.specs.Report.{trace_lines_in}
 use Rattle.window_workers.specs.Crossed.{Pair}
 use Rattle.worker_window.specs.Log.{HaveFates, packets_in}
-use Rattle.window_workers.specs.Over.{TellsWhatItKept, lines_of, logs_of, AreTracesOf}
+use Rattle.window_workers.specs.Over.{TellsWhatItKept, log_lines_of, logs_of, AreTracesOf}
 use Rattle.window_workers.proofs.Pairs.{beyond, each_permutes, same_found}
 use Rattle.serial_run.proofs.Reports.{family}
 use Rattle.window_workers.proofs.Sums.{two_sums}
 use Rattle.window_workers.proofs.Waiting.{left_here}
 
 -- a number past the last mote belongs to no worker
-nobody : (of : List ℕ) (s i : ℕ) → length of ≤ s → is_own of i s ≡ false
-nobody of s i h = ap (λ o. option_map_or (λ w. eqb w i) o false) (beyond of s h)
+nobody : (owners : List ℕ) (s i : ℕ) → length owners ≤ s → is_own owners i s ≡ false
+nobody owners s i h = ap (λ o. option_map_or (λ w. eqb w i) o false) (beyond owners s h)
 
 -- a mote of one worker doesn't belong to another
-not_mine : (of : List ℕ) (s w i : ℕ) → slice_get of s ≡ Some w → (i ≡ w → ⊥) → is_own of i s ≡ false
-not_mine of s w i e ne = ap (λ o. option_map_or (λ w. eqb w i) o false) e ∙ ne_eqb w i (λ q. ne (sym q))
+not_mine : (owners : List ℕ) (s w i : ℕ) → slice_get owners s ≡ Some w → (i ≡ w → ⊥) → is_own owners i s ≡ false
+not_mine owners s w i e ne = ap (λ o. option_map_or (λ w. eqb w i) o false) e ∙ ne_eqb w i (λ q. ne (sym q))
 
-module _ (n : NetModel) (fine : RunsForward (system_of n)) (of : List ℕ) (group : WorkerGroup) (at : IsAt n of (suc n.end) group) (ended : List Ended) (ends : AllZip TellsWhatItKept group.shares.items ended) where
+module _ (n : NetModel) (fine : RunsForward (system_of n)) (owners : List ℕ) (group : WorkerGroup) (at : IsAt n owners (suc n.end) group) (ended : List Ended) (ends : AllZip TellsWhatItKept group.shares.items ended) where
   abbrev workers : ℕ
   workers = length group.inboxes.items
 
@@ -58,8 +58,8 @@ module _ (n : NetModel) (fine : RunsForward (system_of n)) (of : List ℕ) (grou
     share : Share
     taker : TakerView
     taker_at : slice_get group.takers.items v ≡ Some taker
-    here : IsWorkerAt n of (suc n.end) at.motes group.first_out v share taker
-    tells : TellsAtEnd n of v (suc n.end) at.motes (taken_by taker) one
+    here : IsWorkerAt n owners (suc n.end) at.motes group.first_out v share taker
+    tells : TellsAtEnd n owners v (suc n.end) at.motes (taken_by taker) one
 
   pub ended_long : length ended ≡ workers
   ended_long = as_long TellsWhatItKept group.shares.items ended ends ∙ at.shares
@@ -73,15 +73,15 @@ module _ (n : NetModel) (fine : RunsForward (system_of n)) (of : List ℕ) (grou
       let s = there group.shares.items v (subst (λ l. v < l) (sym at.shares) h) in
       let t = there group.takers.items v (subst (λ l. v < l) (sym takers_long) h) in
       let o = beside TellsWhatItKept group.shares.items ended ends v s.0 s.1 in
-      let is_here : IsWorkerAt n of (suc n.end) at.motes group.first_out v s.0 t.0 =
-      subst (λ x. IsWorkerAt n of (suc n.end) at.motes group.first_out v x t.0) (read group.shares.items v s.0 s.0 s.1)
-      (subst (λ x. IsWorkerAt n of (suc n.end) at.motes group.first_out v (get_or group.shares.items v s.0) x) (read group.takers.items v t.0 t.0 t.1) (at.each v h s.0 t.0)) in
+      let is_here : IsWorkerAt n owners (suc n.end) at.motes group.first_out v s.0 t.0 =
+      subst (λ x. IsWorkerAt n owners (suc n.end) at.motes group.first_out v x t.0) (read group.shares.items v s.0 s.0 s.1)
+      (subst (λ x. IsWorkerAt n owners (suc n.end) at.motes group.first_out v (get_or group.shares.items v s.0) x) (read group.takers.items v t.0 t.0 t.1) (at.each v h s.0 t.0)) in
       record {
         share = s.0;
         taker = t.0;
         taker_at = t.1;
         here = is_here;
-        tells = subst (TellsAtEnd n of v (suc n.end) at.motes (taken_by t.0)) (same_found ended v o.0 one o.1 e) (o.2 n of v (suc n.end) at.motes (taken_by t.0) is_here.keeps);
+        tells = subst (TellsAtEnd n owners v (suc n.end) at.motes (taken_by t.0)) (same_found ended v o.0 one o.1 e) (o.2 n owners v (suc n.end) at.motes (taken_by t.0) is_here.keeps);
       }
 
   -- ---- packets
@@ -89,26 +89,26 @@ module _ (n : NetModel) (fine : RunsForward (system_of n)) (of : List ℕ) (grou
   unfolding system_of
   is_joined s = of_case (cases_Bool (ltb s (length n.motes)))
     where
-      of_one : (i : ℕ) (x : Ended) → slice_get ended i ≡ Some x → filter (is_sent_by s) (packets_in x.log.items) ≡ cond (is_own of i s) (at.motes s).sends []
+      of_one : (i : ℕ) (x : Ended) → slice_get ended i ≡ Some x → filter (is_sent_by s) (packets_in x.log.items) ≡ cond (is_own owners i s) (at.motes s).sends []
       of_one i x e = (piece i x e).tells.log s
 
-      foreign : (i : ℕ) (x : Ended) → slice_get ended i ≡ Some x → is_own of i s ≡ false → filter (is_sent_by s) (packets_in x.log.items) ≡ []
+      foreign : (i : ℕ) (x : Ended) → slice_get ended i ≡ Some x → is_own owners i s ≡ false → filter (is_sent_by s) (packets_in x.log.items) ≡ []
       foreign i x e f = of_one i x e ∙ (rw f refl)
 
       of_case : (ltb s (length n.motes) ≡ true) ⊎ (ltb s (length n.motes) ≡ false) → filter (is_sent_by s) (logs_of ended) ≡ sends_by (system_of n) at.motes s
       of_case (inl t) =
-          let w = some_worker (length n.motes) workers of at.cut s (ltb-true s (length n.motes) t) in
+          let w = some_worker (length n.motes) workers owners at.cut s (ltb-true s (length n.motes) t) in
           let o = there ended w.0 (subst (λ l. w.0 < l) (sym ended_long) w.2) in
-          let mine = own_by of w.0 s w.1 in
+          let mine = own_by owners w.0 s w.1 in
           rw t (
-          one_of (is_sent_by s) (λ (x : Ended). packets_in x.log.items) ended w.0 o.0 o.1 (λ i x e ne. foreign i x e (not_mine of s w.0 i w.1 ne))
+          one_of (is_sent_by s) (λ (x : Ended). packets_in x.log.items) ended w.0 o.0 o.1 (λ i x e ne. foreign i x e (not_mine owners s w.0 i w.1 ne))
           ∙ (of_one w.0 o.0 o.1 ∙ (rw mine refl)))
-      of_case (inr t) = rw t (none_of (is_sent_by s) (λ (x : Ended). packets_in x.log.items) ended (λ i x e. foreign i x e (nobody of s i (subst (λ l. l ≤ s) (sym at.cut.len) (ltb-false s (length n.motes) t)))))
+      of_case (inr t) = rw t (none_of (is_sent_by s) (λ (x : Ended). packets_in x.log.items) ended (λ i x e. foreign i x e (nobody owners s i (subst (λ l. l ≤ s) (sym at.cut.len) (ltb-false s (length n.motes) t)))))
 
   pub is_report : IsReport (system_of n) n.end (map (λ number. (at.motes number).lines) (up_to (system_of n).motes)) (as_log (logs_of ended)) (length (coming (system_of n) fine (suc n.end) at.motes))
   is_report = at_the_end (system_of n) fine n.end at.motes at.led (logs_of ended) is_joined
 
-  pub all_fates : HaveFates n.radio (lines_of ended)
+  pub all_fates : HaveFates n.radio (log_lines_of ended)
   all_fates = every_flat_map _ (λ (one : Ended). one.log.items) ended (each_from ended (λ v one e. (piece v one e).tells.fates))
     where
       each_from : (xs : List Ended) → ((i : ℕ) (x : Ended) → slice_get xs i ≡ Some x → HaveFates n.radio x.log.items) → Each (λ (one : Ended). HaveFates n.radio one.log.items) xs
@@ -116,39 +116,39 @@ module _ (n : NetModel) (fine : RunsForward (system_of n)) (of : List ℕ) (grou
       each_from (x ∷ xs) h = (h 0 x refl, each_from xs (λ i y e. h (suc i) y e))
 
   -- ---- traces
-  pub all_places : Each (λ (one : Ended). length one.traces.items ≡ length of) ended
+  pub all_places : Each (λ (one : Ended). length one.traces.items ≡ length owners) ended
   all_places = each_from ended (λ v one e. (piece v one e).tells.traces_kept ∙ sym at.cut.len)
     where
-      each_from : (xs : List Ended) → ((i : ℕ) (x : Ended) → slice_get xs i ≡ Some x → length x.traces.items ≡ length of) → Each (λ (one : Ended). length one.traces.items ≡ length of) xs
+      each_from : (xs : List Ended) → ((i : ℕ) (x : Ended) → slice_get xs i ≡ Some x → length x.traces.items ≡ length owners) → Each (λ (one : Ended). length one.traces.items ≡ length owners) xs
       each_from [] h = tt
       each_from (x ∷ xs) h = (h 0 x refl, each_from xs (λ i y e. h (suc i) y e))
 
-  pub workers_there : Each (λ worker. worker < length ended) of
-  workers_there = subst (λ l. Each (λ worker. worker < l) of) (sym ended_long) at.cut.there
+  pub workers_there : Each (λ worker. worker < length ended) owners
+  workers_there = subst (λ l. Each (λ worker. worker < l) owners) (sym ended_long) at.cut.there
 
-  pub traces_are : (traces : List (Vec Line Global)) → AreTracesOf of ended traces → map lines_in traces ≡ map (λ number. (at.motes number).lines) (up_to (length n.motes))
-  traces_are traces is = family lines_in (λ number. (at.motes number).lines) traces each ∙ ap (λ k. map (λ number. (at.motes number).lines) (up_to k)) (is.count ∙ at.cut.len)
+  pub traces_are : (traces : List (Vec Line Global)) → AreTracesOf owners ended traces → map trace_lines_in traces ≡ map (λ number. (at.motes number).lines) (up_to (length n.motes))
+  traces_are traces is = family trace_lines_in (λ number. (at.motes number).lines) traces each ∙ ap (λ k. map (λ number. (at.motes number).lines) (up_to k)) (is.count ∙ at.cut.len)
     where
-      each : (k : ℕ) → k < length traces → (d : Vec Line Global) → lines_in (get_or traces k d) ≡ (at.motes k).lines
+      each : (k : ℕ) → k < length traces → (d : Vec Line Global) → trace_lines_in (get_or traces k d) ≡ (at.motes k).lines
       each k h d =
-          let low : k < length of = subst (λ l. k < l) is.count h in
-          let w = some_worker (length n.motes) workers of at.cut k (subst (λ l. k < l) at.cut.len low) in
+          let low : k < length owners = subst (λ l. k < l) is.count h in
+          let w = some_worker (length n.motes) workers owners at.cut k (subst (λ l. k < l) at.cut.len low) in
           let o = there ended w.0 (subst (λ l. w.0 < l) (sym ended_long) w.2) in
-          let its : get_or of k 0 ≡ w.0 = read of k w.0 0 w.1 in
+          let its : get_or owners k 0 ≡ w.0 = read owners k w.0 0 w.1 in
           let matches : get_or ended w.0 o.0 ≡ o.0 = read ended w.0 o.0 o.0 o.1 in
-          ap lines_in (is.each k o.0 d low)
-          ∙ (ap (λ v. lines_in (get_or (get_or ended v o.0).traces.items k d)) its
-          ∙ (ap (λ (x : Ended). lines_in (get_or x.traces.items k d)) matches ∙ (piece w.0 o.0 o.1).tells.traces k (own_by of w.0 k w.1) d))
+          ap trace_lines_in (is.each k o.0 d low)
+          ∙ (ap (λ v. trace_lines_in (get_or (get_or ended v o.0).traces.items k d)) its
+          ∙ (ap (λ (x : Ended). trace_lines_in (get_or x.traces.items k d)) matches ∙ (piece w.0 o.0 o.1).tells.traces k (own_by owners w.0 k w.1) d))
 
   -- ---- copies
-  all_had : Each (λ copy. IsHad of workers copy.to) (coming (system_of n) fine (suc n.end) at.motes)
+  all_had : Each (λ copy. IsHad owners workers copy.to) (coming (system_of n) fine (suc n.end) at.motes)
   unfolding system_of
-  all_had = every_filter (λ (copy : RadioCopy). IsHad of workers copy.to) (λ (copy : RadioCopy). IsHad of workers copy.to) _ (λ copy h e. h) _ (every_flat_map (λ (copy : RadioCopy). IsHad of workers copy.to) (copies_by (system_of n) at.motes) (up_to (length n.motes)) (each (up_to (length n.motes))))
+  all_had = every_filter (λ (copy : RadioCopy). IsHad owners workers copy.to) (λ (copy : RadioCopy). IsHad owners workers copy.to) _ (λ copy h e. h) _ (every_flat_map (λ (copy : RadioCopy). IsHad owners workers copy.to) (copies_by (system_of n) at.motes) (up_to (length n.motes)) (each (up_to (length n.motes))))
     where
-      each : (ks : List ℕ) → Each (λ k. Each (λ (copy : RadioCopy). IsHad of workers copy.to) (copies_by (system_of n) at.motes k)) ks
+      each : (ks : List ℕ) → Each (λ k. Each (λ (copy : RadioCopy). IsHad owners workers copy.to) (copies_by (system_of n) at.motes k)) ks
       each [] = tt
       each (k ∷ ks) = (
-        every_weaker (λ (copy : RadioCopy). copy.to < length n.motes) (λ (copy : RadioCopy). IsHad of workers copy.to) (λ copy h. some_worker (length n.motes) workers of at.cut copy.to h) _ (receivers (system_of n) fine at.motes k),
+        every_weaker (λ (copy : RadioCopy). copy.to < length n.motes) (λ (copy : RadioCopy). IsHad owners workers copy.to) (λ copy h. some_worker (length n.motes) workers owners at.cut copy.to h) _ (receivers (system_of n) fine at.motes k),
         each ks,
       )
 
@@ -157,14 +157,14 @@ module _ (n : NetModel) (fine : RunsForward (system_of n)) (of : List ℕ) (grou
       → left ≡ length (coming (system_of n) fine (suc n.end) at.motes)
   left_is left pairs long takers sums =
       let all = coming (system_of n) fine (suc n.end) at.motes in
-      let matches = two_sums (λ (one : Ended). one.left) (λ (pair : Pair). length (gathered_by pair.1)) (λ (pair : Pair). length (taken_by pair.1)) (λ v. length (filter (is_to of v) all)) ended pairs (long ∙ sym ended_long) each in
-      let count : total (λ v. length (filter (is_to of v) all)) (length ended) ≡ length all = ap (total (λ v. length (filter (is_to of v) all))) ended_long ∙ by_worker of workers all all_had in
+      let matches = two_sums (λ (one : Ended). one.left) (λ (pair : Pair). length (gathered_by pair.1)) (λ (pair : Pair). length (taken_by pair.1)) (λ v. length (filter (is_to owners v) all)) ended pairs (long ∙ sym ended_long) each in
+      let count : total (λ v. length (filter (is_to owners v) all)) (length ended) ≡ length all = ap (total (λ v. length (filter (is_to owners v) all))) ended_long ∙ by_worker owners workers all all_had in
       omega arith
     where
       each : (v : ℕ) (one : Ended) (pair : Pair) → slice_get ended v ≡ Some one → slice_get pairs v ≡ Some pair
-          → one.left + length (gathered_by pair.1) ≡ length (filter (is_to of v) (coming (system_of n) fine (suc n.end) at.motes)) + length (taken_by pair.1)
+          → one.left + length (gathered_by pair.1) ≡ length (filter (is_to owners v) (coming (system_of n) fine (suc n.end) at.motes)) + length (taken_by pair.1)
       each v one pair e f =
           let p = piece v one e in
           let same : p.taker ≡ pair.1 = same_found group.takers.items v p.taker pair.1 p.taker_at (takers v pair f) in
-          subst (λ t. one.left + length (gathered_by t) ≡ length (filter (is_to of v) (coming (system_of n) fine (suc n.end) at.motes)) + length (taken_by t)) same
-          (left_here n fine of (suc n.end) at.motes at.led group.first_out at.first v p.share p.taker p.here one.left p.tells.rest p.tells.left p.tells.rest_is)
+          subst (λ t. one.left + length (gathered_by t) ≡ length (filter (is_to owners v) (coming (system_of n) fine (suc n.end) at.motes)) + length (taken_by t)) same
+          (left_here n fine owners (suc n.end) at.motes at.led group.first_out at.first v p.share p.taker p.here one.left p.tells.rest p.tells.left p.tells.rest_is)

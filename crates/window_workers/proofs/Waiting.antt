@@ -25,21 +25,21 @@ use Rattle.serial_run.specs.Counted.{is_by}
 is_late : (end at : ℕ) → suc end ≤ at → not (ltb end at) ≡ false
 is_late end at h = grind (arith, nat_tests)
 
-module _ (n : NetModel) (fine : RunsForward (system_of n)) (of : List ℕ) (from : ℕ) (motes : Motes) (led : Windows (system_of n) 0 from (first_mote (system_of n)) motes) (first : Option ℕ) (starts : NoneBefore from first)
-    (v : ℕ) (share : Share) (taker : TakerView) (here : IsWorkerAt n of from motes first v share taker) where
+module _ (n : NetModel) (fine : RunsForward (system_of n)) (owners : List ℕ) (from : ℕ) (motes : Motes) (led : Windows (system_of n) 0 from (first_mote (system_of n)) motes) (first : Option ℕ) (starts : NoneBefore from first)
+    (v : ℕ) (share : Share) (taker : TakerView) (here : IsWorkerAt n owners from motes first v share taker) where
   -- all copies in the inbox
   abbrev lying : List RadioCopy
-  lying = waiting n fine of from motes led first starts v share taker here
+  lying = waiting n fine owners from motes led first starts v share taker here
 
   abbrev taken_of : ℕ → List RadioCopy
   taken_of s = filter (is_from_sender s) (taken_by taker)
 
   -- this worker's part of the copies left
-  pub left_here : (left : ℕ) (rest : List RadioCopy) → left ≡ length rest → ((s : ℕ) → filter (is_from_sender s) rest ≡ filter (is_to_come (is_own of v) from) (copies_seen (system_of n) (is_own of v) motes (taken_by taker) s))
-      → left + length (gathered_by taker) ≡ length (filter (is_to of v) (coming (system_of n) fine from motes)) + length (taken_by taker)
+  pub left_here : (left : ℕ) (rest : List RadioCopy) → left ≡ length rest → ((s : ℕ) → filter (is_from_sender s) rest ≡ filter (is_to_come (is_own owners v) from) (copies_seen (system_of n) (is_own owners v) motes (taken_by taker) s))
+      → left + length (gathered_by taker) ≡ length (filter (is_to owners v) (coming (system_of n) fine from motes)) + length (taken_by taker)
   left_here left rest is matches =
-      let gathered = length_permutation (gathered_by taker) (taken_by taker ++ lying) (gathered_is n fine of from motes led first starts v share taker here) in
-      let comes = length_permutation (filter (is_to of v) (coming (system_of n) fine from motes)) (rest ++ lying) (to_come_is n fine of from motes led first starts v share taker here rest matches) in
+      let gathered = length_permutation (gathered_by taker) (taken_by taker ++ lying) (gathered_is n fine owners from motes led first starts v share taker here) in
+      let comes = length_permutation (filter (is_to owners v) (coming (system_of n) fine from motes)) (rest ++ lying) (to_come_is n fine owners from motes led first starts v share taker here rest matches) in
       let taken_and = length-append (taken_by taker) lying in
       let rest_and = length-append rest lying in
       omega arith
@@ -54,7 +54,7 @@ module _ (n : NetModel) (fine : RunsForward (system_of n)) (of : List ℕ) (from
       none : (s : ℕ) → filter (is_by end) ((here.waits s).rest) ≡ []
       none s =
           filter_none (is_by end) ((here.waits s).rest)
-          (every_weaker (λ (c : RadioCopy). from ≤ c.at) (λ c. is_by end c ≡ false) (λ c h. past is c.at h) ((here.waits s).rest) (rest_later n fine of from motes led first starts v share taker here s))
+          (every_weaker (λ (c : RadioCopy). from ≤ c.at) (λ c. is_by end c ≡ false) (λ c h. past is c.at h) ((here.waits s).rest) (rest_later n fine owners from motes led first starts v share taker here s))
 
       each : (s : ℕ) → filter (is_from_sender s) (filter (is_by end) (gathered_by taker)) ≡ filter (is_from_sender s) (filter (is_by end) (taken_by taker))
       each s =

@@ -20,11 +20,12 @@ logged_packets r = map (λ packet. packet.sent) r.log
 
 -- The senders on this worker's inbox pushed exactly those copies of these packets that go from a mote of another
 -- worker to a mote of this worker, each once; and the copies that arrive no later than the end were taken.
-pub record CrossedTo (n : NetModel) (of : List ℕ) (log : List Sent) (worker : ℕ) (taker : TakerView) : Type 0 where
-  pub gathered : AreThoseTo (copies n.radio) of worker log (gathered_by taker)
-  pub taken : IsPermutation (filter (is_by n.end) (gathered_by taker)) (filter (is_by n.end) (taken_by taker))
+pub record CrossedTo (model : NetModel) (owners : List ℕ) (log : List Sent) (worker : ℕ)
+    (taker : TakerView) : Type 0 where
+  pub gathered : AreThoseTo (copies model.radio) owners worker log (gathered_by taker)
+  pub taken : IsPermutation (filter (is_by model.end) (gathered_by taker)) (filter (is_by model.end) (taken_by taker))
 
 -- the copies for each worker in the report's log crossed to this worker; the inboxes are in the order of the workers
-abbrev pub AllCrossed : NetModel → (of : List ℕ) → ReportModel → List Pair → Type 0
-AllCrossed n of r pairs = (worker : ℕ) (pair : Pair) → slice_get pairs worker ≡ Some pair
-    → CrossedTo n of (logged_packets r) worker pair.1
+abbrev pub AllCrossed : NetModel → (owners : List ℕ) → ReportModel → List Pair → Type 0
+AllCrossed model owners r pairs = (worker : ℕ) (pair : Pair) → slice_get pairs worker ≡ Some pair
+    → CrossedTo model owners (logged_packets r) worker pair.1

@@ -11,11 +11,11 @@ most_workers = 16
 
 -- the first error of a partition: there are no workers, or too many; the partition has too few or too many motes; or
 -- it names a worker that doesn't exist
-abbrev pub cut_fault : (motes workers : ℕ) → (of : List ℕ) → Option RunError
-cut_fault motes workers of =
+abbrev pub cut_fault : (motes workers : ℕ) → (owners : List ℕ) → Option RunError
+cut_fault motes workers owners =
     if (workers == 0) || nat_lt most_workers workers then Some Workers
-    else (if not (length of == motes) then Some CutLength
-    else (if list_all (λ worker. nat_lt worker workers) of then None else Some CutWorker))
+    else (if not (length owners == motes) then Some CutLength
+    else (if list_all (λ worker. nat_lt worker workers) owners then None else Some CutWorker))
 
 -- The errors that a call may return: the error of the partition, if it has one; otherwise, out of memory, or an error
 -- of a thread. It is never `Stopped`.

@@ -15,32 +15,33 @@ use Rattle.worker_window.specs.Share.{Motes, IsWholeShare}
 use Rattle.worker_window.specs.Ended.{TellsAtEnd}
 use Rattle.worker_window.specs.Log.{packets_in}
 use Rattle.all_workers.specs.declared.workers.WorkerGroup.{WorkerGroup}
-use Rattle.all_workers.specs.WindowLength.{IsSound}
+use Rattle.all_workers.specs.WindowLength.{HasSoundMedium}
 use Rattle.all_workers.specs.WorkerGroup.{IsAt}
 use Rattle.mote_net.specs.declared.report.LogLine.{LogLine}
 use Rattle.mote_net.specs.Report.{Packet}
 use Rattle.serial_run.specs.NetRun.{packet_with_fates}
 
 -- the workers of a net at its end
-pub record AreAtEnd (n : NetModel) (of : List ℕ) (group : WorkerGroup) : Type 0 where
-  pub sound : IsSound n
-  pub at : IsAt n of (suc n.end) group
+pub record AreAtEnd (model : NetModel) (owners : List ℕ) (group : WorkerGroup) : Type 0 where
+  pub sound : HasSoundMedium model
+  pub at : IsAt model owners (suc model.end) group
 
 -- a share that is taken apart returns its contents
 abbrev pub TellsWhatItKept : Share → Ended → Type 0
-TellsWhatItKept share ended = (n : NetModel) (of : List ℕ) (worker from : ℕ) (motes : Motes) (taken : List RadioCopy)
-    → IsWholeShare n of worker from motes taken share → TellsAtEnd n of worker from motes taken ended
+TellsWhatItKept share ended = (model : NetModel) (owners : List ℕ) (worker from : ℕ) (motes : Motes)
+    (taken : List RadioCopy)
+    → IsWholeShare model owners worker from motes taken share → TellsAtEnd model owners worker from motes taken ended
 
 -- the packets of all workers with their fates, one worker after another
-abbrev pub lines_of : List Ended → List LogLine
-lines_of ended = flat_map (λ one. one.log.items) ended
+abbrev pub log_lines_of : List Ended → List LogLine
+log_lines_of ended = flat_map (λ one. one.log.items) ended
 
 abbrev pub logs_of : List Ended → List Sent
 logs_of ended = flat_map (λ one. packets_in one.log.items) ended
 
 -- the lines of several logs, one log after another
-abbrev pub lines_in : List (Vec LogLine Global) → List LogLine
-lines_in logs = flat_map (λ log. log.items) logs
+abbrev pub log_lines_in : List (Vec LogLine Global) → List LogLine
+log_lines_in logs = flat_map (λ log. log.items) logs
 
 -- one line is before another: by moment, then sender, then number of their packets
 abbrev pub is_sooner_line : LogLine → LogLine → Bool
@@ -55,18 +56,18 @@ abbrev pub KeepsTraces : Ended → Ended → Type 0
 KeepsTraces old new = new.traces ≡ old.traces
 
 -- the log has these packets by moment, then sender, then number, each with the fates of its copies
-pub record IsLogOf (n : NetModel) (sends : List Sent) (log : List Packet) : Type 0 where
+pub record IsLogOf (model : NetModel) (sends : List Sent) (log : List Packet) : Type 0 where
   pub sorted : List Sent
   pub same : IsPermutation sends sorted
   pub in_order : IsSortedBy is_sooner sorted
-  pub matches : log ≡ map (packet_with_fates n.radio) sorted
+  pub matches : log ≡ map (packet_with_fates model.radio) sorted
 
 -- the trace of one mote that one worker reports
 abbrev pub trace_at : List Ended → (worker mote : ℕ) → Ended → Vec Line Global → Vec Line Global
 trace_at ended worker mote d e = slice_index_or (slice_index_or ended worker d).traces.items mote e
 
 -- one mote's trace was taken from one worker, and no other trace was taken
-pub record TakesTrace (worker mote : ℕ) (old new : List Ended) (trace : Vec Line Global) : Type 0 where
+pub record TakesOneTrace (worker mote : ℕ) (old new : List Ended) (trace : Vec Line Global) : Type 0 where
   pub taken : (d : Ended) (e : Vec Line Global) → trace ≡ trace_at old worker mote d e
   pub count : length new ≡ length old
   pub places : (w : ℕ) (d : Ended) → length (slice_index_or new w d).traces.items
@@ -75,7 +76,7 @@ pub record TakesTrace (worker mote : ℕ) (old new : List Ended) (trace : Vec Li
       ≡ trace_at old w k d e
 
 -- each mote's trace is the one that its worker reports
-pub record AreTracesOf (of : List ℕ) (ended : List Ended) (traces : List (Vec Line Global)) : Type 0 where
-  pub count : length traces ≡ length of
-  pub each : (k : ℕ) (d : Ended) (e : Vec Line Global) → k < length of → slice_index_or traces k e
-      ≡ trace_at ended (slice_index of k) k d e
+pub record AreTracesOf (owners : List ℕ) (ended : List Ended) (traces : List (Vec Line Global)) : Type 0 where
+  pub count : length traces ≡ length owners
+  pub each : (k : ℕ) (d : Ended) (e : Vec Line Global) → k < length owners → slice_index_or traces k e
+      ≡ trace_at ended (slice_index owners k) k d e

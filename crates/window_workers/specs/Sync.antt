@@ -9,5 +9,5 @@ has_marks Joins = false
 has_marks Marks = true
 
 -- the inbox fits this kind
-abbrev pub IsFor : SyncKind → TakerView → Type 0
-IsFor sync t = t.state.marked ≡ has_marks sync
+abbrev pub IsForKind : SyncKind → TakerView → Type 0
+IsForKind sync t = t.state.marked ≡ has_marks sync

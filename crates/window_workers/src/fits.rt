@@ -10,24 +10,24 @@ use serial_run::RunError;
 pub const MOST_WORKERS: u16 = 16;
 
 /// Returns whether the worker of each mote is one of this many workers.
-fn are_there(workers: usize, of: &[u16]) -> bool
-    ensures value { result ≡ list_all (λ worker. nat_lt worker workers) of.now }
+fn are_there(workers: usize, owners: &[u16]) -> bool
+    ensures value { result ≡ list_all (λ worker. nat_lt worker workers) owners.now }
 {
-    of.iter().all(|worker| usize::from(*worker) < workers)
+    owners.iter().all(|worker| usize::from(*worker) < workers)
 }
 
-/// Returns the first error in a partition of this many motes among this many workers, if there is one. `of` is the
+/// Returns the first error in a partition of this many motes among this many workers, if there is one. `owners` is the
 /// worker of each mote.
-pub fn fault_of(motes: u16, workers: usize, of: &[u16]) -> Option<RunError>
-    ensures value { result ≡ cut_fault motes workers of.now }
+pub fn fault_of(motes: u16, workers: usize, owners: &[u16]) -> Option<RunError>
+    ensures value { result ≡ cut_fault motes workers owners.now }
 {
     if workers == 0 || workers > usize::from(MOST_WORKERS) {
         return Some(RunError::Workers);
     }
-    if of.len() != usize::from(motes) {
+    if owners.len() != usize::from(motes) {
         return Some(RunError::CutLength);
     }
-    if !are_there(workers, of) {
+    if !are_there(workers, owners) {
         return Some(RunError::CutWorker);
     }
     None

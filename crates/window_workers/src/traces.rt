@@ -2,7 +2,7 @@
 
 ghost use Rattle.std.specs.Prelude.{◌≡◌, ◌<◌, length, IfOk};
 ghost use Rattle.std.specs.List.{AllByRecursion as Each};
-ghost use Rattle.window_workers.specs.Over.{HasTrace, TakesTrace, AreTracesOf};
+ghost use Rattle.window_workers.specs.Over.{HasTrace, TakesOneTrace, AreTracesOf};
 
 use process_kernel::Line;
 use std::alloc::{AllocError, Global};
@@ -13,30 +13,30 @@ use worker_window::Ended;
 fn take_trace(alloc: Global, ended: &mut Vec<Ended>, worker: usize, mote: usize) -> Vec<Line>
     requires worker { worker < length ended.old.items }
     requires mote { HasTrace worker mote ended.old.items }
-    ensures takes_trace { TakesTrace worker mote ended.old.items ended.new.items result }
+    ensures takes_trace { TakesOneTrace worker mote ended.old.items ended.new.items result }
 {
     let one = &mut ended[worker];
     mem::replace(&mut one.traces[mote], Vec::new(alloc))
 }
 
-/// Takes the trace of each mote from its worker, and returns the traces by the motes' numbers. `of` is the worker of
-/// each mote.
+/// Takes the trace of each mote from its worker, and returns the traces by the motes' numbers. `owners` is the worker
+/// of each mote.
 ///
 /// # Errors
 /// `AllocError` if an allocation fails.
 pub fn joined_traces(
     alloc: Global,
-    of: &[u16],
+    owners: &[u16],
     ended: Vec<Ended>,
 ) -> Result<Vec<Vec<Line>>, AllocError>
-    requires workers { Each (λ worker. worker < length ended.items) of.now }
-    requires places { Each (λ one. length one.traces.items ≡ length of.now) ended.items }
-    ensures are_traces_of { IfOk result (λ traces. AreTracesOf of.now ended.items traces.items) }
+    requires workers { Each (λ worker. worker < length ended.items) owners.now }
+    requires places { Each (λ one. length one.traces.items ≡ length owners.now) ended.items }
+    ensures are_traces_of { IfOk result (λ traces. AreTracesOf owners.now ended.items traces.items) }
 {
     let mut ended = ended;
     let mut traces = Vec::new(alloc);
-    for mote in 0..of.len() {
-        let trace = take_trace(alloc, &mut ended, usize::from(of[mote]), mote);
+    for mote in 0..owners.len() {
+        let trace = take_trace(alloc, &mut ended, usize::from(owners[mote]), mote);
         traces.push(trace)?;
     }
     Ok(traces)

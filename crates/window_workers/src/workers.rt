@@ -14,7 +14,7 @@ ghost use Rattle.window_workers.specs.Crossed.{AllCrossed};
 ghost use Rattle.window_workers.specs.Fits.{cut_fault, IsAnswerTo};
 ghost use Rattle.window_workers.specs.Over.{AreAtEnd};
 ghost use Rattle.serial_run.specs.NetRun.{IsReportOf};
-ghost use Rattle.window_workers.specs.Sync.{IsFor};
+ghost use Rattle.window_workers.specs.Sync.{IsForKind};
 ghost use Rattle.window_workers.specs.declared.sync.SyncKind.TheVariants.{Marks};
 
 use crate::ended::{end_all, left_of_all};
@@ -37,20 +37,22 @@ use std::thread::Threads;
 use worker_cut::Cut;
 use worker_window::Gate;
 
-/// Makes the workers' report at the end, and returns it with their inboxes. `of` is the worker of each mote.
+/// Makes the workers' report at the end, and returns it with their inboxes. `owners` is the worker of each mote.
 fn make_report<R: Threads + Wait + Sync>(
     rt: &R,
     alloc: Global,
-    of: &[u16],
+    owners: &[u16],
     group: WorkerGroup,
 ) -> Result<(Report, Vec<(Inbox, Taker)>), RunError>
-    requires at_end { (n : NetModel) × AreAtEnd n of.now group }
-    ensures report { IfOk result (λ r. (n : NetModel) → AreAtEnd n of.now group → IsReportOf n (report_of r.0)) }
+    requires at_end { (model : NetModel) × AreAtEnd model owners.now group }
+    ensures report { IfOk result
+        (λ r. (model : NetModel) → AreAtEnd model owners.now group → IsReportOf model (report_of r.0)) }
     ensures inboxes { IfOk result (λ r. map (λ pair. pair.0) r.1.items ≡ group.inboxes.items) }
     ensures pairs { IfOk result (λ r. r.1.items ≡ zip group.inboxes.items group.takers.items) }
     ensures settled { IfOk result (λ r. Each (λ pair. IsSettled pair.0 pair.1) r.1.items) }
     ensures crossed { IfOk result
-        (λ r. (n : NetModel) → AreAtEnd n of.now group → AllCrossed n of.now (report_of r.0) r.1.items) }
+        (λ r. (model : NetModel) → AreAtEnd model owners.now group
+        → AllCrossed model owners.now (report_of r.0) r.1.items) }
     ensures err { IfErr result (IsAnswerTo None) }
 {
     let WorkerGroup {
@@ -65,7 +67,7 @@ fn make_report<R: Threads + Wait + Sync>(
     let ended = end_all(alloc, shares)?;
     let left = left_of_all(&ended, &pairs)?;
     let (medium, rest) = medium_log(rt, alloc, ended)?;
-    let traces = joined_traces(alloc, of, rest)?;
+    let traces = joined_traces(alloc, owners, rest)?;
     let report = Report {
         traces,
         medium,
@@ -79,7 +81,7 @@ fn run_by_kind<R, G>(
     rt: &R,
     alloc: Global,
     net: &Net,
-    of: &[u16],
+    owners: &[u16],
     longest: u32,
     sync: SyncKind,
     gate: &G,
@@ -88,18 +90,18 @@ fn run_by_kind<R, G>(
 where
     R: Threads + Wait + RandomSource + AllocGlobal + Sync,
     G: Gate + Sync,
-    requires ready { AreReady (net_of net.now) of.now group }
-    requires at { IsAt (net_of net.now) of.now 0 group }
-    requires kind { Each (IsFor sync) group.takers.items }
-    ensures at_end { IfOk result (AreAtEnd (net_of net.now) of.now) }
+    requires ready { AreReady (net_of net.now) owners.now group }
+    requires at_moment { IsAt (net_of net.now) owners.now 0 group }
+    requires kind { Each (IsForKind sync) group.takers.items }
+    ensures at_end { IfOk result (AreAtEnd (net_of net.now) owners.now) }
     ensures inboxes { IfOk result (λ done. done.inboxes.items ≡ group.inboxes.items) }
     ensures all_taken { IfOk result (λ done. sync ≡ Marks
         → Each (λ taker. Whole taker.state.gathered taker.state.taken) done.takers.items) }
     ensures err { IfErr result (IsAnswerTo None) }
 {
     let ran = match sync {
-        SyncKind::Joins => run_by_joins(rt, alloc, net, of, longest, gate, group),
-        SyncKind::Marks => run_by_marks(rt, alloc, net, of, longest, gate, group),
+        SyncKind::Joins => run_by_joins(rt, alloc, net, owners, longest, gate, group),
+        SyncKind::Marks => run_by_marks(rt, alloc, net, owners, longest, gate, group),
     };
     match ran {
         Ok(group) => Ok(group),
@@ -122,7 +124,7 @@ where
     G: Gate + Sync,
     requires fits { cut_fault (length (net_of net.now).motes) (length pairs.items) cut.now.of.items ≡ None }
     requires fresh { Each (λ pair. IsFresh pair.0 pair.1) pairs.items }
-    requires kind { Each (λ pair. IsFor sync pair.1) pairs.items }
+    requires kind { Each (λ pair. IsForKind sync pair.1) pairs.items }
     ensures report { IfOk result (λ r. IsReportOf (net_of net.now) (report_of r.0)) }
     ensures traces { IfOk result (λ r. (vec_len r.0.traces ≡ length (net_of net.now).motes)
         × All (λ trace. IsInOrder trace.items) r.0.traces.items) }
@@ -132,15 +134,15 @@ where
     ensures crossed { IfOk result (λ r. AllCrossed (net_of net.now) cut.now.of.items (report_of r.0) r.1.items) }
     ensures err { IfErr result (IsAnswerTo None) }
 {
-    let of = cut.of.as_slice();
+    let owners = cut.of.as_slice();
     let Ok((inboxes, takers)) = split_pairs(alloc, pairs) else {
         return Err(RunError::Memory);
     };
-    let Ok(group) = WorkerGroup::new(alloc, net, of, inboxes, takers) else {
+    let Ok(group) = WorkerGroup::new(alloc, net, owners, inboxes, takers) else {
         return Err(RunError::Memory);
     };
-    let group = run_by_kind(rt, alloc, net, of, cut.longest, sync, gate, group)?;
-    make_report(rt, alloc, of, group)
+    let group = run_by_kind(rt, alloc, net, owners, cut.longest, sync, gate, group)?;
+    make_report(rt, alloc, owners, group)
 }
 
 /// Runs a net with one worker for each inbox, and returns its report. Copies from a mote of one worker to a mote of
@@ -166,7 +168,7 @@ where
     R: Threads + Wait + RandomSource + AllocGlobal + Sync,
     G: Gate + Sync,
     requires fresh { Each (λ pair. IsFresh pair.0 pair.1) pairs.items }
-    requires kind { Each (λ pair. IsFor sync pair.1) pairs.items }
+    requires kind { Each (λ pair. IsForKind sync pair.1) pairs.items }
     ensures report { IfOk result (λ r. IsReportOf (net_of net.now) (report_of r.0)) }
     // There is a trace for each mote. Each trace delivers events in the order in which they were accepted, has nothing
     // after a halt, and starts a process only if the process isn't in the process list.

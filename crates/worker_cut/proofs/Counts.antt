@@ -37,26 +37,26 @@ total_one w (suc n) h = of (total_one w n) (cases_order w n)
     of ih (inr (inl l)) = let e : eqb w n ≡ false = ne_eqb w n (λ q. absurd (omega arith)) in (let b = ih l in rw e (omega arith))
     of ih (inr (inr l)) = absurd (omega arith)
 
-module _ (of : List ℕ) (workers : ℕ) where
+module _ (owners : List ℕ) (workers : ℕ) where
   -- a mote belongs to some worker
   abbrev pub IsHad : (mote : ℕ) → Type 0
-  IsHad mote = (w : ℕ) × (slice_get of mote ≡ Some w) × (w < workers)
+  IsHad mote = (w : ℕ) × (slice_get owners mote ≡ Some w) × (w < workers)
 
-  pub by_worker : (xs : List RadioCopy) → AllByRecursion (λ copy. IsHad copy.to) xs → total (λ v. length (filter (is_to of v) xs)) workers ≡ length xs
+  pub by_worker : (xs : List RadioCopy) → AllByRecursion (λ copy. IsHad copy.to) xs → total (λ v. length (filter (is_to owners v) xs)) workers ≡ length xs
   by_worker [] h = total_zero workers
   by_worker (x ∷ xs) h =
-      let a : total (λ v. length (filter (is_to of v) (x ∷ xs))) workers ≡ total (λ k. cond (eqb h.0.0 k) 1 0 + length (filter (is_to of k) xs)) workers = total_same _ _ workers (λ k l. one k) in
-      let b = total_plus (λ k. cond (eqb h.0.0 k) 1 0) (λ v. length (filter (is_to of v) xs)) workers in
+      let a : total (λ v. length (filter (is_to owners v) (x ∷ xs))) workers ≡ total (λ k. cond (eqb h.0.0 k) 1 0 + length (filter (is_to owners k) xs)) workers = total_same _ _ workers (λ k l. one k) in
+      let b = total_plus (λ k. cond (eqb h.0.0 k) 1 0) (λ v. length (filter (is_to owners v) xs)) workers in
       let c = total_one h.0.0 workers h.0.2 in
       let d = by_worker xs h.1 in
       omega arith
     where
-      has_is : (k : ℕ) → is_own of k x.to ≡ eqb h.0.0 k
+      has_is : (k : ℕ) → is_own owners k x.to ≡ eqb h.0.0 k
       has_is k = ap (λ o. option_map_or (λ w. eqb w k) o false) h.0.1
 
-      one : (k : ℕ) → length (filter (is_to of k) (x ∷ xs)) ≡ cond (eqb h.0.0 k) 1 0 + length (filter (is_to of k) xs)
+      one : (k : ℕ) → length (filter (is_to owners k) (x ∷ xs)) ≡ cond (eqb h.0.0 k) 1 0 + length (filter (is_to owners k) xs)
       one k = let e = has_is k in of_case (cases_Bool (eqb h.0.0 k)) e
         where
-          of_case : (eqb h.0.0 k ≡ true) ⊎ (eqb h.0.0 k ≡ false) → is_own of k x.to ≡ eqb h.0.0 k → length (filter (is_to of k) (x ∷ xs)) ≡ cond (eqb h.0.0 k) 1 0 + length (filter (is_to of k) xs)
-          of_case (inl t) e = let f : is_own of k x.to ≡ true = e ∙ t in rw (f, t) (omega arith)
-          of_case (inr t) e = let f : is_own of k x.to ≡ false = e ∙ t in rw (f, t) (omega arith)
+          of_case : (eqb h.0.0 k ≡ true) ⊎ (eqb h.0.0 k ≡ false) → is_own owners k x.to ≡ eqb h.0.0 k → length (filter (is_to owners k) (x ∷ xs)) ≡ cond (eqb h.0.0 k) 1 0 + length (filter (is_to owners k) xs)
+          of_case (inl t) e = let f : is_own owners k x.to ≡ true = e ∙ t in rw (f, t) (omega arith)
+          of_case (inr t) e = let f : is_own owners k x.to ≡ false = e ∙ t in rw (f, t) (omega arith)

@@ -95,25 +95,25 @@ module _ {S L : Type 0} (system : System S L) (fine : RunsForward system) where
       of_one (inr e) = rw e (ap (λ l. l ++ flat_map system.copies (filter (is_sent_by s) xs)) (filter_none (is_from_sender s) (system.copies x) (every_weaker _ _ (λ c h. ap (λ k. eqb k s) h.sender ∙ e) (system.copies x) (fine.copies_later x))))
 
   -- the copies gathered from each sender are those that crossed
-  pub crossed_once : (of : List ℕ) (motes : ℕ → LoneMote S L) (v : ℕ) (gathered : List RadioCopy) (joined : List Sent)
+  pub crossed_once : (owners : List ℕ) (motes : ℕ → LoneMote S L) (v : ℕ) (gathered : List RadioCopy) (joined : List Sent)
       → ((s : ℕ) → AllByRecursion (λ copy. copy.sender ≡ s) (copies_by system motes s)) → IsJoined system motes joined
-      → ((s : ℕ) → filter (is_from_sender s) gathered ≡ crossed system of motes v s)
-      → AreThoseTo system.copies of v (as_log joined) gathered
-  crossed_once of motes v gathered joined senders is matches =
+      → ((s : ℕ) → filter (is_from_sender s) gathered ≡ crossed system owners motes v s)
+      → AreThoseTo system.copies owners v (as_log joined) gathered
+  crossed_once owners motes v gathered joined senders is matches =
       IsPermutation-trans _ _ _
-      (IsPermutation-sym _ _ (sorted_passing system.copies (crosses_to of v) (λ sent. sent.at) (λ sent. sent.sender) joined))
+      (IsPermutation-sym _ _ (sorted_passing system.copies (crosses_to owners v) (λ sent. sent.at) (λ sent. sent.sender) joined))
       (same_by_sender _ gathered each)
     where
-      of_sender : (s : ℕ) → filter (crosses_to of v) (copies_by system motes s) ≡ crossed system of motes v s
+      of_sender : (s : ℕ) → filter (crosses_to owners v) (copies_by system motes s) ≡ crossed system owners motes v s
       of_sender s =
-          same_tests (crosses_to of v) (λ c. not (is_own of v s) && is_own of v c.to) (copies_by system motes s) (every_weaker _ _ (λ c h. ap (λ k. not (is_own of v k) && is_own of v c.to) h) _ (senders s))
-          ∙ by_case (cases_Bool (is_own of v s))
+          same_tests (crosses_to owners v) (λ c. not (is_own owners v s) && is_own owners v c.to) (copies_by system motes s) (every_weaker _ _ (λ c h. ap (λ k. not (is_own owners v k) && is_own owners v c.to) h) _ (senders s))
+          ∙ by_case (cases_Bool (is_own owners v s))
         where
-          by_case : (is_own of v s ≡ true) ⊎ (is_own of v s ≡ false) → filter (λ c. not (is_own of v s) && is_own of v c.to) (copies_by system motes s) ≡ crossed system of motes v s
+          by_case : (is_own owners v s ≡ true) ⊎ (is_own owners v s ≡ false) → filter (λ c. not (is_own owners v s) && is_own owners v c.to) (copies_by system motes s) ≡ crossed system owners motes v s
           by_case (inl e) = rw e (filter_never (copies_by system motes s))
           by_case (inr e) = rw e refl
 
-      each : (s : ℕ) → filter (is_from_sender s) (filter (crosses_to of v) (flat_map system.copies joined)) ≡ filter (is_from_sender s) gathered
+      each : (s : ℕ) → filter (is_from_sender s) (filter (crosses_to owners v) (flat_map system.copies joined)) ≡ filter (is_from_sender s) gathered
       each s =
-          filter_filter (is_from_sender s) (crosses_to of v) (flat_map system.copies joined)
-          ∙ (ap (filter (crosses_to of v)) (from_sender s joined ∙ ap (flat_map system.copies) (is s)) ∙ (of_sender s ∙ sym (matches s)))
+          filter_filter (is_from_sender s) (crosses_to owners v) (flat_map system.copies joined)
+          ∙ (ap (filter (crosses_to owners v)) (from_sender s joined ∙ ap (flat_map system.copies) (is s)) ∙ (of_sender s ∙ sym (matches s)))

@@ -3,7 +3,7 @@ use Rattle.std.proofs.Common.{◌≡◌, ℕ, zero, suc, ◌<◌, eqb, List, [],
 use Rattle.std.specs.Prelude.{slice_index}
 use Rattle.worker_cut.specs.Crossed.{is_own}
 
-pub own_is : (of : List ℕ) (k w : ℕ) → k < length of → is_own of w k ≡ eqb (slice_index of k) w
+pub own_is : (owners : List ℕ) (k w : ℕ) → k < length owners → is_own owners w k ≡ eqb (slice_index owners k) w
 own_is [] k w h = absurd (omega arith)
-own_is (x ∷ of) zero w h = refl
-own_is (x ∷ of) (suc k) w h = own_is of k w (omega arith)
+own_is (x ∷ owners) zero w h = refl
+own_is (x ∷ owners) (suc k) w h = own_is owners k w (omega arith)

@@ -7,28 +7,28 @@ use Rattle.window_laws.specs.System.{System}
 use Rattle.window_laws.specs.Windows.{LoneMote, copies_by, is_from_sender}
 
 -- this worker has this mote
-abbrev pub is_own : (of : List ℕ) → (worker mote : ℕ) → Bool
-is_own of worker mote = option_map_or (λ w. w == worker) (slice_get of mote) false
+abbrev pub is_own : (owners : List ℕ) → (worker mote : ℕ) → Bool
+is_own owners worker mote = option_map_or (λ w. w == worker) (slice_get owners mote) false
 
 -- the copy is for a mote of this worker
-abbrev pub is_to : (of : List ℕ) → (worker : ℕ) → RadioCopy → Bool
-is_to of worker copy = is_own of worker copy.to
+abbrev pub is_to : (owners : List ℕ) → (worker : ℕ) → RadioCopy → Bool
+is_to owners worker copy = is_own owners worker copy.to
 
 -- the copy isn't for a mote of this worker
 abbrev pub is_for_others : (own : ℕ → Bool) → RadioCopy → Bool
 is_for_others own copy = not (own copy.to)
 
 -- the copy is for a mote of this worker, isn't from a mote of this worker, and arrives at this moment or later
-pub record IsExpected (of : List ℕ) (worker from : ℕ) (copy : RadioCopy) : Type 0 where
-  pub to : is_own of worker copy.to ≡ true
-  pub sender : is_own of worker copy.sender ≡ false
+pub record IsExpected (owners : List ℕ) (worker from : ℕ) (copy : RadioCopy) : Type 0 where
+  pub to : is_own owners worker copy.to ≡ true
+  pub sender : is_own owners worker copy.sender ≡ false
   pub later : from ≤ copy.at
 
 -- the copies that this mote has sent to motes of this worker; none if it is a mote of this worker itself
-abbrev pub crossed : {S L : Type 0} → System S L → (of : List ℕ) → (motes : (number : ℕ) → LoneMote S L)
+abbrev pub crossed : {S L : Type 0} → System S L → (owners : List ℕ) → (motes : (number : ℕ) → LoneMote S L)
     → (worker sender : ℕ) → List RadioCopy
-crossed system of motes worker sender =
-    if is_own of worker sender then [] else filter (is_to of worker) (copies_by system motes sender)
+crossed system owners motes worker sender =
+    if is_own owners worker sender then [] else filter (is_to owners worker) (copies_by system motes sender)
 
 -- the copies from this mote that a worker has seen: all of them if the mote is its own, otherwise those that it took
 abbrev pub copies_seen : {S L : Type 0} → System S L → (own : ℕ → Bool) → (motes : (number : ℕ) → LoneMote S L)

@@ -6,10 +6,10 @@ use Rattle.radio_packet.specs.declared.copy.RadioCopy.{RadioCopy}
 use Rattle.worker_cut.specs.Crossed.{is_own}
 
 -- the copy is from a mote of another worker, for a mote of this one
-abbrev pub crosses_to : (of : List ℕ) → (worker : ℕ) → RadioCopy → Bool
-crosses_to of worker copy = not (is_own of worker copy.sender) && is_own of worker copy.to
+abbrev pub crosses_to : (owners : List ℕ) → (worker : ℕ) → RadioCopy → Bool
+crosses_to owners worker copy = not (is_own owners worker copy.sender) && is_own owners worker copy.to
 
 -- exactly those copies of these packets that cross to this worker, each once
-abbrev pub AreThoseTo : (copies : Sent → List RadioCopy) → (of : List ℕ) → (worker : ℕ) → (log : List Sent)
+abbrev pub AreThoseTo : (copies : Sent → List RadioCopy) → (owners : List ℕ) → (worker : ℕ) → (log : List Sent)
     → List RadioCopy → Type 0
-AreThoseTo copies of worker log got = IsPermutation (filter (crosses_to of worker) (flat_map copies log)) got
+AreThoseTo copies owners worker log got = IsPermutation (filter (crosses_to owners worker) (flat_map copies log)) got

@@ -11,10 +11,10 @@ use Rattle.worker_cut.specs.Crossed.{is_own, crossed, copies_seen}
 use Rattle.worker_cut.specs.CrossesTo.{AreThoseTo}
 
 -- this worker gathered, for each mote, the copies that the mote has sent to it across the partition
-abbrev pub GatheredCopies : {S L : Type 0} → System S L → (of : List ℕ) → (motes : (number : ℕ) → LoneMote S L)
+abbrev pub GatheredCopies : {S L : Type 0} → System S L → (owners : List ℕ) → (motes : (number : ℕ) → LoneMote S L)
     → (worker : ℕ) → List RadioCopy → Type 0
-GatheredCopies system of motes worker gathered =
-    (sender : ℕ) → filter (is_from_sender sender) gathered ≡ crossed system of motes worker sender
+GatheredCopies system owners motes worker gathered =
+    (sender : ℕ) → filter (is_from_sender sender) gathered ≡ crossed system owners motes worker sender
 
 -- the copies taken are, for each mote, those that were gathered
 abbrev pub HasTaken : (gathered taken : List RadioCopy) → Type 0
@@ -30,15 +30,16 @@ IsFromSources system own from bound motes taken number given = (moment sender : 
 
 abbrev pub WindowCopiesAreWhole : {S L : Type 0} → System S L → Type 0
 WindowCopiesAreWhole {S} {L} system =
-    (of : List ℕ) (motes : (number : ℕ) → LoneMote S L) (gathered taken : List RadioCopy) (worker number from bound : ℕ)
-    → is_own of worker number ≡ true
-    → GatheredCopies system of motes worker gathered → HasTaken gathered taken
-    → (given : List RadioCopy) → IsFromSources system (is_own of worker) from bound motes taken number given
+    (owners : List ℕ) (motes : (number : ℕ) → LoneMote S L) (gathered taken : List RadioCopy)
+    (worker number from bound : ℕ)
+    → is_own owners worker number ≡ true
+    → GatheredCopies system owners motes worker gathered → HasTaken gathered taken
+    → (given : List RadioCopy) → IsFromSources system (is_own owners worker) from bound motes taken number given
     → IsGiven system from bound motes number given
 
 abbrev pub CrossedOnce : {S L : Type 0} → System S L → Type 0
-CrossedOnce {S} {L} system = RunsForward system → (of : List ℕ) (from : ℕ) (motes : (number : ℕ) → LoneMote S L)
+CrossedOnce {S} {L} system = RunsForward system → (owners : List ℕ) (from : ℕ) (motes : (number : ℕ) → LoneMote S L)
     → Windows system 0 from (first_mote system) motes
     → (worker : ℕ) (gathered : List RadioCopy) (joined : List Sent) → IsJoined system motes joined
-    → GatheredCopies system of motes worker gathered
-    → AreThoseTo system.copies of worker (as_log joined) gathered
+    → GatheredCopies system owners motes worker gathered
+    → AreThoseTo system.copies owners worker (as_log joined) gathered

@@ -32,14 +32,17 @@ impl Cut {
     pub fn block(alloc: Global, motes: u16, workers: u16) -> Result<Cut, AllocError>
         requires motes { 0 < motes }
         requires workers { 0 < workers }
-        ensures of { IfOk result (λ cut. cut.of.items ≡ block_cut motes workers) }
+        ensures owners { IfOk result (λ cut. cut.of.items ≡ block_cut motes workers) }
         ensures longest { IfOk result (λ cut. cut.longest ≡ 0) }
     {
-        let mut of = Vec::new(alloc);
+        let mut owners = Vec::new(alloc);
         for mote in 0..motes {
-            of.push(in_blocks(mote, motes, workers))?;
+            owners.push(in_blocks(mote, motes, workers))?;
         }
-        Ok(Cut { of, longest: 0 })
+        Ok(Cut {
+            of: owners,
+            longest: 0,
+        })
     }
 
     /// Makes a partition that deals the motes out one by one: the worker of mote i is `i` mod `workers`.
@@ -49,13 +52,16 @@ impl Cut {
     pub fn stripe(alloc: Global, motes: u16, workers: u16) -> Result<Cut, AllocError>
         requires motes { 0 < motes }
         requires workers { 0 < workers }
-        ensures of { IfOk result (λ cut. cut.of.items ≡ stripe_cut motes workers) }
+        ensures owners { IfOk result (λ cut. cut.of.items ≡ stripe_cut motes workers) }
         ensures longest { IfOk result (λ cut. cut.longest ≡ 0) }
     {
-        let mut of = Vec::new(alloc);
+        let mut owners = Vec::new(alloc);
         for mote in 0..motes {
-            of.push(mote % workers)?;
+            owners.push(mote % workers)?;
         }
-        Ok(Cut { of, longest: 0 })
+        Ok(Cut {
+            of: owners,
+            longest: 0,
+        })
     }
 }

@@ -199,9 +199,12 @@ fn write_case<R>(rt: &R, scene: Scene<'_>, case: &Case<'_>, text: &mut String) -
 where
     R: Threads + Wait + Sync + RandomSource + AllocGlobal,
 {
-    let (watch, workers, of, longest) = *case;
-    let of = of.to_vec(rt.alloc())?;
-    let cut = Cut { of, longest };
+    let (watch, workers, owners, longest) = *case;
+    let owners = owners.to_vec(rt.alloc())?;
+    let cut = Cut {
+        of: owners,
+        longest,
+    };
     match watch {
         Watch::Starts(shut) => write_starts(rt, scene, workers, &cut, shut, text)?,
         Watch::Ahead => write_ahead(rt, scene, workers, &cut, text)?,

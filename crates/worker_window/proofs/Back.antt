@@ -24,12 +24,12 @@ use Rattle.window_laws.proofs.Agenda.{other_wake}
 use Rattle.window_laws.proofs.Lists.{filter_none, filter_every, filter_stronger, every_filter, every_passes}
 use Rattle.window_laws.proofs.Lists.{every_weaker}
 use Rattle.worker_window.specs.declared.out.WindowOut.{WindowOut}
-use Rattle.net_agenda.specs.Buckets.{Holds}
+use Rattle.net_agenda.specs.Buckets.{HoldsItems}
 use Rattle.net_agenda.specs.Changes.{without_wakes}
 use Rattle.net_agenda.specs.NetSystem.{tree_at, system_of}
 use Rattle.worker_window.specs.declared.share.Share.{Share}
 use Rattle.worker_cut.specs.Crossed.{is_own, copies_seen, is_for_others}
-use Rattle.worker_window.specs.MoteWindow.{number_of}
+use Rattle.worker_window.specs.MoteWindow.{node_number}
 use Rattle.worker_window.specs.Share.{Motes, IsShare, HasToCome, node_at, mote_here, is_to_come, wake_from}
 use Rattle.worker_window.specs.Window.{outgoing_by}
 use Rattle.worker_window.specs.Lending.{is_one_of, MoteReturns}
@@ -79,11 +79,11 @@ other_woken j k ne items = filter_stronger (is_wake_of j) (λ item. not (is_wake
     other (Wake t m) e = ap not (ne_eqb m k (λ f. ne (sym (eqb-true m j e) ∙ f)))
     other (Packet c) e = absurd (false≢true e)
 
-module _ (n : NetModel) (of : List ℕ) (worker from until : ℕ) (before now : Motes) (taken : List RadioCopy) (window_copies : ℕ → List RadioCopy) (placed : length n.radio.places ≡ length n.motes)
-    (short : until ≤ from + (system_of n).lookahead) (others : List ℕ) (k : ℕ) (new : is_one_of k others ≡ false) (out : WindowOut) (back : IsBack n (is_own of worker) from until before window_copies k out)
+module _ (n : NetModel) (owners : List ℕ) (worker from until : ℕ) (before now : Motes) (taken : List RadioCopy) (window_copies : ℕ → List RadioCopy) (placed : length n.radio.places ≡ length n.motes)
+    (short : until ≤ from + (system_of n).lookahead) (others : List ℕ) (k : ℕ) (new : is_one_of k others ≡ false) (out : WindowOut) (back : IsBack n (is_own owners worker) from until before window_copies k out)
     (waits : now k ≡ before k) where
   abbrev own : ℕ → Bool
-  own = is_own of worker
+  own = is_own owners worker
 
   abbrev outgoing : ℕ → Bool
   outgoing j = own j && not (is_one_of j (others ++ k ∷ []))
@@ -161,8 +161,8 @@ module _ (n : NetModel) (of : List ℕ) (worker from until : ℕ) (before now : 
           ap (λ l. cond (own s) (filter (is_for_others own) l) []) (copies_put s ne)
           ∙ sym (ap (λ l. outgoing_by n own now s ++ l) (from_others (is_for_others own) s ne) ∙ append-nil (outgoing_by n own now s))
 
-  module _ (old share : Share) (in_state : IsShare n of worker outgoing until now taken old) (gone later : List RadioCopy)
-      (wake : Option ℕ) (pending : wake ≡ wake_from until (before k).wake) (ret : MoteReturns n.radio of k wake out old share gone later) where
+  module _ (old share : Share) (in_state : IsShare n owners worker outgoing until now taken old) (gone later : List RadioCopy)
+      (wake : Option ℕ) (pending : wake ≡ wake_from until (before k).wake) (ret : MoteReturns n.radio owners k wake out old share gone later) where
     abbrev has : HasToCome n own until now taken old.agenda.buckets
     has = in_state.agenda
 
@@ -172,8 +172,8 @@ module _ (n : NetModel) (of : List ℕ) (worker from until : ℕ) (before now : 
     awake : filter (is_wake_of k) has.items ≡ wake_items k wake
     awake = has.wakes k ∙ (ap (λ b. cond b (wake_items k (wake_from until (now k).wake)) []) back.mine ∙ ap (wake_items k) (ap (λ m. wake_from until m.wake) waits ∙ sym pending))
 
-    worker_own : filter (λ copy. is_own of old.worker copy.to) sent ≡ sent_own
-    worker_own = ap (λ w. filter (λ copy. is_own of w copy.to) sent) in_state.is_worker
+    worker_own : filter (λ copy. is_own owners old.worker copy.to) sent ≡ sent_own
+    worker_own = ap (λ w. filter (λ copy. is_own owners w copy.to) sent) in_state.is_worker
 
     within : k < length old.motes.items
     within = let a = back.there in let b = in_state.places in omega arith
@@ -242,11 +242,11 @@ module _ (n : NetModel) (of : List ℕ) (worker from until : ℕ) (before now : 
         by_mote (λ j. here j ≡ true → P j (next j)) (λ _. subst (P k) (sym at_k) one)
         (λ j ne h. subst (P j) (sym (elsewhere j ne)) (rest j (same_here j ne ∙ h)))
 
-    pub is_back : IsShare n of worker here until next taken share
+    pub is_back : IsShare n owners worker here until next taken share
     is_back = record {
       is_worker = ret.worker ∙ in_state.is_worker;
       places = ap length ret.motes ∙ (length-set old.motes.items k (Some out.mote) ∙ in_state.places);
-      numbers = all_here (λ j m. number_of m.state ≡ j) back.number_is in_state.numbers;
+      numbers = all_here (λ j m. node_number m.state ≡ j) back.number_is in_state.numbers;
       nodes =
           by_mote (λ j. here j ≡ true → node_at (tree_at n j) (mote_here share.motes.items j) ≡ Some (next j).state)
           (λ _. ap (node_at (tree_at n k)) mote_k ∙ (back.node ∙ ap (λ m. Some m.state) (sym at_k)))
@@ -269,7 +269,7 @@ module _ (n : NetModel) (of : List ℕ) (worker from until : ℕ) (before now : 
       fates = ret.fates in_state.fates;
       agenda = record {
         items = items;
-        holds = subst (λ l. Holds share.agenda.buckets ((without_wakes k has.items ++ wake_items k out.wake) ++ map Packet l)) worker_own (ret.agenda has.items has.holds awake);
+        holds = subst (λ l. HoldsItems share.agenda.buckets ((without_wakes k has.items ++ wake_items k out.wake) ++ map Packet l)) worker_own (ret.agenda has.items has.holds awake);
         wakes = new_wakes;
         copies = new_copies;
       };

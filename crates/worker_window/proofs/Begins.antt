@@ -16,7 +16,7 @@ use Rattle.window_laws.specs.Agenda.{Wake, packets, is_wake_of, wake_items, mote
 use Rattle.window_laws.specs.Windows.{NoneBefore, first_mote, is_from_sender, is_sent_by}
 use Rattle.window_laws.proofs.Agenda.{first_wakes, packets_wakes}
 use Rattle.window_laws.proofs.Lists.{filter_filter}
-use Rattle.net_agenda.specs.Buckets.{Holds}
+use Rattle.net_agenda.specs.Buckets.{HoldsItems}
 use Rattle.net_agenda.specs.NetSystem.{system_of, first_node_in, tree_at}
 use Rattle.net_agenda.proofs.NewWakes.{new_wakes, new_numbers}
 use Rattle.worker_window.specs.declared.share.Share.{Share}
@@ -27,8 +27,8 @@ use Rattle.worker_window.proofs.NoTurnIsPast.{not_begun}
 use Rattle.worker_window.proofs.Items.{all_wakes}
 
 -- a mote of the worker is a mote of the net
-pub own_there : (of : List ℕ) (worker k : ℕ) → is_own of worker k ≡ true → k < length of
-own_there of worker k mine = elim ((slice_get_cases of k).1) [ inl w ↦ w.1 | inr p ↦ absurd (let g = rw p.1 at mine in false≢true g) ]
+pub own_there : (owners : List ℕ) (worker k : ℕ) → is_own owners worker k ≡ true → k < length owners
+own_there owners worker k mine = elim ((slice_get_cases owners k).1) [ inl w ↦ w.1 | inr p ↦ absurd (let g = rw p.1 at mine in false≢true g) ]
 
 pub wakes_more : (own : ℕ → Bool) (b : Bool) (i : ℕ) → b ≡ own i
     → map (λ k. Wake 0 k) (filter own (up_to i)) ++ cond b (Wake 0 i ∷ []) [] ≡ map (λ k. Wake 0 k) (filter own (up_to (i + 1)))
@@ -48,13 +48,13 @@ only_own : (own : ℕ → Bool) (k : ℕ) (wake : Option ℕ) → filter (λ ite
 only_own own k None = elim (cases_Bool (own k)) [ inl e ↦ rw e refl | inr e ↦ rw e refl ]
 only_own own k (Some t) = refl
 
-module _ (n : NetModel) (of : List ℕ) (worker : ℕ) (long : length of ≡ length n.motes) where
+module _ (n : NetModel) (owners : List ℕ) (worker : ℕ) (long : length owners ≡ length n.motes) where
   abbrev own : ℕ → Bool
-  own = is_own of worker
+  own = is_own owners worker
 
   wakes_at_0 : (k : ℕ) → own k ≡ true → (first_mote (system_of n) k).wake ≡ Some 0
   unfolding system_of
-  wakes_at_0 k mine = let h = own_there of worker k mine in let e : ltb k (length n.motes) ≡ true = lt-ltb k (length n.motes) (omega arith) in rw e refl
+  wakes_at_0 k mine = let h = own_there owners worker k mine in let e : ltb k (length n.motes) ≡ true = lt-ltb k (length n.motes) (omega arith) in rw e refl
 
   first_state : (k : ℕ) → (first_mote (system_of n) k).state ≡ first_node_in n k
   unfolding system_of
@@ -81,18 +81,18 @@ module _ (n : NetModel) (of : List ℕ) (worker : ℕ) (long : length of ≡ len
   pub begins : (share : Share) → share.worker ≡ worker → length share.motes.items ≡ length n.motes → length share.traces.items ≡ length n.motes
       → ((k : ℕ) → k < length n.motes → own k ≡ true → node_at (tree_at n k) (mote_here share.motes.items k) ≡ Some (first_node_in n k))
       → ((k : ℕ) (d : Vec Line Global) → k < length n.motes → (get_or share.traces.items k d).items ≡ [])
-      → share.log.items ≡ [] → Holds share.agenda.buckets (map (λ k. Wake 0 k) (filter own (up_to (length n.motes))))
-      → IsWholeShare n of worker 0 (first_mote (system_of n)) [] share
+      → share.log.items ≡ [] → HoldsItems share.agenda.buckets (map (λ k. Wake 0 k) (filter own (up_to (length n.motes))))
+      → IsWholeShare n owners worker 0 (first_mote (system_of n)) [] share
   begins share is_worker motes traced nodes traces log holds = record {
     is_worker = is_worker;
     places = motes;
     numbers = λ k mine. ap (λ s. s.mote.state.mote) (first_state k) ∙ new_numbers n k;
-    nodes = λ k mine. (let h = own_there of worker k mine in nodes k (omega arith) mine ∙ ap Some (sym (first_state k)));
+    nodes = λ k mine. (let h = own_there owners worker k mine in nodes k (omega arith) mine ∙ ap Some (sym (first_state k)));
     wakes = λ k mine. wakes_at_0 k mine ∙ (sym (new_wakes n k) ∙ ap wake_of (sym (first_state k)));
     quiet = quiet;
     turned_before = λ k mine. ap (λ s. is_past 0 s.last) (first_state k) ∙ not_begun n k 0;
     traces_kept = traced;
-    traces = λ k mine d. (let h = own_there of worker k mine in traces k d (omega arith));
+    traces = λ k mine d. (let h = own_there owners worker k mine in traces k d (omega arith));
     log = λ s. ap (λ lines. filter (is_sent_by s) (packets_in lines)) log ∙ elim (cases_Bool (own s)) [ inl e ↦ rw e refl | inr e ↦ rw e refl ];
     fates = subst (HaveFates n.radio) (sym log) tt;
     agenda = record { items = map (λ k. Wake 0 k) (filter own (up_to (length n.motes))); holds = holds; wakes = λ k. wakes k ∙ sym (all_wakes own 0 (first_mote (system_of n)) quiet k); copies = no_copies };

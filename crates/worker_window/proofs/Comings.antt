@@ -23,15 +23,15 @@ use Rattle.worker_window.proofs.Lent.{among_more, different_less}
 use Rattle.worker_window.proofs.Back.{next, at_k, elsewhere, out_more, is_back}
 
 -- the result of a mote of this worker
-pub record IsFitOwn (n : NetModel) (of : List ℕ) (worker until : ℕ) (out : WindowOut) : Type 0 where
+pub record IsFitOwn (n : NetModel) (owners : List ℕ) (worker until : ℕ) (out : WindowOut) : Type 0 where
   pub number : ℕ
-  pub mine : is_own of worker number ≡ true
+  pub mine : is_own owners worker number ≡ true
   pub there : number < length n.motes
   pub numbered : HasNumber number out.mote
   pub sent : AllByRecursion (IsSentIn number 0 until) out.sends.items
 
-pub fits : (n : NetModel) (of : List ℕ) (worker until motes : ℕ) (out : WindowOut) → IsFitOwn n of worker until out → motes ≡ length n.motes → until ≤ 2 ^ 40 → IsOutOfMote motes out
-fits n of worker until motes out fit e early = record {
+pub fits : (n : NetModel) (owners : List ℕ) (worker until motes : ℕ) (out : WindowOut) → IsFitOwn n owners worker until out → motes ≡ length n.motes → until ≤ 2 ^ 40 → IsOutOfMote motes out
+fits n owners worker until motes out fit e early = record {
   number = fit.number;
   numbered = fit.numbered;
   there = (let h = fit.there in omega arith);
@@ -41,10 +41,10 @@ fits n of worker until motes out fit e early = record {
     le_chain : (a b c : ℕ) → a < b → b ≤ c → a ≤ c
     le_chain a b c h k = omega arith
 
-pub go_out : (n : NetModel) (of : List ℕ) (worker until : ℕ) (out : WindowOut) → length n.radio.places ≡ length n.motes → IsFitOwn n of worker until out
-    → AllByRecursion (IsOutgoing n of worker) (filter (is_for_others (is_own of worker)) (flat_map (copies n.radio) out.sends.items))
-go_out n of worker until out placed fit =
-    every_filter _ _ (is_for_others (is_own of worker)) (λ c h e. record { sender = ap (is_own of worker) h.0 ∙ fit.mine; to = not_true (is_own of worker c.to) e; there = h.1 }) (flat_map (copies n.radio) out.sends.items)
+pub go_out : (n : NetModel) (owners : List ℕ) (worker until : ℕ) (out : WindowOut) → length n.radio.places ≡ length n.motes → IsFitOwn n owners worker until out
+    → AllByRecursion (IsOutgoing n owners worker) (filter (is_for_others (is_own owners worker)) (flat_map (copies n.radio) out.sends.items))
+go_out n owners worker until out placed fit =
+    every_filter _ _ (is_for_others (is_own owners worker)) (λ c h e. record { sender = ap (is_own owners worker) h.0 ∙ fit.mine; to = not_true (is_own owners worker c.to) e; there = h.1 }) (flat_map (copies n.radio) out.sends.items)
     (every_flat_map (λ c. (c.sender ≡ fit.number) × (c.to < length n.motes)) (copies n.radio) out.sends.items
     (every_weaker _ _ (λ x g. every_weaker _ _ (λ c i. (i.sender ∙ g.sender, let t = i.there in omega arith)) (copies n.radio x) (copies_later n.radio x)) out.sends.items fit.sent))
   where
@@ -101,17 +101,17 @@ abbrev pub IsPending : (until : ℕ) → Motes → (k : ℕ) → (wake : Option 
 IsPending until motes k wake = wake ≡ wake_from until (motes k).wake
 
 -- some motes are still lent
-pub record PendingEvent (n : NetModel) (of : List ℕ) (worker from until : ℕ) (motes : Motes) (taken : List RadioCopy) (window_copies : ℕ → List RadioCopy) (share : Share) (outs : List WindowOut) (wakes : List (Option ℕ)) (outgoing : List RadioCopy) : Type 0 where
+pub record PendingEvent (n : NetModel) (owners : List ℕ) (worker from until : ℕ) (motes : Motes) (taken : List RadioCopy) (window_copies : ℕ → List RadioCopy) (share : Share) (outs : List WindowOut) (wakes : List (Option ℕ)) (outgoing : List RadioCopy) : Type 0 where
   pub rest : List ℕ
   pub different : are_different rest ≡ true
   pub now : Motes
-  pub backs : AllZip (IsBack n (is_own of worker) from until motes window_copies) rest outs
+  pub backs : AllZip (IsBack n (is_own owners worker) from until motes window_copies) rest outs
   pub pending : AllZip (IsPending until motes) rest wakes
-  pub in_state : IsShare n of worker (λ j. is_own of worker j && not (is_one_of j rest)) until now taken share
+  pub in_state : IsShare n owners worker (λ j. is_own owners worker j && not (is_one_of j rest)) until now taken share
   pub waits : (k : ℕ) → is_one_of k rest ≡ true → now k ≡ motes k
-  pub others : (k : ℕ) → is_own of worker k ≡ false → now k ≡ motes k
-  pub alone : (k : ℕ) → is_own of worker k ≡ true → is_one_of k rest ≡ false → Alone (system_of n) k until (window_copies k) (motes k) (now k)
-  pub sent : (s : ℕ) → outgoing_by n (is_own of worker) now s ≡ outgoing_by n (is_own of worker) motes s ++ filter (is_from_sender s) outgoing
+  pub others : (k : ℕ) → is_own owners worker k ≡ false → now k ≡ motes k
+  pub alone : (k : ℕ) → is_own owners worker k ≡ true → is_one_of k rest ≡ false → Alone (system_of n) k until (window_copies k) (motes k) (now k)
+  pub sent : (s : ℕ) → outgoing_by n (is_own owners worker) now s ≡ outgoing_by n (is_own owners worker) motes s ++ filter (is_from_sender s) outgoing
   pub late : AllByRecursion (λ (copy : RadioCopy). until ≤ copy.at) outgoing
 
 or_none : (b : Bool) → (b || false) ≡ b
@@ -122,13 +122,13 @@ or_yes : (b : Bool) → (b || true) ≡ true
 or_yes true = refl
 or_yes false = refl
 
-module _ (n : NetModel) (of : List ℕ) (worker from until : ℕ) (motes : Motes) (taken : List RadioCopy) (window_copies : ℕ → List RadioCopy) (placed : length n.radio.places ≡ length n.motes)
+module _ (n : NetModel) (owners : List ℕ) (worker from until : ℕ) (motes : Motes) (taken : List RadioCopy) (window_copies : ℕ → List RadioCopy) (placed : length n.radio.places ≡ length n.motes)
     (short : until ≤ from + (system_of n).lookahead) where
   abbrev mine : ℕ → Bool
-  mine = is_own of worker
+  mine = is_own owners worker
 
   module _ (old share : Share) (outs more : List WindowOut) (out : WindowOut) (popped : outs ≡ more ++ out ∷ []) (wakes less : List (Option ℕ)) (wake : Option ℕ) (woken : wakes ≡ less ++ wake ∷ []) (before after : List RadioCopy)
-      (coming : PendingEvent n of worker from until motes taken window_copies old outs wakes before) (returns : (k : ℕ) → HasNumber k out.mote → MoteReturns n.radio of k wake out old share before after) where
+      (coming : PendingEvent n owners worker from until motes taken window_copies old outs wakes before) (returns : (k : ℕ) → HasNumber k out.mote → MoteReturns n.radio owners k wake out old share before after) where
     l : Last (IsBack n mine from until motes window_copies) coming.rest more out
     l = last_of (IsBack n mine from until motes window_copies) coming.rest more out (subst (AllZip (IsBack n mine from until motes window_copies) coming.rest) popped coming.backs)
 
@@ -141,7 +141,7 @@ module _ (n : NetModel) (of : List ℕ) (worker from until : ℕ) (motes : Motes
     pending : AllZip (IsPending until motes) front less × IsPending until motes k wake
     pending = zip_last (IsPending until motes) front k less wake (subst (λ ks. AllZip (IsPending until motes) ks (less ++ wake ∷ [])) l.is (subst (AllZip (IsPending until motes) coming.rest) woken coming.pending))
 
-    ret : MoteReturns n.radio of k wake out old share before after
+    ret : MoteReturns n.radio owners k wake out old share before after
     ret = returns k (record { tree = tree_at n k; node = l.last.last.state; is = l.last.node; number_is = l.last.number_is })
 
     d : (are_different front ≡ true) × (is_one_of k front ≡ false)
@@ -154,13 +154,13 @@ module _ (n : NetModel) (of : List ℕ) (worker from until : ℕ) (motes : Motes
     waited = coming.waits k (among k ∙ (ap (λ b. is_one_of k front || b) (eq-eqb k k refl) ∙ or_yes (is_one_of k front)))
 
     abbrev after_it : Motes
-    after_it = next n of worker from until motes coming.now taken window_copies placed short front k d.1 out l.last waited
+    after_it = next n owners worker from until motes coming.now taken window_copies placed short front k d.1 out l.last waited
 
     else_same : (j : ℕ) → (j ≡ k → ⊥) → after_it j ≡ coming.now j
-    else_same j ne = elsewhere n of worker from until motes coming.now taken window_copies placed short front k d.1 out l.last waited j ne
+    else_same j ne = elsewhere n owners worker from until motes coming.now taken window_copies placed short front k d.1 out l.last waited j ne
 
-    in_state_then : IsShare n of worker (λ j. mine j && not (is_one_of j (front ++ k ∷ []))) until coming.now taken old
-    in_state_then = subst (λ ks. IsShare n of worker (λ j. mine j && not (is_one_of j ks)) until coming.now taken old) l.is coming.in_state
+    in_state_then : IsShare n owners worker (λ j. mine j && not (is_one_of j (front ++ k ∷ []))) until coming.now taken old
+    in_state_then = subst (λ ks. IsShare n owners worker (λ j. mine j && not (is_one_of j ks)) until coming.now taken old) l.is coming.in_state
 
     among_else : (j : ℕ) → (j ≡ k → ⊥) → is_one_of j coming.rest ≡ is_one_of j front
     among_else j ne = among j ∙ (ap (λ b. is_one_of j front || b) (ne_eqb k j (λ f. ne (sym f))) ∙ or_none (is_one_of j front))
@@ -169,16 +169,16 @@ module _ (n : NetModel) (of : List ℕ) (worker from until : ℕ) (motes : Motes
     alone_then j h e =
         elim (cases_eq j k) [
           | inl f ↦ subst (λ i. Alone (system_of n) i until (window_copies i) (motes i) (after_it i)) (sym f)
-              (subst (λ m. Alone (system_of n) k until (window_copies k) (motes k) m) (sym (at_k n of worker from until motes coming.now taken window_copies placed short front k d.1 out l.last waited)) l.last.alone)
+              (subst (λ m. Alone (system_of n) k until (window_copies k) (motes k) m) (sym (at_k n owners worker from until motes coming.now taken window_copies placed short front k d.1 out l.last waited)) l.last.alone)
           | inr ne ↦ subst (λ m. Alone (system_of n) j until (window_copies j) (motes j) m) (sym (else_same j ne)) (coming.alone j h (among_else j ne ∙ e))
         ]
 
     away_is : after ≡ before ++ filter (is_for_others mine) (flat_map (copies n.radio) out.sends.items)
-    away_is = ret.outgoing ∙ ap (λ w. before ++ filter (is_for_others (is_own of w)) (flat_map (copies n.radio) out.sends.items)) coming.in_state.is_worker
+    away_is = ret.outgoing ∙ ap (λ w. before ++ filter (is_for_others (is_own owners w)) (flat_map (copies n.radio) out.sends.items)) coming.in_state.is_worker
 
     sent_then : (s : ℕ) → outgoing_by n mine after_it s ≡ outgoing_by n mine motes s ++ filter (is_from_sender s) after
     sent_then s =
-        out_more n of worker from until motes coming.now taken window_copies placed short front k d.1 out l.last waited s
+        out_more n owners worker from until motes coming.now taken window_copies placed short front k d.1 out l.last waited s
         ∙ (ap (λ x. x ++ filter (is_from_sender s) (filter (is_for_others mine) (flat_map (copies n.radio) out.sends.items))) (coming.sent s)
         ∙ (append_assoc (outgoing_by n mine motes s) (filter (is_from_sender s) before) (filter (is_from_sender s) (filter (is_for_others mine) (flat_map (copies n.radio) out.sends.items)))
         ∙ ap (λ x. outgoing_by n mine motes s ++ x)
@@ -190,14 +190,14 @@ module _ (n : NetModel) (of : List ℕ) (worker from until : ℕ) (motes : Motes
         (every_append _ before _ coming.late
         (every_filter _ _ (is_for_others mine) (λ copy h e. h.late) (flat_map (copies n.radio) out.sends.items) (come_late n from until placed short k out.sends.items l.last.sent)))
 
-    pub one_back : PendingEvent n of worker from until motes taken window_copies share more less after
+    pub one_back : PendingEvent n owners worker from until motes taken window_copies share more less after
     one_back = record {
       rest = front;
       different = d.0;
       now = after_it;
       backs = l.zip;
       pending = pending.0;
-      in_state = is_back n of worker from until motes coming.now taken window_copies placed short front k d.1 out l.last waited old share in_state_then before after wake pending.1 ret;
+      in_state = is_back n owners worker from until motes coming.now taken window_copies placed short front k d.1 out l.last waited old share in_state_then before after wake pending.1 ret;
       waits = λ j e. (
           let ne : j ≡ k → ⊥ = λ f. false≢true (sym d.1 ∙ (ap (λ i. is_one_of i front) (sym f) ∙ e)) in
           else_same j ne ∙ coming.waits j (among_else j ne ∙ e));
@@ -209,17 +209,17 @@ module _ (n : NetModel) (of : List ℕ) (worker from until : ℕ) (motes : Motes
       late = late_then;
     }
 
-module _ (n : NetModel) (of : List ℕ) (worker from until : ℕ) (motes : Motes) (taken : List RadioCopy) (window_copies : ℕ → List RadioCopy) where
+module _ (n : NetModel) (owners : List ℕ) (worker from until : ℕ) (motes : Motes) (taken : List RadioCopy) (window_copies : ℕ → List RadioCopy) where
   abbrev all_mine : ℕ → Bool
-  all_mine = is_own of worker
+  all_mine = is_own owners worker
 
   and_yes : (b : Bool) → (b && true) ≡ b
   and_yes true = refl
   and_yes false = refl
 
-  pub all_back : (share : Share) (outs : List WindowOut) (wakes : List (Option ℕ)) (outgoing : List RadioCopy) → outs ≡ [] → PendingEvent n of worker from until motes taken window_copies share outs wakes outgoing
+  pub all_back : (share : Share) (outs : List WindowOut) (wakes : List (Option ℕ)) (outgoing : List RadioCopy) → outs ≡ [] → PendingEvent n owners worker from until motes taken window_copies share outs wakes outgoing
       → ((k : ℕ) → all_mine k ≡ true → (t s : ℕ) → filter (is_from_sender s) (filter (is_at t) (window_copies k)) ≡ filter (is_at t) (filter (is_within k from until) (copies_seen (system_of n) all_mine motes taken s)))
-      → RunsWindow n of worker from until motes taken share outgoing
+      → RunsWindow n owners worker from until motes taken share outgoing
   all_back share outs wakes outgoing e coming given_to = record {
     next = coming.now;
     runs = λ k h. record { given = window_copies k; is_given = given_to k h; alone = coming.alone k h (ap (is_one_of k) none) };

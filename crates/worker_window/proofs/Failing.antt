@@ -47,20 +47,20 @@ opened_goes_on program until copies lines (Some o) mote window on = subst CanGoO
 module _ (o : Option MoteSetup) (t : Tree) (is : option_map (λ (m : MoteSetup). m.tree) o ≡ Some t) (until : ℕ) (copies : List RadioCopy) (lines : List Line) (mote : Mote) where
   pub lent_gives : (out : WindowOut) → MatchOption (opened t until copies lines (node_in t mote)) (GivesNothing t until copies lines out) (λ w. Gives w out)
       → IfSome o (λ m. MatchOption (opened m.tree until copies lines (node_in m.tree mote)) (GivesNothing m.tree until copies lines out) (λ w. Gives w out))
-  lent_gives out h = of o is
+  lent_gives out h = owners o is
     where
-      of : (p : Option MoteSetup) → option_map (λ (m : MoteSetup). m.tree) p ≡ Some t
+      owners : (p : Option MoteSetup) → option_map (λ (m : MoteSetup). m.tree) p ≡ Some t
           → IfSome p (λ m. MatchOption (opened m.tree until copies lines (node_in m.tree mote)) (GivesNothing m.tree until copies lines out) (λ w. Gives w out))
-      of None e = tt
-      of (Some m) e = let g : t ≡ m.tree = cc in subst (λ p. MatchOption (opened p until copies lines (node_in p mote)) (GivesNothing p until copies lines out) (λ w. Gives w out)) g h
+      owners None e = tt
+      owners (Some m) e = let g : t ≡ m.tree = cc in subst (λ p. MatchOption (opened p until copies lines (node_in p mote)) (GivesNothing p until copies lines out) (λ w. Gives w out)) g h
 
   pub lent_goes_on : IfSome o (λ m. CanGoOn (opened m.tree until copies lines (node_in m.tree mote))) → CanGoOn (opened t until copies lines (node_in t mote))
-  lent_goes_on h = of o is h
+  lent_goes_on h = owners o is h
     where
-      of : (p : Option MoteSetup) → option_map (λ (m : MoteSetup). m.tree) p ≡ Some t → IfSome p (λ m. CanGoOn (opened m.tree until copies lines (node_in m.tree mote)))
+      owners : (p : Option MoteSetup) → option_map (λ (m : MoteSetup). m.tree) p ≡ Some t → IfSome p (λ m. CanGoOn (opened m.tree until copies lines (node_in m.tree mote)))
           → CanGoOn (opened t until copies lines (node_in t mote))
-      of None e k = absurd (none_is_not e)
+      owners None e k = absurd (none_is_not e)
         where
           none_is_not : {X : Type 0} {x : X} → None ≡ Some x → ⊥
           none_is_not e = cc
-      of (Some m) e k = let g : m.tree ≡ t = cc in subst (λ p. CanGoOn (opened p until copies lines (node_in p mote))) g k
+      owners (Some m) e k = let g : m.tree ≡ t = cc in subst (λ p. CanGoOn (opened p until copies lines (node_in p mote))) g k

@@ -48,18 +48,18 @@ is_some_of : {X : Type 0} (o : Option X) → IsSome o → is_some o ≡ true
 is_some_of None h = h
 is_some_of (Some x) h = refl
 
-abbrev pub kept_of : {n : NetModel} {of : List ℕ} {until : ℕ} {share : Share} {arrived : List RadioCopy} → CanRun n of until share arrived → IsKept n of share
+abbrev pub kept_of : {n : NetModel} {owners : List ℕ} {until : ℕ} {share : Share} {arrived : List RadioCopy} → CanRun n owners until share arrived → IsKept n owners share
 kept_of r = record { worker = r.worker; from = r.from; motes = r.motes; taken = r.taken; keeps = r.keeps }
 
-module _ (n : NetModel) (of : List ℕ) (share : Share) (kept : IsKept n of share) (arrived : List RadioCopy) (to_own : AllByRecursion (λ copy. is_own of share.worker copy.to ≡ true) arrived) (long : length of ≡ length n.motes) where
+module _ (n : NetModel) (owners : List ℕ) (share : Share) (kept : IsKept n owners share) (arrived : List RadioCopy) (to_own : AllByRecursion (λ copy. is_own owners share.worker copy.to ≡ true) arrived) (long : length owners ≡ length n.motes) where
   abbrev pub all_items : List Item
   all_items = kept.keeps.agenda.items ++ map Packet arrived
 
   abbrev mine : ℕ → Bool
-  mine = is_own of kept.worker
+  mine = is_own owners kept.worker
 
-  same_own : (k : ℕ) → mine k ≡ is_own of share.worker k
-  same_own k = ap (λ w. is_own of w k) (sym kept.keeps.is_worker)
+  same_own : (k : ℕ) → mine k ≡ is_own owners share.worker k
+  same_own k = ap (λ w. is_own owners w k) (sym kept.keeps.is_worker)
 
   all_mine : AllByRecursion (λ item. mine (mote_of item) ≡ true) all_items
   all_mine =
@@ -76,7 +76,7 @@ module _ (n : NetModel) (of : List ℕ) (share : Share) (kept : IsKept n of shar
 
     -- a mote that is called is a mote of the net
     pub called_there : (k : ℕ) → IsSome (copies_for calls k) → k < length n.motes
-    called_there k h = let a = own_there of kept.worker k (called_mine k (is_some_of (copies_for calls k) h)) in omega arith
+    called_there k h = let a = own_there owners kept.worker k (called_mine k (is_some_of (copies_for calls k) h)) in omega arith
 
     module _ (new : List (Option Mote)) (left : List (Vec Line Global)) (lent_motes : List LentMote) (wakes : List (Option ℕ)) (lent : MotesAreLent until calls share.motes.items new share.traces.items left lent_motes wakes)
         (order : kept.from ≤ until) where
@@ -84,9 +84,9 @@ module _ (n : NetModel) (of : List ℕ) (share : Share) (kept : IsKept n of shar
       number_mine r called = called_mine r.number (ap is_some called.copies)
 
       number_there : (r : LentMote) → IsCalled calls share.motes.items share.traces.items r → r.number < length n.motes
-      number_there r called = let a = own_there of kept.worker r.number (number_mine r called) in omega arith
+      number_there r called = let a = own_there owners kept.worker r.number (number_mine r called) in omega arith
 
-      one_fits : (r : LentMote) (out : WindowOut) → IsCalled calls share.motes.items share.traces.items r → LentMoteGives n until r out → IsFitOwn n of share.worker until out
+      one_fits : (r : LentMote) (out : WindowOut) → IsCalled calls share.motes.items share.traces.items r → LentMoteGives n until r out → IsFitOwn n owners share.worker until out
       one_fits r out called gives =
           let k = r.number in
           let h = number_mine r called in
@@ -104,8 +104,8 @@ module _ (n : NetModel) (of : List ℕ) (share : Share) (kept : IsKept n of shar
             sent = b.sent;
           }
 
-      pub all_fit : (outs : List WindowOut) → GivesList n until lent_motes outs → AllByRecursion (IsFitOwn n of share.worker until) outs
-      all_fit outs gives = zip_every (IsCalled calls share.motes.items share.traces.items) (LentMoteGives n until) (IsFitOwn n of share.worker until) one_fits lent_motes outs lent.called gives
+      pub all_fit : (outs : List WindowOut) → GivesList n until lent_motes outs → AllByRecursion (IsFitOwn n owners share.worker until) outs
+      all_fit outs gives = zip_every (IsCalled calls share.motes.items share.traces.items) (LentMoteGives n until) (IsFitOwn n owners share.worker until) one_fits lent_motes outs lent.called gives
 
 pub every_split : {X : Type 0} (P : X → Type 0) (xs : List X) (x : X) → AllByRecursion P (xs ++ x ∷ []) → AllByRecursion P xs × P x
 every_split P [] x h = (tt, h.0)

@@ -22,7 +22,7 @@ use Rattle.window_laws.specs.Windows.{LoneMote, NoneBefore, lone_turn, IsQuiet, 
 use Rattle.window_laws.proofs.Lists.{every_append, every_weaker, every_flat_map}
 use Rattle.worker_window.specs.declared.out.WindowOut.{WindowOut}
 use Rattle.worker_window.specs.declared.lent_mote.LentMote.{LentMote}
-use Rattle.worker_window.specs.MoteWindow.{lone_node, number_of}
+use Rattle.worker_window.specs.MoteWindow.{lone_node, node_number}
 use Rattle.worker_window.specs.Out.{Gives}
 use Rattle.worker_window.specs.Laws.{IsAhead}
 use Rattle.worker_window.specs.Shares.{LentMoteGives, LentMoteGoesOn}
@@ -49,7 +49,7 @@ pub record IsBack (n : NetModel) (own : ℕ → Bool) (from until : ℕ) (motes 
   pub wake : out.wake ≡ last.wake
   pub lines : last.lines ≡ out.lines.items
   pub sends : last.sends ≡ (motes k).sends ++ out.sends.items
-  pub number_is : number_of last.state ≡ k
+  pub number_is : node_number last.state ≡ k
   pub wakes : last.wake ≡ wake_of last.state
   pub quiet : NoneBefore until last.wake
   pub turned_before : is_past until last.state.last ≡ false
@@ -74,16 +74,16 @@ reported_equals (Some x) out last e =
     }
 
 mote_there : (n : NetModel) (k : ℕ) → k < length n.motes → slice_get n.motes k ≡ Some (mote_at n.motes k)
-mote_there n k h = of (slice_get n.motes k) refl ((slice_get_cases n.motes k).1)
+mote_there n k h = owners (slice_get n.motes k) refl ((slice_get_cases n.motes k).1)
   where
-    of : (o : Option MoteSetup) → slice_get n.motes k ≡ o → ((x : MoteSetup) × (k < length n.motes) × (slice_get n.motes k ≡ Some x) × (get_or n.motes k x ≡ x)) ⊎ ((length n.motes ≤ k) × (slice_get n.motes k ≡ None))
+    owners : (o : Option MoteSetup) → slice_get n.motes k ≡ o → ((x : MoteSetup) × (k < length n.motes) × (slice_get n.motes k ≡ Some x) × (get_or n.motes k x ≡ x)) ⊎ ((length n.motes ≤ k) × (slice_get n.motes k ≡ None))
         → slice_get n.motes k ≡ Some (mote_at n.motes k)
-    of None e (inl w) = absurd (none_is_not w.0 (sym e ∙ w.2))
+    owners None e (inl w) = absurd (none_is_not w.0 (sym e ∙ w.2))
       where
         none_is_not : {X : Type 0} (x : X) → None ≡ Some x → ⊥
         none_is_not x e = cc
-    of None e (inr w) = absurd (let l = w.0 in omega arith)
-    of (Some x) e w = e ∙ ap Some (sym (ap (λ o. unwrap_or o no_mote) e))
+    owners None e (inr w) = absurd (let l = w.0 in omega arith)
+    owners (Some x) e w = e ∙ ap Some (sym (ap (λ o. unwrap_or o no_mote) e))
 
 -- the window of a lent mote that is a mote of the net
 pub gives_open : (n : NetModel) (until : ℕ) (r : LentMote) (out : WindowOut) (state : Node) → r.number < length n.motes → node_in (tree_at n r.number) r.mote ≡ Some state → LentMoteGives n until r out
@@ -108,7 +108,7 @@ module _ (n : NetModel) (from until : ℕ) where
   unfolding system_of
   turn_is = refl
 
-  number_kept : (k t : ℕ) (mote : LoneMote Node Line) (given : List RadioCopy) → number_of mote.state ≡ k → number_of (lone_turn (system_of n) t k mote given).state ≡ k
+  number_kept : (k t : ℕ) (mote : LoneMote Node Line) (given : List RadioCopy) → node_number mote.state ≡ k → node_number (lone_turn (system_of n) t k mote given).state ≡ k
   unfolding system_of
   number_kept k t mote given e = (turns_stamp t (map arrival_of given) mote.state).mote ∙ e
 
@@ -121,7 +121,7 @@ module _ (n : NetModel) (from until : ℕ) where
   stamps k t h l (x ∷ sends) = (record { sender = refl; later = h; soon = l }, stamps k t h l sends)
 
   -- the result of a lent mote's window is a mote that has returned from its window
-  module _ (own : ℕ → Bool) (motes : Motes) (window_copies : ℕ → List RadioCopy) (k : ℕ) (mine : own k ≡ true) (there : k < length n.motes) (numbered : number_of (motes k).state ≡ k)
+  module _ (own : ℕ → Bool) (motes : Motes) (window_copies : ℕ → List RadioCopy) (k : ℕ) (mine : own k ≡ true) (there : k < length n.motes) (numbered : node_number (motes k).state ≡ k)
       (wakes : (motes k).wake ≡ wake_of (motes k).state) (wakes_from : NoneBefore from (motes k).wake) (window_copies_from : AllByRecursion (λ c. from ≤ c.at) (window_copies k)) (before : is_past until (motes k).state.last ≡ false) where
     front_is : in_front [] (motes k).sends (lone_node (motes k).lines (motes k).state) ≡ motes k
     front_is =
@@ -142,7 +142,7 @@ module _ (n : NetModel) (from until : ℕ) where
         wake = matches.wake;
         lines = sym matches.lines;
         sends = ap (λ l. (motes k).sends ++ l) (sym matches.sends);
-        number_is = alone_keeps (system_of n) k until later from (λ m. number_of m.state ≡ k) (λ t m g h l e. number_kept k t m g e) quiet numbered alone;
+        number_is = alone_keeps (system_of n) k until later from (λ m. node_number m.state ≡ k) (λ t m g h l e. number_kept k t m g e) quiet numbered alone;
         wakes = alone_keeps (system_of n) k until later from (λ m. m.wake ≡ wake_of m.state) (λ t m g h l e. wake_kept k t m g) quiet refl alone;
         quiet = rests_quiet (system_of n) k until alone;
         turned_before = alone_keeps (system_of n) k until later from (λ m. is_past until m.state.last ≡ false) (λ t m g h l e. turn_before n k t until m g l) quiet before alone;

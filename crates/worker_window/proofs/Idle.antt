@@ -31,9 +31,9 @@ wakes_later : (moment k : ℕ) (wake : Option ℕ) → AllByRecursion (λ item. 
 wakes_later moment k None h = tt
 wakes_later moment k (Some t) h = h.0
 
-module _ (n : NetModel) (of : List ℕ) (worker from : ℕ) (motes : Motes) (taken : List RadioCopy) (share : Share) (keeps : IsWholeShare n of worker from motes taken share) where
+module _ (n : NetModel) (owners : List ℕ) (worker from : ℕ) (motes : Motes) (taken : List RadioCopy) (share : Share) (keeps : IsWholeShare n owners worker from motes taken share) where
   abbrev pub own : ℕ → Bool
-  own = is_own of worker
+  own = is_own owners worker
 
   abbrev pub items : List Item
   items = keeps.agenda.items
@@ -57,7 +57,7 @@ module _ (n : NetModel) (of : List ℕ) (worker from : ℕ) (motes : Motes) (tak
       ∙ (ap (filter (λ c. not (ltb c.at moment))) (keeps.agenda.copies s)
       ∙ filter_both (λ c. not (ltb c.at moment)) (is_to_come own from) (is_to_come own moment) (λ c. still_later (own c.to) c.at from moment le) (copies_seen (system_of n) own motes taken s))
 
-  pub moved_on : (moment : ℕ) → from ≤ moment → AllByRecursion (λ item. moment ≤ moment_of item) items → IsWholeShare n of worker moment motes taken share
+  pub moved_on : (moment : ℕ) → from ≤ moment → AllByRecursion (λ item. moment ≤ moment_of item) items → IsWholeShare n owners worker moment motes taken share
   moved_on moment le h = record {
     is_worker = keeps.is_worker;
     places = keeps.places;

@@ -67,11 +67,11 @@ wake_still from (Some t) h = let e : ltb t from ≡ false = le-ltb t from h in r
 -- all wakes stay, if no wake is before the moment
 pub all_wakes : (own : ℕ → Bool) (from : ℕ) (motes : Motes) → ((k : ℕ) → own k ≡ true → NoneBefore from (motes k).wake) → (k : ℕ)
     → cond (own k) (wake_items k (wake_from from (motes k).wake)) [] ≡ cond (own k) (wake_items k (motes k).wake) []
-all_wakes own from motes quiet k = of (own k) refl
+all_wakes own from motes quiet k = owners (own k) refl
   where
-    of : (b : Bool) → own k ≡ b → cond b (wake_items k (wake_from from (motes k).wake)) [] ≡ cond b (wake_items k (motes k).wake) []
-    of true e = ap (wake_items k) (wake_still from (motes k).wake (quiet k e))
-    of false e = refl
+    owners : (b : Bool) → own k ≡ b → cond b (wake_items k (wake_from from (motes k).wake)) [] ≡ cond b (wake_items k (motes k).wake) []
+    owners true e = ap (wake_items k) (wake_still from (motes k).wake (quiet k e))
+    owners false e = refl
 
 module _ (n : NetModel) (own : ℕ → Bool) (from : ℕ) (motes : Motes) (taken : List RadioCopy) (buckets : Buckets) (has : HasToCome n own from motes taken buckets) where
   -- the item is for a mote of the worker, and isn't before the moment

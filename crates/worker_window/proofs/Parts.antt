@@ -63,10 +63,10 @@ late_wakes : (until k : ℕ) (wake : Option ℕ) → filter (is_not_before until
 late_wakes until k None = refl
 late_wakes until k (Some t) = elim (cases_Bool (ltb t until)) [ inl e ↦ rw e refl | inr e ↦ rw e refl ]
 
-module _ (n : NetModel) (of : List ℕ) (worker from until : ℕ) (motes : Motes) (taken arrived : List RadioCopy) (share : Share) (keeps : IsWholeShare n of worker from motes taken share)
-    (le : from ≤ until) (come : AllByRecursion (IsExpected of worker from) arrived) where
+module _ (n : NetModel) (owners : List ℕ) (worker from until : ℕ) (motes : Motes) (taken arrived : List RadioCopy) (share : Share) (keeps : IsWholeShare n owners worker from motes taken share)
+    (le : from ≤ until) (come : AllByRecursion (IsExpected owners worker from) arrived) where
   abbrev pub own : ℕ → Bool
-  own = is_own of worker
+  own = is_own owners worker
 
   -- all pending events, together with the copies that have arrived
   abbrev pub items : List Item

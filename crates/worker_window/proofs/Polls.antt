@@ -15,7 +15,7 @@ use Rattle.window_laws.specs.Windows.{after_lone_turn, is_at, Alone}
 use Rattle.window_laws.specs.Windows.Alone.{Rests, Turns}
 use Rattle.net_agenda.specs.Buckets.{arrival_of}
 use Rattle.worker_window.specs.declared.out.WindowOut.{WindowOut}
-use Rattle.worker_window.specs.MoteWindow.{Window, LoneNode, HasTurn, IsOver, window_after_turn, EndsAs, number_of}
+use Rattle.worker_window.specs.MoteWindow.{Window, LoneNode, HasTurn, IsOver, window_after_turn, EndsAs, node_number}
 use Rattle.worker_window.specs.Laws.{IsAhead}
 use Rattle.worker_window.specs.Out.{shown, Gives}
 use Rattle.worker_window.specs.declared.own.OwnWindow.{OwnWindow}
@@ -36,10 +36,10 @@ at_rest old own out is spent over made left = rw (← is) (given (window_in own)
 turn_before : (w v : Window) (moment : ℕ) (last : LoneNode) → HasTurn moment w → v ≡ window_after_turn moment w → EndsAs v last → EndsAs w last
 turn_before w v moment last left made run = λ system turns. (
     let given = in_order (filter (is_at moment) w.copies) in
-    let number = number_of w.mote.state in
+    let number = node_number w.mote.state in
     let rest : List RadioCopy = filter (λ copy. not (is_at moment copy)) w.copies in
     let after = run_at made system turns in
-    let same : number_of (window_after_turn moment w).mote.state ≡ number = (turns_stamp moment (map arrival_of given) w.mote.state).mote in
+    let same : node_number (window_after_turn moment w).mote.state ≡ number = (turns_stamp moment (map arrival_of given) w.mote.state).mote in
     let P : ℕ → Type 0 = λ k. Alone system k w.until rest (window_after_turn moment w).mote last in
     let Q : ((number : ℕ) → Node → (moment : ℕ) → List RadioCopy → Turned Node Line) → Type 0 = λ turn. Alone system number w.until rest (after_lone_turn moment number w.mote (turn number w.mote.state moment given)) last in
     Turns moment left.next.quiet left.next.comes left.in_window (subst Q (sym turns) (subst P same after)))

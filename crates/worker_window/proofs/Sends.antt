@@ -68,23 +68,23 @@ module _ (own : ℕ → Bool) (sent : Sent) where
   all_own [] h = refl
   all_own (fate ∷ fates) h =
       let p = and_parts (own fate.to) (list_all (λ (fate : Fate). own fate.to) fates) h in
-      of fate.at p.0 (all_own fates p.1)
+      owners fate.at p.0 (all_own fates p.1)
     where
-      of : (at : Option ℕ) → own fate.to ≡ true → filter (λ (copy : RadioCopy). own copy.to) (filter_map (copy_of sent) fates) ≡ filter_map (copy_of sent) fates
+      owners : (at : Option ℕ) → own fate.to ≡ true → filter (λ (copy : RadioCopy). own copy.to) (filter_map (copy_of sent) fates) ≡ filter_map (copy_of sent) fates
           → filter (λ (copy : RadioCopy). own copy.to) (filter_map (copy_of sent) (record { to = fate.to; at = at } ∷ fates)) ≡ filter_map (copy_of sent) (record { to = fate.to; at = at } ∷ fates)
-      of None e ih = ih
-      of (Some at) e ih = rw e (ap (λ l. record { at = at; to = fate.to; sender = sent.sender; number = sent.number; value = sent.value } ∷ l) ih)
+      owners None e ih = ih
+      owners (Some at) e ih = rw e (ap (λ l. record { at = at; to = fate.to; sender = sent.sender; number = sent.number; value = sent.value } ∷ l) ih)
 
   pub none_away : (fates : List Fate) → list_all (λ (fate : Fate). own fate.to) fates ≡ true → filter (is_for_others own) (filter_map (copy_of sent) fates) ≡ []
   none_away [] h = refl
   none_away (fate ∷ fates) h =
       let p = and_parts (own fate.to) (list_all (λ (fate : Fate). own fate.to) fates) h in
-      of fate.at p.0 (none_away fates p.1)
+      owners fate.at p.0 (none_away fates p.1)
     where
-      of : (at : Option ℕ) → own fate.to ≡ true → filter (is_for_others own) (filter_map (copy_of sent) fates) ≡ []
+      owners : (at : Option ℕ) → own fate.to ≡ true → filter (is_for_others own) (filter_map (copy_of sent) fates) ≡ []
           → filter (is_for_others own) (filter_map (copy_of sent) (record { to = fate.to; at = at } ∷ fates)) ≡ []
-      of None e ih = ih
-      of (Some at) e ih = rw e ih
+      owners None e ih = ih
+      owners (Some at) e ih = rw e ih
 
 pub on_ok : {A E P : Type 0} (r : Result A E) → P → OnOk r P
 on_ok (Ok x) p = p

@@ -22,7 +22,7 @@ use Rattle.mote_node.specs.Public.{node_in}
 use Rattle.net_agenda.specs.Buckets.{arrival_of}
 use Rattle.worker_window.specs.declared.own.OwnWindow.{OwnWindow}
 use Rattle.worker_window.specs.Own.{window_in, window_over}
-use Rattle.worker_window.specs.MoteWindow.{HasTurn, IsNextOf, IsOver, window_after_turn, number_of, is_rising}
+use Rattle.worker_window.specs.MoteWindow.{HasTurn, IsNextOf, IsOver, window_after_turn, node_number, is_rising}
 use Rattle.worker_window.specs.Turns.{TurnsTo}
 use Rattle.worker_window.proofs.Orders.{IsTaken, taken, quiet_before}
 
@@ -40,7 +40,7 @@ pub turned : (p : Tree) (until m : ℕ) (copies rest : List RadioCopy) (given : 
     → IsTaken m copies given → rest ≡ drop (length given) copies → turn_given out n' ≡ turn_of m given n
     → window_over p until rest out.wake (lines ++ out.lines.items) (sends ++ out.sends.items) n' ≡ window_after_turn m (window_over p until copies wake lines sends n)
 turned p until m copies rest given wake lines sends n n' out took cut made =
-    let stamp = stamped_is m (number_of n) (turn_of m given n).sends ((turns_stamp m given n).packets) in
+    let stamp = stamped_is m (node_number n) (turn_of m given n).sends ((turns_stamp m given n).packets) in
     let at : turn_of m (map arrival_of (in_order (filter (is_at m) copies))) n ≡ turn_of m given n = sym (ap (λ g. turn_of m g n) took.given_is) in
     let node : n' ≡ (turn_of m given n).node = ap (λ t. t.node) made in
     let wrote : out.lines.items ≡ (turn_of m given n).lines = ap (λ t. t.lines) made in

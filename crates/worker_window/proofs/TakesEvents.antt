@@ -11,7 +11,7 @@ use Rattle.window_laws.specs.Agenda.{Item, Wake, Packet, moment_of, mote_of, com
 use Rattle.window_laws.specs.Windows.{is_at}
 use Rattle.window_laws.proofs.Lists.{filter_none, filter_every, filter_stronger, every_append, every_weaker, every_filter, every_both, any_every, filled_any, is_filled}
 use Rattle.window_laws.proofs.Ahead.{on_from}
-use Rattle.net_agenda.specs.Buckets.{Buckets, Holds, arrivals_at, first_key}
+use Rattle.net_agenda.specs.Buckets.{Buckets, HoldsItems, arrivals_at, first_key}
 use Rattle.net_agenda.proofs.Ranks.{turns_left, left_falls}
 use Rattle.net_agenda.specs.Items.{copy_at}
 use Rattle.worker_window.specs.Calls.{CalledMotes, copies_for, is_not_before, calls_for, TakesEventsBefore}
@@ -24,7 +24,7 @@ given calls k = unwrap_or (copies_for calls k) []
 -- some items were taken, and the buckets hold the rest
 pub record Part (until : ℕ) (items : List Item) (calls : CalledMotes) (buckets : Buckets) : Type 0 where
   pub rest : List Item
-  pub holds : Holds buckets rest
+  pub holds : HoldsItems buckets rest
   pub late : filter (is_not_before until) rest ≡ filter (is_not_before until) items
   pub called : (k : ℕ) → list_any (calls_for until k) items ≡ (is_some (copies_for calls k) || list_any (calls_for until k) rest)
   pub parts : (t k : ℕ) → in_order (packets (filter (comes_at t k) items)) ≡ filter (is_at t) (given calls k) ++ in_order (packets (filter (comes_at t k) rest))
@@ -103,7 +103,7 @@ due_parts t m (Packet c ∷ items) =
       | inr e ↦ rw e (due_parts t m items)
     ]
 
-pub none_yet : (until : ℕ) (items : List Item) (calls : CalledMotes) (buckets : Buckets) → Holds buckets items → ((k : ℕ) → copies_for calls k ≡ None) → Part until items calls buckets
+pub none_yet : (until : ℕ) (items : List Item) (calls : CalledMotes) (buckets : Buckets) → HoldsItems buckets items → ((k : ℕ) → copies_for calls k ≡ None) → Part until items calls buckets
 none_yet until items calls buckets holds none = record {
   rest = items;
   holds = holds;
@@ -120,7 +120,7 @@ none_yet until items calls buckets holds none = record {
     nothing P (x ∷ items) = (λ _. tt, nothing P items)
 
 module _ (until : ℕ) (items : List Item) (calls new : CalledMotes) (buckets after : Buckets) (part : Part until items calls buckets) (t m : ℕ) (least : IsLeast t m part.rest) (soon : t < until)
-    (arrivals : List Arrival) (are : arrivals ≡ arrivals_at t m part.rest) (holds : Holds after (filter (λ item. not (comes_at t m item)) part.rest))
+    (arrivals : List Arrival) (are : arrivals ≡ arrivals_at t m part.rest) (holds : HoldsItems after (filter (λ item. not (comes_at t m item)) part.rest))
     (added : (k : ℕ) → copies_for new k ≡ (if eqb m k then Some (given calls m ++ map (copy_at t m) arrivals) else copies_for calls k)) where
   abbrev rest : List Item
   rest = filter (λ item. not (comes_at t m item)) part.rest
@@ -290,7 +290,7 @@ empty_over until items e = subst (AllByRecursion (λ item. until ≤ moment_of i
 
 -- each bucket makes the first remaining event later
 pub bucket_later : (until : ℕ) (items : List Item) (calls : CalledMotes) (buckets after : Buckets) (part : Part until items calls buckets) (t m : ℕ) → IsLeast t m part.rest → t < until → m < 65536
-    → first_key buckets ≡ Some (t, m) → Holds after (filter (λ item. not (comes_at t m item)) part.rest) → turns_left 65536 until (first_key after) < turns_left 65536 until (first_key buckets)
+    → first_key buckets ≡ Some (t, m) → HoldsItems after (filter (λ item. not (comes_at t m item)) part.rest) → turns_left 65536 until (first_key after) < turns_left 65536 until (first_key buckets)
 bucket_later until items calls buckets after part t m least soon low first holds =
     let le : t ≤ until = omega arith in
     left_falls 65536 until t m (filter (λ item. not (comes_at t m item)) part.rest) (first_key buckets) (first_key after) after first low le

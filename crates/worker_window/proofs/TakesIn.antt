@@ -4,7 +4,7 @@ use Rattle.std.specs.List.{AllByRecursion}
 use Rattle.radio_packet.specs.declared.copy.RadioCopy.{RadioCopy}
 use Rattle.mote_net.specs.Net.{NetModel}
 use Rattle.net_agenda.specs.declared.agenda.Agenda.{Agenda}
-use Rattle.net_agenda.specs.Buckets.{Holds}
+use Rattle.net_agenda.specs.Buckets.{HoldsItems}
 use Rattle.window_laws.specs.Agenda.{Packet}
 use Rattle.worker_cut.specs.Crossed.{is_own, IsExpected}
 use Rattle.worker_window.specs.declared.share.Share.{Share}
@@ -12,9 +12,9 @@ use Rattle.worker_window.specs.Share.{Motes, IsWholeShare}
 use Rattle.worker_window.proofs.Items.{all_wakes}
 use Rattle.worker_window.proofs.Parts.{items, wakes_now, known_now}
 
-pub takes_in : (n : NetModel) (of : List ℕ) (worker from : ℕ) (motes : Motes) (taken arrived : List RadioCopy) (share : Share) (agenda : Agenda) (keeps : IsWholeShare n of worker from motes taken share)
-    → AllByRecursion (IsExpected of worker from) arrived → Holds agenda.buckets (keeps.agenda.items ++ map Packet arrived) → IsWholeShare n of worker from motes (taken ++ arrived) (record share { agenda = agenda })
-takes_in n of worker from motes taken arrived share agenda keeps come holds = record {
+pub takes_in : (n : NetModel) (owners : List ℕ) (worker from : ℕ) (motes : Motes) (taken arrived : List RadioCopy) (share : Share) (agenda : Agenda) (keeps : IsWholeShare n owners worker from motes taken share)
+    → AllByRecursion (IsExpected owners worker from) arrived → HoldsItems agenda.buckets (keeps.agenda.items ++ map Packet arrived) → IsWholeShare n owners worker from motes (taken ++ arrived) (record share { agenda = agenda })
+takes_in n owners worker from motes taken arrived share agenda keeps come holds = record {
   is_worker = keeps.is_worker;
   places = keeps.places;
   numbers = keeps.numbers;
@@ -27,9 +27,9 @@ takes_in n of worker from motes taken arrived share agenda keeps come holds = re
   log = keeps.log;
   fates = keeps.fates;
   agenda = record {
-    items = items n of worker from from motes taken arrived share keeps (omega arith) come;
+    items = items n owners worker from from motes taken arrived share keeps (omega arith) come;
     holds = holds;
-    wakes = λ k. wakes_now n of worker from from motes taken arrived share keeps (omega arith) come k ∙ sym (all_wakes (is_own of worker) from motes keeps.quiet k);
-    copies = known_now n of worker from from motes taken arrived share keeps (omega arith) come;
+    wakes = λ k. wakes_now n owners worker from from motes taken arrived share keeps (omega arith) come k ∙ sym (all_wakes (is_own owners worker) from motes keeps.quiet k);
+    copies = known_now n owners worker from from motes taken arrived share keeps (omega arith) come;
   };
 }

@@ -8,7 +8,7 @@ use Rattle.window_laws.specs.Order.{in_order}
 use Rattle.window_laws.specs.Agenda.{Item, moment_of, mote_of, comes_at, packets}
 use Rattle.window_laws.specs.Windows.{is_at}
 use Rattle.worker_window.specs.MoteWindow.{is_rising}
-use Rattle.net_agenda.specs.Buckets.{Buckets, Holds}
+use Rattle.net_agenda.specs.Buckets.{Buckets, HoldsItems}
 
 -- an element for each mote, by number
 abbrev pub CalledMotes : Type 0
@@ -49,4 +49,4 @@ pub record TakesEventsBefore (until : ℕ) (items : List Item) (calls : CalledMo
 -- the buckets are those of some agenda
 pub record HasItems (buckets : Buckets) : Type 0 where
   pub items : List Item
-  pub holds : Holds buckets items
+  pub holds : HoldsItems buckets items

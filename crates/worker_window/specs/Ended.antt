@@ -14,15 +14,16 @@ use Rattle.worker_window.specs.Share.{Motes, is_to_come}
 
 -- the traces and the packets of the worker's motes, and the number of copies that are still on their way to these
 -- motes
-pub record TellsAtEnd (n : NetModel) (of : List ℕ) (worker from : ℕ) (motes : Motes) (taken : List RadioCopy)
+pub record TellsAtEnd (model : NetModel) (owners : List ℕ) (worker from : ℕ) (motes : Motes) (taken : List RadioCopy)
     (ended : Ended) : Type 0 where
-  pub traces_kept : length ended.traces.items ≡ length n.motes
-  pub traces : (k : ℕ) → is_own of worker k ≡ true → (d : Vec Line Global)
+  pub traces_kept : length ended.traces.items ≡ length model.motes
+  pub traces : (k : ℕ) → is_own owners worker k ≡ true → (d : Vec Line Global)
       → (slice_index_or ended.traces.items k d).items ≡ (motes k).lines
   pub log : (s : ℕ) → filter (is_sent_by s) (packets_in ended.log.items)
-      ≡ (if is_own of worker s then (motes s).sends else [])
-  pub fates : HaveFates n.radio ended.log.items
+      ≡ (if is_own owners worker s then (motes s).sends else [])
+  pub fates : HaveFates model.radio ended.log.items
   pub rest : List RadioCopy
   pub rest_is : (s : ℕ) → filter (is_from_sender s) rest
-      ≡ filter (is_to_come (is_own of worker) from) (copies_seen (system_of n) (is_own of worker) motes taken s)
+      ≡ filter (is_to_come (is_own owners worker) from)
+      (copies_seen (system_of model) (is_own owners worker) motes taken s)
   pub left : ended.left ≡ length rest

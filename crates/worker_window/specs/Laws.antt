@@ -5,7 +5,7 @@ use Rattle.radio_packet.specs.declared.sent.Sent.{Sent}
 use Rattle.mote_node.specs.Node.{is_past}
 use Rattle.mote_node.specs.Wake.{wake_of}
 use Rattle.worker_window.specs.MoteWindow.{LoneNode, Window, WindowRun, EndsAs, HasTurn, IsNext}
-use Rattle.worker_window.specs.MoteWindow.{number_of, window_after_turn}
+use Rattle.worker_window.specs.MoteWindow.{node_number, window_after_turn}
 
 -- a window has one end
 abbrev pub EndIsOne : Type 0
@@ -18,7 +18,7 @@ with_earlier lines sends mote = record mote { lines = lines ++ mote.lines; sends
 -- the lines and packets from before a window stay before those that the window's run appends
 abbrev pub EarlierStaysInFront : Type 0
 EarlierStaysInFront = (window : Window) (last : LoneNode) → EndsAs window last → (lines : List Line) (sends : List Sent)
-    → WindowRun (number_of window.mote.state) window.until window.copies (with_earlier lines sends window.mote)
+    → WindowRun (node_number window.mote.state) window.until window.copies (with_earlier lines sends window.mote)
     (with_earlier lines sends last)
 
 -- if a window begins with its mote's wake, it ends with its mote's wake

@@ -13,13 +13,13 @@ use Rattle.radio_medium.specs.Medium.{Radio, copies}
 use Rattle.window_laws.specs.Agenda.{Item, Packet, is_wake_of, wake_items}
 use Rattle.worker_window.specs.declared.out.WindowOut.{WindowOut}
 use Rattle.worker_window.specs.declared.lent_mote.LentMote.{LentMote}
-use Rattle.net_agenda.specs.Buckets.{Holds}
+use Rattle.net_agenda.specs.Buckets.{HoldsItems}
 use Rattle.net_agenda.specs.Changes.{without_wakes}
 use Rattle.worker_window.specs.declared.share.Share.{Share}
 use Rattle.worker_window.specs.Calls.{CalledMotes, copies_for}
 use Rattle.worker_window.specs.Log.{packets_in, HaveFates}
 use Rattle.worker_cut.specs.Crossed.{is_own, is_for_others}
-use Rattle.worker_window.specs.MoteWindow.{number_of}
+use Rattle.worker_window.specs.MoteWindow.{node_number}
 use Rattle.worker_window.specs.Share.{mote_here, wake_from}
 
 abbrev pub is_one_of : (number : ℕ) → List ℕ → Bool
@@ -67,7 +67,7 @@ pub record HasNumber (number : ℕ) (mote : Mote) : Type 0 where
   pub tree : Tree
   pub node : Node
   pub is : node_in tree mote ≡ Some node
-  pub number_is : number_of node ≡ number
+  pub number_is : node_number node ≡ number
 
 -- the result of a mote of a net in a window
 pub record IsOutOfMote (motes : ℕ) (out : WindowOut) : Type 0 where
@@ -77,7 +77,8 @@ pub record IsOutOfMote (motes : ℕ) (out : WindowOut) : Type 0 where
   pub sends : AllByRecursion (λ sent. (sent.sender < motes) × (sent.at ≤ 2 ^ 40)) out.sends.items
 
 -- a mote has returned to its share, whose agenda had this wake of it
-pub record MoteReturns (radio : Radio) (of : List ℕ) (number : ℕ) (wake : Option ℕ) (out : WindowOut) (old new : Share)
+pub record MoteReturns (radio : Radio) (owners : List ℕ) (number : ℕ) (wake : Option ℕ) (out : WindowOut)
+    (old new : Share)
     (before after : List RadioCopy) : Type 0 where
   pub worker : new.worker ≡ old.worker
   pub motes : new.motes.items ≡ slice_set old.motes.items number (Some out.mote)
@@ -86,9 +87,9 @@ pub record MoteReturns (radio : Radio) (of : List ℕ) (number : ℕ) (wake : Op
       ≡ (if k == number then out.lines.items else (slice_index_or old.traces.items k d).items)
   pub log : packets_in new.log.items ≡ packets_in old.log.items ++ out.sends.items
   pub fates : HaveFates radio old.log.items → HaveFates radio new.log.items
-  pub agenda : (items : List Item) → Holds old.agenda.buckets items → filter (is_wake_of number) items
+  pub agenda : (items : List Item) → HoldsItems old.agenda.buckets items → filter (is_wake_of number) items
       ≡ wake_items number wake
-      → Holds new.agenda.buckets ((without_wakes number items ++ wake_items number out.wake)
-      ++ map Packet (filter (λ copy. is_own of old.worker copy.to) (flat_map (copies radio) out.sends.items)))
+      → HoldsItems new.agenda.buckets ((without_wakes number items ++ wake_items number out.wake)
+      ++ map Packet (filter (λ copy. is_own owners old.worker copy.to) (flat_map (copies radio) out.sends.items)))
   pub outgoing : after ≡ before
-      ++ filter (is_for_others (is_own of old.worker)) (flat_map (copies radio) out.sends.items)
+      ++ filter (is_for_others (is_own owners old.worker)) (flat_map (copies radio) out.sends.items)

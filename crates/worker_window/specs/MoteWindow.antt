@@ -19,8 +19,8 @@ LoneNode = LoneMote Node Line
 abbrev pub lone_node : List Line → Node → LoneNode
 lone_node lines n = record { state = n; wake = wake_of n; lines = lines; sends = [] }
 
-abbrev pub number_of : Node → ℕ
-number_of n = n.mote.state.mote
+abbrev pub node_number : Node → ℕ
+node_number n = n.mote.state.mote
 
 -- One mote by itself with its copies, up to a bound. While the lesser of its wake and the first copy's moment is below
 -- the bound, the mote has a turn at this moment. It gets all copies of the moment, in the order of sender and number.
@@ -38,7 +38,7 @@ pub record Window : Type 0 where
 
 -- the possible ends of the window
 abbrev pub EndsAs : Window → LoneNode → Type 0
-EndsAs window last = WindowRun (number_of window.mote.state) window.until window.copies window.mote last
+EndsAs window last = WindowRun (node_number window.mote.state) window.until window.copies window.mote last
 
 -- the moment is the lesser of the wake and the least moment of a copy
 pub record IsNextOf (moment : ℕ) (wake : Option ℕ) (copies : List RadioCopy) : Type 0 where
@@ -58,15 +58,15 @@ pub record HasTurn (moment : ℕ) (window : Window) : Type 0 where
   pub in_window : moment < window.until
 
 -- a mote after its turn on these copies
-abbrev pub lone_turn : (moment : ℕ) → LoneNode → (given : List RadioCopy) → LoneNode
-lone_turn moment mote given =
-    let number = number_of mote.state in after_lone_turn moment number mote (node_turn number mote.state moment given)
+abbrev pub lone_node_turn : (moment : ℕ) → LoneNode → (given : List RadioCopy) → LoneNode
+lone_node_turn moment mote given =
+    let number = node_number mote.state in after_lone_turn moment number mote (node_turn number mote.state moment given)
 
 -- the window after the turn at this moment
 abbrev pub window_after_turn : (moment : ℕ) → Window → Window
 window_after_turn moment window = record window {
   copies = filter (λ copy. not (is_at moment copy)) window.copies;
-  mote = lone_turn moment window.mote (in_order (filter (is_at moment) window.copies));
+  mote = lone_node_turn moment window.mote (in_order (filter (is_at moment) window.copies));
 }
 
 -- copies are compared by moment, then sender, then number; copies with the same three may be in any order

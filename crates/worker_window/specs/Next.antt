@@ -10,21 +10,24 @@ use Rattle.worker_window.specs.declared.share.Share.{Share}
 use Rattle.worker_window.specs.Share.{Motes, IsWholeShare, is_to_come}
 
 -- the copies from this sender that are still on their way to the worker's motes
-abbrev pub copies_to_come : NetModel → (of : List ℕ) → (worker from : ℕ) → Motes → (taken : List RadioCopy)
+abbrev pub copies_to_come : NetModel → (owners : List ℕ) → (worker from : ℕ) → Motes → (taken : List RadioCopy)
     → (sender : ℕ) → List RadioCopy
-copies_to_come n of worker from motes taken sender =
-    let own = is_own of worker in filter (is_to_come own from) (copies_seen (system_of n) own motes taken sender)
+copies_to_come model owners worker from motes taken sender =
+    let own = is_own owners worker in filter (is_to_come own from)
+    (copies_seen (system_of model) own motes taken sender)
 
 -- `next` is the moment of the first pending event of a share at the moment `from`: it isn't before `from`; the share
 -- is also valid at each later moment up to `next`; and no copy arrives before `next`.
-pub record IsNextFrom (n : NetModel) (of : List ℕ) (worker from : ℕ) (motes : Motes) (taken : List RadioCopy)
+pub record IsNextFrom (model : NetModel) (owners : List ℕ) (worker from : ℕ) (motes : Motes) (taken : List RadioCopy)
     (share : Share) (next : Option ℕ) : Type 0 where
   pub wakes : NoneBefore from next
-  pub idle : (moment : ℕ) → from ≤ moment → NoneBefore moment next → IsWholeShare n of worker moment motes taken share
+  pub idle : (moment : ℕ) → from ≤ moment → NoneBefore moment next
+      → IsWholeShare model owners worker moment motes taken share
   pub no_copies : (moment : ℕ) → NoneBefore moment next → (sender : ℕ)
-      → Each (λ copy. moment ≤ copy.at) (copies_to_come n of worker from motes taken sender)
+      → Each (λ copy. moment ≤ copy.at) (copies_to_come model owners worker from motes taken sender)
 
 -- this is the moment of the first pending event, for any worker and any moment of the share
 abbrev pub TellsNext : Share → (next : Option ℕ) → Type 0
-TellsNext share next = (n : NetModel) (of : List ℕ) (worker from : ℕ) (motes : Motes) (taken : List RadioCopy)
-    → IsWholeShare n of worker from motes taken share → IsNextFrom n of worker from motes taken share next
+TellsNext share next = (model : NetModel) (owners : List ℕ) (worker from : ℕ) (motes : Motes) (taken : List RadioCopy)
+    → IsWholeShare model owners worker from motes taken share
+    → IsNextFrom model owners worker from motes taken share next

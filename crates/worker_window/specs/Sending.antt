@@ -9,10 +9,11 @@ use Rattle.window_laws.specs.Agenda.{Item, Packet}
 use Rattle.worker_cut.specs.Crossed.{is_own, is_for_others}
 
 -- the copies for the worker's own motes
-abbrev pub own_items : (of : List ℕ) → (worker : ℕ) → Sent → List Fate → List Item
-own_items of worker sent fates = map Packet
-    (filter (λ copy. is_own of worker copy.to) (filter_map (copy_of sent) fates))
+abbrev pub own_items : (owners : List ℕ) → (worker : ℕ) → Sent → List Fate → List Item
+own_items owners worker sent fates = map Packet
+    (filter (λ copy. is_own owners worker copy.to) (filter_map (copy_of sent) fates))
 
 -- the copies for motes of other workers
-abbrev pub outgoing_copies : (of : List ℕ) → (worker : ℕ) → Sent → List Fate → List RadioCopy
-outgoing_copies of worker sent fates = filter (is_for_others (is_own of worker)) (filter_map (copy_of sent) fates)
+abbrev pub outgoing_copies : (owners : List ℕ) → (worker : ℕ) → Sent → List Fate → List RadioCopy
+outgoing_copies owners worker sent fates = filter (is_for_others (is_own owners worker))
+    (filter_map (copy_of sent) fates)

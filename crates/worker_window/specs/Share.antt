@@ -13,10 +13,10 @@ use Rattle.radio_packet.specs.declared.copy.RadioCopy.{RadioCopy}
 use Rattle.mote_net.specs.Net.{NetModel}
 use Rattle.window_laws.specs.Agenda.{Item, is_wake_of, packets, wake_items}
 use Rattle.window_laws.specs.Windows.{LoneMote, NoneBefore, is_from_sender, is_sent_by}
-use Rattle.net_agenda.specs.Buckets.{Buckets, Holds}
+use Rattle.net_agenda.specs.Buckets.{Buckets, HoldsItems}
 use Rattle.net_agenda.specs.NetSystem.{tree_at, system_of}
 use Rattle.worker_cut.specs.Crossed.{is_own, copies_seen}
-use Rattle.worker_window.specs.MoteWindow.{number_of}
+use Rattle.worker_window.specs.MoteWindow.{node_number}
 use Rattle.worker_window.specs.declared.share.Share.{Share}
 use Rattle.worker_window.specs.Log.{packets_in, HaveFates}
 
@@ -44,45 +44,46 @@ wake_from from (Some wake) = if nat_lt wake from then None else Some wake
 
 -- the agenda has the next wake of each of the worker's motes, unless it is before the moment; and, for each sender,
 -- all copies for these motes that arrive at the moment or later, in the order of sending
-pub record HasToCome (n : NetModel) (own : ℕ → Bool) (from : ℕ) (motes : Motes) (taken : List RadioCopy)
+pub record HasToCome (model : NetModel) (own : ℕ → Bool) (from : ℕ) (motes : Motes) (taken : List RadioCopy)
     (buckets : Buckets) : Type 0 where
   pub items : List Item
-  pub holds : Holds buckets items
+  pub holds : HoldsItems buckets items
   pub wakes : (k : ℕ) → filter (is_wake_of k) items
       ≡ (if own k then wake_items k (wake_from from (motes k).wake) else [])
   pub copies : (s : ℕ) → filter (is_from_sender s) (packets items)
-      ≡ filter (is_to_come own from) (copies_seen (system_of n) own motes taken s)
+      ≡ filter (is_to_come own from) (copies_seen (system_of model) own motes taken s)
 
 -- The share of a worker at a moment before which no event is pending, while the share has some of the worker's motes:
 -- their nodes, wakes and lines so far, the packets of all the worker's motes so far, and the agenda. No mote in the
 -- share has failed, and the last turn of each was before the moment. `taken` are all copies that ever arrived from
 -- other workers.
-pub record IsShare (n : NetModel) (of : List ℕ) (worker : ℕ) (here : ℕ → Bool) (from : ℕ) (motes : Motes)
+pub record IsShare (model : NetModel) (owners : List ℕ) (worker : ℕ) (here : ℕ → Bool) (from : ℕ) (motes : Motes)
     (taken : List RadioCopy) (share : Share) : Type 0 where
   pub is_worker : share.worker ≡ worker
-  pub places : length share.motes.items ≡ length n.motes
-  pub numbers : (k : ℕ) → here k ≡ true → number_of (motes k).state ≡ k
-  pub nodes : (k : ℕ) → here k ≡ true → node_at (tree_at n k) (mote_here share.motes.items k) ≡ Some (motes k).state
+  pub places : length share.motes.items ≡ length model.motes
+  pub numbers : (k : ℕ) → here k ≡ true → node_number (motes k).state ≡ k
+  pub nodes : (k : ℕ) → here k ≡ true → node_at (tree_at model k) (mote_here share.motes.items k) ≡ Some (motes k).state
   pub wakes : (k : ℕ) → here k ≡ true → (motes k).wake ≡ wake_of (motes k).state
   pub quiet : (k : ℕ) → here k ≡ true → NoneBefore from (motes k).wake
   pub turned_before : (k : ℕ) → here k ≡ true → is_past from (motes k).state.last ≡ false
-  pub traces_kept : length share.traces.items ≡ length n.motes
+  pub traces_kept : length share.traces.items ≡ length model.motes
   pub traces : (k : ℕ) → here k ≡ true → (d : Vec Line Global)
       → (slice_index_or share.traces.items k d).items ≡ (motes k).lines
   pub log : (s : ℕ) → filter (is_sent_by s) (packets_in share.log.items)
-      ≡ (if is_own of worker s then (motes s).sends else [])
-  pub fates : HaveFates n.radio share.log.items
-  pub agenda : HasToCome n (is_own of worker) from motes taken share.agenda.buckets
+      ≡ (if is_own owners worker s then (motes s).sends else [])
+  pub fates : HaveFates model.radio share.log.items
+  pub agenda : HasToCome model (is_own owners worker) from motes taken share.agenda.buckets
 
 -- a share with all motes of its worker, as between windows
-abbrev pub IsWholeShare : NetModel → (of : List ℕ) → (worker from : ℕ) → Motes → (taken : List RadioCopy) → Share
+abbrev pub IsWholeShare : NetModel → (owners : List ℕ) → (worker from : ℕ) → Motes → (taken : List RadioCopy) → Share
     → Type 0
-IsWholeShare n of worker from motes taken share = IsShare n of worker (is_own of worker) from motes taken share
+IsWholeShare model owners worker from motes taken share = IsShare model owners worker
+    (is_own owners worker) from motes taken share
 
 -- the share of some worker at some moment
-pub record IsKept (n : NetModel) (of : List ℕ) (share : Share) : Type 0 where
+pub record IsKept (model : NetModel) (owners : List ℕ) (share : Share) : Type 0 where
   pub worker : ℕ
   pub from : ℕ
   pub motes : Motes
   pub taken : List RadioCopy
-  pub keeps : IsWholeShare n of worker from motes taken share
+  pub keeps : IsWholeShare model owners worker from motes taken share

@@ -37,17 +37,17 @@ SlotsGoOn slots = AllByRecursion SlotGoesOn slots
 
 -- each possible result of the slot is a possible result of the lent mote's window; and the slot can continue if the
 -- lent mote can
-pub record IsOf {G : Type 0} (n : NetModel) (until : ℕ) (lent_mote : LentMote) (slot : Slot G) : Type 0 where
-  pub gives : (out : WindowOut) → SlotGives slot out → LentMoteGives n until lent_mote out
-  pub goes_on : LentMoteGoesOn n until lent_mote → SlotGoesOn slot
+pub record IsOf {G : Type 0} (model : NetModel) (until : ℕ) (lent_mote : LentMote) (slot : Slot G) : Type 0 where
+  pub gives : (out : WindowOut) → SlotGives slot out → LentMoteGives model until lent_mote out
+  pub goes_on : LentMoteGoesOn model until lent_mote → SlotGoesOn slot
 
 -- the motes that are called are lent, these are the slots of their windows and their wakes, and the rest of the share
 -- is unchanged
-pub record AreLent {G : Type 0} (n : NetModel) (until : ℕ) (calls : CalledMotes) (old new : Share)
+pub record AreLent {G : Type 0} (model : NetModel) (until : ℕ) (calls : CalledMotes) (old new : Share)
     (slots : List (Slot G)) (wakes : List (Option ℕ)) : Type 0 where
   pub lent_motes : List LentMote
   pub lent : MotesAreLent until calls old.motes.items new.motes.items old.traces.items new.traces.items lent_motes wakes
-  pub opened : AllZip (IsOf n until) lent_motes slots
+  pub opened : AllZip (IsOf model until) lent_motes slots
   pub worker : new.worker ≡ old.worker
   pub log : new.log ≡ old.log
   pub agenda : new.agenda ≡ old.agenda

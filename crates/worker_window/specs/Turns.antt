@@ -66,10 +66,10 @@ ErrsAs None e = e ≡ Failed
 ErrsAs (Some own) e = IsFirstError (course_in own) (window_in own) e
 
 -- no turn is left, and this is the result
-pub record IsMade (window : Option Window) (out : WindowOut) : Type 0 where
+pub record IsFinishedWith (window : Option Window) (out : WindowOut) : Type 0 where
   pub over : IfSome window IsOver
   pub made : IfSome window (λ w. shown w.program out ≡ Some w.mote)
 
 abbrev pub RestsAs : Option OwnWindow → WindowOut → Type 0
 RestsAs None out = ⊥
-RestsAs (Some own) out = IsMade (window_in own) out
+RestsAs (Some own) out = IsFinishedWith (window_in own) out

@@ -3,7 +3,7 @@
 ghost use Rattle.std.specs.Prelude.{◌≡◌, ◌<◌, ◌≤◌, ℕ, length, vec_len, List, [], OnOk, IfOk, MatchOption};
 ghost use Rattle.std.specs.Prelude.{if◌then◌else◌, ◌==◌, ◌++◌, Some, None, map, slice_set, unwrap_or};
 ghost use Rattle.std.specs.List.{filter};
-ghost use Rattle.net_agenda.specs.Buckets.{Buckets, Holds};
+ghost use Rattle.net_agenda.specs.Buckets.{Buckets, HoldsItems};
 ghost use Rattle.window_laws.specs.Agenda.{Item};
 ghost use Rattle.net_agenda.specs.Items.{copy_at};
 ghost use Rattle.worker_window.specs.Calls.{copies_for, is_not_before, TakesEventsBefore, HasItems, TakesCall};
@@ -130,10 +130,10 @@ pub fn take_events_before(
     rooms: &mut Rooms,
 ) -> Result<CalledMotes, AllocError>
     requires has_items { HasItems agenda.old.buckets }
-    ensures taken { IfOk result (λ calls. (items : List Item) → Holds agenda.old.buckets items
+    ensures taken { IfOk result (λ calls. (items : List Item) → HoldsItems agenda.old.buckets items
         → TakesEventsBefore until items calls.copies.items) }
-    ensures rest { OnOk result ((items : List Item) → Holds agenda.old.buckets items
-        → Holds agenda.new.buckets (filter (is_not_before until) items)) }
+    ensures rest { OnOk result ((items : List Item) → HoldsItems agenda.old.buckets items
+        → HoldsItems agenda.new.buckets (filter (is_not_before until) items)) }
 {
     let mut calls = CalledMotes::new(alloc);
     let mut arrivals = Vec::new(alloc);

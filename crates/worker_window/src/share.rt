@@ -8,7 +8,7 @@ ghost use Rattle.window_laws.specs.Windows.{first_mote};
 ghost use Rattle.mote_net.specs.Net.{NetModel};
 ghost use Rattle.mote_net.specs.Meaning.{net_of};
 ghost use Rattle.net_agenda.specs.NetSystem.{first_node_in, system_of, tree_at};
-ghost use Rattle.net_agenda.specs.Changes.{Adds};
+ghost use Rattle.net_agenda.specs.Changes.{AddsItems};
 ghost use Rattle.worker_window.specs.Next.{TellsNext};
 ghost use Rattle.worker_window.specs.Share.{Motes, IsWholeShare, node_at};
 ghost use Rattle.worker_window.specs.Ended.{TellsAtEnd};
@@ -67,9 +67,10 @@ fn begin(
     agenda: &mut Agenda,
 ) -> Result<Option<Mote>, AllocError>
     requires mote_exists { number < length (net_of net.now).motes }
-    ensures mote { let n = net_of net.now in
-        IfOk result (λ mote. own ≡ true → node_at (tree_at n number) mote ≡ Some (first_node_in n number)) }
-    ensures wake { OnOk result (Adds agenda.old.buckets agenda.new.buckets (if own then Wake 0 number ∷ [] else [])) }
+    ensures mote { let model = net_of net.now in
+        IfOk result (λ mote. own ≡ true → node_at (tree_at model number) mote ≡ Some (first_node_in model number)) }
+    ensures wake { OnOk result
+        (AddsItems agenda.old.buckets agenda.new.buckets (if own then Wake 0 number ∷ [] else [])) }
 {
     if !own {
         return Ok(None);
@@ -79,15 +80,15 @@ fn begin(
 }
 
 impl Share {
-    /// Makes the share of a worker before the motes' first turns: each mote wakes at 0. `of` is the worker of each
+    /// Makes the share of a worker before the motes' first turns: each mote wakes at 0. `owners` is the worker of each
     /// mote.
     ///
     /// # Errors
     /// `AllocError` if an allocation fails.
-    pub fn new(alloc: Global, net: &Net, of: &[u16], worker: u16) -> Result<Share, AllocError>
-        requires covers_motes { length of.now ≡ length (net_of net.now).motes }
-        ensures keeps { let n = net_of net.now in IfOk result
-            (λ share. IsWholeShare n of.now worker 0 (first_mote (system_of n)) [] share) }
+    pub fn new(alloc: Global, net: &Net, owners: &[u16], worker: u16) -> Result<Share, AllocError>
+        requires covers_motes { length owners.now ≡ length (net_of net.now).motes }
+        ensures keeps { let model = net_of net.now in IfOk result
+            (λ share. IsWholeShare model owners.now worker 0 (first_mote (system_of model)) [] share) }
     {
         let mut share = Share {
             alloc,
@@ -99,7 +100,7 @@ impl Share {
             rooms: Rooms::new(alloc),
         };
         for number in 0..net.motes() {
-            let own = is_own(of, worker, number);
+            let own = is_own(owners, worker, number);
             let mote = begin(alloc, net, number, own, &mut share.agenda)?;
             share.motes.push(mote)?;
             share.traces.push(Vec::new(alloc))?;
@@ -123,9 +124,10 @@ impl Share {
     /// `AllocError` only for a number of copies above `u64::MAX`. No memory has room for so many copies. Nothing is
     /// allocated.
     pub fn end(self) -> Result<Ended, AllocError>
-        ensures tells_at_end { (n : NetModel) (of : List ℕ) (worker from : ℕ) (motes : Motes) (taken : List RadioCopy)
-            → IsWholeShare n of worker from motes taken self
-            → IfOk result (TellsAtEnd n of worker from motes taken) }
+        ensures tells_at_end { (model : NetModel) (owners : List ℕ) (worker from : ℕ) (motes : Motes)
+            (taken : List RadioCopy)
+            → IsWholeShare model owners worker from motes taken self
+            → IfOk result (TellsAtEnd model owners worker from motes taken) }
     {
         let Share {
             alloc: _,

@@ -7,7 +7,7 @@ ghost use Rattle.fork_join.specs.declared.work.WorkerError.TheVariants.{Stopped}
 ghost use Rattle.radio_medium.specs.Medium.{copies};
 ghost use Rattle.window_laws.specs.Agenda.{Packet};
 ghost use Rattle.worker_window.specs.MoteWindow.{is_rising};
-ghost use Rattle.net_agenda.specs.Changes.{Adds};
+ghost use Rattle.net_agenda.specs.Changes.{AddsItems};
 ghost use Rattle.worker_window.specs.Calls.{copies_for};
 ghost use Rattle.mote_net.specs.Meaning.{net_of};
 ghost use Rattle.worker_cut.specs.Crossed.{is_own, is_for_others};
@@ -90,8 +90,8 @@ pub(crate) fn lend<'a, G: Gate>(
     requires in_net { (k : ℕ) → IsSome (copies_for calls.copies.items k) → k < length (net_of net.now).motes }
     requires rising { (k : ℕ) (copies : List RadioCopy) → copies_for calls.copies.items k ≡ Some copies
         → is_rising copies ≡ true }
-    ensures are_lent { let n = net_of net.now in IfOk result
-        (λ slots. AreLent n until calls.copies.items share.old share.new slots.items wakes.new.items) }
+    ensures are_lent { let model = net_of net.now in IfOk result
+        (λ slots. AreLent model until calls.copies.items share.old share.new slots.items wakes.new.items) }
 {
     wakes.clear();
     let alloc = calls.alloc;
@@ -122,18 +122,18 @@ fn last_wake(wakes: &mut Vec<Option<u64>>) -> Option<u64>
 /// Sends a copy: a copy for a mote of the worker becomes a pending event; a copy for a mote of another worker is
 /// appended to `outgoing`.
 fn send_copy(
-    of: &[u16],
+    owners: &[u16],
     worker: u16,
     copy: &RadioCopy,
     agenda: &mut Agenda,
     outgoing: &mut Vec<RadioCopy>,
 ) -> Result<(), AllocError>
-    ensures own { OnOk result (Adds agenda.old.buckets agenda.new.buckets
-        (map Packet (filter (λ copy. is_own of.now worker copy.to) (copy.now ∷ [])))) }
+    ensures own { OnOk result (AddsItems agenda.old.buckets agenda.new.buckets
+        (map Packet (filter (λ copy. is_own owners.now worker copy.to) (copy.now ∷ [])))) }
     ensures outgoing { OnOk result (outgoing.new.items ≡ outgoing.old.items
-        ++ filter (is_for_others (is_own of.now worker)) (copy.now ∷ [])) }
+        ++ filter (is_for_others (is_own owners.now worker)) (copy.now ∷ [])) }
 {
-    if is_own(of, worker, copy.to) {
+    if is_own(owners, worker, copy.to) {
         return agenda.put_copies(from_ref(copy));
     }
     outgoing.push(*copy)?;
@@ -142,17 +142,17 @@ fn send_copy(
 
 /// Sends the copy of a packet with this fate, unless it is lost.
 fn send_fate(
-    of: &[u16],
+    owners: &[u16],
     worker: u16,
     sent: &Sent,
     fate: &Fate,
     agenda: &mut Agenda,
     outgoing: &mut Vec<RadioCopy>,
 ) -> Result<(), AllocError>
-    ensures own { OnOk result (Adds agenda.old.buckets agenda.new.buckets
-        (own_items of.now worker sent.now (fate.now ∷ []))) }
+    ensures own { OnOk result (AddsItems agenda.old.buckets agenda.new.buckets
+        (own_items owners.now worker sent.now (fate.now ∷ []))) }
     ensures outgoing { OnOk result (outgoing.new.items ≡ outgoing.old.items
-        ++ outgoing_copies of.now worker sent.now (fate.now ∷ [])) }
+        ++ outgoing_copies owners.now worker sent.now (fate.now ∷ [])) }
 {
     let Some(at) = fate.at else {
         return Ok(());
@@ -164,35 +164,35 @@ fn send_fate(
         number: sent.number,
         value: sent.value,
     };
-    send_copy(of, worker, &copy, agenda, outgoing)
+    send_copy(owners, worker, &copy, agenda, outgoing)
 }
 
 /// Returns whether all of these fates are those of copies for motes of the worker.
-fn are_own(of: &[u16], worker: u16, fates: &[Fate]) -> bool
-    ensures value { result ≡ list_all (λ fate. is_own of.now worker fate.to) fates.now }
+fn are_own(owners: &[u16], worker: u16, fates: &[Fate]) -> bool
+    ensures value { result ≡ list_all (λ fate. is_own owners.now worker fate.to) fates.now }
 {
-    fates.iter().all(|fate| is_own(of, worker, fate.to))
+    fates.iter().all(|fate| is_own(owners, worker, fate.to))
 }
 
 /// Sends the copies of a packet with these fates.
 fn send_fates(
-    of: &[u16],
+    owners: &[u16],
     worker: u16,
     sent: &Sent,
     fates: &[Fate],
     agenda: &mut Agenda,
     outgoing: &mut Vec<RadioCopy>,
 ) -> Result<(), AllocError>
-    ensures own { OnOk result (Adds agenda.old.buckets agenda.new.buckets
-        (own_items of.now worker sent.now fates.now)) }
+    ensures own { OnOk result (AddsItems agenda.old.buckets agenda.new.buckets
+        (own_items owners.now worker sent.now fates.now)) }
     ensures outgoing { OnOk result (outgoing.new.items ≡ outgoing.old.items
-        ++ outgoing_copies of.now worker sent.now fates.now) }
+        ++ outgoing_copies owners.now worker sent.now fates.now) }
 {
-    if are_own(of, worker, fates) {
+    if are_own(owners, worker, fates) {
         return agenda.put_fates(sent, fates);
     }
     for fate in fates {
-        send_fate(of, worker, sent, fate, agenda, outgoing)?;
+        send_fate(owners, worker, sent, fate, agenda, outgoing)?;
     }
     Ok(())
 }
@@ -201,7 +201,7 @@ fn send_fates(
 /// pending events; the others are appended to `outgoing`.
 pub(crate) fn send_all(
     medium: &Medium,
-    of: &[u16],
+    owners: &[u16],
     worker: u16,
     sends: &[Sent],
     agenda: &mut Agenda,
@@ -210,16 +210,16 @@ pub(crate) fn send_all(
 ) -> Result<(), AllocError>
     requires senders_exist { AllByRecursion
         (λ sent. (sent.sender < length medium.now.places) × (sent.at ≤ 2 ^ 40)) sends.now }
-    ensures own { OnOk result (Adds agenda.old.buckets agenda.new.buckets
-        (map Packet (filter (λ copy. is_own of.now worker copy.to) (flat_map (copies medium.now) sends.now)))) }
+    ensures own { OnOk result (AddsItems agenda.old.buckets agenda.new.buckets
+        (map Packet (filter (λ copy. is_own owners.now worker copy.to) (flat_map (copies medium.now) sends.now)))) }
     ensures outgoing { OnOk result (outgoing.new.items ≡ outgoing.old.items
-        ++ filter (is_for_others (is_own of.now worker)) (flat_map (copies medium.now) sends.now)) }
+        ++ filter (is_for_others (is_own owners.now worker)) (flat_map (copies medium.now) sends.now)) }
     ensures log { OnOk result (packets_in log.new.items ≡ packets_in log.old.items ++ sends.now) }
     ensures fates { OnOk result (HaveFates medium.now log.old.items → HaveFates medium.now log.new.items) }
 {
     for sent in sends {
         let fates = medium.fates(sent)?;
-        send_fates(of, worker, sent, &fates, agenda, outgoing)?;
+        send_fates(owners, worker, sent, &fates, agenda, outgoing)?;
         log.push(LogLine { sent: *sent, fates })?;
     }
     Ok(())
@@ -231,7 +231,7 @@ impl Share {
     fn take_back(
         &mut self,
         medium: &Medium,
-        of: &[u16],
+        owners: &[u16],
         pending: Option<u64>,
         out: WindowOut,
         outgoing: &mut Vec<RadioCopy>,
@@ -240,7 +240,7 @@ impl Share {
         requires traces { IsOutOfMote (length self.old.traces.items) out }
         requires places { IsOutOfMote (length medium.now.places) out }
         ensures mote_returns { OnOk result ((number : ℕ) → HasNumber number out.mote
-            → MoteReturns medium.now of.now number pending out self.old self.new
+            → MoteReturns medium.now owners.now number pending out self.old self.new
             outgoing.old.items outgoing.new.items) }
     {
         let number = out.mote.number();
@@ -253,7 +253,7 @@ impl Share {
         self.agenda.move_wake(pending, wake, number)?;
         send_all(
             medium,
-            of,
+            owners,
             self.worker,
             &sends,
             &mut self.agenda,
@@ -281,7 +281,7 @@ impl Share {
     /// Runs the worker's motes through the window up to `until`, which is at most 2^40. It takes in the copies that
     /// arrived from other workers, and uses the worker's future to run each mote that has an event before `until`. It
     /// keeps the pending events of the worker's motes. It returns the copies for other workers' motes; those of each
-    /// mote are in the order of sending. `of` is the worker of each mote.
+    /// mote are in the order of sending. `owners` is the worker of each mote.
     ///
     /// The time grows with the window's turns and with the copies that it takes and makes. In addition, there is one
     /// slot for each mote number up to the highest number with a turn. Each poll of the worker's future visits all
@@ -293,7 +293,7 @@ impl Share {
         &mut self,
         rt: &R,
         net: &Net,
-        of: &[u16],
+        owners: &[u16],
         arrived: Vec<RadioCopy>,
         until: u64,
         gate: &G,
@@ -302,13 +302,13 @@ impl Share {
         R: Wait + RandomSource + AllocGlobal,
         G: Gate,
         requires until_bounded { until ≤ 2 ^ 40 }
-        requires of { length of.now ≡ length (net_of net.now).motes }
-        requires ready { CanRun (net_of net.now) of.now until self.old arrived.items }
-        requires to_own { AllByRecursion (λ copy. is_own of.now self.old.worker copy.to ≡ true) arrived.items }
-        ensures window { let n = net_of net.now in IfOk result
-            (λ outgoing. RunsThrough n of.now until arrived.items self.old self.new outgoing.items) }
-        ensures out { let n = net_of net.now in IfOk result
-            (λ outgoing. AllByRecursion (IsOutgoing n of.now self.old.worker) outgoing.items) }
+        requires owners { length owners.now ≡ length (net_of net.now).motes }
+        requires ready { CanRun (net_of net.now) owners.now until self.old arrived.items }
+        requires to_own { AllByRecursion (λ copy. is_own owners.now self.old.worker copy.to ≡ true) arrived.items }
+        ensures window { let model = net_of net.now in IfOk result
+            (λ outgoing. RunsThrough model owners.now until arrived.items self.old self.new outgoing.items) }
+        ensures out { let model = net_of net.now in IfOk result
+            (λ outgoing. AllByRecursion (IsOutgoing model owners.now self.old.worker) outgoing.items) }
         ensures refused { IfErr result (λ reason. reason ≢ Stopped) }
     {
         self.agenda.put_copies(&arrived)?;
@@ -319,7 +319,13 @@ impl Share {
         let mut outgoing = Vec::new(self.alloc);
         while let Some(slot) = done.pop() {
             let pending = last_wake(&mut wakes);
-            self.take_back(net.medium(), of, pending, slot.into_out(), &mut outgoing)?;
+            self.take_back(
+                net.medium(),
+                owners,
+                pending,
+                slot.into_out(),
+                &mut outgoing,
+            )?;
         }
         Ok(outgoing)
     }

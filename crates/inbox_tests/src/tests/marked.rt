@@ -35,7 +35,7 @@ fn write_four<R: Wait>(
     inbox: &Inbox,
     taker: &mut Taker,
 ) -> Result<(), AllocError>
-    requires inbox { taker.old.inbox ≡ inbox.now }
+    requires of_inbox { taker.old.inbox ≡ inbox.now }
     ensures taker { (taker.new.inbox ≡ inbox.now) × (taker.new.state.made ≡ taker.old.state.made)
         × (taker.new.state.gathered ≡ taker.old.state.gathered) }
 {

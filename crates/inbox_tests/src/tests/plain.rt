@@ -66,7 +66,7 @@ fn push_thousand<R: Wait>(
     mut sender: Sender,
     mote: u16,
 ) -> Result<Sender, InboxError>
-    requires inbox { sender.inbox ≡ inbox.now }
+    requires of_inbox { sender.inbox ≡ inbox.now }
     ensures sender { IfOk result (λ done. (done.inbox ≡ inbox.now) × (done.state.number ≡ sender.state.number)) }
 {
     for number in 0..1000 {
@@ -89,10 +89,10 @@ fn push_two_thousand<R: Threads + Wait + Sync>(
     let (second, third) = thread::join(
         rt,
         move ||
-            requires inbox { second.inbox ≡ inbox.now }
+            requires of_inbox { second.inbox ≡ inbox.now }
         { push_thousand(rt, inbox, second, 1) },
         move ||
-            requires inbox { third.inbox ≡ inbox.now }
+            requires of_inbox { third.inbox ≡ inbox.now }
         { push_thousand(rt, inbox, third, 2) },
     );
     Ok((second?, third?))
@@ -114,7 +114,7 @@ fn push_three_thousand<R: Threads + Wait + Sync>(
     let (first, others) = thread::join(
         rt,
         move ||
-            requires inbox { first.inbox ≡ inbox.now }
+            requires of_inbox { first.inbox ≡ inbox.now }
         { push_thousand(rt, inbox, first, 0) },
         move ||
             requires senders { (second.inbox ≡ inbox.now) × (third.inbox ≡ inbox.now) }

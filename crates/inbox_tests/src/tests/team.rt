@@ -1,7 +1,7 @@
 //! Two workers in threads of their own: worker 2, which receives windows, and worker 1, which fails.
 
 ghost use Rattle.std.specs.Prelude.{◌≡◌, true, IfOk, IfSome, IsTrue};
-ghost use Rattle.copy_exchange.specs.Marks.{Counts};
+ghost use Rattle.copy_exchange.specs.Marks.{AreTakersCounts};
 
 use super::push_mark;
 use super::windows::Scene;
@@ -41,15 +41,15 @@ fn write_window<R: Wait, L: Ledger>(
     from: u64,
     window: u64,
 ) -> Result<bool, AllocError>
-    requires inbox { worker_2.old.base.taker.inbox ≡ inbox.now }
-    requires counts { Counts worker_2.old.marks.items worker_2.old.base.taker.state }
-    ensures inbox { IfOk result (λ took. IsTrue took → worker_2.new.base.taker.inbox ≡ inbox.now) }
+    requires of_inbox { worker_2.old.base.taker.inbox ≡ inbox.now }
+    requires counts { AreTakersCounts worker_2.old.marks.items worker_2.old.base.taker.state }
+    ensures of_inbox { IfOk result (λ took. IsTrue took → worker_2.new.base.taker.inbox ≡ inbox.now) }
     ensures counts { IfOk result
-        (λ took. IsTrue took → Counts worker_2.new.marks.items worker_2.new.base.taker.state) }
+        (λ took. IsTrue took → AreTakersCounts worker_2.new.marks.items worker_2.new.base.taker.state) }
 {
     let window_position = WindowPosition {
         worker: 2,
-        of: &OF,
+        owners: &OF,
         from,
     };
     match worker_2.take_window(rt, alloc, inbox, watch, &window_position, window) {
@@ -104,8 +104,8 @@ impl<R: Wait + Clock> Team<'_, R> {
         mut worker_2: MarkEndpoint,
         watch: &mut Watch<'_, L>,
     ) -> Result<(), AllocError>
-        requires inbox { worker_2.base.taker.inbox ≡ self.now.inbox.now }
-        requires counts { Counts worker_2.marks.items worker_2.base.taker.state }
+        requires of_inbox { worker_2.base.taker.inbox ≡ self.now.inbox.now }
+        requires counts { AreTakersCounts worker_2.marks.items worker_2.base.taker.state }
     {
         let mut text = String::new(self.alloc);
         if matches!(self.scene, Scene::Windows | Scene::Stopped) {
@@ -149,7 +149,7 @@ impl<R: Wait + Clock> Team<'_, R> {
         mut second: Sender,
         watch: &mut Watch<'_, L>,
     ) -> Result<(), InboxError>
-        requires inbox { second.inbox ≡ self.now.inbox.now }
+        requires of_inbox { second.inbox ≡ self.now.inbox.now }
         requires marked { second.state.marked ≡ true }
     {
         match self.scene {
@@ -167,7 +167,7 @@ impl<R: Wait + Clock> Team<'_, R> {
 
 impl<R: Wait + Clock> Work<Member> for Team<'_, R> {
     ghost ready = { λ team member. IfSome member.worker_2 (λ worker_2. (worker_2.base.taker.inbox ≡ team.inbox.now)
-        × Counts worker_2.marks.items worker_2.base.taker.state)
+        × AreTakersCounts worker_2.marks.items worker_2.base.taker.state)
         × IfSome member.second (λ second. (second.inbox ≡ team.inbox.now) × (second.state.marked ≡ true)) };
 
     ghost makes = { λ _ _ _. Unit {0} };
@@ -219,7 +219,7 @@ pub(crate) fn write_team<R: Threads + Wait + Clock + Sync>(
     second: Sender,
 ) -> Result<(), AllocError>
     requires taker { worker_2.base.taker.inbox ≡ inbox.now }
-    requires counts { Counts worker_2.marks.items worker_2.base.taker.state }
+    requires counts { AreTakersCounts worker_2.marks.items worker_2.base.taker.state }
     requires sender { (second.inbox ≡ inbox.now) × (second.state.marked ≡ true) }
 {
     let taken = Mutex::new(String::new(alloc));

@@ -3,7 +3,7 @@
 
 ghost use Rattle.std.specs.Prelude.{◌≡◌, true, [], IfOk};
 ghost use Rattle.copy_inbox.specs.Views.{make_taker_state};
-ghost use Rattle.copy_exchange.specs.Marks.{Counts};
+ghost use Rattle.copy_exchange.specs.Marks.{AreTakersCounts};
 
 use super::team::write_team;
 use super::{push, push_mark, with_two};
@@ -57,7 +57,7 @@ fn copy(at: u64, number: u64) -> RadioCopy {
 fn make_worker_2(alloc: Global, taker: Taker) -> Result<MarkEndpoint, InboxError>
     requires taker { taker.state ≡ make_taker_state true 2 [] [] }
     ensures taker { IfOk result (λ worker_2. worker_2.base.taker ≡ taker) }
-    ensures counts { IfOk result (λ worker_2. Counts worker_2.marks.items worker_2.base.taker.state) }
+    ensures counts { IfOk result (λ worker_2. AreTakersCounts worker_2.marks.items worker_2.base.taker.state) }
 {
     let endpoint = Endpoint {
         worker: 2,
@@ -75,7 +75,7 @@ fn push_window<R: Wait>(
     copied: RadioCopy,
     window: u64,
 ) -> Result<(), InboxError>
-    requires inbox { sender.old.inbox ≡ inbox.now }
+    requires of_inbox { sender.old.inbox ≡ inbox.now }
     requires marked { sender.old.state.marked ≡ true }
     ensures sender { (sender.new.inbox ≡ inbox.now) × (sender.new.state.marked ≡ true) }
 {
@@ -90,7 +90,7 @@ fn push_marks<R: Wait>(
     sender: &mut Sender,
     windows: u64,
 ) -> Result<(), InboxError>
-    requires inbox { sender.old.inbox ≡ inbox.now }
+    requires of_inbox { sender.old.inbox ≡ inbox.now }
     requires marked { sender.old.state.marked ≡ true }
     ensures sender { (sender.new.inbox ≡ inbox.now) × (sender.new.state.marked ≡ true) }
 {

@@ -23,7 +23,7 @@ pub(crate) fn copy(sender: u16, number: u64) -> RadioCopy {
 
 /// A new inbox, with marks or without, and its taker.
 fn make(alloc: Global, marked: bool) -> Result<(Inbox, Taker), InboxError>
-    ensures inbox { IfOk result (λ made. made.1.inbox ≡ made.0) }
+    ensures of_inbox { IfOk result (λ made. made.1.inbox ≡ made.0) }
     ensures empty { IfOk result (λ made. made.1.state ≡ make_taker_state marked 0 [] []) }
 {
     if marked {
@@ -35,7 +35,7 @@ fn make(alloc: Global, marked: bool) -> Result<(Inbox, Taker), InboxError>
 
 /// A new inbox, with marks or without, its taker, and a sender.
 pub(crate) fn with_one(alloc: Global, marked: bool) -> Result<(Inbox, Taker, Sender), InboxError>
-    ensures inbox { IfOk result (λ made. (made.1.inbox ≡ made.0) × (made.2.inbox ≡ made.0)) }
+    ensures of_inbox { IfOk result (λ made. (made.1.inbox ≡ made.0) × (made.2.inbox ≡ made.0)) }
     ensures taker { IfOk result (λ made. made.1.state ≡ make_taker_state marked 1 [] []) }
     ensures sender { IfOk result (λ made. made.2.state ≡ make_sender_state marked 0 []) }
 {
@@ -49,7 +49,8 @@ pub(crate) fn with_two(
     alloc: Global,
     marked: bool,
 ) -> Result<(Inbox, Taker, Sender, Sender), InboxError>
-    ensures inbox { IfOk result (λ made. (made.1.inbox ≡ made.0) × (made.2.inbox ≡ made.0) × (made.3.inbox ≡ made.0)) }
+    ensures of_inbox { IfOk result
+        (λ made. (made.1.inbox ≡ made.0) × (made.2.inbox ≡ made.0) × (made.3.inbox ≡ made.0)) }
     ensures taker { IfOk result (λ made. made.1.state ≡ make_taker_state marked 2 [] []) }
     ensures senders { IfOk result (λ made. (made.2.state ≡ make_sender_state marked 0 [])
         × (made.3.state ≡ make_sender_state marked 1 [])) }
@@ -61,7 +62,7 @@ pub(crate) fn with_two(
 
 // Pushes a copy. If an allocation fails, nothing is pushed.
 pub(crate) fn push<R: Wait>(rt: &R, inbox: &Inbox, sender: &mut Sender, copied: RadioCopy)
-    requires inbox { sender.old.inbox ≡ inbox.now }
+    requires of_inbox { sender.old.inbox ≡ inbox.now }
     ensures sender { (sender.new.inbox ≡ inbox.now) × (sender.new.state.number ≡ sender.old.state.number)
         × (sender.new.state.marked ≡ sender.old.state.marked) }
 {
@@ -93,7 +94,7 @@ fn push_each<R: Wait>(
 
 // Writes down how many items are known.
 pub(crate) fn write_known(text: &mut String, inbox: &Inbox, taker: &Taker)
-    requires inbox { taker.now.inbox ≡ inbox.now }
+    requires of_inbox { taker.now.inbox ≡ inbox.now }
 {
     let known = inbox.known(taker);
     let _ = write!(text, "known {known}|");

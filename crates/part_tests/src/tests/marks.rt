@@ -14,7 +14,7 @@ use test_helpers::{same_text, write_copies};
 
 // Pushes a mark. If an allocation fails, nothing is pushed.
 fn push_mark<R: Wait>(rt: &R, inbox: &Inbox, sender: &mut Sender, window: u64)
-    requires inbox { sender.old.inbox ≡ inbox.now }
+    requires of_inbox { sender.old.inbox ≡ inbox.now }
     requires marked { sender.old.state.marked ≡ true }
     ensures sender { (sender.new.inbox ≡ inbox.now) × (sender.new.state.number ≡ sender.old.state.number)
         × (sender.new.state.marked ≡ true) }
@@ -33,7 +33,7 @@ fn write_item(text: &mut String, item: Item) {
 
 // Takes the next item `count` times. Writes down each item, and before it the number of known items.
 fn write_nexts<R: Wait>(rt: &R, text: &mut String, inbox: &Inbox, taker: &mut Taker, count: u8)
-    requires inbox { taker.old.inbox ≡ inbox.now }
+    requires of_inbox { taker.old.inbox ≡ inbox.now }
     ensures taker { (taker.new.inbox ≡ inbox.now) × (taker.new.state.marked ≡ taker.old.state.marked)
         × (taker.new.state.made ≡ taker.old.state.made) × (taker.new.state.gathered ≡ taker.old.state.gathered) }
 {
@@ -82,7 +82,7 @@ fn items_one_by_one(rt: HostRuntime) -> Result<(), Fail> {
 
 // For each window, pushes three copies of a mote's packets and a mark.
 fn push_windows<R: Wait>(rt: &R, inbox: &Inbox, mut sender: Sender, mote: u16, windows: u64)
-    requires inbox { sender.inbox ≡ inbox.now }
+    requires of_inbox { sender.inbox ≡ inbox.now }
     requires marked { sender.state.marked ≡ true }
 {
     for window in 0..windows {
@@ -108,7 +108,7 @@ fn is_pushed(item: Item, position: u64) -> bool {
 // Takes the items that two senders push in so many windows each, and yields the processor while the inbox is empty.
 // Returns `true` if all items arrived, those of each sender in order.
 fn take_windows<R: Wait>(rt: &R, inbox: &Inbox, mut taker: Taker, windows: u64) -> bool
-    requires inbox { taker.inbox ≡ inbox.now }
+    requires of_inbox { taker.inbox ≡ inbox.now }
 {
     let all = [windows.wrapping_mul(4); 2];
     let mut next = [0u64; 2];

@@ -45,7 +45,7 @@ static TRIALS: [Trials<'static>; 21] = [
     Trials {
         trial: Trial {
             on_record: FOUR_MOTES,
-            of: &[0, 0, 1, 1],
+            owners: &[0, 0, 1, 1],
             ..PRINTING
         },
         workers: &[Some(2)],
@@ -56,7 +56,7 @@ static TRIALS: [Trials<'static>; 21] = [
     Trials {
         trial: Trial {
             on_record: FOUR_MOTES,
-            of: &[0, 1, 0, 1],
+            owners: &[0, 1, 0, 1],
             ..PRINTING
         },
         workers: &[Some(2)],
@@ -97,7 +97,7 @@ static TRIALS: [Trials<'static>; 21] = [
     },
     Trials {
         trial: Trial {
-            of: &[0, 0, 1],
+            owners: &[0, 0, 1],
             ..SENDING
         },
         workers: &[Some(2)],
@@ -107,7 +107,7 @@ static TRIALS: [Trials<'static>; 21] = [
     },
     Trials {
         trial: Trial {
-            of: &[0, 1, 0],
+            owners: &[0, 1, 0],
             ..SENDING
         },
         workers: &[Some(2)],
@@ -124,7 +124,7 @@ static TRIALS: [Trials<'static>; 21] = [
     },
     Trials {
         trial: Trial {
-            of: &[0, 0, 1],
+            owners: &[0, 0, 1],
             ..SENDING
         },
         workers: &[Some(2)],
@@ -134,7 +134,7 @@ static TRIALS: [Trials<'static>; 21] = [
     },
     Trials {
         trial: Trial {
-            of: &[0, 1, 0],
+            owners: &[0, 1, 0],
             ..SENDING
         },
         workers: &[Some(2)],

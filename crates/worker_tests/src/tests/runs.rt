@@ -20,7 +20,7 @@ use window_workers::{Cut, Gate, SyncKind};
 #[derive(Drop)]
 struct Starts<'a> {
     /// The worker of each mote.
-    of: &'a [u16],
+    owners: &'a [u16],
     shut: Option<u16>,
     asked: AtomicU64,
     own: AtomicU64,
@@ -28,7 +28,7 @@ struct Starts<'a> {
 
 impl Gate for Starts<'_> {
     fn inside(&self, worker: u16, _moment: u64, mote: u16) {
-        if self.of.get(usize::from(mote)) == Some(&worker) {
+        if self.owners.get(usize::from(mote)) == Some(&worker) {
             self.own.fetch_add(1, SeqCst);
         }
     }
@@ -53,7 +53,7 @@ where
     R: Threads + Wait + Sync + RandomSource + AllocGlobal,
 {
     let gate = Starts {
-        of: cut.of.as_slice(),
+        owners: cut.of.as_slice(),
         shut,
         asked: AtomicU64::new(0),
         own: AtomicU64::new(0),

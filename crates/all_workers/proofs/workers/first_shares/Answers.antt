@@ -15,7 +15,7 @@ loop-worker-preserved c =
     record {
       count = (let e = inv.count in omega arith);
       each = λ v share low.
-          pushed (λ k (s : Share). IsWholeShare n c.args.of.now k 0 (first_mote (system_of n)) [] s) c.loop-worker.shares.items _ c.in_ok-share.share c.loop-worker.worker
+          pushed (λ k (s : Share). IsWholeShare n c.args.owners.now k 0 (first_mote (system_of n)) [] s) c.loop-worker.shares.items _ c.in_ok-share.share c.loop-worker.worker
           c.in_ok-push.ensures.items inv.count (λ k d h. inv.each k d h) c.in_ok-share.ensures.keeps v share low;
     }
 

@@ -3,4 +3,4 @@ use Rattle.all_workers.specs.Start.{AreFirst}
 use Rattle.all_workers.proofs.workers.first_shares.Given as goal
 
 abbrev pub invariant-loop-worker : goal.invariant-loop-worker
-invariant-loop-worker l = AreFirst (net_of l.net) l.of l.worker l.shares.items
+invariant-loop-worker l = AreFirst (net_of l.net) l.owners l.worker l.shares.items

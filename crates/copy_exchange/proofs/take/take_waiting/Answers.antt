@@ -5,7 +5,7 @@ use Rattle.copy_inbox.specs.Handles.{TakerView}
 use Rattle.copy_exchange.specs.declared.take.MarkError.{MarkError}
 use Rattle.copy_exchange.specs.declared.take.MarkError.TheVariants.{Stopped, Unexpected}
 use Rattle.copy_exchange.specs.Expected.{position_of, Refuses, TakesExpected}
-use Rattle.copy_exchange.specs.Marks.{Counts}
+use Rattle.copy_exchange.specs.Marks.{AreTakersCounts}
 use Rattle.copy_exchange.proofs.MarksCounted.{takes_none, takes_more, takes_unexpected}
 use Rattle.copy_exchange.proofs.take.take_waiting.Goals as goal
 
@@ -32,7 +32,7 @@ loop-preserved-in-Continue-1 g c =
     let heard = c.in_ok-hear-in-Some-take_next.ensures in
     record {
       took = takes_more (position_of c.args.window_position.now) c.args.taker.now c.loop.taker c.take_next.new.taker item c.loop.arrived.items c.hear.new.arrived.items c.loop.invariant.took matches.next.number matches.taken heard.arrived;
-      counts = subst (λ (t : TakerView). Counts c.hear.new.marks.items t.state) (sym matches.taken) (heard.counts c.loop.taker.state c.loop.invariant.counts matches.next);
+      counts = subst (λ (t : TakerView). AreTakersCounts c.hear.new.marks.items t.state) (sym matches.taken) (heard.counts c.loop.taker.state c.loop.invariant.counts matches.next);
     }
 
 pub loop-preserved : goal.loop-preserved
@@ -42,7 +42,7 @@ loop-preserved g c =
     record {
       took = subst (λ (t : TakerView). TakesExpected p c.args.taker.now t c.loop.arrived.items)
           same c.loop.invariant.took;
-      counts = subst (λ (t : TakerView). Counts c.loop.marks.items t.state) same c.loop.invariant.counts;
+      counts = subst (λ (t : TakerView). AreTakersCounts c.loop.marks.items t.state) same c.loop.invariant.counts;
     }
 
 pub returns-in_err-hear-in-Some-take_next-clause-unexpected :

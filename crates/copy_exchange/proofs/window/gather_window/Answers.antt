@@ -4,7 +4,7 @@ use Rattle.std.specs.declared.alloc.Global.{Global}
 use Rattle.std.proofs.lemmas.Result.{IfOk-weaker}
 use Rattle.copy_inbox.specs.Handles.{TakerView}
 use Rattle.copy_exchange.specs.Endpoints.{GathersDelivered}
-use Rattle.copy_exchange.specs.Inboxes.{IsPlain, Settled}
+use Rattle.copy_exchange.specs.Inboxes.{HasNoMarks, Settled}
 use Rattle.copy_exchange.specs.Steps.{GathersBack}
 use Rattle.copy_exchange.proofs.AfterWindow.{workers, all_on_inboxes, settled, plain_after, gathers_delivered}
 use Rattle.copy_exchange.proofs.window.gather_window.Goals as goal
@@ -25,7 +25,7 @@ returns-clause-settled g c = IfOk-weaker c.gather_back.result
 pub returns-clause-plain : goal.returns-clause-plain
 returns-clause-plain g c = IfOk-weaker c.gather_back.result
     (λ (ts : Vec TakerView Global). GathersBack c.args.endpoints.items ts.items)
-    (λ (ts : Vec TakerView Global). Each IsPlain ts.items)
+    (λ (ts : Vec TakerView Global). Each HasNoMarks ts.items)
     (λ ts back. plain_after c.args.inboxes.now c.args.endpoints.items c.requires.all_return ts.items back)
     c.gather_back.ensures.gathers_back
 

@@ -4,7 +4,7 @@ use Rattle.std.proofs.lemmas.Iterator.Consumers.{YieldsList-end, YieldsList-so_f
 use Rattle.std.proofs.lemmas.Result.{IfOk-weaker, IfErr-weaker, err_from_is_err_and}
 use Rattle.std.specs.List.{AllZip}
 use Rattle.fork_join.specs.Kept.{Handle, AllKept, AllPromised}
-use Rattle.fork_join.specs.Reported.{IsOwn, IsReported, IsReportedOf}
+use Rattle.fork_join.specs.Reported.{IsForkError, IsReported, IsReportedOf}
 use Rattle.fork_join.proofs.Zips.{push_zip, zip_zip, zip_length, each_at}
 use Rattle.fork_join.proofs.Ends.{own_alone, with_own, after_fork}
 use Rattle.fork_join.proofs.fork.fork_all.Given as given
@@ -95,7 +95,7 @@ spawn_with-begun-requires-clause-runs g c = λ κs within κs1 items held κs2 w
     (subst (g.W.Work.ready c.args.work.now) (sym turn.1) (each_at (g.W.Work.ready c.args.work.now) c.args.workers.items (length c.loop-worker.yielded) c.in-Some.worker c.requires.ready turn.0), (c.split_off-share.ensures.parts, c.split_off-share.ensures.amount))
 
 -- the fork failed, after these threads were started
-forked : (g : given.Over) (c : After-gravest g) → IsOwn (Some c.in-Some-refused.refused) × AllPromised c.args.work.now c.loop-worker.yielded c.match-next.started.items
+forked : (g : given.Over) (c : After-gravest g) → IsForkError (Some c.in-Some-refused.refused) × AllPromised c.args.work.now c.loop-worker.yielded c.match-next.started.items
 forked g c =
     let is = c.in-Some-refused.is in
     let promised = c.loop-worker.invariant.promised in

@@ -11,7 +11,7 @@ use Rattle.joined_workers.proofs.run.run_by_joins.Goals as goal
 
 pub windows-init : goal.windows-init
 windows-init g c = record {
-  at = in_state_there (net_of c.args.net.now) c.args.of.now 0 c.end-end.result c.args.group c.window_start-from.result c.requires.at (omega arith) c.window_start-from.ensures.value c.lookahead_of.ensures.forward;
+  at = in_state_there (net_of c.args.net.now) c.args.owners.now 0 c.end-end.result c.args.group c.window_start-from.result c.requires.at_moment (omega arith) c.window_start-from.ensures.value c.lookahead_of.ensures.forward;
   plain = c.requires.plain;
   early = c.window_start-from.ensures.within;
   inboxes = refl;
@@ -23,8 +23,8 @@ pub windows-smaller : goal.windows-smaller
 windows-smaller g c =
     let up = c.window_end-until.ensures.later in
     let short = short_enough c.windows.from c.window_length-width.result c.lookahead_of.result _ c.window_end-until.result c.window_end-until.ensures.short c.window_length-width.ensures.within c.lookahead_of.ensures.value in
-    let then = moved (net_of c.args.net.now) c.lookahead_of.ensures.forward c.args.of.now c.windows.from c.window_end-until.result c.windows.group c.in_ok-group.group c.windows.invariant.at up short c.in_ok-group.ensures.runs in
-    let on = begins_later (net_of c.args.net.now) c.args.of.now c.window_end-until.result c.end-end.result c.in_ok-group.group _ then c.window_end-until.ensures.within c.window_start-from-in-windows.ensures.value in
+    let then = moved (net_of c.args.net.now) c.lookahead_of.ensures.forward c.args.owners.now c.windows.from c.window_end-until.result c.windows.group c.in_ok-group.group c.windows.invariant.at up short c.in_ok-group.ensures.runs in
+    let on = begins_later (net_of c.args.net.now) c.args.owners.now c.window_end-until.result c.end-end.result c.in_ok-group.group _ then c.window_end-until.ensures.within c.window_start-from-in-windows.ensures.value in
     let there = c.windows-test.true in
     omega arith
 
@@ -32,7 +32,7 @@ pub windows-preserved : goal.windows-preserved
 windows-preserved g c =
     let up = c.window_end-until.ensures.later in
     let short = short_enough c.windows.from c.window_length-width.result c.lookahead_of.result _ c.window_end-until.result c.window_end-until.ensures.short c.window_length-width.ensures.within c.lookahead_of.ensures.value in
-    let then = moved (net_of c.args.net.now) c.lookahead_of.ensures.forward c.args.of.now c.windows.from c.window_end-until.result c.windows.group c.in_ok-group.group c.windows.invariant.at up short c.in_ok-group.ensures.runs in
+    let then = moved (net_of c.args.net.now) c.lookahead_of.ensures.forward c.args.owners.now c.windows.from c.window_end-until.result c.windows.group c.in_ok-group.group c.windows.invariant.at up short c.in_ok-group.ensures.runs in
     let n = net_of c.args.net.now in
     let width = length_of_window (system_of n).lookahead c.args.longest in
     let is : c.window_end-until.result ≡ end_of_window n.end width c.windows.from =
@@ -40,14 +40,14 @@ windows-preserved g c =
     ∙ (ap (λ e. end_of_window e c.window_length-width.result c.windows.from) c.end-end.ensures.value
     ∙ ap (λ l. end_of_window n.end l c.windows.from) (c.window_length-width.ensures.value ∙ ap (λ l. length_of_window l c.args.longest) c.lookahead_of.ensures.value)) in
     -- the window that was run is the next one
-    let next : GroupRunsNext n c.args.of.now width c.windows.group c.in_ok-group.group = record {
+    let next : GroupRunsNext n c.args.owners.now width c.windows.group c.in_ok-group.group = record {
       from = c.windows.from;
       begins = c.windows.invariant.begins;
       there = (let end = c.end-end.ensures.value in let before = c.windows-test.true in omega arith);
-      runs = subst (λ (until : ℕ). GroupRunsUntil n c.args.of.now until c.windows.group c.in_ok-group.group) is c.in_ok-group.ensures.runs;
+      runs = subst (λ (until : ℕ). GroupRunsUntil n c.args.owners.now until c.windows.group c.in_ok-group.group) is c.in_ok-group.ensures.runs;
     } in
     record {
-      at = in_state_there (net_of c.args.net.now) c.args.of.now c.window_end-until.result c.end-end.result c.in_ok-group.group _ then c.window_end-until.ensures.within c.window_start-from-in-windows.ensures.value c.lookahead_of.ensures.forward;
+      at = in_state_there (net_of c.args.net.now) c.args.owners.now c.window_end-until.result c.end-end.result c.in_ok-group.group _ then c.window_end-until.ensures.within c.window_start-from-in-windows.ensures.value c.lookahead_of.ensures.forward;
       plain = c.in_ok-group.ensures.plain;
       early = c.window_start-from-in-windows.ensures.within;
       inboxes = c.in_ok-group.ensures.runs.inboxes ∙ c.windows.invariant.inboxes;

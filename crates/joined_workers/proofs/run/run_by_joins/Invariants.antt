@@ -1,7 +1,7 @@
 use Rattle.std.proofs.Common.{ℕ, ◌≡◌, ◌+◌, ◌-◌, ◌≤◌}
 use Rattle.mote_net.specs.Meaning.{net_of}
 use Rattle.std.specs.List.{AllByRecursion as Each}
-use Rattle.copy_exchange.specs.Inboxes.{IsPlain}
+use Rattle.copy_exchange.specs.Inboxes.{HasNoMarks}
 use Rattle.net_agenda.specs.NetSystem.{system_of}
 use Rattle.all_workers.specs.WorkerGroup.{IsAt}
 use Rattle.joined_workers.specs.Run.{BeginsAt, GroupRunsWindows}
@@ -10,11 +10,11 @@ use Rattle.joined_workers.proofs.run.run_by_joins.Given as goal
 
 abbrev pub invariant-windows : goal.invariant-windows
 invariant-windows g l = record {
-  at : IsAt (net_of l.net) l.of l.from l.group;
-  plain : Each IsPlain l.group.takers.items;
+  at : IsAt (net_of l.net) l.owners l.from l.group;
+  plain : Each HasNoMarks l.group.takers.items;
   early : l.from ≤ l.end + 1;
   inboxes : l.group.inboxes.items ≡ l.fn.group.inboxes.items;
-  windows : (k : ℕ) × GroupRunsWindows (net_of l.net) l.of (length_of_window (system_of (net_of l.net)).lookahead l.longest) k l.fn.group l.group;
+  windows : (k : ℕ) × GroupRunsWindows (net_of l.net) l.owners (length_of_window (system_of (net_of l.net)).lookahead l.longest) k l.fn.group l.group;
   begins : BeginsAt (net_of l.net).end l.group l.from;
 }
 

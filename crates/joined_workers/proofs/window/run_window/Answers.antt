@@ -14,14 +14,14 @@ run_threads-requires-sync-W g c κs within =
 pub run_threads-requires-clause-ready : goal.run_threads-requires-clause-ready
 run_threads-requires-clause-ready g c κs within =
     rw (c.deref.ensures.value, c.deref-2.ensures.value)
-    (ready (net_of c.args.net.now) c.args.of.now c.requires.in_state.0 c.args.until c.args.group c.requires.in_state.1 c.requires.in_state.2 c.requires.until_bounded c.requires.plain)
+    (ready (net_of c.args.net.now) c.args.owners.now c.requires.in_state.0 c.args.until c.args.group c.requires.in_state.1 c.requires.in_state.2 c.requires.until_bounded c.requires.plain)
 
 pub gather_window-requires : goal.gather_window-requires
 gather_window-requires g c = record {
   all_return =
       let worked = rw (c.deref.ensures.value, c.deref-2.ensures.value) at c.in_ok-done.ensures.worked in
       rw (c.deref-4.ensures.value, c.in_ok-shares.ensures.endpoints)
-      (returned (net_of c.args.net.now) c.args.of.now c.requires.in_state.0 c.args.until c.args.group c.requires.in_state.1 c.in_ok-done.done.items worked);
+      (returned (net_of c.args.net.now) c.args.owners.now c.requires.in_state.0 c.args.until c.args.group c.requires.in_state.1 c.in_ok-done.done.items worked);
 }
 
 pub returns-clause-runs : goal.returns-clause-runs
@@ -32,7 +32,7 @@ returns-clause-runs g c =
       done = c.in_ok-done.done.items;
       together = worked.are_made.together;
       starts = worked.are_made.starts;
-      ran = ran (net_of c.args.net.now) c.args.of.now c.requires.in_state.0 c.args.until c.args.group c.requires.in_state.1 c.in_ok-done.done.items worked;
+      ran = ran (net_of c.args.net.now) c.args.owners.now c.requires.in_state.0 c.args.until c.args.group c.requires.in_state.1 c.in_ok-done.done.items worked;
       shares = c.in_ok-shares.ensures.shares;
       gathering = rw c.in_ok-shares.ensures.endpoints at c.in-Ok.ensures.gathers;
       settled = rw c.deref-4.ensures.value at c.in-Ok.ensures.settled;

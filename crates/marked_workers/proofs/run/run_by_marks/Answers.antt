@@ -31,14 +31,14 @@ run_threads-requires-clause-settled g c κs within = rw c.deref-2.ensures.value 
 pub run_threads-requires-clause-ready : goal.run_threads-requires-clause-ready
 run_threads-requires-clause-ready g c κs within =
     let n = net_of c.args.net.now in
-    let of = c.args.of.now in
+    let owners = c.args.owners.now in
     let width = c.window_length-width.result in
     let ids = c.args.group.inboxes.items in
     let wide = c.window_length-width.ensures.above_zero in
     let short = subst (λ l. width ≤ l) c.lookahead_of.ensures.value c.window_length-width.ensures.within in
     rw (c.deref.ensures.value, c.deref-2.ensures.value) (λ workers made.
-    every_weaker (IsFirst n of ids) (λ (worker : Worker). (0 < width) × (width ≤ (system_of n).lookahead) × IsFirst n of ids worker) (λ worker first. (wide, short, first)) workers
-    (ready ids c.args.group.takers.items c.args.group.shares.items workers made c.requires.ready.fresh n of c.requires.ready.cut c.requires.ready.first c.requires.marked))
+    every_weaker (IsFirst n owners ids) (λ (worker : Worker). (0 < width) × (width ≤ (system_of n).lookahead) × IsFirst n owners ids worker) (λ worker first. (wide, short, first)) workers
+    (ready ids c.args.group.takers.items c.args.group.shares.items workers made c.requires.ready.fresh n owners c.requires.ready.cut c.requires.ready.first c.requires.marked))
 
 pub gather_back-requires-clause-workers : goal.gather_back-requires-clause-workers
 gather_back-requires-clause-workers g c =
@@ -47,7 +47,7 @@ gather_back-requires-clause-workers g c =
     let width = c.window_length-width.result in
     let w = rw (c.deref.ensures.value, c.deref-2.ensures.value) at c.in_ok-done.ensures.worked in
     rw (c.deref-3.ensures.value, c.in_ok-shares.ensures.endpoints)
-    (all_back n c.args.of.now width (windows_of width n.end) ids w.first c.in_ok-done.done.items
+    (all_back n c.args.owners.now width (windows_of width n.end) ids w.first c.in_ok-done.done.items
     (together_first ids c.args.group.takers.items c.args.group.shares.items w.first w.are_made c.requires.ready.fresh c.requires.ready.first.count) w.ran)
 
 pub gather_back-requires-clause-on_inboxes : goal.gather_back-requires-clause-on_inboxes
@@ -56,14 +56,14 @@ gather_back-requires-clause-on_inboxes g c =
     let width = c.window_length-width.result in
     let w = rw (c.deref.ensures.value, c.deref-2.ensures.value) at c.in_ok-done.ensures.worked in
     rw (c.deref-3.ensures.value, c.in_ok-shares.ensures.endpoints)
-    (all_on_inboxes n c.args.of.now width (windows_of width n.end) c.args.group.inboxes.items w.first c.in_ok-done.done.items w.ran)
+    (all_on_inboxes n c.args.owners.now width (windows_of width n.end) c.args.group.inboxes.items w.first c.in_ok-done.done.items w.ran)
 
 -- the workers at the end
 abbrev after : (g : _) (c : goal.In-Ok g) → WorkerGroup
 after g c = record { shares = c.in_ok-shares.shares; inboxes = c.args.group.inboxes; takers = c.in-Ok.takers; first_out = None }
 
 -- the run of the workers
-ran : (g : _) (c : goal.In-Ok g) → GroupRunsMarked (net_of c.args.net.now) c.args.of.now c.window_length-width.result c.args.group (after g c)
+ran : (g : _) (c : goal.In-Ok g) → GroupRunsMarked (net_of c.args.net.now) c.args.owners.now c.window_length-width.result c.args.group (after g c)
 ran g c =
     let ids = c.args.group.inboxes.items in
     let w = rw (c.deref.ensures.value, c.deref-2.ensures.value) at c.in_ok-done.ensures.worked in
@@ -80,13 +80,13 @@ ran g c =
     }
 
 -- so the workers are at the end
-at_end : (g : _) (c : goal.In-Ok g) → IsAt (net_of c.args.net.now) c.args.of.now (suc (net_of c.args.net.now).end) (after g c) × Each (λ (t : TakerView). Whole t.state.gathered t.state.taken) c.in-Ok.takers.items
+at_end : (g : _) (c : goal.In-Ok g) → IsAt (net_of c.args.net.now) c.args.owners.now (suc (net_of c.args.net.now).end) (after g c) × Each (λ (t : TakerView). Whole t.state.gathered t.state.taken) c.in-Ok.takers.items
 at_end g c =
     let short = subst (λ l. c.window_length-width.result ≤ l) c.lookahead_of.ensures.value c.window_length-width.ensures.within in
-    ended (net_of c.args.net.now) c.lookahead_of.ensures.forward c.args.of.now c.window_length-width.result c.window_length-width.ensures.above_zero short c.args.group (after g c) c.requires.ready.cut (ran g c)
+    ended (net_of c.args.net.now) c.lookahead_of.ensures.forward c.args.owners.now c.window_length-width.result c.window_length-width.ensures.above_zero short c.args.group (after g c) c.requires.ready.cut (ran g c)
 
-pub returns-clause-at : goal.returns-clause-at
-returns-clause-at g c = (at_end g c).0
+pub returns-clause-at_moment : goal.returns-clause-at_moment
+returns-clause-at_moment g c = (at_end g c).0
 
 pub returns-clause-all_taken : goal.returns-clause-all_taken
 returns-clause-all_taken g c = (at_end g c).1
@@ -94,5 +94,5 @@ returns-clause-all_taken g c = (at_end g c).1
 pub returns-clause-windows : goal.returns-clause-windows
 returns-clause-windows g c =
     let n = net_of c.args.net.now in
-    subst (λ width. GroupRunsMarked n c.args.of.now width c.args.group (after g c))
+    subst (λ width. GroupRunsMarked n c.args.owners.now width c.args.group (after g c))
     (c.window_length-width.ensures.value ∙ ap (λ l. length_of_window l c.args.longest) c.lookahead_of.ensures.value) (ran g c)

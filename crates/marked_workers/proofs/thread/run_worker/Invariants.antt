@@ -6,7 +6,7 @@ use Rattle.marked_workers.proofs.thread.run_worker.Given as goal
 
 abbrev pub invariant-windows : goal.invariant-windows
 invariant-windows g l = record {
-  ran : HasRun (net_of l.run.net.now) l.run.of.now l.run.width l.window l.run.inboxes.now l.fn.worker l.worker;
+  ran : HasRun (net_of l.run.net.now) l.run.owners.now l.run.width l.window l.run.inboxes.now l.fn.worker l.worker;
   at : l.from ≡ bound l.run.width (net_of l.run.net.now).end l.window;
   few : l.window ≤ windows_of l.run.width (net_of l.run.net.now).end;
 }

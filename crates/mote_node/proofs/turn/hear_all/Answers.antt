@@ -20,7 +20,7 @@ pub returns-then-any-2 : goal.returns-then-any-2
 returns-then-any-2 c = record {
   goes_on =
       let none : drop c.loop-packet.packet-index c.args.packets.now ≡ [] = at_end c.loop-packet.packet-index c.args.packets.now c.loop-packet-test.false in
-      λ t. record { leads = λ u is. heard_some c.args.moment c.args.packets.now _ c.loop-packet.any u _ _ c.loop-packet.out none c.if-any-2.true (c.loop-packet.invariant t u is) (c.poll.ensures.mote t) };
+      λ t. record { leads = λ u is. heard_some c.args.moment c.args.packets.now _ c.loop-packet.any u _ _ c.loop-packet.out none c.if-any-2.true (c.loop-packet.invariant t u is) (c.poll.ensures.model t) };
 }
 
 pub returns-else-any-2 : goal.returns-else-any-2

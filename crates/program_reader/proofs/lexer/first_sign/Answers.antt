@@ -3,7 +3,7 @@ use Rattle.std.specs.Prelude.{find}
 use Rattle.std.specs.List.{starts_with}
 use Rattle.std.proofs.lemmas.Iterator.{YieldsList-from_slice}
 use Rattle.std.proofs.lemmas.Iterator.Search.{find_from_yields_List}
-use Rattle.program_reader.specs.Front.{entry_of}
+use Rattle.program_reader.specs.Front.{token_entry}
 use Rattle.program_reader.proofs.FindLaws.{sign_found}
 use Rattle.program_reader.proofs.lexer.first_sign.Goals as goal
 
@@ -14,5 +14,5 @@ returns c = record {
       c.args.signs.now =
       find_from_yields_List (λ s. starts_with nat_eq c.args.rest.now s.0.now) _ _ c.find.result c.find.ensures.ran
       (YieldsList-from_slice c.args.signs.now cc) (λ x b q k. search (rules, tests)) in
-      ap (option_map entry_of) (c.copied.ensures ∙ found) ∙ sign_found c.args.signs.now c.args.rest.now;
+      ap (option_map token_entry) (c.copied.ensures ∙ found) ∙ sign_found c.args.signs.now c.args.rest.now;
 }

@@ -7,7 +7,7 @@ use Rattle.radio_packet.specs.declared.copy.RadioCopy.{RadioCopy}
 use Rattle.radio_packet.specs.declared.fate.Fate.{Fate}
 use Rattle.radio_packet.specs.declared.sent.Sent.{Sent}
 use Rattle.window_laws.specs.Agenda.{Item, Packet}
-use Rattle.net_agenda.specs.Buckets.{Holds}
+use Rattle.net_agenda.specs.Buckets.{HoldsItems}
 use Rattle.mote_net.specs.declared.report.LogLine.{LogLine}
 use Rattle.mote_net.specs.Report.{line_model, Packet as OfReport}
 use Rattle.serial_run.specs.NetRun.{packet_with_fates}
@@ -39,7 +39,7 @@ loop-sent-preserved c =
     record {
       agenda = λ items holds.
           let all = items ++ map Packet (flat_map (copies radio) (take i sends)) in
-          subst (λ l. Holds c.put_fates.new.self.buckets l)
+          subst (λ l. HoldsItems c.put_fates.new.self.buckets l)
           (ap (λ (fates : List Fate). all ++ map Packet (filter_map (copy_of sent) fates)) (c.deref.ensures.value ∙ matches) ∙ sends_more (copies radio) items sends i none c.loop-sent-test.true)
           (c.in_ok-put_fates.ensures.adds all (inv.agenda items holds));
       log =
@@ -51,5 +51,5 @@ loop-sent-preserved c =
 
 pub returns-clause-agenda : goal.returns-clause-agenda
 returns-clause-agenda c = λ items holds.
-    subst (λ l. Holds c.loop-sent.agenda.buckets (items ++ map Packet (flat_map (copies c.args.medium.now) l))) (take_all c.loop-sent.sent-index c.args.sends.now c.loop-sent-test.false)
+    subst (λ l. HoldsItems c.loop-sent.agenda.buckets (items ++ map Packet (flat_map (copies c.args.medium.now) l))) (take_all c.loop-sent.sent-index c.args.sends.now c.loop-sent-test.false)
     (c.loop-sent.invariant.agenda items holds)

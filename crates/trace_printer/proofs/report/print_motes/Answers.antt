@@ -2,7 +2,7 @@ use Rattle.std.proofs.Common.{map, ◌∙◌, ◌++◌, ap, subst, arith, append
 use Rattle.std.proofs.lemmas.Result.{err_from_is_err_and}
 use Rattle.program_tree.specs.Program.{tree_of}
 use Rattle.mote_net.specs.Meaning.{net_of}
-use Rattle.mote_net.specs.Report.{lines_in}
+use Rattle.mote_net.specs.Report.{trace_lines_in}
 use Rattle.trace_printer.specs.Page.{Written}
 use Rattle.trace_printer.specs.ReportText.{motes_text}
 use Rattle.trace_printer.proofs.Written.{printed_next, stopped_next}
@@ -30,7 +30,7 @@ pub returns : goal.returns
 returns g c = record {
   prints =
       let i = c.loop-mote.mote in
-      subst (λ (l : List ℕ). Written (g.W.Write.contents c.args.writer.now) (g.W.Write.contents c.loop-mote.writer) (c.args.page.now ++ motes_text 0 (net_of c.args.net.now).motes (map lines_in c.args.traces.now)) l)
+      subst (λ (l : List ℕ). Written (g.W.Write.contents c.args.writer.now) (g.W.Write.contents c.loop-mote.writer) (c.args.page.now ++ motes_text 0 (net_of c.args.net.now).motes (map trace_lines_in c.args.traces.now)) l)
       (ap (λ (l : List ℕ). c.loop-mote.page ++ l) (motes_end i (net_of c.args.net.now).motes c.args.traces.now i (omega arith) c.requires.traces) ∙ append-nil c.loop-mote.page)
       c.loop-mote.invariant;
 }

@@ -3,7 +3,7 @@ use Rattle.std.proofs.lemmas.Result.{err_from_is_err_and}
 use Rattle.trace_lines.specs.declared.line.Line.{Line}
 use Rattle.mote_net.specs.Net.{NetModel}
 use Rattle.mote_net.specs.Meaning.{net_of}
-use Rattle.mote_net.specs.Report.{lines_in, report_of}
+use Rattle.mote_net.specs.Report.{trace_lines_in, report_of}
 use Rattle.mote_net.specs.declared.report.Report.{Report}
 use Rattle.trace_printer.specs.ReportText.{motes_text, medium_text, left_text, report_text}
 use Rattle.trace_printer.proofs.Written.{written_none, written_start, written_front, written_then, printed_next}
@@ -12,8 +12,8 @@ use Rattle.trace_printer.proofs.report.write_report.Goals as goal
 
 -- the parts of a report's text
 motes_first : (n : NetModel) (r : Report) (ts : List (Vec Line Global)) → ts ≡ r.traces.items
-    → report_text n (report_of r) ≡ motes_text 0 n.motes (map lines_in ts) ++ (medium_text (report_of r).log ++ left_text r.left)
-motes_first n r ts is = ap (λ (l : List (Vec Line Global)). motes_text 0 n.motes (map lines_in l) ++ (medium_text (report_of r).log ++ left_text r.left)) (sym is)
+    → report_text n (report_of r) ≡ motes_text 0 n.motes (map trace_lines_in ts) ++ (medium_text (report_of r).log ++ left_text r.left)
+motes_first n r ts is = ap (λ (l : List (Vec Line Global)). motes_text 0 n.motes (map trace_lines_in l) ++ (medium_text (report_of r).log ++ left_text r.left)) (sym is)
 
 pub returns-in_err-page : goal.returns-in_err-page
 returns-in_err-page g c = record {
@@ -26,7 +26,7 @@ pub returns-in_err-print_motes : goal.returns-in_err-print_motes
 returns-in_err-print_motes g c = record {
   writes =
       let p = err_from_is_err_and c.from_residual-in_err-print_motes.result c.from_residual-in_err-print_motes.ensures.1 in
-      rw p.1 (stopped_before _ _ _ _ c.in_ok-page.page (motes_text 0 (net_of c.args.net.now).motes (map lines_in c.deref.result.now)) 109 _ _
+      rw p.1 (stopped_before _ _ _ _ c.in_ok-page.page (motes_text 0 (net_of c.args.net.now).motes (map trace_lines_in c.deref.result.now)) 109 _ _
       (written_start _ c.in_ok-page.page _ c.in_ok-page.ensures.empty) (motes_first (net_of c.args.net.now) c.args.report.now c.deref.result.now c.deref.ensures.value) c.in_err-print_motes.ensures.prints);
 }
 

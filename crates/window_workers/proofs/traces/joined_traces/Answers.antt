@@ -17,7 +17,7 @@ loop-mote-preserved c =
       long = t.count ∙ inv.long;
       places = λ w d. t.places w d ∙ inv.places w d;
       taken = λ k d e low.
-          pushed (λ i (v : Vec Line Global). v ≡ trace_at c.args.ended.items (slice_index c.args.of.now i) i d e) c.loop-mote.traces.items c.push.new.self.items c.take_trace-trace.result mote
+          pushed (λ i (v : Vec Line Global). v ≡ trace_at c.args.ended.items (slice_index c.args.owners.now i) i d e) c.loop-mote.traces.items c.push.new.self.items c.take_trace-trace.result mote
           c.in_ok-push.ensures.items inv.count
           (λ i x h. get_or_default c.loop-mote.traces.items i x e (let q = inv.count in omega arith) ∙ inv.taken i d e h)
           (t.taken d e ∙ (inv.left c.from.result mote d e (omega arith) ∙ ap (λ w. trace_at c.args.ended.items w mote d e) c.from.ensures))

@@ -10,6 +10,6 @@ invariant-loop-mote l = record {
   count : length l.traces.items ≡ l.mote;
   long : length l.ended.items ≡ length l.fn.ended.items;
   places : (w : ℕ) (d : Ended) → length (slice_index_or l.ended.items w d).traces.items ≡ length (slice_index_or l.fn.ended.items w d).traces.items;
-  taken : (k : ℕ) (d : Ended) (e : Vec Line Global) → k < l.mote → slice_index_or l.traces.items k e ≡ trace_at l.fn.ended.items (slice_index l.of k) k d e;
+  taken : (k : ℕ) (d : Ended) (e : Vec Line Global) → k < l.mote → slice_index_or l.traces.items k e ≡ trace_at l.fn.ended.items (slice_index l.owners k) k d e;
   left : (w k : ℕ) (d : Ended) (e : Vec Line Global) → l.mote ≤ k → trace_at l.ended.items w k d e ≡ trace_at l.fn.ended.items w k d e;
 }

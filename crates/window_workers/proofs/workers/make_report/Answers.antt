@@ -24,22 +24,22 @@ pub joined_traces-requires-clause-workers : goal.joined_traces-requires-clause-w
 joined_traces-requires-clause-workers g c =
     let n = c.requires.at_end.0 in
     let end = c.requires.at_end.1 in
-    subst (λ k. Each (λ worker. worker < k) c.args.of.now) (sym (as_many c.in_ok-ended.ended.items c.in_ok-medium.rest.items c.in_ok-medium.ensures.traces))
-    (workers_there n (system_is n end.sound.0 end.sound.1) c.args.of.now c.args.group end.at c.in_ok-ended.ended.items c.in_ok-ended.ensures.tells_what_it_kept)
+    subst (λ k. Each (λ worker. worker < k) c.args.owners.now) (sym (as_many c.in_ok-ended.ended.items c.in_ok-medium.rest.items c.in_ok-medium.ensures.traces))
+    (workers_there n (system_is n end.sound.0 end.sound.1) c.args.owners.now c.args.group end.at c.in_ok-ended.ended.items c.in_ok-ended.ensures.tells_what_it_kept)
 
 pub joined_traces-requires-clause-places : goal.joined_traces-requires-clause-places
 joined_traces-requires-clause-places g c =
     let n = c.requires.at_end.0 in
     let end = c.requires.at_end.1 in
-    places_kept (length c.args.of.now) c.in_ok-ended.ended.items c.in_ok-medium.rest.items c.in_ok-medium.ensures.traces
-    (all_places n (system_is n end.sound.0 end.sound.1) c.args.of.now c.args.group end.at c.in_ok-ended.ended.items c.in_ok-ended.ensures.tells_what_it_kept)
+    places_kept (length c.args.owners.now) c.in_ok-ended.ended.items c.in_ok-medium.rest.items c.in_ok-medium.ensures.traces
+    (all_places n (system_is n end.sound.0 end.sound.1) c.args.owners.now c.args.group end.at c.in_ok-ended.ended.items c.in_ok-ended.ensures.tells_what_it_kept)
 
 pub returns-clause-report : goal.returns-clause-report
 returns-clause-report g c = λ n end.
     let r : Report = record { traces = c.in_ok-traces.traces; medium = c.in_ok-medium.medium; left = c.in_ok-left.left } in
-    reported_equals n end.sound.0 end.sound.1 c.args.of.now c.args.group end.at c.in_ok-ended.ended.items c.in_ok-ended.ensures.tells_what_it_kept r
-    (traces_kept c.args.of.now c.in_ok-ended.ended.items c.in_ok-medium.rest.items c.in_ok-traces.traces.items c.in_ok-medium.ensures.traces c.in_ok-traces.ensures.are_traces_of)
-    (c.in_ok-medium.ensures.log n (all_fates n (system_is n end.sound.0 end.sound.1) c.args.of.now c.args.group end.at c.in_ok-ended.ended.items c.in_ok-ended.ensures.tells_what_it_kept))
+    reported_equals n end.sound.0 end.sound.1 c.args.owners.now c.args.group end.at c.in_ok-ended.ended.items c.in_ok-ended.ensures.tells_what_it_kept r
+    (traces_kept c.args.owners.now c.in_ok-ended.ended.items c.in_ok-medium.rest.items c.in_ok-traces.traces.items c.in_ok-medium.ensures.traces c.in_ok-traces.ensures.are_traces_of)
+    (c.in_ok-medium.ensures.log n (all_fates n (system_is n end.sound.0 end.sound.1) c.args.owners.now c.args.group end.at c.in_ok-ended.ended.items c.in_ok-ended.ensures.tells_what_it_kept))
     (subst (λ l. sum_by (λ (one : Ended). one.left) c.in_ok-ended.ended.items + sum_by (λ (pair : Pair). length (gathered_by pair.1)) l ≡ c.in_ok-left.left + sum_by (λ (pair : Pair). length (taken_by pair.1)) l) (c.deref-2.ensures.value ∙ c.in-Ok.ensures.pairs)
     (subst (λ l. sum_by (λ (one : Ended). one.left) l + sum_by (λ (pair : Pair). length (gathered_by pair.1)) c.deref-2.result.now ≡ c.in_ok-left.left + sum_by (λ (pair : Pair). length (taken_by pair.1)) c.deref-2.result.now) c.deref.ensures.value c.in_ok-left.ensures.balanced))
 
@@ -54,5 +54,5 @@ returns-clause-settled g c =
 pub returns-clause-crossed : goal.returns-clause-crossed
 returns-clause-crossed g c = λ n end.
     let r : Report = record { traces = c.in_ok-traces.traces; medium = c.in_ok-medium.medium; left = c.in_ok-left.left } in
-    subst (AllCrossed n c.args.of.now (report_of r)) (sym c.in-Ok.ensures.pairs)
-    (all_crossed n end.sound.0 end.sound.1 c.args.of.now c.args.group end.at c.in_ok-ended.ended.items c.in_ok-ended.ensures.tells_what_it_kept (report_of r) (returns-clause-report g c n end))
+    subst (AllCrossed n c.args.owners.now (report_of r)) (sym c.in-Ok.ensures.pairs)
+    (all_crossed n end.sound.0 end.sound.1 c.args.owners.now c.args.group end.at c.in_ok-ended.ended.items c.in_ok-ended.ensures.tells_what_it_kept (report_of r) (returns-clause-report g c n end))

@@ -18,7 +18,7 @@ use Rattle.window_workers.specs.Crossed.{Pair, AllCrossed}
 use Rattle.window_workers.specs.Fits.{cut_fault}
 use Rattle.window_workers.specs.Over.{AreAtEnd}
 use Rattle.serial_run.specs.NetRun.{IsReportOf}
-use Rattle.window_workers.specs.Sync.{IsFor}
+use Rattle.window_workers.specs.Sync.{IsForKind}
 use Rattle.window_workers.specs.declared.sync.SyncKind.TheVariants.{Marks}
 use Rattle.window_workers.proofs.ByWorkers.{one_trace_each, all_hand_on}
 use Rattle.window_workers.proofs.Fitting.{fits_is}
@@ -30,11 +30,11 @@ long_as : (v : Vec (Vec Line Global) Global) → vec_len v ≡ length v.items
 long_as v = search rules
 
 -- the partition is one among the workers of these inboxes, of which there are at most 16
-is_cut : (motes : ℕ) (pairs : List Pair) (inboxes : List InboxId) (of : List ℕ) → cut_fault motes (length pairs) of ≡ None → inboxes ≡ map (λ (pair : Pair). pair.0) pairs
-    → (length inboxes ≤ 16) × IsCut motes (length inboxes) of
-is_cut motes pairs inboxes of none same =
+is_cut : (motes : ℕ) (pairs : List Pair) (inboxes : List InboxId) (owners : List ℕ) → cut_fault motes (length pairs) owners ≡ None → inboxes ≡ map (λ (pair : Pair). pair.0) pairs
+    → (length inboxes ≤ 16) × IsCut motes (length inboxes) owners
+is_cut motes pairs inboxes owners none same =
     let long : length pairs ≡ length inboxes = sym (length-map pairs (λ (pair : Pair). pair.0)) ∙ ap length (sym same) in
-    subst (λ k. (k ≤ 16) × IsCut motes k of) long (fits_is motes (length pairs) of none)
+    subst (λ k. (k ≤ 16) × IsCut motes k owners) long (fits_is motes (length pairs) owners none)
 
 are_fresh : (pairs : List Pair) (inboxes : List InboxId) (takers : List TakerView) → inboxes ≡ map (λ (pair : Pair). pair.0) pairs → takers ≡ map (λ (pair : Pair). pair.1) pairs → Each (λ (pair : Pair). IsFresh pair.0 pair.1) pairs
     → AllZip IsFresh inboxes takers
@@ -43,7 +43,7 @@ are_fresh pairs inboxes takers e f fresh =
 
 pub new-requires-clause-cut : goal.new-requires-clause-cut
 new-requires-clause-cut g c =
-    rw c.as_slice-of.ensures.value
+    rw c.as_slice-owners.ensures.value
     (is_cut (length (net_of c.args.net.now).motes) c.args.pairs.items c.in-Ok.inboxes.items c.args.cut.now.of.items c.requires.fits c.in-Ok.ensures.inboxes).1
 
 pub new-requires-clause-fresh : goal.new-requires-clause-fresh
@@ -52,22 +52,22 @@ new-requires-clause-fresh g c = are_fresh c.args.pairs.items c.in-Ok.inboxes.ite
 pub run_by_kind-requires-clause-ready : goal.run_by_kind-requires-clause-ready
 run_by_kind-requires-clause-ready g c κs within =
     let n = net_of c.args.net.now in
-    let of = c.as_slice-of.result.now in
+    let owners = c.as_slice-owners.result.now in
     let group = c.in-Ok-new.group in
     let inboxes = c.in-Ok-new.ensures.inboxes.0 ∙ c.in-Ok.ensures.inboxes in
     let takers = c.in-Ok-new.ensures.inboxes.1 ∙ c.in-Ok.ensures.takers in
-    let fits : (length group.inboxes.items ≤ 16) × IsCut (length n.motes) (length group.inboxes.items) of =
-    rw c.as_slice-of.ensures.value (is_cut (length n.motes) c.args.pairs.items group.inboxes.items c.args.cut.now.of.items c.requires.fits inboxes) in
+    let fits : (length group.inboxes.items ≤ 16) × IsCut (length n.motes) (length group.inboxes.items) owners =
+    rw c.as_slice-owners.ensures.value (is_cut (length n.motes) c.args.pairs.items group.inboxes.items c.args.cut.now.of.items c.requires.fits inboxes) in
     record {
       few = fits.0;
       cut = fits.1;
       fresh = are_fresh c.args.pairs.items group.inboxes.items group.takers.items inboxes takers c.requires.fresh;
-      first = subst (λ l. AreFirst n of (length l) group.shares.items) (sym c.in-Ok-new.ensures.inboxes.0) c.in-Ok-new.ensures.first;
+      first = subst (λ l. AreFirst n owners (length l) group.shares.items) (sym c.in-Ok-new.ensures.inboxes.0) c.in-Ok-new.ensures.first;
     }
 
 pub run_by_kind-requires-clause-kind : goal.run_by_kind-requires-clause-kind
 run_by_kind-requires-clause-kind g c κs within =
-    subst (Each (IsFor c.args.sync)) (sym (c.in-Ok-new.ensures.inboxes.1 ∙ c.in-Ok.ensures.takers)) (seconds_have (IsFor c.args.sync) c.args.pairs.items c.requires.kind)
+    subst (Each (IsForKind c.args.sync)) (sym (c.in-Ok-new.ensures.inboxes.1 ∙ c.in-Ok.ensures.takers)) (seconds_have (IsForKind c.args.sync) c.args.pairs.items c.requires.kind)
 
 pub make_report-requires-clause-at_end : goal.make_report-requires-clause-at_end
 make_report-requires-clause-at_end g c κs within = (net_of c.args.net.now, c.in_ok-group.ensures.at_end)
@@ -75,7 +75,7 @@ make_report-requires-clause-at_end g c κs within = (net_of c.args.net.now, c.in
 pub returns-clause-report : goal.returns-clause-report
 returns-clause-report g c =
     let n = net_of c.args.net.now in
-    if_ok (λ (r : Report × Vec Pair Global). (m : NetModel) → AreAtEnd m c.as_slice-of.result.now c.in_ok-group.group → IsReportOf m (report_of r.0))
+    if_ok (λ (r : Report × Vec Pair Global). (m : NetModel) → AreAtEnd m c.as_slice-owners.result.now c.in_ok-group.group → IsReportOf m (report_of r.0))
     (λ (r : Report × Vec Pair Global). IsReportOf n (report_of r.0)) c.make_report.result (λ r h. h n c.in_ok-group.ensures.at_end) c.make_report.ensures.report
 
 pub returns-clause-traces : goal.returns-clause-traces
@@ -88,10 +88,10 @@ returns-clause-traces g c =
 pub returns-clause-crossed : goal.returns-clause-crossed
 returns-clause-crossed g c =
     let n = net_of c.args.net.now in
-    let of = c.as_slice-of.result.now in
-    subst (λ l. IfOk c.make_report.result (λ (r : Report × Vec Pair Global). AllCrossed n l (report_of r.0) r.1.items)) c.as_slice-of.ensures.value
-    (if_ok (λ (r : Report × Vec Pair Global). (m : NetModel) → AreAtEnd m of c.in_ok-group.group → AllCrossed m of (report_of r.0) r.1.items)
-    (λ (r : Report × Vec Pair Global). AllCrossed n of (report_of r.0) r.1.items) c.make_report.result (λ r h. h n c.in_ok-group.ensures.at_end) c.make_report.ensures.crossed)
+    let owners = c.as_slice-owners.result.now in
+    subst (λ l. IfOk c.make_report.result (λ (r : Report × Vec Pair Global). AllCrossed n l (report_of r.0) r.1.items)) c.as_slice-owners.ensures.value
+    (if_ok (λ (r : Report × Vec Pair Global). (m : NetModel) → AreAtEnd m owners c.in_ok-group.group → AllCrossed m owners (report_of r.0) r.1.items)
+    (λ (r : Report × Vec Pair Global). AllCrossed n owners (report_of r.0) r.1.items) c.make_report.result (λ r h. h n c.in_ok-group.ensures.at_end) c.make_report.ensures.crossed)
 
 pub returns-clause-inboxes : goal.returns-clause-inboxes
 returns-clause-inboxes g c =

@@ -1,5 +1,5 @@
 use Rattle.std.proofs.Common.{◌<◌, sym, subst, arith}
-use Rattle.net_agenda.specs.Buckets.{Holds}
+use Rattle.net_agenda.specs.Buckets.{HoldsItems}
 use Rattle.worker_window.proofs.TakesEvents.{none_yet, one_bucket, bucket_later, least_over, empty_over, takes_events, rest_is}
 use Rattle.worker_window.proofs.calls.take_events_before.Goals as goal
 use Rattle.worker_window.proofs.calls.take_events_before.Goals.{in-Some+then-moment-until, in_default}
@@ -33,7 +33,7 @@ returns-clause-taken c = λ items holds.
 pub returns-clause-rest : goal.returns-clause-rest
 returns-clause-rest c = λ items holds.
     let part = c.loop-moment.invariant items holds in
-    subst (λ l. Holds c.loop-moment.agenda.buckets l)
+    subst (λ l. HoldsItems c.loop-moment.agenda.buckets l)
     (rest_is c.args.until items c.loop-moment.calls.copies.items c.loop-moment.agenda.buckets part
     (elim c.match-first.branch [
       | in-Some+then-moment-until w ↦ least_over c.args.until w.in-Some.moment w.in-Some.mote part.rest (w.in-Some.ensures.least part.rest part.holds) w.if-moment-until.true

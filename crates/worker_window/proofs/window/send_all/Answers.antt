@@ -6,7 +6,7 @@ use Rattle.radio_packet.specs.declared.sent.Sent.{Sent}
 use Rattle.radio_medium.specs.Medium.{copies, copy_of}
 use Rattle.window_laws.specs.Agenda.{Packet}
 use Rattle.window_laws.proofs.Lists.{every_append}
-use Rattle.net_agenda.specs.Buckets.{Holds}
+use Rattle.net_agenda.specs.Buckets.{HoldsItems}
 use Rattle.mote_net.specs.declared.report.LogLine.{LogLine}
 use Rattle.worker_cut.specs.Crossed.{is_own, is_for_others}
 use Rattle.worker_window.specs.Log.{HaveFates, packets_in}
@@ -19,7 +19,7 @@ none = record { at = 0; sender = 0; number = 0; value = 0 }
 pub loop-sent-preserved : goal.loop-sent-preserved
 unfolding copies
 loop-sent-preserved c =
-    let own = is_own c.args.of.now c.args.worker in
+    let own = is_own c.args.owners.now c.args.worker in
     let sends = c.args.sends.now in
     let radio = c.args.medium.now in
     let made = copies radio in
@@ -33,7 +33,7 @@ loop-sent-preserved c =
     record {
       own = λ items holds.
           let all = items ++ map Packet (filter (λ (copy : RadioCopy). own copy.to) (flat_map made (take i sends))) in
-          subst (λ l. Holds c.send_fates.new.agenda.buckets l)
+          subst (λ l. HoldsItems c.send_fates.new.agenda.buckets l)
           (ap (λ l. all ++ map Packet (filter (λ (copy : RadioCopy). own copy.to) l)) given ∙ more_sent_own (λ copy. own copy.to) made items sends i none c.loop-sent-test.true)
           (c.in_ok-send_fates.ensures.own all (inv.own items holds));
       outgoing = c.in_ok-send_fates.ensures.outgoing
@@ -47,5 +47,5 @@ loop-sent-preserved c =
 
 pub returns-clause-own : goal.returns-clause-own
 returns-clause-own c = λ items holds.
-    subst (λ l. Holds c.loop-sent.agenda.buckets (items ++ map Packet (filter (λ copy. is_own c.args.of.now c.args.worker copy.to) (flat_map (copies c.args.medium.now) l)))) (take_all c.loop-sent.sent-index c.args.sends.now c.loop-sent-test.false)
+    subst (λ l. HoldsItems c.loop-sent.agenda.buckets (items ++ map Packet (filter (λ copy. is_own c.args.owners.now c.args.worker copy.to) (flat_map (copies c.args.medium.now) l)))) (take_all c.loop-sent.sent-index c.args.sends.now c.loop-sent-test.false)
     (c.loop-sent.invariant.own items holds)

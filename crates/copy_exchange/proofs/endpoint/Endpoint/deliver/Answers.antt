@@ -10,11 +10,11 @@ use Rattle.copy_exchange.proofs.endpoint.Endpoint.deliver.Goals as goal
 pub deliver_one-requires-clause-leaves : goal.deliver_one-requires-clause-leaves
 deliver_one-requires-clause-leaves g c =
     let none : RadioCopy = record { at = 0; to = 0; sender = 0; number = 0; value = 0 } in
-    let leaves = each_at (Leaves c.args.of.now (length c.args.inboxes.now) c.args.self.now.worker) c.args.copies.now c.loop-copy.copy-index none c.requires.leaves c.loop-copy-test.true in
-    subst (λ (worker : ℕ). Leaves c.args.of.now (length c.args.inboxes.now) worker (get_or c.args.copies.now c.loop-copy.copy-index none)) (sym c.loop-copy.invariant.delivers.stays.worker) leaves
+    let leaves = each_at (Leaves c.args.owners.now (length c.args.inboxes.now) c.args.self.now.worker) c.args.copies.now c.loop-copy.copy-index none c.requires.leaves c.loop-copy-test.true in
+    subst (λ (worker : ℕ). Leaves c.args.owners.now (length c.args.inboxes.now) worker (get_or c.args.copies.now c.loop-copy.copy-index none)) (sym c.loop-copy.invariant.delivers.stays.worker) leaves
 
 pub loop-copy-init : goal.loop-copy-init
-loop-copy-init g c = record { on_inboxes = c.requires.on_inboxes; delivers = delivers_none c.args.of.now c.args.self.now }
+loop-copy-init g c = record { on_inboxes = c.requires.on_inboxes; delivers = delivers_none c.args.owners.now c.args.self.now }
 
 pub loop-copy-preserved : goal.loop-copy-preserved
 loop-copy-preserved g c =
@@ -22,10 +22,10 @@ loop-copy-preserved g c =
     let index : ℕ = c.loop-copy.copy-index in
     let none : RadioCopy = record { at = 0; to = 0; sender = 0; number = 0; value = 0 } in
     let matches = c.in_ok-deliver_one.ensures in
-    let more = delivers_more c.args.of.now c.args.self.now c.loop-copy.self c.deliver_one.new.self (take index copies) _ c.loop-copy.invariant.delivers matches.delivers in
+    let more = delivers_more c.args.owners.now c.args.self.now c.loop-copy.self c.deliver_one.new.self (take index copies) _ c.loop-copy.invariant.delivers matches.delivers in
     record {
       on_inboxes = matches.on_inboxes;
-      delivers = subst (λ (l : List RadioCopy). Delivers c.args.of.now c.args.self.now c.deliver_one.new.self l) (sym (take_more copies index none c.loop-copy-test.true)) more;
+      delivers = subst (λ (l : List RadioCopy). Delivers c.args.owners.now c.args.self.now c.deliver_one.new.self l) (sym (take_more copies index none c.loop-copy-test.true)) more;
     }
 
 pub returns-clause-delivers : goal.returns-clause-delivers
@@ -36,4 +36,4 @@ returns-clause-delivers g c =
     let most = c.loop-copy.auto.copy-index-end in
     let e : index ≡ length copies = omega arith in
     let all : take index copies ≡ copies = ap (λ k. take k copies) e ∙ take-length copies in
-    subst (λ (l : List RadioCopy). Delivers c.args.of.now c.args.self.now c.loop-copy.self l) all c.loop-copy.invariant.delivers
+    subst (λ (l : List RadioCopy). Delivers c.args.owners.now c.args.self.now c.loop-copy.self l) all c.loop-copy.invariant.delivers

@@ -5,5 +5,5 @@ use Rattle.copy_exchange.proofs.endpoint.Endpoint.deliver.Given as goal
 abbrev pub invariant-loop-copy : goal.invariant-loop-copy
 invariant-loop-copy g l = record {
   on_inboxes : IsOnInboxes l.inboxes l.self;
-  delivers : Delivers l.of l.fn.self l.self (take l.copy-index l.copies);
+  delivers : Delivers l.owners l.fn.self l.self (take l.copy-index l.copies);
 }

@@ -8,12 +8,12 @@ use Rattle.copy_exchange.proofs.endpoint.Endpoint.deliver_one.Goals.{In_ok-map_e
 
 pub unreachable-requires : goal.unreachable-requires
 unreachable-requires g c =
-    never_none c.args.inboxes.now c.args.of.now c.args.self.now c.args.copy c.from-to.result c.from.result c.requires.on_inboxes c.requires.leaves c.from.ensures c.from-to.ensures c.index_mut.result.now c.index_mut.ensures.value c.in_default.is
+    never_none c.args.inboxes.now c.args.owners.now c.args.self.now c.args.copy c.from-to.result c.from.result c.requires.on_inboxes c.requires.leaves c.from.ensures c.from-to.ensures c.index_mut.result.now c.index_mut.ensures.value c.in_default.is
 
 pub push_copy-requires : goal.push_copy-requires
 push_copy-requires g c = record {
-  inbox =
-      let there = sender_there c.args.inboxes.now c.args.of.now c.args.self.now c.args.copy c.from-to.result c.from.result c.requires.on_inboxes c.requires.leaves c.from.ensures c.from-to.ensures c.index-inboxes-to.result c.index_mut.result.now c.index-inboxes-to.is c.index_mut.ensures.value in
+  of_inbox =
+      let there = sender_there c.args.inboxes.now c.args.owners.now c.args.self.now c.args.copy c.from-to.result c.from.result c.requires.on_inboxes c.requires.leaves c.from.ensures c.from-to.ensures c.index-inboxes-to.result c.index_mut.result.now c.index-inboxes-to.is c.index_mut.ensures.value in
       let P : Option SenderView → Type 0 = λ s. IsSomeAnd s (λ sender. sender.inbox ≡ c.index-inboxes-to.result) in
       subst P c.in-Some.is there;
 }
@@ -27,14 +27,14 @@ matches g c =
 
 pub returns-clause-on_inboxes : goal.returns-clause-on_inboxes
 returns-clause-on_inboxes g c =
-    let inside = to_inside c.args.inboxes.now c.args.of.now c.args.self.now c.args.copy c.from-to.result c.from.result c.requires.on_inboxes c.requires.leaves c.from.ensures c.from-to.ensures in
-    let is = to_is c.args.inboxes.now c.args.of.now c.args.self.now c.args.copy c.from-to.result c.from.result c.requires.on_inboxes c.requires.leaves c.from.ensures c.from-to.ensures in
+    let inside = to_inside c.args.inboxes.now c.args.owners.now c.args.self.now c.args.copy c.from-to.result c.from.result c.requires.on_inboxes c.requires.leaves c.from.ensures c.from-to.ensures in
+    let is = to_is c.args.inboxes.now c.args.owners.now c.args.self.now c.args.copy c.from-to.result c.from.result c.requires.on_inboxes c.requires.leaves c.from.ensures c.from-to.ensures in
     let t = matches g c in
-    endpoint_with c.args.inboxes.now c.args.of.now c.args.self.now c.args.copy c.from-to.result c.requires.on_inboxes inside c.requires.leaves.there is c.in-Some.sender c.push_copy.new.sender t.1 c.push_copy.ensures.inbox t.0
+    endpoint_with c.args.inboxes.now c.args.owners.now c.args.self.now c.args.copy c.from-to.result c.requires.on_inboxes inside c.requires.leaves.there is c.in-Some.sender c.push_copy.new.sender t.1 c.push_copy.ensures.of_inbox t.0
 
 pub returns-clause-delivers : goal.returns-clause-delivers
 returns-clause-delivers g c =
-    let inside = to_inside c.args.inboxes.now c.args.of.now c.args.self.now c.args.copy c.from-to.result c.from.result c.requires.on_inboxes c.requires.leaves c.from.ensures c.from-to.ensures in
-    let is = to_is c.args.inboxes.now c.args.of.now c.args.self.now c.args.copy c.from-to.result c.from.result c.requires.on_inboxes c.requires.leaves c.from.ensures c.from-to.ensures in
+    let inside = to_inside c.args.inboxes.now c.args.owners.now c.args.self.now c.args.copy c.from-to.result c.from.result c.requires.on_inboxes c.requires.leaves c.from.ensures c.from-to.ensures in
+    let is = to_is c.args.inboxes.now c.args.owners.now c.args.self.now c.args.copy c.from-to.result c.from.result c.requires.on_inboxes c.requires.leaves c.from.ensures c.from-to.ensures in
     let t = matches g c in
-    delivers_with c.args.inboxes.now c.args.of.now c.args.self.now c.args.copy c.from-to.result c.requires.on_inboxes inside c.requires.leaves.there is c.in-Some.sender c.push_copy.new.sender t.1 c.push_copy.ensures.inbox t.0
+    delivers_with c.args.inboxes.now c.args.owners.now c.args.self.now c.args.copy c.from-to.result c.requires.on_inboxes inside c.requires.leaves.there is c.in-Some.sender c.push_copy.new.sender t.1 c.push_copy.ensures.of_inbox t.0

@@ -10,4 +10,4 @@ returns-in_ok-map_err g c =
     let is = c.in-Some.is in
     let was : Some c.in-Some.sender ≡ get_or c.args.self.now.senders.items c.args.to (Some c.in-Some.sender) = sym is ∙ (value ∙ ap (get_or c.args.self.now.senders.items c.args.to) is) in
     let state : c.push_mark.new.sender.state ≡ after_pushing c.in-Some.sender.state (Mark c.args.window) = search rules in
-    record { marks = marks_with c.args.self.now c.args.to c.args.window c.requires.in_range c.in-Some.sender c.push_mark.new.sender was c.push_mark.ensures.inbox state }
+    record { marks = marks_with c.args.self.now c.args.to c.args.window c.requires.in_range c.in-Some.sender c.push_mark.new.sender was c.push_mark.ensures.of_inbox state }

@@ -1,6 +1,6 @@
 use Rattle.std.proofs.Common.{ap, arith, subst, ◌∙◌}
 use Rattle.copy_inbox.specs.declared.rule.SenderState.{SenderState}
-use Rattle.copy_inbox.specs.Items.{BeginsWith, Packets, part}
+use Rattle.copy_inbox.specs.Items.{HasPrefix, Packets, part}
 use Rattle.copy_inbox.specs.Handles.{taker_state_in, sender_state_in}
 use Rattle.copy_inbox.proofs.Moves.{merges_as, learns}
 use Rattle.copy_inbox.proofs.Kept.{joined_first, joined_there, joined_at, keeps_joined, keeps_forgetting}
@@ -55,7 +55,7 @@ pub returns-clause-begun : goal.returns-clause-begun
 returns-clause-begun g c =
     let held = c.len_as-held.ensures.rule in
     let b = joined_begins c.taker.inside.pass.me.view.client c.self.inside.pass.me.view.client _ c.len_as-held.new.pass.me.view.client _ _ _ held.0 c.taker.invariant.0.taker c.self.invariant.0 c.absorb.ensures.rule held.2 c.len_as-held.ensures.queue.2 in
-    let P : SenderState → Type 0 = λ p. BeginsWith p.pushed (part p.number (taker_state_in c.len_as-held.new.pass.me.view.client).taken) in
+    let P : SenderState → Type 0 = λ p. HasPrefix p.pushed (part p.number (taker_state_in c.len_as-held.new.pass.me.view.client).taken) in
     subst P (ap (λ s. s.state) c.self.view_is) b
 
 pub returns-clause-plain : goal.returns-clause-plain

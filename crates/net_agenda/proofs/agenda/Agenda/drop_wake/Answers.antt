@@ -4,12 +4,12 @@ use Rattle.std.specs.Ordering.{nat_cmp}
 use Rattle.std.specs.BTreeMap.{get}
 use Rattle.window_laws.specs.Agenda.{is_wake_of, wake_items}
 use Rattle.window_laws.proofs.Lists.{filter_not}
-use Rattle.net_agenda.specs.Buckets.{Buckets, Holds}
+use Rattle.net_agenda.specs.Buckets.{Buckets, HoldsItems}
 use Rattle.net_agenda.proofs.Moments.{unwoken, none_unwoken, changed_left, changed_gone}
 use Rattle.net_agenda.proofs.agenda.Agenda.drop_wake.Goals as goal
 
 pub returns-in_default : goal.returns-in_default
-returns-in_default c = record { drops_wake = λ items holds none. subst (Holds c.args.self.now.buckets) (sym (filter_not (is_wake_of c.args.mote) items (none ∙ ap (wake_items c.args.mote) c.in_default.is))) holds }
+returns-in_default c = record { drops_wake = λ items holds none. subst (HoldsItems c.args.self.now.buckets) (sym (filter_not (is_wake_of c.args.mote) items (none ∙ ap (wake_items c.args.mote) c.in_default.is))) holds }
 
 pub returns-then-is_empty : goal.returns-then-is_empty
 returns-then-is_empty c = record {
@@ -46,6 +46,6 @@ returns-in_default-get_mut c = record {
       let old = c.args.self.now.buckets in
       let t = c.in-Some.moment in
       let none : get nat_cmp old t ≡ None = search rules in
-      subst (λ (m : Buckets). Holds m (filter (λ item. not (is_wake_of c.args.mote item)) items)) (sym c.get_mut.follows.holds-at-none)
+      subst (λ (m : Buckets). HoldsItems m (filter (λ item. not (is_wake_of c.args.mote item)) items)) (sym c.get_mut.follows.holds-at-none)
       (none_unwoken old t c.args.mote items holds none (one ∙ ap (wake_items c.args.mote) c.in-Some.is));
 }

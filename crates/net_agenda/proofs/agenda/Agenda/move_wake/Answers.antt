@@ -1,7 +1,7 @@
 use Rattle.std.proofs.Common.{◌++◌, ◌∙◌, sym, subst, not}
 use Rattle.std.specs.List.{filter}
 use Rattle.window_laws.specs.Agenda.{is_wake_of, wake_items}
-use Rattle.net_agenda.specs.Buckets.{Holds}
+use Rattle.net_agenda.specs.Buckets.{HoldsItems}
 use Rattle.net_agenda.proofs.Woken.{rewoken, same_wake}
 use Rattle.net_agenda.proofs.agenda.Agenda.move_wake.Goals as goal
 
@@ -9,7 +9,7 @@ pub returns-then-eq : goal.returns-then-eq
 returns-then-eq c = record {
   moves_wake =
       λ items holds one.
-      subst (λ w. Holds c.args.self.now.buckets (filter (λ item. not (is_wake_of c.args.mote item)) items ++ wake_items c.args.mote w))
+      subst (λ w. HoldsItems c.args.self.now.buckets (filter (λ item. not (is_wake_of c.args.mote item)) items ++ wake_items c.args.mote w))
       (same_wake c.args.wake c.args.next (sym c.eq.ensures ∙ c.if-eq.true)) (rewoken c.args.self.now.buckets c.args.wake c.args.mote items holds one);
 }
 

@@ -15,7 +15,7 @@ returns-in-Some-clause-held c =
     let found : get nat_cmp old t ≡ Some b = sym c.in-Some.ensures.value in
     if_all c.put_copies.result (λ n more filled falls items holds.
     put_many old (c.get_mut.follows.lender d) t d items _ holds (more ∙ ap (λ l. l ++ map Packet (c.args.copy.now ∷ take n c.args.later.now)) (sym (ap (items_in t) found))) filled falls
-    ((c.get_mut.follows.holds d).3 (subst IsSome (sym found) refl)).0) c.put_copies.ensures.more c.put_copies.ensures.filled c.put_copies.ensures.falls
+    ((c.get_mut.follows.holds d).3 (subst IsSome (sym found) refl)).0) c.put_copies.ensures.appended c.put_copies.ensures.filled c.put_copies.ensures.falls
 
 pub returns-clause-held : goal.returns-clause-held
 returns-clause-held c = λ items holds.
@@ -25,6 +25,6 @@ returns-clause-held c = λ items holds.
     let n = c.in_ok-count.count in
     let none : get nat_cmp old t ≡ None = search rules in
     let run = map Packet (c.args.copy.now ∷ take n c.args.later.now) in
-    let more = c.in_ok-count.ensures.more ∙ (ap (λ l. map (item_at t) l ++ run) c.new-bucket.ensures.nothing ∙ ap (λ o. items_in t o ++ run) (sym none)) in
+    let more = c.in_ok-count.ensures.appended ∙ (ap (λ l. map (item_at t) l ++ run) c.new-bucket.ensures.nothing ∙ ap (λ o. items_in t o ++ run) (sym none)) in
     put_many old c.insert.new.self t d items _ holds more c.in_ok-count.ensures.filled c.in_ok-count.ensures.falls
     (λ q. c.in_ok-insert.ensures.updates.0 q ∙ ap (λ m. cond (is_eq (nat_cmp t q)) (Some d) (get nat_cmp m q)) c.get_mut.follows.holds-at-none)

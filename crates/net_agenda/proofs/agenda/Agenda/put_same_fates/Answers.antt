@@ -1,7 +1,7 @@
 use Rattle.std.proofs.Common.{rules, ◌≡◌, cond, ◌∷◌, ◌++◌, map, take, ap, ◌∙◌, subst, sym, refl, IsSome, Some, None}
 use Rattle.std.specs.Ordering.{nat_cmp, is_eq}
 use Rattle.std.specs.BTreeMap.{get}
-use Rattle.net_agenda.specs.Buckets.{Holds, items_in, item_at}
+use Rattle.net_agenda.specs.Buckets.{HoldsItems, items_in, item_at}
 use Rattle.net_agenda.proofs.Runs.{copies_with, if_all, put_many, this_fate}
 use Rattle.net_agenda.proofs.agenda.Agenda.put_same_fates.Goals as goal
 
@@ -14,9 +14,9 @@ returns-in-Some-get_mut-clause-held c =
     let d = c.put_fates.new.self in
     let found : get nat_cmp old t ≡ Some b = sym c.in-Some-get_mut.ensures.value in
     if_all c.put_fates.result (λ n more filled falls items holds.
-    subst (λ f. Holds (c.get_mut.follows.lender d) (items ++ copies_with sent (f ∷ take n c.args.later.now))) (this_fate c.args.fate.now t c.in-Some.is)
+    subst (λ f. HoldsItems (c.get_mut.follows.lender d) (items ++ copies_with sent (f ∷ take n c.args.later.now))) (this_fate c.args.fate.now t c.in-Some.is)
     (put_many old (c.get_mut.follows.lender d) t d items _ holds (more ∙ ap (λ l. l ++ copies_with sent (record { to = c.args.fate.now.to; at = Some t } ∷ take n c.args.later.now)) (sym (ap (items_in t) found))) filled falls
-    ((c.get_mut.follows.holds d).3 (subst IsSome (sym found) refl)).0)) c.put_fates.ensures.more c.put_fates.ensures.filled c.put_fates.ensures.falls
+    ((c.get_mut.follows.holds d).3 (subst IsSome (sym found) refl)).0)) c.put_fates.ensures.appended c.put_fates.ensures.filled c.put_fates.ensures.falls
 
 pub returns-clause-held : goal.returns-clause-held
 returns-clause-held c = λ items holds.
@@ -27,7 +27,7 @@ returns-clause-held c = λ items holds.
     let n = c.in_ok-count.count in
     let none : get nat_cmp old t ≡ None = search rules in
     let run = copies_with sent (record { to = c.args.fate.now.to; at = Some t } ∷ take n c.args.later.now) in
-    let more = c.in_ok-count.ensures.more ∙ (ap (λ l. map (item_at t) l ++ run) c.new-bucket.ensures.nothing ∙ ap (λ o. items_in t o ++ run) (sym none)) in
-    subst (λ f. Holds c.insert.new.self (items ++ copies_with sent (f ∷ take n c.args.later.now))) (this_fate c.args.fate.now t c.in-Some.is)
+    let more = c.in_ok-count.ensures.appended ∙ (ap (λ l. map (item_at t) l ++ run) c.new-bucket.ensures.nothing ∙ ap (λ o. items_in t o ++ run) (sym none)) in
+    subst (λ f. HoldsItems c.insert.new.self (items ++ copies_with sent (f ∷ take n c.args.later.now))) (this_fate c.args.fate.now t c.in-Some.is)
     (put_many old c.insert.new.self t d items _ holds more c.in_ok-count.ensures.filled c.in_ok-count.ensures.falls
     (λ q. c.in_ok-insert.ensures.updates.0 q ∙ ap (λ m. cond (is_eq (nat_cmp t q)) (Some d) (get nat_cmp m q)) c.get_mut.follows.holds-at-none))

@@ -4,7 +4,7 @@ use Rattle.std.specs.Ordering.{nat_cmp}
 use Rattle.std.specs.BTreeMap.{get}
 use Rattle.std.proofs.lemmas.Result.{on_ok_weaker}
 use Rattle.window_laws.specs.Agenda.{comes_at}
-use Rattle.net_agenda.specs.Buckets.{Buckets, Holds}
+use Rattle.net_agenda.specs.Buckets.{Buckets, HoldsItems}
 use Rattle.net_agenda.proofs.Moments.{taken, none_taken, arrivals_found, none_found, changed_left, changed_gone}
 use Rattle.net_agenda.proofs.agenda.Agenda.take_due_into.Goals as goal
 
@@ -16,7 +16,7 @@ returns-in_default-clause-copies c = λ items holds.
 pub returns-in_default-clause-rest : goal.returns-in_default-clause-rest
 returns-in_default-clause-rest c = λ items holds.
     let none : get nat_cmp c.args.self.now.buckets c.args.moment ≡ None = search rules in
-    subst (λ (m : Buckets). Holds m (filter (λ item. not (comes_at c.args.moment c.args.mote item)) items)) (sym c.get_mut.follows.holds-at-none)
+    subst (λ (m : Buckets). HoldsItems m (filter (λ item. not (comes_at c.args.moment c.args.mote item)) items)) (sym c.get_mut.follows.holds-at-none)
     (none_taken c.args.self.now.buckets c.args.moment c.args.mote items holds none)
 
 pub returns-then-is_empty-clause-copies : goal.returns-then-is_empty-clause-copies

@@ -1,11 +1,11 @@
 use Rattle.std.proofs.Common.{arith, ◌≡◌, ◌+◌, refl, ap, sym}
 use Rattle.program_tree.specs.Program.{tree_of}
 use Rattle.trace_lines.specs.declared.out.Out.{Out}
-use Rattle.process_kernel.specs.State.{State}
+use Rattle.process_kernel.specs.State.{KernelState}
 use Rattle.process_kernel.specs.Run.{begun_of, most_units}
 use Rattle.process_kernel.specs.Boot.{boot_of}
 use Rattle.process_kernel.specs.Call.{calls_of}
-use Rattle.process_kernel.specs.Views.{state_of, mote_of}
+use Rattle.process_kernel.specs.Views.{kernel_state_of, kernel_model_of}
 use Rattle.process_kernel.specs.Given.{boot_given, given, begun}
 use Rattle.process_kernel.proofs.Given.{failed, halted, finished, begins_with}
 use Rattle.process_kernel.proofs.kernel.Kernel.boot.Goals as goal
@@ -28,14 +28,14 @@ returns c = record {
       let t = tree_of c.args.program.now in
       let k = c.args.self.now in
       let out = c.args.out.now in
-      let o = boot_of (calls_of (most_units + 1)) (state_of t c.begin.new.self) in
-      let begins : begun (mote_of t k.machine k.booted k.halted) c.args.now out.lines.items out.sends.items
-      ≡ state_of t c.begin.new.self = rw c.swap.ensures.x_after at (sym (c.begin.ensures.exact t)) in
-      let work : c.begin.new.self.fuel ≡ most_units = ap (λ (s : State). s.units) (c.begin.ensures.exact t) in
-      let gives : boot_given c.args.now (mote_of t k.machine k.booted k.halted) out.lines.items out.sends.items
-      ≡ given o = rw c.if-self-2.false (ap (λ (s : State). given (boot_of (calls_of (most_units + 1)) s)) begins) in
+      let o = boot_of (calls_of (most_units + 1)) (kernel_state_of t c.begin.new.self) in
+      let begins : begun (kernel_model_of t k.machine k.booted k.halted) c.args.now out.lines.items out.sends.items
+      ≡ kernel_state_of t c.begin.new.self = rw c.swap.ensures.x_after at (sym (c.begin.ensures.exact t)) in
+      let work : c.begin.new.self.fuel ≡ most_units = ap (λ (s : KernelState). s.units) (c.begin.ensures.exact t) in
+      let gives : boot_given c.args.now (kernel_model_of t k.machine k.booted k.halted) out.lines.items out.sends.items
+      ≡ given o = rw c.if-self-2.false (ap (λ (s : KernelState). given (boot_of (calls_of (most_units + 1)) s)) begins) in
       finished t (boot_given c.args.now) k (record k { machine = _ }) c.close.new.self out c.swap-2.new.y
-      (state_of t c.boot-ran.new.self) o c.boot-ran.result c.close.result
+      (kernel_state_of t c.boot-ran.new.self) o c.boot-ran.result c.close.result
       c.if-self.false c.if-self.false c.if-self-2.false gives
       (c.boot-ran.ensures.follows.exact (most_units + 1) (omega (arith, work))) refl
       (ap (λ (x : Out). x.lines.items) c.swap-2.ensures.y_after)

@@ -1,6 +1,6 @@
 use Rattle.std.proofs.Common.{◌≡◌, ◌-◌, Some}
 use Rattle.program_tree.specs.Program.{tree_of}
-use Rattle.process_kernel.specs.Public.{mote_in}
+use Rattle.process_kernel.specs.Public.{kernel_in}
 use Rattle.process_kernel.specs.Underway.{Underway}
 use Rattle.process_kernel.specs.GoesOn.{underway_in}
 use Rattle.process_kernel.proofs.Given.{GoesOnSoFar}
@@ -9,7 +9,7 @@ use Rattle.process_kernel.proofs.kernel.Kernel.run_all_on.Given as goal
 
 abbrev pub invariant-runs : goal.invariant-runs
 invariant-runs l =
-    ((u : Underway) → underway_in (mote_in (tree_of l.program) l.fn.self) l.fn.self.machine.out ≡ Some u
-    → RunSoFar l.most (l.most - l._run) l.now u (underway_in (mote_in (tree_of l.program) l.self) l.self.machine.out))
-    × GoesOnSoFar (mote_in (tree_of l.program) l.fn.self) l.fn.self.machine.out
-    (mote_in (tree_of l.program) l.self) l.self.machine.out
+    ((u : Underway) → underway_in (kernel_in (tree_of l.program) l.fn.self) l.fn.self.machine.out ≡ Some u
+    → RunSoFar l.most (l.most - l._run) l.now u (underway_in (kernel_in (tree_of l.program) l.self) l.self.machine.out))
+    × GoesOnSoFar (kernel_in (tree_of l.program) l.fn.self) l.fn.self.machine.out
+    (kernel_in (tree_of l.program) l.self) l.self.machine.out

@@ -12,7 +12,7 @@ use Rattle.process_kernel.specs.Start.{start_of}
 use Rattle.process_kernel.specs.Exit.{last_run_of, exit_of}
 use Rattle.process_kernel.specs.Operation.{act_of, perform_of, run_of}
 use Rattle.process_kernel.specs.Call.{call_of, answered}
-use Rattle.process_kernel.specs.Views.{state_of}
+use Rattle.process_kernel.specs.Views.{kernel_state_of}
 use Rattle.process_kernel.proofs.machine.Machine.+kernel.Goals as goal
 
 pub act-returns-in-Poll : goal.act-returns-in-Poll
@@ -58,7 +58,7 @@ act-returns-in-Signal t c = record {
 pub call-returns-then-not-is_running-clause-follows : goal.call-returns-then-not-is_running-clause-follows
 unfolding call_of answered
 call-returns-then-not-is_running-clause-follows t c = record {
-  exact = deeper_call (Ok tt) (state_of (tree_of c.args.program.now) c.args.self.now) _ _ _ (λ k enough. search rules);
+  exact = deeper_call (Ok tt) (kernel_state_of (tree_of c.args.program.now) c.args.self.now) _ _ _ (λ k enough. search rules);
   spends = search rules;
   grows = search rules;
 }
@@ -93,7 +93,7 @@ pub call-returns-else-is_event-clause-follows : goal.call-returns-else-is_event-
 unfolding call_of answered
 call-returns-else-is_event-clause-follows t c = record {
   exact = let T = tree_of c.args.program.now in
-      deeper_call (Ok tt) (state_of T c.set_state-else-is_event.new.self) _ _ _
+      deeper_call (Ok tt) (kernel_state_of T c.set_state-else-is_event.new.self) _ _ _
       (λ k enough. search (
         rules,
         c.in_ok-spend.ensures.exact T,
@@ -288,9 +288,9 @@ run-returns-in-Runaway t c = record {
     exact = λ k enough.
         let T = tree_of c.args.program.now in
         let now = c.loop-op.invariant.2 k enough in
-        rw now.2 (deeper_run (Err c.halt.result) (state_of T c.halt.new.self) _ _ _ _ _
+        rw now.2 (deeper_run (Err c.halt.result) (kernel_state_of T c.halt.new.self) _ _ _ _ _
         (λ j left. rw (c.in-Runaway.ensures.exact T)
-        (halt_tells Answer c.halt.result (state_of T c.advance.new.self) (state_of T c.halt.new.self)
+        (halt_tells Answer c.halt.result (kernel_state_of T c.advance.new.self) (kernel_state_of T c.halt.new.self)
         (c.halt.ensures.exact T))) now.0 now.1);
     spends = search rules;
     grows = search rules;
@@ -342,10 +342,10 @@ unfolding start_of
 start-returns-in_ok-enlist t c = record {
   follows =
       let T = tree_of c.args.program.now in
-      let old = state_of T c.args.self.now in
+      let old = kernel_state_of T c.args.self.now in
       let listed = c.in_ok-enlist.ensures.exact T in
       let within : place_of c.args.process < length c.args.self.now.shown.states.items = search rules in
-      let runs = enlisted_runs old (state_of T c.enlist.new.self) c.args.process within listed in
+      let runs = enlisted_runs old (kernel_state_of T c.enlist.new.self) c.args.process within listed in
       let counts = c.in_ok-enlist.ensures.counts in
       record {
         exact = λ k enough. search (rules, listed);
@@ -362,7 +362,7 @@ run_part-returns-then-is_empty t c = record {
     exact = λ k enough.
         let none : whole_of (code_of c.args.text.now) c.args.part ≡ [] = search rules in
         nothing_runs (code_of c.args.text.now) c.args.part none k
-        (state_of (tree_of c.args.program.now) c.args.self.now) c.args.process c.args.event.now
+        (kernel_state_of (tree_of c.args.program.now) c.args.self.now) c.args.process c.args.event.now
         (omega (arith, enough));
     spends = search rules;
     grows = search rules;

@@ -3,7 +3,7 @@ use Rattle.program_tree.specs.Program.{tree_of, code_of}
 use Rattle.protothread.specs.Places.{remainder_of}
 use Rattle.process_kernel.specs.Calls.{walk_of}
 use Rattle.process_kernel.specs.Call.{calls_of}
-use Rattle.process_kernel.specs.Views.{state_of, Spends, Grows}
+use Rattle.process_kernel.specs.Views.{kernel_state_of, Spends, Grows}
 use Rattle.process_kernel.proofs.machine.Machine.+kernel.Given as goal
 
 -- Each call of a running process and each step of a thread spends a unit of work. A function has a higher rank than
@@ -65,9 +65,9 @@ invariant-run-loop-op l =
     Spends 0 l.fn.self l.self
     × Grows l.fn.self.out l.self.out
     × ((k : ℕ) → l.fn.self.fuel < k → (m : ℕ) × (l.self.fuel < m)
-    × ((calls_of k).run (state_of (tree_of l.program) l.fn.self) (code_of l.text)
+    × ((calls_of k).run (kernel_state_of (tree_of l.program) l.fn.self) (code_of l.text)
     (remainder_of (code_of l.text) l.fn.thread) l.process l.event
-    ≡ (calls_of m).run (state_of (tree_of l.program) l.self) (code_of l.text)
+    ≡ (calls_of m).run (kernel_state_of (tree_of l.program) l.self) (code_of l.text)
     (remainder_of (code_of l.text) l.thread) l.process l.event))
 
 abbrev pub decreases-run-loop-op : goal.decreases-run-loop-op
@@ -78,5 +78,5 @@ invariant-walk-loop-member l =
     Spends 0 l.fn.self l.self
     × Grows l.fn.self.out l.self.out
     × ((k : ℕ) → l.fn.self.fuel < k
-    → walk_of (calls_of k) l.event l.skipped l.members (state_of (tree_of l.program) l.fn.self)
-    ≡ walk_of (calls_of k) l.event l.skipped (drop l.member-index l.members) (state_of (tree_of l.program) l.self))
+    → walk_of (calls_of k) l.event l.skipped l.members (kernel_state_of (tree_of l.program) l.fn.self)
+    ≡ walk_of (calls_of k) l.event l.skipped (drop l.member-index l.members) (kernel_state_of (tree_of l.program) l.self))

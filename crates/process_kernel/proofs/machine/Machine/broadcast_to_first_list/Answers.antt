@@ -3,7 +3,7 @@ use Rattle.program_tree.specs.Program.{tree_of}
 use Rattle.process_kernel.specs.State.{◌>>=◌}
 use Rattle.process_kernel.specs.Call.{calls_of}
 use Rattle.process_kernel.specs.Delivery.{walk_broadcast}
-use Rattle.process_kernel.specs.Views.{state_of}
+use Rattle.process_kernel.specs.Views.{kernel_state_of}
 use Rattle.process_kernel.proofs.FirstList.{rest_begins}
 use Rattle.process_kernel.proofs.machine.Machine.broadcast_to_first_list.Goals as goal
 
@@ -32,7 +32,7 @@ loop-place-preserved c =
       (omega (arith, inv.0.0, spends.0), omega (arith, inv.0.1, spends.1), spends.2 ∙ inv.0.2),
       search rules,
       λ k enough.
-          inv.2 k enough ∙ ap (λ xs. walk_broadcast (calls_of k) c.args.posted.now xs (state_of T c.loop-place.self)) rest
+          inv.2 k enough ∙ ap (λ xs. walk_broadcast (calls_of k) c.args.posted.now xs (kernel_state_of T c.loop-place.self)) rest
           ∙ ap (λ o. o >>= λ _ s1. walk_broadcast (calls_of k) c.args.posted.now (drop (c.loop-place.place + 1) ms) s1)
           (turn.exact k (omega (arith, enough, inv.0.0))),
     )

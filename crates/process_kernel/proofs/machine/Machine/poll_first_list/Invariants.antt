@@ -2,7 +2,7 @@ use Rattle.std.proofs.Common.{◌≡◌, ◌<◌, ℕ, drop}
 use Rattle.program_tree.specs.Program.{tree_of}
 use Rattle.process_kernel.specs.Call.{calls_of}
 use Rattle.process_kernel.specs.Polls.{walk_polls}
-use Rattle.process_kernel.specs.Views.{state_of, Spends, Grows}
+use Rattle.process_kernel.specs.Views.{kernel_state_of, Spends, Grows}
 use Rattle.process_kernel.proofs.machine.Machine.poll_first_list.Given as goal
 
 abbrev pub invariant-loop-place : goal.invariant-loop-place
@@ -10,5 +10,5 @@ invariant-loop-place l =
     Spends 0 l.fn.self l.self
     × Grows l.fn.self.out l.self.out
     × ((k : ℕ) → l.fn.self.fuel < k
-    → walk_polls (calls_of k) l.fn.self.members.items (state_of (tree_of l.program) l.fn.self)
-    ≡ walk_polls (calls_of k) (drop l.place l.fn.self.members.items) (state_of (tree_of l.program) l.self))
+    → walk_polls (calls_of k) l.fn.self.members.items (kernel_state_of (tree_of l.program) l.fn.self)
+    ≡ walk_polls (calls_of k) (drop l.place l.fn.self.members.items) (kernel_state_of (tree_of l.program) l.self))

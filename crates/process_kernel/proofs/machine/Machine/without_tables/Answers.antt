@@ -1,5 +1,5 @@
 use Rattle.std.proofs.Common.{refl}
-use Rattle.process_kernel.specs.Mote.{unbooted}
+use Rattle.process_kernel.specs.KernelModel.{unbooted}
 use Rattle.process_kernel.proofs.machine.Machine.without_tables.Goals as goal
 
 pub returns : goal.returns

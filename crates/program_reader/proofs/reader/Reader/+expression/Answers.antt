@@ -1,5 +1,5 @@
 use Rattle.std.proofs.Common.{◌<◌, ap, arith, rules}
-use Rattle.program_reader.specs.Steps.{scope_of}
+use Rattle.program_reader.specs.Steps.{read_scope}
 use Rattle.program_tree.specs.Meaning.{expression_of}
 use Rattle.program_tree.specs.Tree.{negation}
 use Rattle.program_reader.proofs.Runs.{same_names, renumbered, refitted}
@@ -27,7 +27,7 @@ negation-returns t c = record {
 
 pub sides-returns-clause-ok : goal.sides-returns-clause-ok
 sides-returns-clause-ok t c =
-    sides_read _ _ _ _ _ _ _ _ _ _ _ (ap scope_of c.in_ok-left.ensures.answers_expression.same) c.in_ok-left.ensures.answers_expression.ok
+    sides_read _ _ _ _ _ _ _ _ _ _ _ (ap read_scope c.in_ok-left.ensures.answers_expression.same) c.in_ok-left.ensures.answers_expression.ok
     c.in_ok-operator.ensures.ok c.in_ok-right.ensures.answers_expression.ok c.in_ok-sign.ensures.ok
 
 pub sides-returns-clause-right_numbered : goal.sides-returns-clause-right_numbered

@@ -133,7 +133,7 @@ statement-returns-in_ok-plain-in_default t c = record {
     fits = rw (does_of-Do c.in_ok-plain-in_default.field-0) c.in_ok-plain-in_default.ensures.answers_action.fits;
     shallow =
         subst (λ z. c.args.place.now.level + inner_height z ≤ 32)
-        (sym (does_of-Do c.in_ok-plain-in_default.field-0)) (omega (arith, c.requires.low));
+        (sym (does_of-Do c.in_ok-plain-in_default.field-0)) (omega (arith, c.requires.level_bounded));
     counts =
         subst (λ z. inner_size z + c.args.self.now.scope.statements < c.plain.new.self.scope.statements)
         (sym (does_of-Do c.in_ok-plain-in_default.field-0)) (omega (arith, c.in_ok-plain-in_default.ensures.answers_action.counts));

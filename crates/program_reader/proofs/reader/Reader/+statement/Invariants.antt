@@ -1,5 +1,5 @@
 use Rattle.std.proofs.Common.{◌≡◌, ◌+◌, ◌-◌, ◌*◌, ◌≤◌, length, map}
-use Rattle.program_reader.specs.Steps.{scope_of, context_of, fixed}
+use Rattle.program_reader.specs.Steps.{read_scope, context_of, fixed}
 use Rattle.program_tree.specs.Meaning.{statement_of}
 use Rattle.program_reader.proofs.Blocks.{HasFront}
 use Rattle.program_reader.proofs.reader.Reader.+statement.Given as goal
@@ -23,7 +23,7 @@ abbrev pub invariant-block-statements : goal.invariant-block-statements
 invariant-block-statements l = record {
   no_longer : length l.self.cursor ≤ length l.fn.self.cursor;
   names : fixed l.self.scope ≡ fixed l.fn.self.scope;
-  front : HasFront (scope_of l.fn.self.scope) (scope_of l.self.scope) (context_of l.place).thread (context_of l.place)
+  front : HasFront (read_scope l.fn.self.scope) (read_scope l.self.scope) (context_of l.place).thread (context_of l.place)
       (map statement_of l.statements.items) l.fn.self.cursor l.self.cursor;
 }
 

@@ -1,7 +1,7 @@
 use Rattle.std.proofs.Common.{◌∙◌, sym, ap, map}
 use Rattle.std.proofs.lemmas.List.{length-map}
 use Rattle.program_reader.specs.Machine.{codes_form}
-use Rattle.program_reader.specs.Steps.{scope_of}
+use Rattle.program_reader.specs.Steps.{read_scope}
 use Rattle.program_tree.specs.FlatBlock.{tree_in}
 use Rattle.program_reader.proofs.MadeLaws.{same_made, code_read, paired, blocks_paired}
 use Rattle.program_reader.proofs.ListLaws.{handed_on}
@@ -9,16 +9,16 @@ use Rattle.program_reader.proofs.reader.Reader.code.Goals as goal
 
 pub returns-in_err-content-clause-err : goal.returns-in_err-content-clause-err
 returns-in_err-content-clause-err c = λ f e xs more.
-    (c.in_ok-opening_of.ensures.ok (scope_of c.args.self.now.scope)).goes_on xs more ∙ c.in_err-content.ensures.err f
+    (c.in_ok-opening_of.ensures.ok (read_scope c.args.self.now.scope)).goes_on xs more ∙ c.in_err-content.ensures.err f
     (handed_on c.from_residual-in_err-content.ensures.1 e)
     (codes_form xs more)
 
 pub returns-in_err-last_brace-clause-err : goal.returns-in_err-last_brace-clause-err
 returns-in_err-last_brace-clause-err c = λ f e xs more.
-    (c.in_ok-opening_of.ensures.ok (scope_of c.args.self.now.scope)).goes_on xs more
+    (c.in_ok-opening_of.ensures.ok (read_scope c.args.self.now.scope)).goes_on xs more
     ∙ c.in_ok-content.ensures.ok.goes_on (codes_form xs more)
     ∙ c.in_err-last_brace.ensures.err f (handed_on c.from_residual-in_err-last_brace.ensures.1 e)
-    (scope_of c.content.new.self.scope) (codes_form xs more)
+    (read_scope c.content.new.self.scope) (codes_form xs more)
 
 pub invariant_of-result : goal.invariant_of-result
 invariant_of-result c =
@@ -50,8 +50,8 @@ pub returns-clause-ok : goal.returns-clause-ok
 returns-clause-ok c =
     let own = c.leave-own.ensures in
     code_read _ c.args.process _ c.content.new.self.scope.etimers c.content.new.self.scope.ctimers _ _ _ _ _ _
-    (scope_of c.args.self.now.scope) (scope_of c.content.new.self.scope) (scope_of c.leave-own.new.self) _ _ _ _
-    (c.in_ok-opening_of.ensures.ok (scope_of c.args.self.now.scope)) c.in_ok-content.ensures.ok
-    c.in_ok-last_brace.ensures.spelled (λ f. c.in_ok-last_brace.ensures.ok (scope_of c.content.new.self.scope) f)
+    (read_scope c.args.self.now.scope) (read_scope c.content.new.self.scope) (read_scope c.leave-own.new.self) _ _ _ _
+    (c.in_ok-opening_of.ensures.ok (read_scope c.args.self.now.scope)) c.in_ok-content.ensures.ok
+    c.in_ok-last_brace.ensures.spelled (λ f. c.in_ok-last_brace.ensures.ok (read_scope c.content.new.self.scope) f)
     own.left
     (same_made own.variables own.first_timer own.etimers own.ctimers own.threads)

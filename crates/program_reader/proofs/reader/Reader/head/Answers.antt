@@ -1,6 +1,6 @@
 use Rattle.std.proofs.Common.{◌∙◌, ap, sym, subst}
 use Rattle.program_reader.specs.Head.{ReadsAutostart, ReadsReceiver}
-use Rattle.program_reader.specs.Steps.{scope_of}
+use Rattle.program_reader.specs.Steps.{read_scope}
 use Rattle.program_reader.proofs.ListLaws.{handed_on}
 use Rattle.program_reader.proofs.reader.Reader.head.Goals as goal
 
@@ -35,11 +35,11 @@ returns-in_err-receiver-clause-err c = λ f e more.
 
 pub returns-clause-ok : goal.returns-clause-ok
 returns-clause-ok c =
-    let same = ap scope_of (sym c.in_ok-receiver.ensures.same) in
+    let same = ap read_scope (sym c.in_ok-receiver.ensures.same) in
     record {
-      s1 = scope_of c.events.new.self.scope;
-      s2 = scope_of c.semaphores.new.self.scope;
-      s3 = scope_of c.processes.new.self.scope;
+      s1 = read_scope c.events.new.self.scope;
+      s2 = read_scope c.semaphores.new.self.scope;
+      s3 = read_scope c.processes.new.self.scope;
       m1 = c.events.new.self.cursor;
       m2 = c.semaphores.new.self.cursor;
       m3 = c.processes.new.self.cursor;
@@ -47,7 +47,7 @@ returns-clause-ok c =
       events = c.in_ok-events.ensures.ok;
       semaphores = c.in_ok-counts.ensures.ok;
       processes = c.in_ok-processes.ensures.ok;
-      starting = subst (λ z. ReadsAutostart (scope_of c.processes.new.self.scope) z c.in_ok-autostart.autostart.items
+      starting = subst (λ z. ReadsAutostart (read_scope c.processes.new.self.scope) z c.in_ok-autostart.autostart.items
           c.processes.new.self.cursor c.autostart.new.self.cursor) same c.in_ok-autostart.ensures.ok;
       receiving = subst (λ z. ReadsReceiver z c.in_ok-receiver.receiver c.autostart.new.self.cursor
           c.receiver.new.self.cursor) same c.in_ok-receiver.ensures.ok;

@@ -1,10 +1,10 @@
 use Rattle.std.proofs.Common.{length}
 use Rattle.program_reader.specs.Head.{HasStarting}
-use Rattle.program_reader.specs.Steps.{scope_of}
+use Rattle.program_reader.specs.Steps.{read_scope}
 use Rattle.program_reader.proofs.reader.Reader.starting_names.Given as goal
 
 abbrev pub invariant-names : goal.invariant-names
-invariant-names l = HasStarting (scope_of l.fn.self.scope) (scope_of l.self.scope) l.numbers.items l.fn.self.cursor
+invariant-names l = HasStarting (read_scope l.fn.self.scope) (read_scope l.self.scope) l.numbers.items l.fn.self.cursor
     l.self.cursor
 
 abbrev pub decreases-names : goal.decreases-names

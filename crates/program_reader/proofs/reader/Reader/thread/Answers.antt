@@ -1,13 +1,13 @@
 use Rattle.std.proofs.Common.{ap}
 use Rattle.program_tree.specs.FlatBlock.{tree_in}
-use Rattle.program_reader.specs.Steps.{scope_of}
+use Rattle.program_reader.specs.Steps.{read_scope}
 use Rattle.program_reader.proofs.BlockLaws.{block_read, thread_goes, spawns_earlier, thread_fails, thread_block_fails}
 use Rattle.program_reader.proofs.ListLaws.{handed_on}
 use Rattle.program_reader.proofs.reader.Reader.thread.Goals as goal
 
 pub returns-clause-ok : goal.returns-clause-ok
 returns-clause-ok c =
-    block_read (scope_of c.args.self.now.scope) c.new_name.new.scope c.flat_block.new.self.scope
+    block_read (read_scope c.args.self.now.scope) c.new_name.new.scope c.flat_block.new.self.scope
     c.in_ok-name.ensures.ok c.in_ok-block.ensures.ok c.in_ok-block.ensures.names c.in_ok-block.ensures.numbered
     (λ f. thread_goes _ _ _ _ _ f c.in_ok-name.ensures.ok)
 

@@ -1,5 +1,5 @@
 use Rattle.std.proofs.Common.{◌∙◌, refl}
-use Rattle.program_reader.specs.Steps.{scope_of}
+use Rattle.program_reader.specs.Steps.{read_scope}
 use Rattle.program_reader.proofs.MadeLaws.{few_none, few_timers_left, scope_left}
 use Rattle.program_reader.proofs.scope.Scope.leave.Goals as goal
 
@@ -21,7 +21,7 @@ invariant_of-self c =
 pub returns-clause-left : goal.returns-clause-left
 returns-clause-left c =
     let s = c.args.self.now in
-    scope_left (scope_of s) _ _ _ _ s.etimers s.ctimers _ _ _ _ refl c.replace-etimers.ensures.value
+    scope_left (read_scope s) _ _ _ _ s.etimers s.ctimers _ _ _ _ refl c.replace-etimers.ensures.value
     c.replace-ctimers.ensures.value c.len.ensures.length c.len-2.ensures.length (c.replace-variables.ensures.after ∙ c.new.ensures.empty)
     (c.replace-etimers.ensures.after ∙ c.new-2.ensures.empty) (c.replace-ctimers.ensures.after ∙ c.new-3.ensures.empty)
     (c.replace-threads.ensures.after ∙ c.new-4.ensures.empty)

@@ -8,7 +8,7 @@ use Rattle.mote_net.specs.Meaning.{net_of}
 use Rattle.window_laws.specs.Agenda.{Packet}
 use Rattle.window_laws.proofs.Lists.{every_append}
 use Rattle.mote_net.specs.declared.report.LogLine.{LogLine}
-use Rattle.net_agenda.specs.Buckets.{Holds}
+use Rattle.net_agenda.specs.Buckets.{HoldsItems}
 use Rattle.net_agenda.proofs.Gathered.{zero_from}
 use Rattle.worker_window.specs.declared.share.Share.{Share}
 use Rattle.worker_cut.specs.Crossed.{is_own, is_for_others}
@@ -30,44 +30,44 @@ take_events_before-requires g c = record {
   has_items =
       let kept = c.requires.ready.keeps in record {
         items = kept.agenda.items ++ map Packet c.args.arrived.items;
-        holds = subst (λ l. Holds c.put_copies.new.self.buckets (kept.agenda.items ++ map Packet l)) c.deref.ensures.value (c.in_ok-put_copies.ensures.adds kept.agenda.items kept.agenda.holds);
+        holds = subst (λ l. HoldsItems c.put_copies.new.self.buckets (kept.agenda.items ++ map Packet l)) c.deref.ensures.value (c.in_ok-put_copies.ensures.adds kept.agenda.items kept.agenda.holds);
       };
 }
 
 pub lend-requires-clause-calls_own_motes : goal.lend-requires-clause-calls_own_motes
 lend-requires-clause-calls_own_motes g c =
     let kept = c.requires.ready.keeps in
-    let base = subst (λ l. Holds c.put_copies.new.self.buckets (kept.agenda.items ++ map Packet l)) c.deref.ensures.value (c.in_ok-put_copies.ensures.adds kept.agenda.items kept.agenda.holds) in
-    called_here (net_of c.args.net.now) c.args.of.now c.args.self.now (kept_of c.requires.ready) c.args.arrived.items c.requires.to_own c.requires.of c.args.until c.in_ok-calls.calls.copies.items (c.in_ok-calls.ensures.taken _ base)
+    let base = subst (λ l. HoldsItems c.put_copies.new.self.buckets (kept.agenda.items ++ map Packet l)) c.deref.ensures.value (c.in_ok-put_copies.ensures.adds kept.agenda.items kept.agenda.holds) in
+    called_here (net_of c.args.net.now) c.args.owners.now c.args.self.now (kept_of c.requires.ready) c.args.arrived.items c.requires.to_own c.requires.owners c.args.until c.in_ok-calls.calls.copies.items (c.in_ok-calls.ensures.taken _ base)
 
 pub lend-requires-clause-rising : goal.lend-requires-clause-rising
 lend-requires-clause-rising g c = λ k copies e.
     let kept = c.requires.ready.keeps in
-    let base = subst (λ l. Holds c.put_copies.new.self.buckets (kept.agenda.items ++ map Packet l)) c.deref.ensures.value (c.in_ok-put_copies.ensures.adds kept.agenda.items kept.agenda.holds) in
+    let base = subst (λ l. HoldsItems c.put_copies.new.self.buckets (kept.agenda.items ++ map Packet l)) c.deref.ensures.value (c.in_ok-put_copies.ensures.adds kept.agenda.items kept.agenda.holds) in
     ((c.in_ok-calls.ensures.taken _ base).copies k copies e).rising
 
 pub lend-requires-clause-in_net : goal.lend-requires-clause-in_net
 lend-requires-clause-in_net g c =
     let kept = c.requires.ready.keeps in
-    let base = subst (λ l. Holds c.put_copies.new.self.buckets (kept.agenda.items ++ map Packet l)) c.deref.ensures.value (c.in_ok-put_copies.ensures.adds kept.agenda.items kept.agenda.holds) in
-    called_there (net_of c.args.net.now) c.args.of.now c.args.self.now (kept_of c.requires.ready) c.args.arrived.items c.requires.to_own c.requires.of c.args.until c.in_ok-calls.calls.copies.items (c.in_ok-calls.ensures.taken _ base)
+    let base = subst (λ l. HoldsItems c.put_copies.new.self.buckets (kept.agenda.items ++ map Packet l)) c.deref.ensures.value (c.in_ok-put_copies.ensures.adds kept.agenda.items kept.agenda.holds) in
+    called_there (net_of c.args.net.now) c.args.owners.now c.args.self.now (kept_of c.requires.ready) c.args.arrived.items c.requires.to_own c.requires.owners c.args.until c.in_ok-calls.calls.copies.items (c.in_ok-calls.ensures.taken _ base)
 
 pub lend-requires-clause-traced : goal.lend-requires-clause-traced
 lend-requires-clause-traced g c = λ k h.
     let kept = c.requires.ready.keeps in
-    let base = subst (λ l. Holds c.put_copies.new.self.buckets (kept.agenda.items ++ map Packet l)) c.deref.ensures.value (c.in_ok-put_copies.ensures.adds kept.agenda.items kept.agenda.holds) in
+    let base = subst (λ l. HoldsItems c.put_copies.new.self.buckets (kept.agenda.items ++ map Packet l)) c.deref.ensures.value (c.in_ok-put_copies.ensures.adds kept.agenda.items kept.agenda.holds) in
     subst (λ m. k < m) (sym kept.traces_kept)
-    (called_there (net_of c.args.net.now) c.args.of.now c.args.self.now (kept_of c.requires.ready) c.args.arrived.items c.requires.to_own c.requires.of c.args.until c.in_ok-calls.calls.copies.items (c.in_ok-calls.ensures.taken _ base) k h)
+    (called_there (net_of c.args.net.now) c.args.owners.now c.args.self.now (kept_of c.requires.ready) c.args.arrived.items c.requires.to_own c.requires.owners c.args.until c.in_ok-calls.calls.copies.items (c.in_ok-calls.ensures.taken _ base) k h)
 
 pub run_slots-requires : goal.run_slots-requires
 run_slots-requires g c =
     let n = net_of c.args.net.now in
     let r = c.requires.ready in
-    let at = subst (λ l. Holds c.put_copies.new.self.buckets (r.keeps.agenda.items ++ map Packet l)) c.deref.ensures.value (c.in_ok-put_copies.ensures.adds r.keeps.agenda.items r.keeps.agenda.holds) in
+    let at = subst (λ l. HoldsItems c.put_copies.new.self.buckets (r.keeps.agenda.items ++ map Packet l)) c.deref.ensures.value (c.in_ok-put_copies.ensures.adds r.keeps.agenda.items r.keeps.agenda.holds) in
     let lends = c.in_ok-slots.ensures.are_lent in
     record {
       go_on = slots_go_on n c.args.until lends.lent_motes c.in_ok-slots.slots.items lends.opened
-          (go_on n c.args.of.now r.worker r.from c.args.until r.motes r.taken c.args.arrived.items c.args.self.now c.lend.new.share r.keeps r.order r.expected c.requires.of c.in_ok-calls.calls.copies.items
+          (go_on n c.args.owners.now r.worker r.from c.args.until r.motes r.taken c.args.arrived.items c.args.self.now c.lend.new.share r.keeps r.order r.expected c.requires.owners c.in_ok-calls.calls.copies.items
           lends.lent_motes c.lend.new.wakes.items (c.in_ok-calls.ensures.taken _ at) (held_still lends.agenda (c.in_ok-calls.ensures.rest _ at)) lends.lent);
     }
 
@@ -75,7 +75,7 @@ pub loop-slot-init : goal.loop-slot-init
 loop-slot-init g c =
     let n = net_of c.args.net.now in
     let kept = c.requires.ready.keeps in
-    let base = subst (λ l. Holds c.put_copies.new.self.buckets (kept.agenda.items ++ map Packet l)) c.deref.ensures.value (c.in_ok-put_copies.ensures.adds kept.agenda.items kept.agenda.holds) in
+    let base = subst (λ l. HoldsItems c.put_copies.new.self.buckets (kept.agenda.items ++ map Packet l)) c.deref.ensures.value (c.in_ok-put_copies.ensures.adds kept.agenda.items kept.agenda.holds) in
     let lends = c.in_ok-slots.ensures.are_lent in
     let lent = lends.lent in
     let ends = c.in_ok-done.ensures.ends in
@@ -91,14 +91,14 @@ loop-slot-init g c =
       wakes =
           sym (zip_length (IsWakeOf c.args.until) _ _ lent.matches) ∙ (zip_length (LentMoteGives n c.args.until) _ _ gives ∙ sym (zip_length SlotGives _ _ given));
       fits =
-          all_fit n c.args.of.now c.args.self.now (kept_of c.requires.ready) c.args.arrived.items c.requires.to_own c.requires.of c.args.until c.in_ok-calls.calls.copies.items (c.in_ok-calls.ensures.taken _ base)
+          all_fit n c.args.owners.now c.args.self.now (kept_of c.requires.ready) c.args.arrived.items c.requires.to_own c.requires.owners c.args.until c.in_ok-calls.calls.copies.items (c.in_ok-calls.ensures.taken _ base)
           c.lend.new.share.motes.items c.lend.new.share.traces.items lends.lent_motes c.lend.new.wakes.items lent c.requires.ready.order outs gives;
-      go_out = subst (AllByRecursion (IsOutgoing n c.args.of.now c.args.self.now.worker)) (sym c.new-outgoing.ensures.items) tt;
+      go_out = subst (AllByRecursion (IsOutgoing n c.args.owners.now c.args.self.now.worker)) (sym c.new-outgoing.ensures.items) tt;
       coming = λ worker from motes taken keeps le short come.
-          let at = subst (λ l. Holds c.put_copies.new.self.buckets (keeps.agenda.items ++ map Packet l)) c.deref.ensures.value (c.in_ok-put_copies.ensures.adds keeps.agenda.items keeps.agenda.holds) in
-          subst (λ l. PendingEvent n c.args.of.now worker from c.args.until motes (taken ++ c.args.arrived.items) (window_copies n c.args.of.now worker from c.args.until motes taken c.args.arrived.items c.args.self.now keeps le come) share outs c.lend.new.wakes.items l)
+          let at = subst (λ l. HoldsItems c.put_copies.new.self.buckets (keeps.agenda.items ++ map Packet l)) c.deref.ensures.value (c.in_ok-put_copies.ensures.adds keeps.agenda.items keeps.agenda.holds) in
+          subst (λ l. PendingEvent n c.args.owners.now worker from c.args.until motes (taken ++ c.args.arrived.items) (window_copies n c.args.owners.now worker from c.args.until motes taken c.args.arrived.items c.args.self.now keeps le come) share outs c.lend.new.wakes.items l)
           (sym c.new-outgoing.ensures.items)
-          (starts n c.args.of.now worker from c.args.until motes taken c.args.arrived.items c.args.self.now share keeps le come c.requires.of c.in_ok-calls.calls.copies.items lends.lent_motes c.lend.new.wakes.items
+          (starts n c.args.owners.now worker from c.args.until motes taken c.args.arrived.items c.args.self.now share keeps le come c.requires.owners c.in_ok-calls.calls.copies.items lends.lent_motes c.lend.new.wakes.items
           (c.in_ok-calls.ensures.taken _ at) (held_still lends.agenda (c.in_ok-calls.ensures.rest _ at)) lent outs gives (lends.worker, ap (λ (v : Vec LogLine Global). v.items) lends.log));
     }
 
@@ -117,55 +117,55 @@ pub take_back-requires-clause-motes : goal.take_back-requires-clause-motes
 take_back-requires-clause-motes g c =
     let n = net_of c.args.net.now in
     let inv = c.loop-slot.invariant in
-    let P = IsFitOwn n c.args.of.now c.args.self.now.worker c.args.until in
+    let P = IsFitOwn n c.args.owners.now c.args.self.now.worker c.args.until in
     let out = c.into_out.result in
     let more = outs_of c.pop.new.self.items in
     let popped : outs_of c.loop-slot.done.items ≡ more ++ out ∷ [] =
     ap outs_of c.in-Some.ensures.items ∙ (ap (λ s. outs_of (c.pop.new.self.items ++ s ∷ [])) c.into_out.ensures.was_done ∙ outs_more c.pop.new.self.items out) in
     let split = every_split P more out (subst (AllByRecursion P) popped inv.fits) in
-    fits n c.args.of.now c.args.self.now.worker c.args.until _ out split.1 inv.motes c.requires.until_bounded
+    fits n c.args.owners.now c.args.self.now.worker c.args.until _ out split.1 inv.motes c.requires.until_bounded
 
 pub take_back-requires-clause-traces : goal.take_back-requires-clause-traces
 take_back-requires-clause-traces g c =
     let n = net_of c.args.net.now in
     let inv = c.loop-slot.invariant in
-    let P = IsFitOwn n c.args.of.now c.args.self.now.worker c.args.until in
+    let P = IsFitOwn n c.args.owners.now c.args.self.now.worker c.args.until in
     let out = c.into_out.result in
     let more = outs_of c.pop.new.self.items in
     let popped : outs_of c.loop-slot.done.items ≡ more ++ out ∷ [] =
     ap outs_of c.in-Some.ensures.items ∙ (ap (λ s. outs_of (c.pop.new.self.items ++ s ∷ [])) c.into_out.ensures.was_done ∙ outs_more c.pop.new.self.items out) in
     let split = every_split P more out (subst (AllByRecursion P) popped inv.fits) in
-    fits n c.args.of.now c.args.self.now.worker c.args.until _ out split.1 inv.traces c.requires.until_bounded
+    fits n c.args.owners.now c.args.self.now.worker c.args.until _ out split.1 inv.traces c.requires.until_bounded
 
 pub take_back-requires-clause-places : goal.take_back-requires-clause-places
 take_back-requires-clause-places g c =
     let n = net_of c.args.net.now in
     let inv = c.loop-slot.invariant in
-    let P = IsFitOwn n c.args.of.now c.args.self.now.worker c.args.until in
+    let P = IsFitOwn n c.args.owners.now c.args.self.now.worker c.args.until in
     let out = c.into_out.result in
     let more = outs_of c.pop.new.self.items in
     let popped : outs_of c.loop-slot.done.items ≡ more ++ out ∷ [] =
     ap outs_of c.in-Some.ensures.items ∙ (ap (λ s. outs_of (c.pop.new.self.items ++ s ∷ [])) c.into_out.ensures.was_done ∙ outs_more c.pop.new.self.items out) in
     let split = every_split P more out (subst (AllByRecursion P) popped inv.fits) in
-    fits n c.args.of.now c.args.self.now.worker c.args.until _ out split.1 c.medium.ensures.placed c.requires.until_bounded
+    fits n c.args.owners.now c.args.self.now.worker c.args.until _ out split.1 c.medium.ensures.placed c.requires.until_bounded
 
 pub loop-slot-preserved : goal.loop-slot-preserved
 loop-slot-preserved g c =
     let n = net_of c.args.net.now in
-    let of = c.args.of.now in
+    let owners = c.args.owners.now in
     let self = c.args.self.now in
     let inv = c.loop-slot.invariant in
     let out = c.into_out.result in
     let more = outs_of c.pop.new.self.items in
     let popped : outs_of c.loop-slot.done.items ≡ more ++ out ∷ [] =
     ap outs_of c.in-Some.ensures.items ∙ (ap (λ s. outs_of (c.pop.new.self.items ++ s ∷ [])) c.into_out.ensures.was_done ∙ outs_more c.pop.new.self.items out) in
-    let P = IsFitOwn n of self.worker c.args.until in
+    let P = IsFitOwn n owners self.worker c.args.until in
     let split = every_split P more out (subst (AllByRecursion P) popped inv.fits) in
     let rest_done = last_done c.pop.new.self.items c.in-Some.slot (subst (λ l. list_all is_done l ≡ true) c.in-Some.ensures.items inv.done) in
     let fit = split.1 in
     let placed : length n.radio.places ≡ length n.motes = ap (λ (r : Radio). length r.places) (sym c.medium.ensures.value) ∙ c.medium.ensures.placed in
-    let returns : (k : ℕ) → HasNumber k out.mote → MoteReturns n.radio of k c.last_wake-pending.result out c.loop-slot.self c.take_back.new.self c.loop-slot.outgoing.items c.take_back.new.outgoing.items = λ k numbered.
-    subst (λ (r : Radio). MoteReturns r of k c.last_wake-pending.result out c.loop-slot.self c.take_back.new.self c.loop-slot.outgoing.items c.take_back.new.outgoing.items) c.medium.ensures.value (c.in_ok-take_back.ensures.mote_returns k numbered) in
+    let returns : (k : ℕ) → HasNumber k out.mote → MoteReturns n.radio owners k c.last_wake-pending.result out c.loop-slot.self c.take_back.new.self c.loop-slot.outgoing.items c.take_back.new.outgoing.items = λ k numbered.
+    subst (λ (r : Radio). MoteReturns r owners k c.last_wake-pending.result out c.loop-slot.self c.take_back.new.self c.loop-slot.outgoing.items c.take_back.new.outgoing.items) c.medium.ensures.value (c.in_ok-take_back.ensures.mote_returns k numbered) in
     let one = returns fit.number fit.numbered in
     record {
       motes = ap length one.motes ∙ (length-set c.loop-slot.self.motes.items fit.number _ ∙ inv.motes);
@@ -179,10 +179,10 @@ loop-slot-preserved g c =
           omega arith);
       fits = split.0;
       go_out =
-          subst (AllByRecursion (IsOutgoing n of self.worker)) (sym (one.outgoing ∙ ap (λ w. c.loop-slot.outgoing.items ++ filter (is_for_others (is_own of w)) (flat_map (copies n.radio) out.sends.items)) inv.worker))
-          (every_append _ c.loop-slot.outgoing.items _ inv.go_out (go_out n of self.worker c.args.until out placed fit));
+          subst (AllByRecursion (IsOutgoing n owners self.worker)) (sym (one.outgoing ∙ ap (λ w. c.loop-slot.outgoing.items ++ filter (is_for_others (is_own owners w)) (flat_map (copies n.radio) out.sends.items)) inv.worker))
+          (every_append _ c.loop-slot.outgoing.items _ inv.go_out (go_out n owners self.worker c.args.until out placed fit));
       coming = λ worker from motes taken keeps le short come.
-          one_back n of worker from c.args.until motes (taken ++ c.args.arrived.items) (window_copies n of worker from c.args.until motes taken c.args.arrived.items self keeps le come) placed short
+          one_back n owners worker from c.args.until motes (taken ++ c.args.arrived.items) (window_copies n owners worker from c.args.until motes taken c.args.arrived.items self keeps le come) placed short
           c.loop-slot.self c.take_back.new.self (outs_of c.loop-slot.done.items) more out popped
           c.loop-slot.wakes.items c.last_wake-pending.new.wakes.items c.last_wake-pending.result c.last_wake-pending.ensures.popped c.loop-slot.outgoing.items c.take_back.new.outgoing.items
           (inv.coming worker from motes taken keeps le short come) returns;
@@ -191,10 +191,10 @@ loop-slot-preserved g c =
 pub returns-clause-window : goal.returns-clause-window
 returns-clause-window g c = λ worker from motes taken keeps le short come.
     let n = net_of c.args.net.now in
-    let of = c.args.of.now in
+    let owners = c.args.owners.now in
     let self = c.args.self.now in
     let zero = zero_from _ (λ p. subst IsSome c.in_default.is (c.pop.ensures.variant.1 p)) in
     let none = ap outs_of (nil_from_length c.loop-slot.done.items (omega (arith, zero, c.loop-slot.done.ok.0))) in
-    all_back n of worker from c.args.until motes (taken ++ c.args.arrived.items) (window_copies n of worker from c.args.until motes taken c.args.arrived.items self keeps le come)
+    all_back n owners worker from c.args.until motes (taken ++ c.args.arrived.items) (window_copies n owners worker from c.args.until motes taken c.args.arrived.items self keeps le come)
     c.loop-slot.self (outs_of c.loop-slot.done.items) c.loop-slot.wakes.items c.loop-slot.outgoing.items none (c.loop-slot.invariant.coming worker from motes taken keeps le short come)
-    (window_copies_are n of worker from c.args.until motes taken c.args.arrived.items self keeps le come)
+    (window_copies_are n owners worker from c.args.until motes taken c.args.arrived.items self keeps le come)

@@ -18,11 +18,11 @@ invariant-loop-slot g l = let n = net_of l.net in record {
   worker : l.self.worker ≡ l.fn.self.worker;
   done : list_all is_done l.done.items ≡ true;
   wakes : length l.wakes.items ≡ length l.done.items;
-  fits : AllByRecursion (IsFitOwn n l.of l.fn.self.worker l.until) (outs_of l.done.items);
-  go_out : AllByRecursion (IsOutgoing n l.of l.fn.self.worker) l.outgoing.items;
-  coming : (worker from : ℕ) (motes : Motes) (taken : List RadioCopy) (keeps : IsWholeShare n l.of worker from motes taken l.fn.self) (le : from ≤ l.until) → l.until ≤ from + (system_of n).lookahead
-      → (come : AllByRecursion (IsExpected l.of worker from) l.fn.arrived.items)
-      → PendingEvent n l.of worker from l.until motes (taken ++ l.fn.arrived.items) (window_copies n l.of worker from l.until motes taken l.fn.arrived.items l.fn.self keeps le come) l.self (outs_of l.done.items) l.wakes.items l.outgoing.items;
+  fits : AllByRecursion (IsFitOwn n l.owners l.fn.self.worker l.until) (outs_of l.done.items);
+  go_out : AllByRecursion (IsOutgoing n l.owners l.fn.self.worker) l.outgoing.items;
+  coming : (worker from : ℕ) (motes : Motes) (taken : List RadioCopy) (keeps : IsWholeShare n l.owners worker from motes taken l.fn.self) (le : from ≤ l.until) → l.until ≤ from + (system_of n).lookahead
+      → (come : AllByRecursion (IsExpected l.owners worker from) l.fn.arrived.items)
+      → PendingEvent n l.owners worker from l.until motes (taken ++ l.fn.arrived.items) (window_copies n l.owners worker from l.until motes taken l.fn.arrived.items l.fn.self keeps le come) l.self (outs_of l.done.items) l.wakes.items l.outgoing.items;
 }
 
 abbrev pub decreases-loop-slot : goal.decreases-loop-slot

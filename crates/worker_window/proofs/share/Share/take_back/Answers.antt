@@ -4,7 +4,7 @@ use Rattle.std.specs.List.{filter, flat_map}
 use Rattle.radio_packet.specs.declared.sent.Sent.{Sent}
 use Rattle.radio_medium.specs.Medium.{copies}
 use Rattle.window_laws.specs.Agenda.{Packet, is_wake_of, wake_items}
-use Rattle.net_agenda.specs.Buckets.{Holds}
+use Rattle.net_agenda.specs.Buckets.{HoldsItems}
 use Rattle.net_agenda.specs.Changes.{without_wakes}
 use Rattle.worker_cut.specs.Crossed.{is_own, is_for_others}
 use Rattle.worker_window.specs.Log.{packets_in}
@@ -31,10 +31,10 @@ returns c = record {
         log = c.in_ok-send_all.ensures.log ∙ ap (λ (l : List Sent). packets_in old.log.items ++ l) c.deref.ensures.value;
         fates = c.in_ok-send_all.ensures.fates;
         agenda = λ items holds pending.
-            subst (λ (l : List Sent). Holds c.send_all.new.agenda.buckets ((without_wakes number items ++ wake_items number out.wake) ++ map Packet (filter (λ copy. is_own c.args.of.now old.worker copy.to) (flat_map (copies c.args.medium.now) l)))) c.deref.ensures.value
+            subst (λ (l : List Sent). HoldsItems c.send_all.new.agenda.buckets ((without_wakes number items ++ wake_items number out.wake) ++ map Packet (filter (λ copy. is_own c.args.owners.now old.worker copy.to) (flat_map (copies c.args.medium.now) l)))) c.deref.ensures.value
             (c.in_ok-send_all.ensures.own _
-            (subst (λ m. Holds c.move_wake.new.self.buckets (without_wakes m items ++ wake_items m out.wake)) same
+            (subst (λ m. HoldsItems c.move_wake.new.self.buckets (without_wakes m items ++ wake_items m out.wake)) same
             (c.in_ok-move_wake.ensures.moves_wake items holds (subst (λ m. filter (is_wake_of m) items ≡ wake_items m c.args.pending) (sym same) pending))));
-        outgoing = c.in_ok-send_all.ensures.outgoing ∙ ap (λ (l : List Sent). c.args.outgoing.now.items ++ filter (is_for_others (is_own c.args.of.now old.worker)) (flat_map (copies c.args.medium.now) l)) c.deref.ensures.value;
+        outgoing = c.in_ok-send_all.ensures.outgoing ∙ ap (λ (l : List Sent). c.args.outgoing.now.items ++ filter (is_for_others (is_own c.args.owners.now old.worker)) (flat_map (copies c.args.medium.now) l)) c.deref.ensures.value;
       };
 }

@@ -8,20 +8,20 @@ use Rattle.event_queue.specs.Queue.{empty_queue}
 use Rattle.mote_timers.specs.TimerLists.{new_timers}
 use Rattle.process_kernel.specs.declared.process.ProcessState.TheVariants.{Off}
 use Rattle.radio_packet.specs.declared.arrival.Arrival.{Arrival}
-use Rattle.process_kernel.specs.State.{State}
+use Rattle.process_kernel.specs.State.{KernelState}
 use Rattle.process_kernel.specs.Posts.{poll_of}
 
 -- a mote: its state, with no units of work and no output; whether it was booted; and whether it has halted
-pub record Mote : Type 0 where
-  pub state : State
+pub record KernelModel : Type 0 where
+  pub state : KernelState
   pub booted : Bool
   pub halted : Bool
 
-abbrev pub at_rest : State → State
+abbrev pub at_rest : KernelState → KernelState
 at_rest s = record s { units = 0; lines = []; sends = [] }
 
 -- a mote that was never booted: no process is on the list, and no timer was set, no event posted and no packet sent
-unfoldable pub unbooted : Tree → (mote queue : ℕ) → Mote
+unfoldable pub unbooted : Tree → (mote queue : ℕ) → KernelModel
 unbooted t mote queue = record {
   state = record {
     program = t;
@@ -50,20 +50,20 @@ unbooted t mote queue = record {
 }
 
 -- a packet is appended to the ring
-unfoldable pub with_packet : Mote → Arrival → Mote
+unfoldable pub with_packet : KernelModel → Arrival → KernelModel
 with_packet m a = record m { state = record m.state { ring = m.state.ring ++ a ∷ [] } }
 
-unfoldable pub with_poll : Mote → Proc → Mote
+unfoldable pub with_poll : KernelModel → Proc → KernelModel
 with_poll m p = record m { state = poll_of m.state p }
 
 -- the mote has work left: an event is queued, or a poll is requested
-abbrev pub is_pending : Mote → Bool
+abbrev pub is_pending : KernelModel → Bool
 is_pending m = nat_lt 0 (length m.state.queue.events) || m.state.poll_requested
 
 -- the number of packets in the ring
-abbrev pub holds_packets : Mote → ℕ
+abbrev pub holds_packets : KernelModel → ℕ
 holds_packets m = length m.state.ring
 
 -- the ring has room for one more packet; it holds 8
-abbrev pub has_room : Mote → Bool
+abbrev pub has_room : KernelModel → Bool
 has_room m = nat_lt (holds_packets m) 8
