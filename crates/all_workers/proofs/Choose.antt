@@ -1,4 +1,5 @@
--- If, for each number below n, something has a property, then a function returns such a thing for each number.
+-- If there is a value with some property for each number below n, then a function returns such a value for each
+-- number.
 use Rattle.std.proofs.Common.{◌≡◌, ◌⊎◌, ℕ, zero, suc, ◌<◌, cond, eqb, sym, subst, inl, inr, arith}
 use Rattle.std.proofs.lemmas.Bool.{cases_eq, eq-eqb, ne_eqb}
 

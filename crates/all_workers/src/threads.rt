@@ -14,8 +14,8 @@ use std::sync::Wait;
 use std::thread::Threads;
 use worker_window::Share;
 
-/// Makes each worker from its share and an endpoint, with a sender on the inbox of each other worker, and has it work
-/// in a thread of its own. The workers are returned in their order.
+/// Makes each worker from its share and an endpoint, with a sender on the inbox of each other worker, and does the
+/// worker's work in a thread of its own. The workers are returned in their order.
 ///
 /// # Errors
 /// The errors of [`fork_join`], except `Stopped`; also `Memory` if an allocation fails.

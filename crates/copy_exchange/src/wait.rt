@@ -37,8 +37,8 @@ impl Waiting {
         }
     }
 
-    /// Begins the wait of a window. The number of attempts is twice that of the previous window if some were left
-    /// there, and half of it otherwise.
+    /// Begins the wait of a window. If some attempts were left in the previous window, this window has twice as many
+    /// attempts; otherwise, it has half as many.
     pub fn begin(&mut self) {
         self.looks = if self.left > 0 {
             self.looks.saturating_mul(2).min(MOST_LOOKS)

@@ -77,8 +77,8 @@ fn sender_on(inbox: &Inbox, taker: &mut Taker, own: bool) -> Result<Option<Sende
     Ok(Some(sender))
 }
 
-/// Ends a window as [`gather_back`] does; its contract is about the copies delivered to each worker. The inboxes have
-/// no marks.
+/// Ends a window by calling [`gather_back`]. The contract here is about the copies delivered to each worker. The
+/// inboxes have no marks.
 ///
 /// # Errors
 /// `Memory` if an allocation fails.
@@ -96,8 +96,8 @@ pub fn gather_window<R: Wait>(
     gather_back(rt, alloc, inboxes, endpoints)
 }
 
-/// Has the taker of each worker gather the senders on its inbox after the workers have run, one sender after another,
-/// in the order of the workers.
+/// Gathers the senders on each inbox after the workers have run. Each worker's taker gathers the senders on the
+/// worker's inbox one after another, in the order of the workers.
 ///
 /// # Errors
 /// `Memory` if an allocation fails.

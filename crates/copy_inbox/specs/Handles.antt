@@ -21,13 +21,13 @@ use Rattle.copy_inbox.specs.Views.{make_taker_state, make_sender_state, make_gat
 abbrev pub InboxId : Type 0
 InboxId = SegId Global
 
--- a taker's inbox, whether that has marks, the number of senders that the taker made, the items that it took, and the
--- senders that it gathered
+-- a taker's inbox, whether this inbox has marks, the number of senders that the taker made, the items that it took,
+-- and the senders that it gathered
 pub record TakerView : Type 0 where
   pub inbox : InboxId
   pub state : TakerState
 
--- a sender's inbox, whether that has marks, the sender's number, and the items that it pushed
+-- a sender's inbox, whether this inbox has marks, the sender's number, and the items that it pushed
 pub record SenderView : Type 0 where
   pub inbox : InboxId
   pub state : SenderState
@@ -81,7 +81,7 @@ abbrev pub Empties : TakerState → List RadioCopy → Type 0
 Empties d copies = (rest : List Item) × ArePackets rest copies × Whole d.gathered (d.taken ++ rest)
     × OfMade d.made (d.taken ++ rest)
 
--- ---- properties of each taker and sender: of the knowledge of its pass, and of its counts
+-- ---- properties of each taker and sender, about the knowledge of its pass and about its counts
 abbrev pub taker_state_in : View → TakerState
 taker_state_in (Taking d) = d
 taker_state_in (Sending p) = make_taker_state false 0 [] []

@@ -136,7 +136,7 @@ impl Drop for Sender {
 }
 
 impl Sender {
-    // Joins the sender's pass to the taker's. The taker then knows all items that the sender pushed.
+    // Joins the sender's pass to the taker's pass. The taker then knows all items that the sender pushed.
     fn join<R: Wait>(self, rt: &R, inbox: &Inbox, taker: &mut Taker)
         requires taker { taker.old.inbox ≡ inbox.now }
         requires sender { self.inbox ≡ inbox.now }
@@ -187,7 +187,7 @@ impl Inbox {
         Ok((inbox, taker))
     }
 
-    /// Makes an inbox with marks, and its taker, as [`Inbox::make`] does without marks.
+    /// Makes an inbox with marks, and its taker. [`Inbox::make`] makes an inbox without marks.
     ///
     /// # Errors
     /// `Memory` if an allocation fails.
@@ -337,8 +337,8 @@ impl Inbox {
     /// Takes the `n` oldest copies of an inbox without marks.
     ///
     /// # Errors
-    /// `Memory` if an allocation fails. The memory is allocated before the first copy is taken, so then nothing has
-    /// changed.
+    /// `Memory` if an allocation fails. The memory is allocated before the first copy is taken, so nothing has changed
+    /// after this error.
     pub fn drain<R: Wait>(
         &self,
         rt: &R,

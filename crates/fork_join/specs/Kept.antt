@@ -4,7 +4,7 @@ use Rattle.std.specs.List.{AllZip}
 use Rattle.std.specs.declared.thread.PromisedHandle.{PromisedHandle}
 use Rattle.fork_join.specs.declared.fork.Promised.{Promised}
 
--- the handle of a worker's thread, which ends with an A
+-- the handle of a worker's thread; the thread's result has the type A
 abbrev pub Handle : (A W T : Type 0) → Type 0
 Handle A W T = PromisedHandle A (Promised W T)
 

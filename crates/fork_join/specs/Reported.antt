@@ -26,8 +26,9 @@ abbrev pub IsForkError : Option WorkerError → Type 0
 IsForkError own = IfSome own (λ e. (e ≡ Memory) ⊎ (e ≡ Thread))
 
 -- The error that is reported for the first workers, which were started, and the fork itself. If the fork has no error,
--- all workers were started. A worker's own error takes precedence over `Stopped`. If there are several, that of the
--- worker with the lowest number is reported; the fork's error comes last.
+-- all workers were started. A worker's own error takes precedence over `Stopped`. If several workers have an error of
+-- their own, the error of the worker with the lowest number is reported. The fork's error is reported only if no
+-- worker has an error of its own.
 abbrev pub IsReported : {T : Type 0} → (T → WorkerError → Type 0) → List T → WorkerError → Type 0
 IsReported errs workers e =
     (ends : List (Option WorkerError)) × (own : Option WorkerError)

@@ -43,9 +43,9 @@ impl<T, W: Work<T>, L: Ledger> Promise<Ended<T, L>> for Promised<W, T> {
         × (ended.share.parts ≡ 1) × HasTokens ended.result ended.share.amount };
 }
 
-/// Has each worker work in a thread of its own. The threads are started one after another, and all started threads are
-/// joined. If a start fails, no further worker is started, and the workers' flag is set. The workers are returned in
-/// their order.
+/// Does the work of each worker in a thread of its own. The threads are started one after another, and all started
+/// threads are joined. If a start fails, no further worker is started, and the workers' flag is set. The workers are
+/// returned in their order.
 ///
 /// # Errors
 /// The error of the first failed worker among those whose handle was kept. Otherwise, `Thread` if a thread couldn't be

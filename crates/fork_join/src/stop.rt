@@ -9,8 +9,8 @@ use std::sync::atomic::{AtomicBool, Ordering};
 use std::sync::ledger::{Book, Ledger, Share};
 use std::sync::{Mutex, Wait};
 
-/// The flag, and the tokens: one for the failure that set the flag first, and two for each worker that saw that it was
-/// set.
+/// The flag, and the tokens: one for the failure that set the flag first, and two for each worker that saw that the
+/// flag was set.
 #[derive(Drop)]
 struct Failure<L: Ledger> {
     is_set: bool,

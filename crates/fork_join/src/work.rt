@@ -30,8 +30,8 @@ impl WorkerError {
         }
     }
 
-    /// Returns the one of two reasons that is reported: `Memory` and `Thread` take precedence over `Stopped`;
-    /// otherwise, the first reason is reported.
+    /// Compares two reasons, and returns the reason that is reported: `Memory` and `Thread` take precedence over
+    /// `Stopped`; otherwise, the first reason is reported.
     fn graver(self, other: WorkerError) -> WorkerError
         ensures value { result ≡ graver self other }
     {

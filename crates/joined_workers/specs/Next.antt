@@ -8,8 +8,8 @@ use Rattle.worker_window.specs.Next.{TellsNext}
 use Rattle.all_workers.specs.WorkerGroup.{IsNotBefore}
 use Rattle.all_workers.specs.declared.worker.Worker.{Worker}
 
--- the moment at which the first of all copies arrives that these workers delivered; each worker has the moment of its
--- own first copy
+-- the earliest moment of arrival among the copies that these workers delivered; each worker has the earliest moment
+-- among its own copies
 pub record FirstOfAll (workers : List Worker) (first : Option ℕ) : Type 0 where
   pub none_before : Each (λ (worker : Worker). (copy : RadioCopy)
       → IsNotBefore worker.first_out copy → IsNotBefore first copy) workers

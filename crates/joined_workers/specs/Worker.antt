@@ -31,7 +31,7 @@ pub record IsReadyWorker (model : NetModel) (owners : List ℕ) (inboxes : List 
   pub own : Each (λ (copy : RadioCopy). is_own owners worker.endpoint.worker copy.to ≡ true)
       (gathered_by worker.endpoint.taker)
 
--- the moment at which the first of these copies arrives, if there are any
+-- the earliest moment of arrival among these copies, if there are any
 pub record IsFirstOf (copies : List RadioCopy) (first : Option ℕ) : Type 0 where
   pub none_before : Each (IsNotBefore first) copies
   pub greatest : (moment : ℕ) → Each (λ (copy : RadioCopy). moment ≤ copy.at) copies → NoneBefore moment first

@@ -22,7 +22,7 @@ fn first_out_of(worker: &Worker) -> Option<u64>
     worker.first_out
 }
 
-/// Returns the moment at which the first of the copies arrives that these workers delivered.
+/// Returns the earliest moment of arrival among the copies that these workers delivered.
 pub fn first_of_all(workers: &[Worker]) -> Option<u64>
     ensures first_of_all { FirstOfAll workers.now result }
 {

@@ -25,7 +25,7 @@ use worker_window::Gate;
 ///
 /// # Errors
 /// The error of the first worker that failed; `Thread` if a thread couldn't be started or the gate refused a start;
-/// `Memory` if an allocation fails. It is never `Stopped`.
+/// `Memory` if an allocation fails. The error is never `Stopped`.
 pub(crate) fn run_window<'a, R, G>(
     rt: &'a R,
     alloc: Global,

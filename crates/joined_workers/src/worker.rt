@@ -63,7 +63,7 @@ pub fn sooner(one: Option<u64>, other: Option<u64>) -> Option<u64>
     Some(moment.min(second))
 }
 
-/// Returns the moment at which the first of these copies arrives.
+/// Returns the earliest moment of arrival among these copies.
 fn first_of(copies: &[RadioCopy]) -> Option<u64>
     ensures is_first_of { IsFirstOf copies.now result }
 {

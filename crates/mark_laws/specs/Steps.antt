@@ -21,8 +21,7 @@ worker_of (GoOn v) = v
 abbrev pub HasPushed : Plan → MarkState → ℕ → Type 0
 HasPushed p w v = (u : ℕ) → IsPair p v u → w.pushed v u ≡ pushes (suc (w.finished v)) (p.sent v u)
 
--- a worker that is in a window pushes the next of the items that it has for the other worker in the windows up to this
--- one
+-- a worker in a window pushes its next item for the other worker; the item belongs to this window or to an earlier one
 pub record MayPush (p : Plan) (w : MarkState) (worker to : ℕ) (x : Carried) : Type 0 where
   pub pair : IsPair p worker to
   pub runs : w.finished worker < p.windows

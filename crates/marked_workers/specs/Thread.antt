@@ -80,8 +80,8 @@ pub record HasRun (model : NetModel) (owners : List ℕ) (width windows : ℕ) (
   pub marked : HasMarks now.endpoint.base
   pub counts : AreTakersCounts now.endpoint.marks.items now.endpoint.base.taker.state
 
--- If windows aren't longer than the lookahead: if this many windows led from any first state to the old state, then
--- one more window leads on to the new state.
+-- Suppose that windows aren't longer than the lookahead. For any first state, if this many windows led from it to the
+-- old state, then one more window leads to the new state.
 abbrev pub LeadsOn : NetModel → (owners : List ℕ) → (width window : ℕ) → (inboxes : List InboxId)
     → (old new : MarkWorker) → Type 0
 LeadsOn model owners width window inboxes old new = width ≤ (system_of model).lookahead → (first : MarkWorker)

@@ -1,4 +1,4 @@
--- If the names of a block have a meaning, its numbers are those of declarations.
+-- If the names of a block have a meaning, the block's numbers are the numbers of declarations.
 use Rattle.std.proofs.Common.{◌≡◌, ℕ, ◌+◌, ◌<◌, ◌≤◌, nat_lt, List, [], ◌∷◌, ◌++◌, length, slice_index_or, refl, sym}
 use Rattle.std.proofs.Common.{ap, subst, ◌∙◌, arith, Bool, true, false, Option, Some, None, option_map}
 use Rattle.std.specs.List.{All}

@@ -26,7 +26,7 @@ use program_tree::token::Token;
 use program_tree::tree::{Action, Block, Expr, Stmt};
 use std::alloc::AllocError;
 
-/// The name with this number, or an empty name if there is none. In a program there always is one.
+/// The name with this number, or an empty name if no name has this number. In a program, each number has a name.
 pub(crate) fn name_at<'a>(names: &'a Names, place: usize) -> &'a str
     ensures name { result.now ≡ slice_index_or names.now place [] }
 {
@@ -50,7 +50,7 @@ fn timer_name<'a>(code: &'a ProcessText, timer: u8) -> &'a str
     }
 }
 
-/// A code, and the program whose names are in scope in the code too.
+/// A code, and the code's program, whose names are also in scope in the code.
 #[derive(Clone, Copy)]
 pub(crate) struct Scoped<'a> {
     pub program: &'a Program,

@@ -79,7 +79,7 @@ tables_of top =
     ∷ (queue_lengths, table_at (codes "queue") top)
     ∷ map (λ ms. (ruled mote_rules, ms)) (tables_at (codes "mote") top)
 
--- the fault of lengths of queues: one is for a name that no program has
+-- the fault of a table of queues: it has a length for a name that no program has
 abbrev pub queue_fault : (programs queue : Members) → Option TableFault
 queue_fault programs queue =
     if members_any (λ k. is_none (get_member k programs)) queue then Some UnknownProgram else None

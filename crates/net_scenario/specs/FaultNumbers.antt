@@ -18,7 +18,7 @@ scenario_fault_number (Program name e) = 7
 scenario_fault_number (Medium e) = 8
 scenario_fault_number Memory = 9
 
--- a fault of the medium as a fault of the scenario; out of memory is the scenario's out of memory
+-- the fault of the scenario for a fault of the medium; out of memory is `Memory` for both
 abbrev pub of_medium : MediumError → ScenarioError
 of_medium medium.Memory = Memory
 of_medium e = Medium e

@@ -1,4 +1,4 @@
--- The reading of the parts of a scenario, as functions promise it.
+-- The promises of the functions that read the parts of a scenario.
 use Rattle.std.specs.Prelude.{◌≡◌, ℕ, List, Some, None, Result, Ok, Err, String, map, Vec}
 use Rattle.std.specs.BTreeMap.{BTreeMap}
 use Rattle.std.specs.declared.alloc.Global.{Global}

@@ -1,5 +1,5 @@
-//! Laws of the meaning of a text. Each is stated as the contract of a function, which only cites the laws of the texts
-//! of programs.
+//! Laws about the meaning of a text. Each is stated as the contract of a function that only cites the laws about the
+//! texts of programs.
 ghost use Rattle.net_scenario.specs.Laws.{OneNet, OneFault, NeverBoth, NetOrFault};
 
 use program_reader::laws::{

@@ -223,7 +223,7 @@ fn any_out_of_range(version: Version, table: &Table, keys: &[Key]) -> bool
     keys.iter().any(|key| version.has(key.since) && is_out_of_range(table, *key))
 }
 
-/// Checks a table by the keys that a version knows.
+/// Checks a table against the keys that a version knows.
 ///
 /// # Errors
 /// The first fault of the table against these keys.

@@ -18,7 +18,8 @@ use Rattle.program_tree.specs.Tree.{Class, Body, body_map}
 use Rattle.program_tree.specs.declared.keyword.Keyword.{Keyword}
 use Rattle.program_tree.specs.declared.keyword.Keyword.TheVariants as word
 
--- A block with its names put back. Its numbers are correct if numbering these names results in the same block.
+-- A block with each number replaced by its name. The block's numbers are correct if numbering these names results in
+-- the same block.
 abbrev pub written : NamesInScope → Body ℕ → Body Name
 written n b = body_map (name_in n) b
 

@@ -105,7 +105,8 @@ pub record Extends (n n' : NamesInScope) : Type 0 where
 abbrev pub Covers : NamesInScope → Option Name → Within → Type 0
 Covers n own w = (c : Class) (x : Name) (i : ℕ) → Finds n own c x i → w c i ≡ true
 
--- if its names are put back and numbered again, the tree stays the same, whatever else is declared
+-- if the numbers of the tree are replaced by names and the names are numbered again, the tree stays the same, whatever
+-- else is declared
 abbrev pub Numbered : {T : Type 0} → NamesInScope → (again : NamesInScope → T) → T → Type 0
 Numbered n again t = (n' : NamesInScope) → Extends n n' → again n' ≡ t
 
@@ -124,7 +125,7 @@ abbrev pub FailsSign : {T : Type 0} → Symbol → List Token → Result T ReadF
 FailsSign y old result = (f : Fault) → result ≡ Err (refusal.Fault f) → (s : Scope) (more : Pending)
     → tell s (y ∷ more) old ≡ fault f.kind f.left
 
--- a part is read, and has these marks if its names are put back
+-- a part is read; with each number replaced by its name, the part has these marks
 pub record Reads (s s' : Scope) (y : Symbol) (marks : NamesInScope → List Mark → List Mark) (old new : List Token)
     : Type 0 where
   pub spelled : (n : NamesInScope) → Extends s.names n → (ms : List Mark) → tokens ms ≡ new → old ≡ tokens (marks n ms)

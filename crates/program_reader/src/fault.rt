@@ -1,4 +1,4 @@
-//! The error of tokens that don't form a program, as the parts of the reader return it.
+//! The error that the parts of the reader return for tokens that don't form a program.
 ghost use Rattle.std.specs.Prelude.{◌≡◌};
 ghost use Rattle.program_reader.specs.declared.fault.ReadFailure.TheVariants.{Memory};
 

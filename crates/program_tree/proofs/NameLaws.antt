@@ -1,4 +1,4 @@
--- Places of names, as the set that stores the names finds them.
+-- Places of names. The set that stores the names finds these places.
 use Rattle.std.proofs.Common.{◌≡◌, ℕ, suc, ◌+◌, ◌≤◌, ◌<◌, slice_index_or, List, [], ◌∷◌, ◌++◌, map, length, cond, not, ◌||◌, nat_lt, Bool, true, false, Option, Some, None, is_some, refl, ap, sym, ◌∙◌, arith, if◌then◌else◌}
 use Rattle.std.specs.List.{position, position_or_len, list_any}
 use Rattle.std.specs.Prelude.{string_bytes, String}

@@ -83,7 +83,7 @@ operator_sign operator.AtLeast = codes ">="
 operator_sign operator.And = codes "&&"
 operator_sign operator.Or = codes "||"
 
--- a bad token has an empty spelling; no program has one
+-- a bad token has an empty spelling; no program has a bad token
 abbrev pub spelling : Token → List ℕ
 spelling (token.Keyword k) = keyword_word k
 spelling token.Semicolon = codes ";"

@@ -99,7 +99,7 @@ abbrev pub LacksProcess : (before rest : List Token) → Type 0
 LacksProcess before [] = CanFollow before (token.Keyword Process ∷ [])
 LacksProcess before (t ∷ rest) = ⊥
 
--- in some program that begins with the tokens `before` and the first of `rest`, that first token breaks the rule
+-- in some program that begins with the tokens `before` and the first token of `rest`, this first token breaks the rule
 pub record Breach (k : ReadErrorKind) (before rest : List Token) : Type 0 where
   pub shape : ProgramShape
   pub marks : List Mark

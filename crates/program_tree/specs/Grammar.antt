@@ -30,7 +30,7 @@ pub record Context : Type 0 where
 abbrev pub inner : Context → Context
 inner c = record c { level = c.level + 1 }
 
--- the contexts of a body; of a callback, `onpoll` or `onexit`; and of a thread
+-- the context of a body; the context of a callback, `onpoll` or `onexit`; and the context of a thread
 abbrev pub at_body : Context
 at_body = record { level = 0; simple = false; thread = None }
 

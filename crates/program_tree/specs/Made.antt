@@ -15,7 +15,7 @@ pub record AreLexed (tokens : List Token) : Type 0 where
   pub lines : List ℕ
   pub lexed : IsLexed text tokens lines
 
--- this is the tree of some text, and the text's shape is that of the tree with its names put back
+-- this is the tree of some text, and the text's shape is the tree with each number replaced by its name
 pub record IsOfText (tree : Tree) : Type 0 where
   pub tokens : List Token
   pub lexed : AreLexed tokens

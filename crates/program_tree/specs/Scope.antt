@@ -1,4 +1,4 @@
--- Trees in which each number has a meaning. The numbers of each class that have one are given.
+-- Trees in which each number has a meaning. For each class, the numbers that have a meaning are given.
 use Rattle.std.specs.Prelude.{ℕ, ◌+◌, nat_lt, Bool, true, ◌&&◌, List, [], ◌∷◌, Option, None, Some}
 use Rattle.program_tree.specs.EventNames as event
 use Rattle.program_tree.specs.EventNames.{BroadcastEvent, PostedEvent, TestedEvent}
@@ -80,7 +80,7 @@ abbrev mutual
   other_fits w nothing = true
   other_fits w (otherwise b) = block_fits w b
 
--- threads before this one have a meaning, and so has any number of the other classes
+-- the numbers of the threads before this thread have a meaning; every number of another class has a meaning
 abbrev pub earlier_threads : (thread : ℕ) → Within
 earlier_threads k a_thread i = nat_lt i k
 earlier_threads k c i = true

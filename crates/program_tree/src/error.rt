@@ -27,8 +27,8 @@ pub enum ReadErrorKind {
     TooMany = 8,
     /// A text that ends before `process`.
     NoProcess = 9,
-    /// A name of another class than the expected one, such as a process's name for a variable, or the name of a thread
-    /// in a `spawn` of that thread's own block.
+    /// A name of another class than the expected class, such as a process's name for a variable; or a `spawn` that
+    /// names the thread in whose block it is.
     BadTarget = 10,
     /// Out of memory: an allocation failed. The line of the error is 0.
     Memory = 11,

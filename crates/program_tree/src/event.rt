@@ -1,4 +1,4 @@
-//! Processes, targets and events, as the functions of the kernel use them.
+//! Processes, targets and events, in the form in which the kernel's functions use them.
 ghost use Rattle.std.specs.Prelude.{◌≡◌};
 
 /// A process of a mote: one of the program's own processes, numbered in the order of the `process` line, or one of the

@@ -1,4 +1,4 @@
--- The names of each program of a text differ, and none is a keyword.
+-- In each program of a text, the names differ, and no name is a keyword.
 use Rattle.std.proofs.Common.{◌≡◌, ℕ, zero, suc, ◌+◌, ◌≤◌, nat_lt, length, cond, not, arith, List, [], ◌∷◌, ◌++◌, Bool, true, false, ◌||◌, IsTrue, refl, ap, sym, subst, ◌∙◌, append_assoc, true≢false, Some, None, is_some, slice_get}
 use Rattle.std.specs.List.{AllByRecursion as Each, position_or_len}
 use Rattle.std.specs.Str.{bytes_eq}

@@ -1,5 +1,5 @@
--- States of a kernel that name only processes and events of the program, and its small steps, which preserve this
--- property.
+-- States of a kernel that name only processes and events of the program, and the kernel's small steps, which preserve
+-- this property.
 use Rattle.std.proofs.Common.{ℕ, zero, suc, ◌≡◌, ◌+◌, ◌<◌, ◌^◌, ◌==◌, nat_le, nat_lt, not, Bool, true, false, if◌then◌else◌, List, [], ◌∷◌, ◌++◌, length, Option, None, Some, slice_get, slice_set, sym, subst}
 use Rattle.std.specs.List.{filter, AllByRecursion as Each}
 use Rattle.std.specs.Prelude.{slice_index_or, replicate}

@@ -1,5 +1,5 @@
--- A step of a thread whose block names only processes and events of its program performs only operations on them, and
--- its remainder names only them.
+-- If a thread's block names only processes and events of its program, a step of the thread performs only operations on
+-- these, and the rest of the block names only these.
 use Rattle.std.proofs.Common.{ℕ, zero, suc, inl, inr, ◌-◌, Bool, true, false, ◌&&◌, if◌then◌else◌, List, [], ◌∷◌, ◌++◌, refl, arith}
 use Rattle.std.specs.Prelude.{nat_lt, not, slice_index, ◌==◌}
 use Rattle.program_tree.specs.declared.event.Event.{Event}

@@ -1,5 +1,5 @@
--- A turn of a mote whose state names only processes and events of its program preserves this property, and its lines
--- name only them.
+-- If a mote's state names only processes and events of its program, a turn preserves this property, and the lines of
+-- the turn name only these processes and events.
 use Rattle.std.proofs.Common.{ℕ, zero, suc, ◌≡◌, ◌+◌, ◌&&◌, Bool, true, false, if◌then◌else◌, List, [], ◌∷◌, ◌++◌, length, map, refl, sym, subst}
 use Rattle.std.specs.List.{AllByRecursion as Each}
 use Rattle.program_tree.specs.declared.event.Proc.{Proc}

@@ -24,7 +24,7 @@ TextsDeclare = (text : List ℕ) (net : NetModel) → TellsNet text net → Prog
 abbrev pub NamesOfTextsDiffer : Type 0
 NamesOfTextsDiffer = (text : List ℕ) (net : NetModel) → TellsNet text net → NetNamesDiffer net
 
--- each process and each event in each line of a run has its name
+-- each line of a run names only processes and events that have a name
 abbrev pub RunsNameOnly : Type 0
 RunsNameOnly = (net : NetModel) → ProgramsDeclare net → (r : ReportModel) → IsReportOf net r
     → AreNamed net.motes r.traces
@@ -52,8 +52,8 @@ abbrev pub NoRunBeginsAnother : Type 0
 NoRunBeginsAnother = (m model : NetModel) → AreComparable m model → (a b : ReportModel) → IsRunOf m a → IsRunOf model b
     → (more : List ℕ) → report_text model b ≡ report_text m a ++ more → more ≡ []
 
--- The same law for the nets of two scenarios' texts, if the nets have the same motes. Its only other premise is about
--- the numbers.
+-- The same law for the nets of two scenarios' texts, if the nets have the same motes. The only other premise of the
+-- law is about the numbers in the reports.
 pub record AreScenarios (x y : List ℕ) (m model : NetModel) : Type 0 where
   pub first : TellsNet x m
   pub second : TellsNet y model

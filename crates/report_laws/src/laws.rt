@@ -23,10 +23,10 @@ pub fn runs_name_only()
     ensures runs_name_only { RunsNameOnly }
 {}
 
-/// Equal bytes mean equal runs. Let two nets have the same motes, and let their programs declare all names that they
-/// use, each under a name of its own; the ends and the media of the nets may differ. If the numbers in two reports of
-/// their runs fit in 64 bits, the texts are equal only if the traces, the logs and the numbers of copies left are
-/// equal. Neither text is a proper prefix of the other.
+/// Equal bytes mean equal runs. Let two nets have the same motes, let their programs declare all names that they use,
+/// and let the names in each program differ. The ends and the media of the nets may differ. If the numbers in two
+/// reports of their runs fit in 64 bits, the texts are equal only if the traces, the logs and the numbers of copies
+/// left are equal. Neither text is a proper prefix of the other.
 pub fn comparing_bytes_is_comparing_runs()
     ensures same { ComparingBytesIsComparingRuns }
     ensures no_run_begins_another { NoRunBeginsAnother }
@@ -35,8 +35,9 @@ pub fn comparing_bytes_is_comparing_runs()
     no_text_begins_another();
 }
 
-/// The same law for the nets of two scenarios' texts, if the nets have the same motes. Their programs have such names.
-/// So equal bytes of two runs mean equal runs, if the numbers in the reports fit in 64 bits.
+/// The same law for the nets of two scenarios' texts, if the nets have the same motes. The programs of such nets
+/// always declare their names in this way. So equal bytes of two runs mean equal runs, if the numbers in the reports
+/// fit in 64 bits.
 pub fn same_bytes_of_scenarios()
     ensures comparable { ScenariosAreComparable }
     ensures same { SameBytesOfScenarios }

@@ -1,4 +1,4 @@
--- The meaning of the matches and errors of `clap` for the command.
+-- The meaning of the matches and errors that `clap` returns for the command.
 use Rattle.std.proofs.Common.{◌≡◌, ◌==◌, ℕ, List, [], ◌∷◌, Option, Some, None, true, false, ap, refl, codes, option_map, subst, ◌∙◌}
 use Rattle.clap.specs.Words.{App, Row, Rule, Text, one_of, first_of, fault_of, is_simple, matches_of}
 use Rattle.clap.specs.Faults.{is_simple_and_free}

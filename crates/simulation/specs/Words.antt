@@ -1,4 +1,4 @@
--- What a command line asks for, as the matches or errors that `clap` finds in it decide.
+-- The request or the error of a command line. `clap` finds matches or errors, and these determine the result.
 use Rattle.std.specs.Prelude.{◌≡◌, ◌⊎◌, ℕ, pos, List, [], ◌∷◌, Option, Some, None}
 use Rattle.std.specs.Prelude.{codes, map, option_map, if◌then◌else◌}
 use Rattle.std.specs.Str.{bytes_eq}

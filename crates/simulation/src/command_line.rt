@@ -142,8 +142,8 @@ fn command<'a>(alloc: Global) -> Result<Command<'a>, AllocError>
 /// of synchronisation have no effect.
 ///
 /// # Errors
-/// An error of the kind `DisplayHelp` if the arguments ask for help, or of the kind `OutOfMemory` if an allocation
-/// failed; otherwise, of the kind of the error in the arguments.
+/// An error. Its kind is `DisplayHelp` if the arguments ask for help, and `OutOfMemory` if an allocation failed.
+/// Otherwise, its kind is the kind of the error in the arguments.
 pub fn asked_by<'a>(alloc: Global, words: &'a [&'a str]) -> Result<Asked<'a>, Error>
     ensures asks { IfOk result (AsksFor (texts_of words.entry.now)) }
     ensures refuses { IfErr result (λ e. FaultOf (texts_of words.entry.now) (kind_of e)) }

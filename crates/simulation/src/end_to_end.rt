@@ -71,7 +71,7 @@ pub fn simulate_serial<R: Read, W: Write>(
     // known, they grow by the text that is written.
     ensures answer { IfSome (R.remaining reader.old)
         (λ input. SimulatedWith None input (W.contents writer.old) (W.contents writer.new) result) }
-    // A report or an error of the scenario is that of some bytes, for any reader.
+    // For any reader, a report is the report of some bytes, and an error of the scenario is the error of some bytes.
     ensures simulated_some { SimulatedSome None (W.contents writer.old) (W.contents writer.new) result }
     // Nothing has been written if the error isn't `Print`.
     ensures unwritten { IfErr result (Unwritten (W.contents writer.old) (W.contents writer.new)) }

@@ -8,8 +8,8 @@ pub record Written (old new : Option (List ℕ)) (text rest : List ℕ) : Type 0
   pub whole : text ≡ done ++ rest
   pub appended : Appends old new done
 
--- a text is appended to the waiting text of the page: after `Ok`, a prefix of both is written and the rest waits;
--- after an error, a prefix of both is written
+-- a text is appended to the waiting text of the page: after `Ok`, a prefix of the two texts together is written, and
+-- the rest waits; after an error, a prefix of them is written
 abbrev pub Prints : {E : Type 0} → Option (List ℕ) → Option (List ℕ) → (waiting waits : List ℕ)
     → Result (Unit {0}) E → List ℕ → Type 0
 Prints old new waiting waits (Ok u) text = Written old new (waiting ++ text) waits

@@ -69,7 +69,8 @@ fn many_lines(workers: u16, traces: &[Vec<Line>], log: &[LogLine]) -> Option<usi
     }
 }
 
-/// Writes a report with workers. Its traces have `lines` lines. The page for its last line is made first.
+/// Writes a report with workers. The report's traces have `lines` lines. The page for the report's last line is made
+/// first.
 fn write_by<R: Threads + Wait + Sync, W: Write>(
     rt: &R,
     alloc: Global,

@@ -69,7 +69,7 @@ impl Work<Part> for Traces<'_> {
         Ok(Part { skip, count, page })
     }
 
-    // No gate is asked: gates are only for the threads of the run.
+    // No gate is called here: gates are only for the threads of the run.
     fn may_start(&self, _part: &Part) -> bool {
         true
     }

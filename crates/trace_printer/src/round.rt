@@ -37,7 +37,7 @@ fn cut(alloc: Global, workers: u16, skip: usize, count: usize) -> Result<Vec<Par
     Ok(parts)
 }
 
-/// Has each part written to its page in a thread of its own, and returns the parts.
+/// Starts a thread for each part, which writes the part to its page. Returns the parts.
 fn put<R: Threads + Wait + Sync>(
     rt: &R,
     alloc: Global,

@@ -25,7 +25,7 @@ pub record CrossedTo (model : NetModel) (owners : List ℕ) (log : List Sent) (w
   pub gathered : AreThoseTo (copies model.radio) owners worker log (gathered_by taker)
   pub taken : IsPermutation (filter (is_by model.end) (gathered_by taker)) (filter (is_by model.end) (taken_by taker))
 
--- the copies for each worker in the report's log crossed to this worker; the inboxes are in the order of the workers
+-- for each worker, the copies for it in the report's log crossed to it; the inboxes are in the order of the workers
 abbrev pub AllCrossed : NetModel → (owners : List ℕ) → ReportModel → List Pair → Type 0
 AllCrossed model owners r pairs = (worker : ℕ) (pair : Pair) → slice_get pairs worker ≡ Some pair
     → CrossedTo model owners (logged_packets r) worker pair.1

@@ -26,7 +26,7 @@ pub record AreAtEnd (model : NetModel) (owners : List ℕ) (group : WorkerGroup)
   pub sound : HasSoundMedium model
   pub at : IsAt model owners (suc model.end) group
 
--- a share that is taken apart returns its contents
+-- taking a share apart returns the share's contents
 abbrev pub TellsWhatItKept : Share → Ended → Type 0
 TellsWhatItKept share ended = (model : NetModel) (owners : List ℕ) (worker from : ℕ) (motes : Motes)
     (taken : List RadioCopy)
@@ -51,7 +51,7 @@ is_sooner_line a b = is_sooner a.sent b.sent
 abbrev pub HasTrace : (worker mote : ℕ) → List Ended → Type 0
 HasTrace worker mote ended = (d : Ended) → mote < length (slice_index_or ended worker d).traces.items
 
--- the traces are the same in both
+-- the new results have the same traces as the old results
 abbrev pub KeepsTraces : Ended → Ended → Type 0
 KeepsTraces old new = new.traces ≡ old.traces
 

@@ -9,7 +9,7 @@ use serial_run::RunError;
 /// The largest number of workers that a run may have.
 pub const MOST_WORKERS: u16 = 16;
 
-/// Returns whether the worker of each mote is one of this many workers.
+/// Returns whether the number of each mote's worker is below `workers`.
 fn are_there(workers: usize, owners: &[u16]) -> bool
     ensures value { result ≡ list_all (λ worker. nat_lt worker workers) owners.now }
 {

@@ -148,7 +148,7 @@ where
 /// Runs a net with one worker for each inbox, and returns its report. Copies from a mote of one worker to a mote of
 /// another go through the inbox of the receiver's worker. The report is that of the run on one thread, for any
 /// partition and both kinds of synchronisation. The inboxes have marks if the workers are synchronised with marks, and
-/// none with joins. At the end, every sender is gathered.
+/// no marks if they are synchronised with joins. At the end, every sender is gathered.
 ///
 /// # Errors
 /// `Workers`, `CutLength` or `CutWorker`, the first that applies, exactly if the partition doesn't fit. Otherwise,
@@ -192,8 +192,8 @@ where
 }
 
 /// Runs a net with this many workers, each in threads of its own, and returns its report. The report is that of the
-/// run on one thread, for any partition and both kinds of synchronisation. The inboxes are made for the run. They are
-/// dropped at its end with the copies that are left in them.
+/// run on one thread, for any partition and both kinds of synchronisation. The inboxes are made for the run. At the
+/// end of the run, they are dropped with the copies that are left in them.
 ///
 /// # Errors
 /// `Workers`, `CutLength` or `CutWorker`, the first that applies, exactly if the partition doesn't fit. Otherwise,

@@ -24,13 +24,14 @@ pub record IsExpected (owners : List ℕ) (worker from : ℕ) (copy : RadioCopy)
   pub sender : is_own owners worker copy.sender ≡ false
   pub later : from ≤ copy.at
 
--- the copies that this mote has sent to motes of this worker; none if it is a mote of this worker itself
+-- the copies that this mote has sent to motes of this worker; none if the mote itself belongs to this worker
 abbrev pub crossed : {S L : Type 0} → System S L → (owners : List ℕ) → (motes : (number : ℕ) → LoneMote S L)
     → (worker sender : ℕ) → List RadioCopy
 crossed system owners motes worker sender =
     if is_own owners worker sender then [] else filter (is_to owners worker) (copies_by system motes sender)
 
--- the copies from this mote that a worker has seen: all of them if the mote is its own, otherwise those that it took
+-- the copies from this mote that a worker has seen: all copies if the mote belongs to the worker, otherwise the copies
+-- that the worker took
 abbrev pub copies_seen : {S L : Type 0} → System S L → (own : ℕ → Bool) → (motes : (number : ℕ) → LoneMote S L)
     → (taken : List RadioCopy) → (sender : ℕ) → List RadioCopy
 copies_seen system own motes taken sender =

@@ -4,7 +4,7 @@ ghost use Rattle.window_laws.specs.System.{System};
 ghost use Rattle.worker_cut.specs.Laws.{WindowCopiesAreWhole, CrossedOnce};
 
 /// Consider the copies that a worker's own motes sent, and all copies that crossed to the worker and that it took.
-/// Those among them that are for a mote in a window are the copies that the law of windows requires.
+/// Among these copies, those for one mote in one window are the copies that the law of windows requires.
 pub fn window_copies_are_whole<S, L>()
     ensures window_copies_are_whole { (system : System S L) → WindowCopiesAreWhole system }
 {}

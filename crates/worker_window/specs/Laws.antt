@@ -21,7 +21,7 @@ EarlierStaysInFront = (window : Window) (last : LoneNode) → EndsAs window last
     → WindowRun (node_number window.mote.state) window.until window.copies (with_earlier lines sends window.mote)
     (with_earlier lines sends last)
 
--- if a window begins with its mote's wake, it ends with its mote's wake
+-- if the wake in a window is the mote's own wake at the beginning, it is also the mote's own wake at the end
 abbrev pub EndsWithItsWake : Type 0
 EndsWithItsWake = (window : Window) (last : LoneNode) → window.mote.wake ≡ wake_of window.mote.state
     → EndsAs window last → last.wake ≡ wake_of last.state
@@ -30,6 +30,6 @@ EndsWithItsWake = (window : Window) (last : LoneNode) → window.mote.wake ≡ w
 abbrev pub IsAhead : Window → Type 0
 IsAhead window = (moment : ℕ) → IsNext moment window → is_past moment window.mote.state.last ≡ false
 
--- the next event is after the mote's last turn, after each turn of a window
+-- after each turn of a window, the next event is after the mote's last turn
 abbrev pub NoTurnIsPast : Type 0
 NoTurnIsPast = (window : Window) (moment : ℕ) → HasTurn moment window → IsAhead (window_after_turn moment window)

@@ -76,7 +76,7 @@ pub record IsOutOfMote (motes : ℕ) (out : WindowOut) : Type 0 where
   pub there : number < motes
   pub sends : AllByRecursion (λ sent. (sent.sender < motes) × (sent.at ≤ 2 ^ 40)) out.sends.items
 
--- a mote has returned to its share, whose agenda had this wake of it
+-- a mote has returned to its share; before, the share's agenda had this wake for the mote
 pub record MoteReturns (radio : Radio) (owners : List ℕ) (number : ℕ) (wake : Option ℕ) (out : WindowOut)
     (old new : Share)
     (before after : List RadioCopy) : Type 0 where

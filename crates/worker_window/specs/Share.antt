@@ -53,10 +53,10 @@ pub record HasToCome (model : NetModel) (own : ℕ → Bool) (from : ℕ) (motes
   pub copies : (s : ℕ) → filter (is_from_sender s) (packets items)
       ≡ filter (is_to_come own from) (copies_seen (system_of model) own motes taken s)
 
--- The share of a worker at a moment before which no event is pending, while the share has some of the worker's motes:
--- their nodes, wakes and lines so far, the packets of all the worker's motes so far, and the agenda. No mote in the
--- share has failed, and the last turn of each was before the moment. `taken` are all copies that ever arrived from
--- other workers.
+-- The share of a worker at a moment before which no event is pending. The share has some of the worker's motes. It has
+-- the nodes, wakes and lines so far of these motes, the packets of all the worker's motes so far, and the agenda. No
+-- mote in the share has failed, and the last turn of each was before the moment. `taken` are all copies that ever
+-- arrived from other workers.
 pub record IsShare (model : NetModel) (owners : List ℕ) (worker : ℕ) (here : ℕ → Bool) (from : ℕ) (motes : Motes)
     (taken : List RadioCopy) (share : Share) : Type 0 where
   pub is_worker : share.worker ≡ worker

@@ -57,8 +57,8 @@ pub record MayEndAs {G : Type 0} (slots ended : List (Slot G)) : Type 0 where
   pub done : list_all is_done ended ≡ true
   pub gives : (outs : List WindowOut) → SlotsGive ended outs → SlotsGive slots outs
 
--- the possible results of the worker: its slots, when all are done, or an error, which is out of memory if all slots
--- can continue
+-- the possible results of the worker: its slots when all of them are done, or an error; if all slots can continue, the
+-- error is out of memory
 abbrev pub WorkerMayAnswer : {G : Type 0} → List (Slot G) → Result (Vec (Slot G) Global) MoteError → Type 0
 WorkerMayAnswer slots (Ok ended) = MayEndAs slots ended.items
 WorkerMayAnswer slots (Err e) = SlotsGoOn slots → e ≡ Memory

@@ -24,7 +24,8 @@ abbrev pub HasTurns : Option OwnWindow → Type 0
 HasTurns None = ⊥
 HasTurns (Some own) = CanGoOn (window_in own)
 
--- the possible results of a poll: a result of the window, or an error, which is out of memory if the mote can continue
+-- the possible results of a poll: a result of the window, or an error; if the mote can continue, the error is out of
+-- memory
 abbrev pub MayAnswer : Option OwnWindow → Result WindowOut MoteError → Type 0
 MayAnswer own (Ok out) = MayGive own out
 MayAnswer own (Err e) = HasTurns own → e ≡ Memory
@@ -44,7 +45,7 @@ abbrev pub TakesTurn : (old new : Option OwnWindow) → Type 0
 TakesTurn (Some old) (Some new) = IsFirstTurn (window_in old) (window_in new)
 TakesTurn _ _ = ⊥
 
--- an allocation for the turn failed, or its moment isn't after that of the mote's last turn
+-- an allocation for the turn failed, or the turn's moment isn't after the mote's last turn
 abbrev pub IsErrorAt : (moment : ℕ) → MoteError → Window → Type 0
 IsErrorAt moment e window = (e ≡ Memory) ⊎ ((e ≡ Past) × (is_past moment window.mote.state.last ≡ true))
 

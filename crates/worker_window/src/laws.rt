@@ -12,13 +12,13 @@ pub fn earlier_stays_in_front()
     ensures earlier_stays_in_front { EarlierStaysInFront }
 {}
 
-/// If a window begins with its mote's wake, it ends with its mote's wake.
+/// If the wake in a window is the mote's own wake at the beginning, it is also the mote's own wake at the end.
 pub fn ends_with_its_wake()
     ensures ends_with_its_wake { EndsWithItsWake }
 {}
 
-/// After a turn of a window, the next event is later. So only the first turn of a window can return `Past`: it does if
-/// its moment isn't after the mote's last turn before the window.
+/// After a turn of a window, the next event is later. So only the first turn of a window can return `Past`. It returns
+/// `Past` if its moment isn't after the mote's last turn before the window.
 pub fn no_turn_is_past()
     ensures no_turn_is_past { NoTurnIsPast }
 {}

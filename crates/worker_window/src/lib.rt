@@ -1,6 +1,7 @@
-//! Windows of time. For one mote, the crate defines a relation for its run by itself up to a bound, the state of such
-//! a window, and a future that runs one turn of the window at each poll. For one worker of a net, it defines the
-//! worker's data, the worker's future over the windows of its motes, and the worker's run through one window.
+//! Windows of time. For one mote, the crate defines the relation between the mote before a window and after it, if the
+//! mote runs by itself up to a bound; the state of such a window; and a future that runs one turn of the window at
+//! each poll. For one worker of a net, it defines the worker's data, the worker's future over the windows of its
+//! motes, and the worker's run through one window.
 #![tactic(auto)]
 
 mod calls;

@@ -37,7 +37,7 @@ impl<G> Drop for Slot<'_, G> {
 }
 
 impl<'a, G: Gate> Slot<'a, G> {
-    /// Opens the window of a lent mote, up to `until`, which is at most 2^40. The mote is one of the net.
+    /// Opens the window of a lent mote, up to `until`, which is at most 2^40. The mote belongs to the net.
     pub fn open(
         alloc: Global,
         net: &'a Net,

@@ -167,7 +167,7 @@ fn send_fate(
     send_copy(owners, worker, &copy, agenda, outgoing)
 }
 
-/// Returns whether all of these fates are those of copies for motes of the worker.
+/// Returns whether all of these fates belong to copies for motes of the worker.
 fn are_own(owners: &[u16], worker: u16, fates: &[Fate]) -> bool
     ensures value { result ≡ list_all (λ fate. is_own owners.now worker fate.to) fates.now }
 {

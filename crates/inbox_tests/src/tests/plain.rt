@@ -1,4 +1,4 @@
-//! An inbox without marks: one is used in one thread, and another is filled by three threads at once.
+//! Inboxes without marks: one inbox is used in one thread, and three threads fill another inbox at once.
 
 ghost use Rattle.std.specs.Prelude.{◌≡◌, false, [], IfOk, OnOk};
 ghost use Rattle.copy_inbox.specs.Views.{make_taker_state};

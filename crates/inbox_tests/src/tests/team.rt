@@ -97,8 +97,8 @@ impl<R> Drop for Team<'_, R> {
 }
 
 impl<R: Wait + Clock> Team<'_, R> {
-    /// Receives the windows of the scene as worker 2, until one doesn't arrive. If worker 1 fails at once, worker 2
-    /// begins only after the flag is set.
+    /// Receives the windows of the scene as worker 2, until a window doesn't arrive. If worker 1 fails at once, worker
+    /// 2 begins only after the flag is set.
     fn take<L: Ledger>(
         &self,
         mut worker_2: MarkEndpoint,

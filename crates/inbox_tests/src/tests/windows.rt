@@ -26,8 +26,8 @@ pub(crate) enum Scene {
     Stopped,
     /// Worker 1 fails while worker 2 waits for a mark of worker 1.
     Woken,
-    /// Three windows above 1,000. The marks of the first one are in the inbox, the last mark of the second one arrives
-    /// late, and the last mark of the third one doesn't arrive before worker 1 fails.
+    /// Three windows with numbers above 1,000. The marks of the first window are in the inbox, the last mark of the
+    /// second arrives late, and the last mark of the third doesn't arrive before worker 1 fails.
     Late,
 }
 
@@ -180,8 +180,8 @@ fn write_scenes<R: Threads + Wait + Clock + Sync>(
     write_scene(rt, alloc, text, Scene::Late)
 }
 
-/// Windows that are received although the flag is set; a window whose mark is missing; the same with a worker that
-/// sleeps when the flag is set; and windows above 1,000.
+/// Windows that are received although the flag is set; a window whose mark is missing; a worker that sleeps when the
+/// flag is set; and windows with numbers above 1,000.
 #[test]
 fn windows_by_hand(rt: HostRuntime) -> Result<(), Fail> {
     let mut text = String::new(rt.alloc());

@@ -135,8 +135,8 @@ fn write_of_two<R: Wait>(
     Ok(())
 }
 
-// Rows: a name, the copies that two senders push (as senders and numbers), and how many copies are taken at most after
-// the first sender is gathered, and after the second.
+// Rows: a name, the copies that two senders push (as senders and numbers), and the largest number of copies that are
+// taken after the first sender is gathered, and after the second sender is gathered.
 static OF_TWO: [(&str, &[(u16, u64)], (u64, u64)); 3] = [
     // Two copies of each sender: three are drained, and closing the inbox returns the fourth.
     ("", &[(0, 0), (1, 0), (1, 1), (0, 1)], (0, 3)),

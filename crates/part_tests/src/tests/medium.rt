@@ -26,7 +26,8 @@ fn write_packet(text: &mut String, medium: &Medium, sender: u16, number: u64)
     }
 }
 
-/// Two motes at a distance of 5. A packet needs 2 moments, and one more for each 10 in the square of the distance.
+/// Two motes at a distance of 5. A packet needs 2 moments, and one more moment for each 10 units of the squared
+/// distance.
 fn two_motes(alloc: Global, range: u32, losses: &[Loss]) -> Result<Medium, MediumError>
     requires range_bounded { range ≤ 100000 }
     ensures two_places { IfOk result (λ medium. length medium.places ≡ 2) }
@@ -35,8 +36,8 @@ fn two_motes(alloc: Global, range: u32, losses: &[Loss]) -> Result<Medium, Mediu
     Medium::new(alloc, &places, range, 2, 10, losses)
 }
 
-/// Writes down whether each of two motes hears the other, whether one hears itself, the delay and the least delay of a
-/// packet, and the fates of some packets.
+/// Writes down whether each of two motes hears the other, whether a mote hears itself, the delay and the least delay
+/// of a packet, and the fates of some packets.
 fn write_hearing(text: &mut String, medium: &Medium)
     requires two_places { length medium.now.places ≡ 2 }
 {
@@ -62,8 +63,8 @@ fn write_two_motes(
     Ok(())
 }
 
-/// Four motes. Mote 1 hears all others, and they hear it; of these, mote 2 is the nearest and mote 3 the farthest.
-/// Mote 2 loses each third packet of mote 1.
+/// Four motes. Mote 1 hears all others, and all others hear mote 1. Mote 2 is the nearest to mote 1, and mote 3 the
+/// farthest. Mote 2 loses each third packet of mote 1.
 fn four_motes(alloc: Global) -> Result<Medium, MediumError>
     ensures four_places { IfOk result (λ medium. length medium.places ≡ 4) }
 {

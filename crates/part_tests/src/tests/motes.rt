@@ -18,7 +18,7 @@ const RECEIVER: &str = "process r; autostart r; receiver r; code r { body { whil
      if is(packet) { print from; print data; } } } }";
 
 /// A turn: its moment, and the packets that arrive at that moment. All of them are packets of mote `sender`, numbered
-/// from 0. The first one has the value `value`, and each later one a value greater by 1.
+/// from 0. The first packet has the value `value`, and the value of each later packet is greater by 1.
 #[derive(Clone, Copy)]
 struct Turn {
     moment: u16,

@@ -43,8 +43,8 @@ fn refuses_the_second(queue: &mut EventQueue) -> bool
 const OWN: Proc = Proc::Own(0);
 
 /// Tests timers when the event of timer 1 is refused at moment 1: timer 1 remains due, and timer 0 follows it. Timer 1
-/// is restarted. At the moment when it is due again, it precedes timer 0 again. After it is stopped, it is no longer
-/// due. A new timer was never set, so it counts as expired. Returns `true` if all this is so.
+/// is restarted. At the moment when timer 1 is due again, it precedes timer 0 again. After timer 1 is stopped, it is
+/// no longer due. A new timer was never set, so it counts as expired. Returns `true` if all this is so.
 fn refused_one_stays(timers: &mut Timers) -> bool
     requires two_timers { length timers.old.timers ≡ 2 }
 {

@@ -81,7 +81,7 @@ const EMPTY: Streams<'static> = Streams {
 };
 
 /// First no stream fails. Then the input fails; the output fails, or takes nothing; and the line of an error can't be
-/// written, or only its first bytes.
+/// written, or only its first bytes can be written.
 static FAILING: [Streams<'static>; 6] = [
     WHOLE,
     Streams { reads: 3, ..WHOLE },

@@ -17,8 +17,8 @@ fn reads(alloc: Global, bytes: &[u8], most: usize, calls: usize) -> Result<bool,
     Ok(text.as_bytes() == bytes)
 }
 
-/// Tests whether the error of a failing reader is reported. Each call of the reader returns one byte, and one call
-/// fails: after each number of calls from 0 to 19. The next call would succeed.
+/// Tests whether the error of a failing reader is reported. Each call of the reader returns one byte, except one call,
+/// which fails after 0 to 19 other calls. The next call would succeed.
 fn tells_failures(alloc: Global) -> bool {
     for calls in 0..20usize {
         if reads(alloc, &[b' '; 20], 1, calls) != Err(InputError::Read) {

@@ -114,7 +114,7 @@ static MEETING: [Trials<'static>; 2] = [
     },
 ];
 
-/// In each of three windows two workers meet, and so do three workers.
+/// In each of three windows, all workers meet: the two workers of one run, and the three workers of another run.
 #[test]
 fn turns_of_workers_overlap(rt: HostRuntime) -> Result<(), Fail> {
     all_tell(&rt, MEETING.as_slice())

@@ -96,8 +96,8 @@ static RUNS: [Trials<'static>; 11] = [
         joins: "Same(0) 2 4|Same(0) 4 4|Same(0) 4 4|Same(0) 4 4|Same(0) 6 4|Same(0) 6 4|Same(0) 8 4|Same(0) 32 4|",
         marks: "Same(0) 1 4|Same(0) 2 4|Same(0) 2 4|Same(0) 2 4|Same(0) 3 4|Same(0) 3 4|Same(0) 4 4|Same(0) 16 4|",
     },
-    // Partitions of three motes. Only the last one is accepted. If there are several errors, the first is reported, in
-    // the order of the first three runs here, and no worker is started.
+    // Partitions of three motes. Only the last one is accepted. If a partition has several errors, the first is
+    // reported: the order is that of the first three runs here. No worker is started.
     Trials {
         scenario: BUSY_TRIO,
         cases: &[
@@ -127,8 +127,8 @@ static RUNS: [Trials<'static>; 11] = [
         joins: REFUSED_STARTS,
         marks: REFUSED_STARTS,
     },
-    // The same with 16 workers. The three that have a mote were started. Each of them has run the first window: the
-    // only one, or the first of three.
+    // The same test with 16 workers. The three workers that have a mote were started. Each of them has run the first
+    // window: the only window, or the first of three.
     Trials {
         scenario: BUSY_TRIO,
         cases: &[
@@ -147,8 +147,8 @@ static RUNS: [Trials<'static>; 11] = [
         joins: "Same(0) 4 4|Same(0) 6 4|Same(0) 6 4|Same(0) 4 4|Same(0) 9 4|",
         marks: "Same(0) 2 4|Same(0) 2 4|Same(0) 2 4|Same(0) 2 4|Same(0) 3 4|",
     },
-    // The same with an end before the packet's arrival, so the packet is left. Turns at 0 and 2 are in one window, or
-    // in two.
+    // The same motes, but the run ends before the packet's arrival, so the packet is left. Turns at 0 and 2 are in one
+    // window, or in two.
     Trials {
         scenario: COPY_PAST_THE_END,
         cases: &LENGTHS,
