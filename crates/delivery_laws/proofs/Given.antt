@@ -1,4 +1,4 @@
--- Earlier deliveries are unchanged, and each new one is added to them.
+-- Earlier deliveries are unchanged, and each new delivery is added to them.
 use Rattle.std.proofs.Common.{ℕ, ◌≡◌, ◌<◌, ◌≤◌, Bool, List, [], ◌∷◌, ◌++◌, refl, sym, ap, ◌∙◌, append_assoc, append-nil, arith}
 use Rattle.std.specs.List.{All, Contains}
 use Rattle.std.proofs.lemmas.List.Elements.{filter-append, Contains-append_left, All-append, All-nil, All-cons, All-weaker, All-head, All-tail}

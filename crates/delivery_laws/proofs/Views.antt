@@ -1,4 +1,4 @@
--- Steps of a kernel as runs of the delivery machine, in the middle of any walk.
+-- Steps of a kernel as runs of the delivery machine, at any point of a walk.
 use Rattle.std.proofs.Common.{ℕ, ◌≡◌, ◌+◌, ◌<◌, Bool, false, List, [], ◌∷◌, ◌++◌, inl, inr, refl, map}
 use Rattle.std.specs.List.{All}
 use Rattle.delivery_laws.specs.HandedOn.{Line, Target, ToOne, ToAll, Start, Leave, Post, Halt, Other, Incarnation, has_incarnation, is_on, without, HandedOn}

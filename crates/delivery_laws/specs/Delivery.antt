@@ -11,7 +11,7 @@ pub record Waiting : Type 0 where
   pub target : Target
 
 pub record DeliveryMachine : Type 0 where
-  -- the process list, newest process first, and a number that no incarnation on it has reached
+  -- the process list, newest process first, and a number above those of all incarnations on the list
   pub list : List Incarnation
   pub numbered : ℕ
   -- the waiting events, the oldest first, and the number of events that were ever accepted
@@ -30,9 +30,9 @@ initial = record { list = []; numbered = 0; queue = []; accepted = 0; walked = 0
 abbrev pub take_or_drop : Bool → ℕ → ℕ → Line
 take_or_drop there s p = if there then Take s p else Drop s p
 
--- One step, from a machine, with the lines that it writes, to the machine after it. At any moment, also between the
--- steps of a walk, processes that are not listed start, and processes leave and post. But the next event is taken only
--- when no walk is in progress.
+-- One step: the machine before it, the lines that the step writes, and the machine after it. At any moment, also
+-- between the steps of a walk, processes that are not listed start, and processes leave and post. But the next event
+-- is taken only when no walk is in progress.
 pub data DeliveryStep : DeliveryMachine → List Line → DeliveryMachine → Type 0 where
   starts : (m : DeliveryMachine) (p : ℕ) → has_incarnation m.list p ≡ false →
       DeliveryStep m (Start p ∷ []) (record m

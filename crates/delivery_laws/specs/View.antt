@@ -1,10 +1,11 @@
--- A kernel as the delivery of events sees it: its lines, and its state as that of a delivery machine.
+-- The view of a kernel for the delivery of events: the kernel's lines, and its state as a state of the delivery
+-- machine.
 use Rattle.std.specs.Prelude.{ℕ, List, []}
 use Rattle.delivery_laws.specs.HandedOn.{Line, Incarnation}
 use Rattle.delivery_laws.specs.Delivery.{Waiting, DeliveryMachine, initial, DeliveryRuns, Halts}
 
--- the process list of a kernel and a number that no incarnation on it has reached, its queue, and the number of events
--- that it has accepted
+-- the process list of a kernel, and a number above those of all incarnations on the list; the kernel's queue; and the
+-- number of events that the kernel has accepted
 pub record View : Type 0 where
   pub list : List Incarnation
   pub numbered : ℕ

@@ -19,8 +19,8 @@ pub fn only_the_unlisted_start()
     ensures delivery_starts_the_unlisted { DeliveryStartsTheUnlisted }
 {}
 
-/// Small correct traces have the property, and small traces with one fault each don't. There are faults that the
-/// property doesn't detect. The two laws above detect two of them.
+/// Small correct traces have the property `HandedOn`, and small traces with one fault each don't have it. Some faults
+/// aren't detected by this property; the two laws above detect two of these faults.
 pub fn traces_are_distinct()
     ensures traces_that_hand_on { TracesThatHandOn }
     ensures broken { TracesThatDoNot }

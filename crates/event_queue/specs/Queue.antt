@@ -1,4 +1,4 @@
--- An `EventQueue` as contracts see it.
+-- The view of an `EventQueue` in contracts.
 use Rattle.std.specs.Prelude.{ℕ, ◌+◌, List, [], ◌∷◌, ◌++◌, drop}
 use Rattle.program_tree.specs.declared.event.Event.{Event}
 use Rattle.program_tree.specs.declared.event.Target.{Target}

@@ -1,5 +1,6 @@
 -- An invariant of each small step of the kernel is an invariant of each call, however deep calls nest, and of each
--- boot and kernel run. A call and an exit are brackets around the steps within them.
+-- boot and kernel run. A call and an exit have a step at the beginning and a step at the end; other steps are between
+-- these two.
 use Rattle.std.proofs.Common.{ℕ, zero, suc, ◌≡◌, Bool, true, false, not, ◌&&◌, ◌||◌, ◌==◌, nat_lt, if◌then◌else◌, List, [], ◌∷◌, Option, Some, None, slice_get, slice_set, refl, sym, ap, ◌∙◌, subst, ◌++◌, ◌+◌, ◌-◌, ◌^◌, ◌≤◌, nat_le, length, arith, map}
 use Rattle.std.proofs.lemmas.Bool.Decides.{nat_tests}
 use Rattle.program_tree.specs.declared.event.Proc.{Proc}

@@ -1,4 +1,4 @@
--- Each small step of the kernel is a run of the delivery machine, in the middle of any walk.
+-- Each small step of the kernel is a run of the delivery machine, at any point of a walk.
 use Rattle.std.proofs.Common.{ℕ, ◌≡◌, ◌||◌, ◌==◌, not, Bool, true, false, cond, List, [], ◌∷◌, ◌++◌, refl, sym, ap, subst, ◌∙◌, append_assoc, append-nil, arith, map}
 use Rattle.std.proofs.lemmas.List.{map-append}
 use Rattle.std.specs.List.{filter}

@@ -1,4 +1,4 @@
--- The lines of a mote so far, and how they agree with the current mote.
+-- The lines of a mote so far, and their agreement with the mote's state.
 use Rattle.std.specs.Prelude.{Bool, true, false, ◌≡◌, List, [], ◌++◌}
 use Rattle.std.specs.List.{All}
 use Rattle.delivery_laws.specs.HandedOn.{HandedOn}

@@ -8,7 +8,7 @@ use Rattle.process_kernel.specs.Processes.{is_alive, process_needs_poll, process
 use Rattle.process_kernel.specs.Calls.{Calls}
 use Rattle.process_kernel.specs.Polls.{walk_polls}
 
--- a poll of the process waits: it needs a poll, and a poll is requested
+-- a poll of the process waits: the process needs a poll, and a poll is requested
 pub record PollWaits (p : Proc) (s : KernelState) : Type 0 where
   pub needs_poll : process_needs_poll s p ≡ true
   pub poll_requested : s.poll_requested ≡ true

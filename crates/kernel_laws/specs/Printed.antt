@@ -91,7 +91,7 @@ abbrev pub IsShownThen : Happening → Sight → Sight → Type 0
 IsShownThen (operates o) now then = IsSameCall now then
 IsShownThen (gives_up a) now then = Unit {0}
 
--- sights of this mote that follow one another in this way
+-- sights of this mote, each of which may follow the sight before it
 abbrev pub AreShown : (mote : ℕ) → List Sight → List Happening → Type 0
 AreShown mote [] did = Unit {0}
 AreShown mote (now ∷ []) did = now.looks.mote ≡ mote
@@ -106,8 +106,8 @@ left_by (restarts now later variables) = variables
 left_by (exits now later variables) = variables
 left_by (in_state variables) = variables
 
--- One life of a process that starts with these variables. It gets these sights, INIT first, and its actions are a
--- reading of its body by the structure of the body.
+-- One life of a process that starts with these variables. The process gets these sights, INIT first. Its actions are a
+-- reading of its body, which follows the structure of the body.
 pub record Life (code : Code) (mote : ℕ) (variables : List ℕ) : Type 0 where
   pub now : Sight
   pub later : List Sight
@@ -138,7 +138,8 @@ pub data LivesSoFar (code : Code) (p : Proc) (mote : ℕ) (variables : List ℕ)
   HasStarted : {lines : List Line} {left : List ℕ} → Lives code p mote variables lines left → (moment : ℕ)
       → LivesSoFar code p mote variables (lines ++ record { at = moment; what = what.Start p } ∷ [])
 
--- the starts and the prints among these lines are those of lives of the process, after which it has these variables
+-- the starts and the prints among these lines are those of lives of the process; after these lives the process has
+-- these variables
 abbrev pub TellsLives : Code → (p mote : ℕ) → List Line → (variables : Option (List ℕ)) → Type 0
 TellsLives code p mote lines variables = (left : List ℕ) × (variables ≡ Some left)
     × Lives code (Own p) mote code.starts (starts_and_prints (Own p) lines) left

@@ -18,17 +18,17 @@ use Rattle.kernel_laws.specs.Going.{IsNote}
 use Rattle.kernel_laws.specs.Poll.{PollWaits}
 use Rattle.kernel_laws.specs.Polled.{TellsPacket}
 
--- a line that isn't about a packet that was received, was lost at the ring, or was heard by nobody
+-- a line about anything except a packet that was received, lost at the ring, or heard by nobody
 abbrev pub IsApart : What → Type 0
 IsApart (what.Recv f n v) = ⊥
 IsApart (what.Lost f n) = ⊥
 IsApart (what.Deaf f n) = ⊥
 IsApart w = Unit {0}
 
--- Lines in order, and a ring that holds these packets first, the oldest in front, and the packets that are left at
--- last. A packet that is received is appended to the ring if the ring of 8 has room. A packet is lost only if the ring
--- has no room. A packet leaves from the front with its line: it was posted to the receiver, the receiver's queue was
--- full, or nobody hears it. Each line about a received, a lost or an unheard packet is one of these lines.
+-- Along these lines, in order, the ring changes from its first packets to the packets that are left, the oldest in
+-- front. A packet that is received is appended to the ring if the ring of 8 has room. A packet is lost only if the
+-- ring has no room. A packet leaves from the front with its line: it was posted to the receiver, the receiver's queue
+-- was full, or nobody hears it. Each line about a received, a lost or an unheard packet is one of these lines.
 pub data RingRuns (receiver : Option ℕ) : List Arrival → List Line → List Arrival → Type 0 where
   NoneMore : {ring : List Arrival} → RingRuns receiver ring [] ring
   Receives : {ring left : List Arrival} {lines : List Line} {moment : ℕ} (a : Arrival)

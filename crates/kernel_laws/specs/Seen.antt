@@ -1,4 +1,5 @@
--- A kernel as the delivery of events sees it: its lines, and its state as that of a delivery machine.
+-- The view of a kernel for the delivery of events: the kernel's lines, and its state as a state of the delivery
+-- machine.
 use Rattle.std.specs.Prelude.{List, map}
 use Rattle.delivery_laws.specs.HandedOn as handed
 use Rattle.delivery_laws.specs.HandedOn.{Incarnation, ToOne, ToAll}

@@ -20,8 +20,8 @@ abbrev pub AreNumberedFrom : (first : ℕ) → List Sent → Type 0
 AreNumberedFrom first sends = map (λ x. x.number) sends ≡ range_with_len first (length sends)
 
 -- From one state to a later one, each line that was written is stamped with the moment, and each packet with the
--- moment and the mote. The numbers of the packets continue from the number of packets sent before, and the packets are
--- counted. The mote's number and its program don't change.
+-- moment and the mote. The numbers of the packets continue from the number of packets sent before, and the mote counts
+-- the packets. The mote's number and program don't change.
 pub record Stamped (moment : ℕ) (s t : KernelState) : Type 0 where
   pub lines : List Line
   pub wrote : t.lines ≡ s.lines ++ lines

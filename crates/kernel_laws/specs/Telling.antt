@@ -1,4 +1,5 @@
--- The remainder of a process after the lines about its lives. Each call of the process's kernel keeps this relation.
+-- The relation between the lines about a process's lives and the statements that the process has yet to execute. Each
+-- call of the kernel keeps this relation.
 use Rattle.std.specs.Prelude.{ℕ, ◌≡◌, ◌⊎◌, Bool, true, false, nat_lt, List, [], ◌∷◌, ◌++◌, length, Option, Some}
 use Rattle.std.specs.Prelude.{slice_get}
 use Rattle.program_tree.specs.declared.event.Proc.{Proc}

@@ -39,17 +39,17 @@ pub fn the_listed_are_running()
     ensures between { ListedAreRunning }
 {}
 
-/// Packets and timers that wait when the system processes are polled are accounted for. Each packet that was accepted
-/// into the receive ring is posted to the receiver once, in order, or nobody hears it. For each timer that is due by
-/// now, TIMER is posted to its owner. If the queue was full, a line states this.
+/// The polls of the system processes handle each waiting packet and each timer that is due. Each packet that was
+/// accepted into the receive ring is posted to the receiver once, in order, or nobody hears it. For each timer that is
+/// due by now, TIMER is posted to its owner. If the queue was full, a line states this.
 pub fn what_waits_is_traced()
     ensures packets { PacketsAreHanded }
     ensures timers { DueTimersArePosted }
 {}
 
-/// Each line that is written in a boot or a kernel run is stamped with its moment, whatever calls nest, and even if
-/// the mote halts. Each packet that is sent is stamped with the moment and the mote. The numbers of packets continue
-/// from the number of packets sent before.
+/// Each line that is written in a boot or a kernel run is stamped with its moment, however calls nest, and even if the
+/// mote halts. Each packet that is sent is stamped with the moment and the mote. The numbers of packets continue from
+/// the number of packets sent before.
 pub fn what_is_written_bears_its_moment()
     ensures within { CallsStamp }
     ensures boot { BootStamps }
@@ -69,8 +69,8 @@ pub fn the_ring_is_traced()
 
 /// No timer is forgotten. After a boot no timer is due, or a poll of etimer waits. If this is true before a call or a
 /// kernel run, it is also true after it. If a poll of etimer waits, a kernel run polls etimer, after the processes
-/// before it on the process list. For each timer that is due then, a line states that TIMER was posted to its owner,
-/// or that the queue was full, unless the mote halts.
+/// that precede etimer on the process list. For each timer that is due then, a line states that TIMER was posted to
+/// its owner, or that the queue was full, unless the mote halts.
 pub fn no_timer_is_forgotten()
     ensures within { CallsForgetNone }
     ensures boot { BootForgetsNone }
@@ -82,11 +82,12 @@ pub fn no_timer_is_forgotten()
 
 /// Let a process be quiet apart from its body: its blocks at POLL and EXIT and those of its callback timers print
 /// nothing, set no variable and spawn no thread. From each of its starts on, the process prints the lines of a reading
-/// of its body. A reading follows the structure of the block, with sights of the mote. This is true whatever other
-/// processes do meanwhile, and whatever calls of the kernel follow the boot. INIT comes first, each call has one event
-/// and one moment, and each line is at the moment of its sight. The rest of a sight (later events, timers, processes,
-/// semaphores) isn't in the lines. The next life begins with the variables that the previous one left. If the mote
-/// halts, the lines are those of the last life up to the halt.
+/// of its body. A reading follows the structure of the body; at each step it gets a sight of the mote: an event, an
+/// answer and a view. This is true whatever other processes do meanwhile, and whatever calls of the kernel follow the
+/// boot. INIT comes first, each call has one event and one moment, and each line is at the moment of its sight. The
+/// rest of a sight (later events, timers, processes, semaphores) isn't in the lines. Each life of the process, from a
+/// start to the exit, begins with the variables that the previous life left. If the mote halts, the lines are those of
+/// the last life up to the halt.
 pub fn prints_are_the_reading()
     ensures prints_are_the_reading { PrintsAreTheReading }
     ensures so_far { PrintsSoFarAreTheReading }
@@ -105,9 +106,9 @@ pub fn each_call_tells_lives()
     ensures note { NoteTells }
 {}
 
-/// The depth that the rules allow for calls doesn't limit a mote, because each call spends a unit of work. If the
-/// depth is above the number of units, more depth doesn't change the outcome of a call, a thread, a boot or a kernel
-/// run.
+/// The rules limit the depth of nested calls. This limit never stops a mote, because each call spends a unit of work.
+/// If the depth is above the number of units, more depth doesn't change the outcome of a call, a thread, a boot or a
+/// kernel run.
 pub fn depth_is_no_limit()
     ensures calls { CallsAreAnyDepth }
     ensures threads { ThreadsAreAnyDepth }

@@ -1,4 +1,4 @@
--- A property that each step of a turn keeps is a property that the turn keeps.
+-- If each step of a turn keeps a property, the turn keeps the property.
 use Rattle.std.proofs.Common.{ℕ, zero, suc, ◌≡◌, not, ◌&&◌, nat_le, Bool, true, false, if◌then◌else◌, List, [], ◌∷◌, length, refl, sym, subst, append_assoc, append-nil}
 use Rattle.program_tree.specs.declared.event.Proc.{Proc}
 use Rattle.program_tree.specs.declared.event.Proc.TheVariants.{Etimer, Radio}

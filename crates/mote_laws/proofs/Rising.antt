@@ -1,4 +1,4 @@
--- Numbers that don't fall along a list, and along two joined lists.
+-- Lists of numbers in which no number is below an earlier one, and two such lists joined.
 use Rattle.std.proofs.Common.{ℕ, ◌≡◌, ◌-◌, ◌≤◌, inl, inr, List, [], ◌++◌, length, refl, ap, arith}
 use Rattle.std.proofs.lemmas.Bool.{cases_lt}
 use Rattle.std.proofs.lemmas.List.{get_or_append_left, get_or-append_right, length-append}

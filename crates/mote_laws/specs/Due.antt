@@ -60,8 +60,8 @@ node_begins moment arrivals n =
 abbrev pub first_run : (moment : ℕ) → List Arrival → Node → KernelState
 first_run moment arrivals n = let u = node_begins moment arrivals n in begun u.mote moment u.lines u.sends
 
--- The first kernel run of the turn polls etimer, after it has polled the processes before etimer on the process list
--- that had asked for a poll. Each timer that is due then has a line in the turn, at its moment.
+-- The first kernel run of the turn polls etimer. The run first polls the processes that precede etimer on the process
+-- list and had asked for a poll, and then etimer. Each timer that is due then has a line in the turn, at its moment.
 pub record ServesTimers (moment : ℕ) (arrivals : List Arrival) (n : Node) : Type 0 where
   pub at_turn : KernelState
   pub comes : polls_before Etimer (calls_of (most_units + 1)) (first_run moment arrivals n) ≡ Goes tt at_turn

@@ -13,8 +13,7 @@ use Rattle.mote_node.specs.Laws.{TurnInput, Turns}
 abbrev pub first_node : Tree → (number queue : ℕ) → (collides : Bool) → Node
 first_node program number queue collides = with_collide collides (new_node program number queue)
 
--- if the lines of a mote so far agree with it, they agree with it after a turn, too, with the lines of the turn
--- appended
+-- if the lines so far of a mote agree with the mote, then after a turn these lines and the turn's lines agree with it
 abbrev pub TurnKeeps : Type 0
 TurnKeeps =
     (lines : List Line) (moment : ℕ) (arrivals : List Arrival) (n : Node) → GoesWith lines n.mote

@@ -88,8 +88,8 @@ TurnsEmptyRing =
     → Turns (first_node program number queue collides) given lines last
     → last.mote.halted ≡ false → last.mote.state.ring ≡ []
 
--- The packets that were received are, in order, the packets that lines are about. Each has its own line, in the same
--- order. Only if the mote halts, some packets may be left after these.
+-- Each packet that was received has its own line, and the lines are in the order of the packets. Only if the mote
+-- halts, some packets at the end may have no line.
 pub record AccountsForPackets (receiver : Option ℕ) (lines : List Line) (m : KernelModel) : Type 0 where
   pub handed : List Arrival
   pub left : List Arrival

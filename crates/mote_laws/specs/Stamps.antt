@@ -12,8 +12,8 @@ use Rattle.mote_node.specs.Laws.{TurnInput, Turns}
 use Rattle.mote_laws.specs.Laws.{first_node}
 
 -- The lines of a turn are stamped with its moment, and its packets with its moment and the mote. The numbers of the
--- packets continue from the number of packets that the mote sent before. The packets are counted, and the mote keeps
--- its number.
+-- packets continue from the number of packets that the mote sent before. The mote counts the packets, and its own
+-- number doesn't change.
 pub record IsStamped (moment : ℕ) (n : Node) (t : TurnGiven) : Type 0 where
   pub lines : LinesBear moment t.lines
   pub packets : PacketsBear moment n.mote.state.mote t.sends

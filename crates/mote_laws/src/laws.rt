@@ -32,8 +32,8 @@ pub fn each_turn_bears_its_moment()
 {}
 
 /// Each packet that arrives gets its lines, whatever turns a mote takes. If the mote halts, some packets may be left
-/// after those that were delivered. If a program itself posts `packet` to the receiver, the `post` or `full` line is
-/// the same.
+/// after those that were delivered. A `post` or `full` line looks the same if a program itself posts `packet` to the
+/// receiver.
 pub fn each_packet_is_handed_on()
     // Each packet that arrives is received (`recv`) or lost (`lost`), unless the packets of the turn collide.
     ensures heard { TurnsHear }
@@ -56,15 +56,16 @@ pub fn each_packet_is_handed_on()
 pub fn no_timer_is_forgotten()
     // Each timer on the list has an owner.
     ensures owners { TurnsKeepOwners }
-    // A turn at or after the expiration of a listed timer polls etimer in its first kernel run, after the processes
-    // before etimer on the process list that had asked for a poll. For each timer that is due then, a line of that
-    // turn states that TIMER was posted to its owner (`post`), or that the queue was full (`full`).
+    // A turn at or after the expiration of a listed timer polls etimer in its first kernel run. The run first polls
+    // the processes that precede etimer on the process list and had asked for a poll, and then etimer. For each timer
+    // that is due then, a line of that turn states that TIMER was posted to its owner (`post`), or that the queue was
+    // full (`full`).
     ensures serves { TurnsServeTimers }
     // After a turn each listed timer expires later than the turn's moment, or a poll of etimer waits and the mote
     // wakes at the next moment.
     ensures forgets_none { TurnsForgetNone }
-    // The next wake is never later than the next expiration; if that isn't later than the turn, the mote wakes at the
-    // next moment.
+    // The next wake is never later than the next expiration. But if this expiration isn't later than the turn, the
+    // mote wakes at the next moment.
     ensures wakes_in_time { WakesInTime }
     // The next wake is always later than the turn's moment.
     ensures wakes_later { WakesLater }

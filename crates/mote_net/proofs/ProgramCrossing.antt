@@ -1,5 +1,5 @@
 -- Programs may be shared by threads. Blocks contain statements and statements contain blocks, and expressions contain
--- expressions. So the proof treats each layer by itself, with holes for the layers in it.
+-- expressions. So the proof treats each layer separately. The layers inside it are holes (`denote.Hole`).
 use denote.Builtin as builtin
 use denote.Hole.{as_row}
 use denote.Hole.FixSend.{Syncs, fix_sync}

@@ -1,4 +1,4 @@
--- The meaning of the types of a net in the sources.
+-- The meaning of the types that represent a net in the sources.
 use Rattle.std.specs.Prelude.{ℕ, List, map, slice_get, option_map, unwrap_or}
 use Rattle.mote_net.specs.declared.net.MoteSetup.{MoteSetup as SetupOfCode}
 use Rattle.mote_net.specs.declared.net.Net.{Net}

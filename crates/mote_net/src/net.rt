@@ -31,7 +31,7 @@ pub struct Net {
     ghost fit: { IsTrue (list_all (is_mote_of (length programs.items)) motes.items) },
 }
 
-/// Implemented by hand, so that the check of a function that owns a net sees only one call for its drop.
+/// Implemented by hand: for the checker, each function that owns a net then drops it with a single call.
 impl Drop for Net {
     fn drop(self) {
         let Net {
@@ -110,7 +110,7 @@ impl Net {
         self.motes.len() as u16
     }
 
-    /// The program of a mote of the net.
+    /// The program that a mote of the net runs.
     pub fn program(&self, mote: u16) -> &Program
         requires mote_exists { mote < length (net_of self.now).motes }
         ensures tree { option_map (λ m. m.tree) (slice_get (net_of self.now).motes mote) ≡ Some (tree_of result.now) }
@@ -119,7 +119,7 @@ impl Net {
         &self.programs[place].program
     }
 
-    /// The name of the program of a mote of the net.
+    /// The name of the program that a mote of the net runs.
     pub fn program_name(&self, mote: u16) -> &str
         requires mote_exists { mote < length (net_of self.now).motes }
         ensures name { option_map (λ m. m.program) (slice_get (net_of self.now).motes mote) ≡ Some result.now }
@@ -128,7 +128,7 @@ impl Net {
         self.programs[place].name.as_str()
     }
 
-    /// The number of events for which the queue of a mote of the net has room.
+    /// The number of events for which this mote's queue has room.
     pub fn queue(&self, mote: u16) -> u16
         requires mote_exists { mote < length (net_of self.now).motes }
         ensures value { option_map (λ m. m.queue) (slice_get (net_of self.now).motes mote) ≡ Some result }

@@ -2,7 +2,7 @@
 use radio_packet::{Fate, Sent};
 use trace_lines::Line;
 
-/// A packet with the fates of its copies, by rising receiver.
+/// A packet with the fates of its copies, sorted by receiver.
 #[derive(Debug, Drop)]
 pub struct LogLine {
     pub sent: Sent,

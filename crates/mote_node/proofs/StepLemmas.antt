@@ -1,4 +1,4 @@
--- Steps of a turn that continue by their definitions.
+-- A turn continues with each step as the step's definition states.
 use Rattle.std.proofs.Common.{◌≡◌, Bool, true, false, option_map, Option, Some, None, refl, if◌then◌else◌}
 use Rattle.trace_lines.specs.declared.out.Out.{Out}
 use Rattle.process_kernel.specs.KernelModel.{KernelModel}

@@ -30,7 +30,7 @@ pub record TurnInput : Type 0 where
   pub moment : ℕ
   pub arrivals : List Arrival
 
--- turns one after another, each later than the previous one: they lead from one node to another, and write these lines
+-- turns one after another, each later than the previous turn: they change one node into another, and write these lines
 pub data Turns : Node → List TurnInput → List Line → Node → Type 0 where
   Rests : {n : Node} → Turns n [] [] n
   Takes : {n last : Node} {given : TurnInput} {later : List TurnInput} {lines : List Line}

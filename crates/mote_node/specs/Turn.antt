@@ -52,7 +52,7 @@ pub record TurnGiven : Type 0 where
   pub sends : List Sent
   pub wake : Option ℕ
 
--- the node after a turn at this moment, in which the mote became this one
+-- the node after a turn at this moment, with the mote in its new state
 abbrev pub node_after : Node → (moment : ℕ) → KernelModel → Node
 node_after n moment m = record n { mote = m; last = Some moment }
 

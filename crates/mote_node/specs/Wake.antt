@@ -5,7 +5,7 @@ use Rattle.process_kernel.specs.KernelModel.{KernelModel, is_pending}
 use Rattle.mote_node.specs.Node.{Node}
 
 -- The wake after a turn at this moment. If events or polls are left, it is the next moment. Otherwise it is the moment
--- at which the first timer is due, but not before the next moment. Without timers there is none.
+-- at which the first timer is due, but not before the next moment. Without timers there is no wake.
 unfoldable pub wake_after : (moment : ℕ) → KernelModel → Option ℕ
 wake_after moment m =
     if is_pending m then Some (moment + 1) else option_map (λ due. max (moment + 1) due)

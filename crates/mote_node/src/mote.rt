@@ -74,7 +74,7 @@ pub struct Mote {
     ghost running: { (t : Tree) → failed ≡ false → IsSome (kernel_in t kernel.value) } by { Prim.hlevel props },
 }
 
-/// Implemented by hand, so that the check of a function that owns a mote sees only one call for its drop.
+/// Implemented by hand: for the checker, each function that owns a mote then drops it with a single call.
 impl Drop for Mote {
     fn drop(self) {
         let Mote {
@@ -210,8 +210,8 @@ impl Mote {
         Ok(TurnOut { lines, sends, wake })
     }
 
-    /// Takes the same turn as `turn`. The lines and packets replace the contents of `out` and reuse its memory, and
-    /// the next wake is returned. After an error the contents of `out` are unspecified.
+    /// Takes a turn in the same way as `turn`, and returns the next wake. The lines and packets replace the contents
+    /// of `out` and reuse its memory. After an error the contents of `out` are unspecified.
     ///
     /// # Errors
     /// The same as those of `turn`.

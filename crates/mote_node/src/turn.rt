@@ -1,4 +1,4 @@
-//! The steps of a turn. Each changes the kernel and its output in the turn.
+//! The steps of a turn. Each step changes the kernel and the turn's output.
 
 ghost use Rattle.std.specs.Prelude.{◌≡◌, ◌≤◌, ◌^◌, ◌++◌, map, option_map, OnOk, IfOk, IfSome};
 ghost use Rattle.program_tree.specs.Code.{Tree};
@@ -133,7 +133,7 @@ fn turn_mote(
     run_all(kernel, program, moment, out)
 }
 
-/// Writes a line for each of these packets: it was lost by a collision.
+/// Writes a line for each of these packets. The line reports that the packet was lost by a collision.
 fn write_collisions(moment: u64, packets: &[Arrival], out: &mut Out) -> Result<(), AllocError>
     ensures lines { OnOk result (out.new.lines.items ≡ out.old.lines.items ++ map (collision_line moment) packets.now) }
     ensures sends { OnOk result (out.new.sends.items ≡ out.old.sends.items) }

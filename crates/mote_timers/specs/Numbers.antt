@@ -2,7 +2,7 @@
 use Rattle.std.specs.Prelude.{ℕ, ◌<◌, ◌==◌, nat_eq, Bool, not, if◌then◌else◌, List, ◌∷◌, All, filter}
 use Rattle.std.specs.List.{list_any, IsDistinct}
 
--- the numbers, the front first, and the limit below which each of them is
+-- the numbers, from front to back, and the limit; each number is below the limit
 pub record Numbers : Type 0 where
   pub members : List ℕ
   pub limit : ℕ

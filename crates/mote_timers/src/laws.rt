@@ -13,8 +13,8 @@ pub fn timers_stay()
     ensures keeps_timers { CallsKeepTimers }
 {}
 
-/// A timer that was set, and not fired, stopped or purged since then, is due from its start plus its interval on, and
-/// not before. If no later call set it again either, its start and its interval are those with which it was set.
+/// If a timer was set, and later not fired, stopped or purged, it is due from its start plus its interval on, and not
+/// before. If no later call set it again either, it still has the start and the interval with which it was set.
 pub fn due_from_expiration()
     ensures last_set { DueFromExpiration }
     ensures set_once { DueFromSet }

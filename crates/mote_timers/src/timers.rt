@@ -69,8 +69,8 @@ impl Timers {
         self.start(id, timer);
     }
 
-    /// Sets a timer again from its expiration: its start grows by its interval, to at most 2 to the 62. The timer gets
-    /// this owner, and its place on the list is as in `set`.
+    /// Sets a timer again from its expiration: its start grows by its interval, up to the limit of 2^62. The timer
+    /// gets this owner, and its place on the list is the same as after `set`.
     #[tactic(auto, unfolding(crate::specs::TimerLists::reset_timer))]
     pub fn reset(&mut self, id: u16, owner: Proc)
         requires is_timer { id < length self.old.timers }
@@ -87,7 +87,7 @@ impl Timers {
     }
 
     /// Sets a timer again from now, with the interval that it has. The timer gets this owner, and its place on the
-    /// list is as in `set`.
+    /// list is the same as after `set`.
     #[tactic(auto, unfolding(crate::specs::TimerLists::restart_timer, crate::specs::TimerLists::set_timer))]
     pub fn restart(&mut self, id: u16, owner: Proc, now: u64)
         requires is_timer { id < length self.old.timers }
@@ -99,7 +99,7 @@ impl Timers {
         self.set(id, owner, interval, now);
     }
 
-    /// Takes a timer off the list. The timer then has no owner, so it has expired.
+    /// Takes a timer off the list. The timer then has no owner, so it counts as expired.
     #[tactic(auto, unfolding(crate::specs::TimerLists::stop_timer))]
     pub fn stop(&mut self, id: u16)
         requires is_timer { id < length self.old.timers }
@@ -145,7 +145,7 @@ impl Timers {
         self.stop(id);
     }
 
-    /// Takes all timers of a process off the list. They keep their owner, so they haven't expired.
+    /// Takes all timers of a process off the list. They keep their owner, so they don't count as expired.
     #[tactic(auto, unfolding(crate::specs::TimerLists::purge_timers))]
     pub fn purge(&mut self, owner: Proc)
         ensures after { self.new ≡ purge_timers self.old owner }

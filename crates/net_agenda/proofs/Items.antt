@@ -1,4 +1,4 @@
--- The items that are read back from buckets are those of the list that the buckets hold.
+-- The list that is read from the buckets has the same items as the list that the buckets represent.
 use Rattle.std.proofs.Common.{◌≡◌, ℕ, zero, suc, ◌≤◌, Bool, true, false, not, ◌&&◌, ◌||◌, eqb, ltb, List, [], ◌∷◌}
 use Rattle.std.proofs.Common.{◌++◌, length, map, replicate, refl, sym, ap, ◌∙◌, subst, inl, inr, arith, append-nil}
 use Rattle.std.proofs.Common.{Some, None, unwrap_or}

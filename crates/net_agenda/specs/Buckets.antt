@@ -42,7 +42,7 @@ due_of moment mote items = gathered (filter (comes_at moment mote) items)
 
 -- one bucket: the pending events of a moment
 
--- the mote for which the event is
+-- the mote that gets the event
 abbrev pub goes_to : PendingEvent → ℕ
 goes_to (coming.Wake mote) = mote
 goes_to (coming.Copy to sender value number) = to
@@ -67,7 +67,7 @@ is_wake_for mote one = is_pending_for mote one && not (is_packet_event one)
 abbrev pub arrivals_of : List PendingEvent → List Arrival
 arrivals_of all = filter_map packet_in all
 
--- no mote is above a mote before it
+-- the mote numbers are in descending order: none is above an earlier one
 abbrev pub Falls : List PendingEvent → Type 0
 Falls [] = Unit {0}
 Falls (first ∷ rest) = AllByRecursion (λ one. goes_to one ≤ goes_to first) rest × Falls rest
@@ -90,7 +90,7 @@ least_from least (first ∷ rest) = least_from (lower_mote least (goes_to first)
 abbrev pub least_mote : List PendingEvent → Option ℕ
 least_mote all = least_from None all
 
--- the least mote; if the motes are in descending order, it is the mote of the last event
+-- the least mote number in a bucket; if the bucket is in descending order, the last event has this mote number
 abbrev pub first_bucket_mote : Bucket → Option ℕ
 first_bucket_mote bucket =
     let all = bucket.coming.items in
@@ -130,7 +130,7 @@ bucket_items_at buckets moment = items_in moment (get nat_cmp buckets moment)
 abbrev pub due_in : Buckets → (moment mote : ℕ) → Option Due
 due_in buckets moment mote = due_of moment mote (bucket_items_at buckets moment)
 
--- the moment and the mote are these
+-- `moment` is `t`, and `mote` is `k`
 abbrev pub is_here : (moment mote t k : ℕ) → Bool
 is_here moment mote t k = (moment == t) && (mote == k)
 
@@ -151,12 +151,12 @@ abbrev pub is_none_left : List Arrival → Bool
 is_none_left [] = true
 is_none_left (a ∷ rest) = false
 
--- the due events without the wake, if packets are left
+-- the due events without the wake; `None` if no packet is left
 abbrev pub without_wake : Option Due → Option Due
 without_wake None = None
 without_wake (Some due) = if is_none_left due.copies then None else Some (record due { wakes = 0 })
 
--- a wake at another moment than this
+-- the wake, unless it is at this moment
 abbrev pub wake_but_at : (moment : ℕ) → Option ℕ → Option ℕ
 wake_but_at moment None = None
 wake_but_at moment (Some wake) = if wake == moment then None else Some wake

@@ -1,4 +1,4 @@
--- The changes that the calls of an agenda make, for any list of items that its buckets hold.
+-- The effect of each call of an agenda on the list of items that the agenda's buckets hold.
 use Rattle.std.specs.Prelude.{ℕ, ◌≡◌, not, List, ◌++◌, Option}
 use Rattle.std.specs.List.{filter}
 use Rattle.radio_packet.specs.declared.arrival.Arrival.{Arrival}

@@ -1,4 +1,4 @@
--- The items that are in buckets, read back from them.
+-- The items in the buckets of an agenda, as a list.
 use Rattle.std.specs.Prelude.{ℕ, ◌≡◌, ◌≤◌, Bool, ◌&&◌, List, length, map}
 use Rattle.std.specs.List.{filter, list_any, flat_map}
 use Rattle.std.specs.List.Sorted.{IsPermutation}
@@ -8,7 +8,7 @@ use Rattle.net_agenda.specs.declared.bucket.Bucket.{Bucket}
 use Rattle.window_laws.specs.Agenda.{Item, comes_at, packets}
 use Rattle.net_agenda.specs.Buckets.{Buckets, is_wake, item_at}
 
--- the copy that a mote gets at a moment as this arrival
+-- the copy that arrives at this moment at this mote, with the data of this arrival
 abbrev pub copy_at : (moment mote : ℕ) → Arrival → RadioCopy
 copy_at moment mote a = record { at = moment; to = mote; sender = a.sender; number = a.number; value = a.value }
 
@@ -28,8 +28,8 @@ is_wake_at moment mote item = comes_at moment mote item && is_wake item
 abbrev pub WakesDiffer : List Item → Type 0
 WakesDiffer items = (moment mote : ℕ) → length (filter (is_wake_at moment mote) items) ≤ 1
 
--- The two lists have the same items: each packet occurs as often in one as in the other, and one has a wake of a mote
--- at a moment if and only if the other has one. If no mote has two wakes at one moment, ys is a permutation of xs.
+-- The two lists have the same items. Each packet occurs equally often in both lists. If one list has a wake of a mote
+-- at a moment, the other list has such a wake, too. If no mote has two wakes at one moment, ys is a permutation of xs.
 pub record AreSameItems (xs ys : List Item) : Type 0 where
   pub same_packets : IsPermutation (packets xs) (packets ys)
   pub same_wakes : (moment mote : ℕ) → list_any (is_wake_at moment mote) xs ≡ list_any (is_wake_at moment mote) ys

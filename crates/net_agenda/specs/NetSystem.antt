@@ -15,7 +15,7 @@ use Rattle.radio_packet.specs.declared.arrival.Arrival.{Arrival}
 abbrev pub arrival_of : RadioCopy → Arrival
 arrival_of copy = record { sender = copy.sender; number = copy.number; value = copy.value }
 
--- the set-up for a mote past the last one, which never takes a turn
+-- the set-up for a mote number that the net doesn't have; no turn uses it
 abbrev pub no_mote : MoteSetup
 no_mote = record { program = no_program.name; tree = no_program.tree; queue = 1 }
 

@@ -76,8 +76,8 @@ impl Agenda {
         Ok(())
     }
 
-    /// Adds a packet on its way, and then those packets of `later` that arrive at the same moment, up to the first one
-    /// that doesn't. Returns how many packets of `later` were added.
+    /// Adds a packet that is on its way. Then adds the packets of `later`, up to the first packet that arrives at
+    /// another moment. Returns the number of packets of `later` that were added.
     fn put_same_copies(
         &mut self,
         copy: &RadioCopy,
@@ -110,9 +110,9 @@ impl Agenda {
         Ok(())
     }
 
-    /// Adds the copy of a packet with this fate, and then the copies with the fates in `later`, up to the first one
-    /// that arrives at another moment. Lost copies among these are passed over. If the first copy is lost, nothing is
-    /// added. Returns how many fates of `later` were handled.
+    /// Adds the copy that has this fate. Then adds the copies that have the fates in `later`, up to the first copy
+    /// that arrives at another moment, and skips lost copies. If the copy with this fate is lost, adds nothing.
+    /// Returns the number of fates of `later` that were handled.
     fn put_same_fates(
         &mut self,
         sent: &Sent,
@@ -135,7 +135,7 @@ impl Agenda {
         Ok(count)
     }
 
-    /// Adds the copies of a packet that has these fates, except the lost copies.
+    /// Adds the copies of a packet that have these fates, except the lost copies.
     ///
     /// # Errors
     /// `AllocError` if an allocation fails. In that case some of the copies may have been added.
@@ -153,7 +153,7 @@ impl Agenda {
     /// Takes out the only wake of a mote, if it has one.
     ///
     /// # Errors
-    /// `AllocError` only because of the type: the body allocates nothing and returns no error.
+    /// None: the type allows `AllocError`, but the body allocates nothing and returns no error.
     pub fn drop_wake(&mut self, wake: Option<u64>, mote: u16) -> Result<(), AllocError>
         ensures drops_wake { OnOk result (DropsWake mote wake self.old.buckets self.new.buckets) }
     {
@@ -169,7 +169,7 @@ impl Agenda {
         Ok(())
     }
 
-    /// Moves the only wake of a mote, if it has one, to the mote's next wake.
+    /// Takes out the only wake of a mote, if there is one, and adds the mote's next wake, if there is one.
     ///
     /// # Errors
     /// `AllocError` if an allocation fails. In that case the old wake may have been taken out without the next one
@@ -190,11 +190,11 @@ impl Agenda {
         Ok(())
     }
 
-    /// Takes out all pending events of a mote at a moment. The mote's packets replace the contents of the list, in
-    /// order.
+    /// Takes out all pending events of a mote at a moment. The mote's packets, in order, replace the contents of
+    /// `arrivals`.
     ///
     /// # Errors
-    /// `AllocError` if an allocation fails. In that case, too, the events were taken out, and the list may lack
+    /// `AllocError` if an allocation fails. Even in that case the events have been taken out, but `arrivals` may lack
     /// packets.
     pub fn take_due_into(
         &mut self,
@@ -240,8 +240,8 @@ impl Agenda {
             (λ left. left ≡ length (packets items)) }
     {
         let mut buckets = self.buckets;
-        // Asks the map for its length, because the contract of that call states that the keys rise. The proof needs
-        // this.
+        // The proof needs the fact that the keys rise. The contract of the map's length states this fact, so the
+        // function asks for the length.
         let _length = buckets.len();
         let mut left = 0;
         while let Some((_, bucket)) = buckets.pop_first() {

@@ -1,4 +1,5 @@
-//! The pending events of a net, in an agenda with a bucket for each moment; the traces of the net; and its new motes.
+//! The agenda of a net, with a bucket of pending events for each moment; the traces of the net; and the net's new
+//! motes.
 #![tactic(auto)]
 
 mod agenda;

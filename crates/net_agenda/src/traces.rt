@@ -15,7 +15,7 @@ const LONG: usize = 4_096;
 
 /// Makes room for more lines if there isn't enough. A short trace gets room for four times its lines, because its
 /// lines are copied. A trace that is no longer short gets the whole room of a long trace at once. A long trace grows
-/// as any list does.
+/// like any other list.
 fn make_room(trace: &mut Vec<Line>, more: usize) -> Result<(), AllocError>
     ensures same { trace.new.items ≡ trace.old.items }
 {

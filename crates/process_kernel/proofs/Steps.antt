@@ -1,4 +1,4 @@
--- Steps of a turn in progress that continue by their definitions.
+-- A turn in progress continues with each step as the step's definition states.
 use Rattle.std.proofs.Common.{◌≡◌, List, Option, Some, None, Ok, refl, subst}
 use Rattle.process_kernel.specs.declared.kernel.Ran.{Ran}
 use Rattle.trace_lines.specs.declared.line.Line.{Line}

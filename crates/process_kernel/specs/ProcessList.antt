@@ -17,7 +17,7 @@ use Rattle.process_kernel.specs.Writes.{write_of}
 unfoldable pub put_remainder : KernelState → (process : ℕ) → Remainder → KernelState
 put_remainder s p r = record s { remainders = slice_set s.remainders p r }
 
--- the process with this number has its whole body before it again
+-- the process with this number is at the beginning of its body again
 abbrev pub fresh_at : List Code → List Remainder → (process : ℕ) → List Remainder
 fresh_at [] rs p = rs
 fresh_at (c ∷ cs) [] p = []

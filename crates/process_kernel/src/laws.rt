@@ -3,7 +3,8 @@
 ghost use Rattle.process_kernel.specs.Laws.{TellsLeft, PendingIsLeft, StaysHalted};
 ghost use Rattle.process_kernel.specs.Given.{boot_given, run_given};
 
-/// A boot or a run returns how much work the mote has left, and a kernel is pending if and only if that is not 0.
+/// A boot or a run returns how much work the mote has left, and a kernel is pending if and only if this amount is not
+/// 0.
 pub fn left_is_pending()
     ensures boot { TellsLeft boot_given }
     ensures run { TellsLeft run_given }

@@ -161,7 +161,7 @@ impl Machine {
         self.leave(process)
     }
 
-    /// Runs a process that another process exits for the last time, with EXIT.
+    /// Runs a process for the last time, with EXIT, because another process exits it.
     #[cycle(kernel)]
     #[tactic(auto, unfolding(crate::specs::Exit::last_run_of))]
     fn run_last(&mut self, program: &Program, process: Proc) -> Result<(), Stop>

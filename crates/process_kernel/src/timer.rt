@@ -171,7 +171,7 @@ impl Machine {
         Ok(())
     }
 
-    /// Removes the timers of a process that has left from the timer list.
+    /// After a process has left, removes its timers from the timer list.
     #[tactic(auto, unfolding(crate::specs::Etimer::purge_of))]
     fn purge(&mut self, process: u16)
         ensures exact { (t : Tree) → kernel_state_of t self.new ≡ purge_of (kernel_state_of t self.old) process }

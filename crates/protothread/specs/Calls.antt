@@ -4,11 +4,12 @@ use Rattle.program_tree.specs.Scope.{block_fits, earlier_threads}
 use Rattle.program_tree.specs.Tree.{Body}
 use Rattle.protothread.specs.declared.calls.Call.{Call}
 
--- A thread can spawn the threads below this number. A process has at most 7, and each spawns only earlier ones.
+-- A thread can spawn the threads below this number. A process has at most 7 threads, and each thread spawns only
+-- threads with lower numbers.
 abbrev pub before_number : (thread : ℕ) → ℕ
 before_number t = min 7 t
 
--- each thread is one that the thread around it can spawn; the number of the first is below `n`
+-- each thread can be spawned by the thread around it; the number of the outermost thread is below `n`
 abbrev pub Fall : (n : ℕ) → List Call → Type 0
 Fall n [] = Unit {0}
 Fall n (c ∷ cs) = (c.thread < n) × Fall (before_number c.thread) cs

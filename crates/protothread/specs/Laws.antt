@@ -11,7 +11,7 @@ use Rattle.protothread.specs.Looks.{Looks}
 use Rattle.protothread.specs.Remainder.{Place, ended, at, within, before, Remainder, thread_block, whole_of}
 use Rattle.protothread.specs.Step.{Advanced, advanced_of, PaysFor}
 
--- a step that didn't run away is the same with more units, and leaves that many more units
+-- if a step doesn't run away, extra units don't change it, and are left after it
 abbrev pub MoreUnitsChangeNothing : Type 0
 MoreUnitsChangeNothing =
     (code : Code) (event : Event) (looks : Looks) (r : Remainder) (variables : List ℕ) (units more : ℕ)

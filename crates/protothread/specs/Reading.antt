@@ -67,7 +67,8 @@ deed code a now vars = deed_of code.number false vars now.event now.looks a
 abbrev pub meaning : Expression ℕ → Sight → (variables : List ℕ) → ℕ
 meaning e now vars = value vars now.event now.looks e
 
--- a thread that has yielded continues in the first sight in which the condition holds, and yields in each sight before
+-- a thread that has yielded continues in the first sight in which the condition holds, and yields in each earlier
+-- sight
 pub data Awaits (yields : PtState) (c : Expression ℕ) : (now : Sight) → (later : List Sight) → (variables : List ℕ)
     → List Happening → Completion → Type 0 where
   met : (now : Sight) (later : List Sight) (vars : List ℕ) → holds (meaning c now vars) ≡ true

@@ -4,8 +4,8 @@ ghost use Rattle.protothread.specs.Laws.{RunAwayIsForGood};
 ghost use Rattle.protothread.specs.Runs.{RunsAreTheText};
 ghost use Rattle.protothread.specs.Semaphores.{CountsAreSignalsLessTakes};
 
-/// More units of work change nothing. If a step answers an operation or gives up control, it answers the same with
-/// more units, and leaves that many more units.
+/// Extra units of work change nothing. If a step answers an operation or gives up control, it does the same with extra
+/// units, and leaves the extra units.
 pub fn more_units_change_nothing()
     ensures more_units_change_nothing { MoreUnitsChangeNothing }
 {}
@@ -32,11 +32,12 @@ pub fn counts_are_signals_less_takes()
     ensures counts_are_signals_less_takes { CountsAreSignalsLessTakes }
 {}
 
-/// The runs of a fresh thread are exactly the runs of its part's block, read by the structure of the block. For the
-/// same sights, they have the same operations and answers in the same order. A sight is the answer, the event and the
-/// view of the mote that the thread gets each time it is advanced. The reading treats a spawned thread as a block of
-/// its own: a `restart` or `exit` affects only that thread, and while it yields or waits, its spawner answers WAITING.
-/// The reading refers to statements, blocks and threads, but not to the way in which a thread stores its place.
+/// The runs of a fresh thread are exactly the readings of its part's block. A reading follows the structure of the
+/// block. For the same sights, the run and the reading have the same operations and answers in the same order. A sight
+/// is the answer, the event and the view of the mote that the thread gets each time it is advanced. The reading treats
+/// a spawned thread as a block of its own: a `restart` or `exit` affects only that thread, and while it yields or
+/// waits, its spawner answers WAITING. The reading refers to statements, blocks and threads, but not to the way in
+/// which a thread stores its place.
 pub fn runs_are_the_text()
     ensures runs_are_the_text { RunsAreTheText }
 {}

@@ -1,4 +1,4 @@
--- Losses, added one by one to a table by their pairs.
+-- Losses that are added one by one to a table whose keys are pairs of sender and receiver.
 use Rattle.std.proofs.Common.{◌≡◌, ℕ, suc, ◌+◌, ◌<◌, ◌==◌, nat_lt, Bool, true, false, not, cond, ◌&&◌, ◌||◌, ⊎_elim, inl, inr, List, [], ◌∷◌, ◌++◌, length, get_or, take, drop, Option, Some, None, option_map, Ok, Err, refl, ap, sym, ◌∙◌, subst, arith, append_assoc, drop-cons}
 use Rattle.std.specs.List.{find, list_any}
 use Rattle.std.specs.Option.{ForSome, IsSome, option_or}

@@ -10,7 +10,7 @@ pub record HoldsPlace (group : Group) (place : Place) : Type 0 where
   pub x : unsigned_abs (group.centre.x -ℤ place.x) ≤ group.far_x
   pub y : unsigned_abs (group.centre.y -ℤ place.y) ≤ group.far_y
 
--- each place that the group holds is farther from the place `from` than the range
+-- no place in the group is within the range of the place `from`
 abbrev pub IsBeyond : Group → (range : ℕ) → (from : Place) → Type 0
 IsBeyond group range from =
     (place : Place) → HoldsPlace group place → nat_le (square_distance from place) (square range) ≡ false

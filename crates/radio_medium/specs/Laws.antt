@@ -6,8 +6,8 @@ use Rattle.radio_packet.specs.declared.sent.Sent.{Sent}
 use Rattle.radio_packet.specs.declared.copy.RadioCopy.{RadioCopy}
 use Rattle.radio_medium.specs.Medium.{Radio, hears, lookahead, copies, medium_fault}
 
--- a copy of this packet that goes to a mote of the net that hears the sender, and arrives no sooner than the lookahead
--- after the packet was sent
+-- a copy of this packet: it goes to a mote of the net that hears the sender, and needs at least the lookahead to
+-- arrive
 pub record IsCopyOf (radio : Radio) (sent : Sent) (copy : RadioCopy) : Type 0 where
   pub sender : copy.sender ≡ sent.sender
   pub number : copy.number ≡ sent.number
@@ -20,7 +20,7 @@ pub record IsCopyOf (radio : Radio) (sent : Sent) (copy : RadioCopy) : Type 0 wh
 abbrev pub LooksAhead : Type 0
 LooksAhead = (radio : Radio) → medium_fault radio ≡ None → (end : ℕ) → 0 < lookahead radio end
 
--- each copy of a packet goes to a mote that hears the sender, and arrives no sooner than the lookahead
+-- each copy of a packet goes to a mote that hears the sender, and needs at least the lookahead to arrive
 abbrev pub CopiesComeLater : Type 0
 CopiesComeLater = (radio : Radio) (sent : Sent) → AllByRecursion (IsCopyOf radio sent) (copies radio sent)
 

@@ -27,14 +27,14 @@ radio_from places reach losses = record {
   losses = losses;
 }
 
--- for a sender and a receiver, the number of packets of which one is lost
+-- for a sender and a receiver, the number `every`: one of `every` packets is lost
 abbrev pub EveryByPair : Type 0
 EveryByPair = HashMap (ℕ × ℕ) ℕ (BuildHasherDefault FoldHasher)
 
 abbrev pub every_at : EveryByPair → (s r : ℕ) → Option ℕ
 every_at every s r = get (λ x y. (x.0 == y.0) && (x.1 == y.1)) every (s, r)
 
--- all losses as a table by their pairs, or an error because one of them is bad
+-- a table of all losses, with the pairs of sender and receiver as keys; or an error, because one loss is bad
 abbrev pub GathersLosses : (motes : ℕ) → List Loss → Result EveryByPair MediumError → Type 0
 GathersLosses motes losses (Ok every) =
     (has_bad_loss motes losses ≡ false) × ((s r : ℕ) → every_at every s r ≡ every_of losses s r)

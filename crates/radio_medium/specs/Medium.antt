@@ -13,8 +13,8 @@ use Rattle.radio_packet.specs.declared.fate.Fate.{Fate}
 use Rattle.radio_medium.specs.declared.losses.Loss.{Loss}
 use Rattle.radio_medium.specs.declared.place.Place.{Place}
 
--- the place of each mote, the range of a packet, its delay, and the copies that are lost; in a contract, a `Medium` is
--- seen as this record
+-- the place of each mote, the range of a packet, its delay, and the copies that are lost; contracts view a `Medium` as
+-- this record
 pub record Radio : Type 0 where
   pub places : List Place
   pub range : ℕ
@@ -72,7 +72,7 @@ lookahead radio end = unwrap_or (reduce min (delays radio)) (end + 1)
 abbrev pub is_for_pair : (s r : ℕ) → Loss → Bool
 is_for_pair s r loss = (loss.sender == s) && (loss.to == r)
 
--- the number of packets from mote s to mote r of which one is lost, if there is a loss for this pair
+-- if there is a loss for this pair, its number `every`: one of `every` packets from mote s to mote r is lost
 abbrev pub every_of : List Loss → (s r : ℕ) → Option ℕ
 every_of losses s r = option_map (λ (loss : Loss). loss.every) (find (is_for_pair s r) losses)
 
@@ -91,7 +91,7 @@ fate radio sent r = record {
   at = if loses radio sent.sender r sent.number then None else Some (sent.at + delay radio sent.sender r);
 }
 
--- the fates of a packet's copies, by rising receiver
+-- the fates of a packet's copies, sorted by receiver
 unfoldable pub fates : Radio → Sent → List Fate
 fates radio sent = map (fate radio sent) (receivers radio sent.sender)
 
@@ -101,7 +101,7 @@ copy_of sent fate =
     option_map (λ at. record
     { at = at; to = fate.to; sender = sent.sender; number = sent.number; value = sent.value }) fate.at
 
--- the copies of a packet that aren't lost, by rising receiver
+-- the copies of a packet that aren't lost, sorted by receiver
 unfoldable pub copies : Radio → Sent → List RadioCopy
 copies radio sent = filter_map (copy_of sent) (fates radio sent)
 

@@ -1,4 +1,4 @@
-//! The errors of a medium's numbers and losses.
+//! The errors in a medium's numbers and losses.
 ghost use Rattle.std.specs.Prelude.{◌≡◌};
 
 use std::alloc::{AllocError, AllocFailed};
@@ -20,7 +20,7 @@ pub enum MediumError {
 impl MediumError {
     ghost use Rattle.radio_medium.specs.Errors.{medium_fault_number};
 
-    /// The number that is printed.
+    /// The number by which the error is printed.
     pub fn number(self) -> u8
         ensures number { result ≡ medium_fault_number self }
     {

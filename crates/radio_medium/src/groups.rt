@@ -9,8 +9,8 @@ use std::alloc::{AllocError, Global};
 /// The number of motes in a group; the last one may have fewer.
 pub(crate) const GROUP_SIZE: usize = 32;
 
-/// A group: the place of its first mote (`centre`), and the greatest distance of the others from this place along each
-/// axis.
+/// A group: the place of its first mote (`centre`), and the greatest distance of the group's other motes from this
+/// place, along each axis.
 #[derive(Clone, Copy)]
 pub(crate) struct Group {
     pub(crate) centre: Place,

@@ -3,7 +3,7 @@
 ghost use Rattle.radio_medium.specs.Laws.{LooksAhead, CopiesComeLater, CopiesRise};
 
 /// A medium without an error has a lookahead above 0. Each copy of a packet goes to a mote of the net that hears the
-/// sender, and arrives no sooner than the lookahead after the packet was sent.
+/// sender, and needs at least the lookahead to arrive.
 pub fn copies_come_later()
     ensures ahead { LooksAhead }
     ensures later { CopiesComeLater }

@@ -14,14 +14,14 @@ use crate::reach::Reach;
 use radio_packet::{Fate, RadioCopy, Sent};
 use std::alloc::{AllocError, Global};
 
-/// The link from a sender to a mote that hears it. The medium keeps it for the sender.
+/// The link from a sender to a mote that hears the sender. The medium keeps a list of links for each sender.
 #[derive(Clone, Copy)]
 pub(crate) struct Link {
     /// The receiver.
     pub(crate) to: u16,
     /// The number of moments that a packet needs.
     pub(crate) delay: u64,
-    /// The length of the groups of packets whose last one is lost on this link, if the medium loses any.
+    /// The length of a group of packets, if this link loses packets: it loses the last packet of each group.
     pub(crate) every: Option<u32>,
 }
 
@@ -91,7 +91,7 @@ fn copy_with(fate: Fate, sent: &Sent) -> Option<RadioCopy>
     })
 }
 
-/// For each mote, the links to the motes that hear it, by rising number.
+/// For each mote, the links to the motes that hear it, sorted by the receiver's number.
 pub(crate) fn all_links(
     alloc: Global,
     places: &[Place],
@@ -112,7 +112,7 @@ pub(crate) fn all_links(
     Ok(all)
 }
 
-/// The links from a mote to the motes that hear it, by rising number.
+/// The links from a mote to the motes that hear it, sorted by the receiver's number.
 fn links_from(
     alloc: Global,
     places: &[Place],
@@ -209,7 +209,7 @@ fn link_between(
     })
 }
 
-/// The least delay of all links, if there is one.
+/// The least delay of all links, if there is a link.
 pub(crate) fn least_delay(all: &[Vec<Link>]) -> Option<u64>
     ensures value { result
         ≡ reduce min (flat_map (λ links. map (λ link. link.delay) links) (map (λ links. links.items) all.now)) }

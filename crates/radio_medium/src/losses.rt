@@ -18,10 +18,11 @@ pub struct Loss {
     pub every: u32,
 }
 
-/// For each pair of a sender and a receiver with a loss, the length of the groups of packets whose last one is lost.
+/// For each pair of a sender and a receiver with a loss, the length of a group of packets: the last packet of each
+/// group is lost.
 pub(crate) type EveryByPair = HashMap<(u32, u32), u32>;
 
-/// All losses as a table by their pairs. A bad loss is an error.
+/// A table of all losses, with the pairs of sender and receiver as keys. A bad loss is an error.
 pub(crate) fn gather_losses(
     alloc: Global,
     motes: usize,
@@ -36,7 +37,7 @@ pub(crate) fn gather_losses(
     Ok(every)
 }
 
-/// Adds a loss. A loss that is bad by itself is an error, and so is a second one for the same pair.
+/// Adds a loss. A bad loss is an error, and so is a second loss for the same pair.
 fn add_loss(every: &mut EveryByPair, motes: usize, loss: Loss) -> Result<(), MediumError>
     ensures adds_loss { AddsLoss motes loss every.old every.new result }
 {
@@ -57,8 +58,8 @@ fn is_good(motes: usize, loss: Loss) -> bool
     is_there && loss.sender != loss.to && loss.every != 0
 }
 
-/// Returns `true` if packet `number` is lost. The last packet in each group of `every` packets is lost; without
-/// `every`, none is.
+/// Returns `true` if packet `number` is lost. The last packet in each group of `every` packets is lost. If `every` is
+/// `None`, no packet is lost.
 pub(crate) fn is_lost(number: u64, every: Option<u32>) -> bool
     requires positive { ForSome every (λ k. 0 < k) }
     ensures value { result ≡ is_lost number every }

@@ -22,13 +22,13 @@ pub struct Medium {
     places: Vec<Place>,
     reach: Reach,
     losses: Vec<Loss>,
-    /// For each mote, the links to the motes that hear it, by rising number.
+    /// For each mote, the links to the motes that hear it, sorted by the receiver's number.
     links: Vec<Vec<Link>>,
     /// The least delay of all links.
     least_delay: Option<u64>,
 }
 
-/// Implemented by hand, so that the check of a function that owns a medium sees only one call for its drop.
+/// Implemented by hand: for the checker, each function that owns a medium then drops it with a single call.
 impl Drop for Medium {
     fn drop(self) {
         let Medium {
@@ -56,8 +56,8 @@ impl Model for Medium {
 }
 
 impl Medium {
-    /// Makes the medium of motes at these places, numbered from 0. A mote hears others within the range; a packet needs
-    /// `base` moments and one more for each whole `per` in the square of the distance.
+    /// Makes the medium of motes at these places, numbered from 0. A mote hears other motes within the range. A packet
+    /// needs `base` moments, and one more moment for each whole `per` in the square of the distance.
     ///
     /// # Errors
     /// The first fault of the numbers and losses, or `Memory` if an allocation failed.
@@ -114,7 +114,7 @@ impl Medium {
         self.reach.delay(self.square_distance(s, r))
     }
 
-    /// The least delay of all links. If there are no links, the first moment after the end.
+    /// The least delay of all links. If there are no links, it is the first moment after the end.
     pub fn lookahead(&self, end: u64) -> u64
         requires end_bounded { end ≤ 2 ^ 40 }
         ensures value { result ≡ lookahead self.now end }
@@ -124,7 +124,7 @@ impl Medium {
         self.least_delay.unwrap_or(end + 1)
     }
 
-    /// The fates of the copies of a packet, one for each mote that hears the sender, by rising number of the receiver.
+    /// The fates of the copies of a packet, one for each mote that hears the sender, sorted by the receiver's number.
     ///
     /// # Errors
     /// If an allocation failed.
@@ -136,7 +136,7 @@ impl Medium {
         fates_along(self.alloc, self.links_of(sent.sender), sent)
     }
 
-    /// The copies of a packet that aren't lost, by rising number of the receiver.
+    /// The copies of a packet that aren't lost, sorted by the receiver's number.
     ///
     /// # Errors
     /// If an allocation failed.

@@ -1,4 +1,4 @@
--- A net has a report, and its run by windows leads to the same report.
+-- A net has a report, and its run through windows leads to the same report.
 use Rattle.std.proofs.Common.{◌≡◌, ℕ, ◌+◌, ◌<◌, ◌≤◌, Bool, true, eqb, List, [], ◌∷◌, length, map, refl, sym, ap, ◌∙◌}
 use Rattle.std.proofs.Common.{subst, inl, inr, arith}
 use Rattle.std.specs.List.{filter, AllByRecursion}

@@ -1,4 +1,4 @@
--- The trace of each mote belongs to the mote, turn by turn.
+-- After each turn, the trace of each mote agrees with the mote.
 use Rattle.std.proofs.Common.{ℕ, List, ◌++◌}
 use Rattle.trace_lines.specs.declared.line.Line.{Line}
 use Rattle.kernel_laws.specs.Going.{GoesWith}

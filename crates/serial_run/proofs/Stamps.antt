@@ -1,4 +1,4 @@
--- The traces of a net never go back in moment, and the packets of each mote are numbered in order.
+-- In each trace of a net the moments never go back, and the packets of each mote are numbered in order.
 use Rattle.std.proofs.Common.{◌≡◌, ℕ, ◌+◌, ◌<◌, ◌≤◌, true, false, eqb, List, [], ◌∷◌, ◌++◌, length}
 use Rattle.std.proofs.Common.{map, refl, sym, ap, ◌∙◌, subst, inl, inr, arith, zero-le, append-nil}
 use Rattle.std.specs.List.{All, range_with_len, AllByRecursion}

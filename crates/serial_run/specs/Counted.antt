@@ -1,4 +1,4 @@
--- The fate of each copy that the medium doesn't lose: it is given to a turn at its moment, or left after the end.
+-- Each copy that the medium doesn't lose is given to a turn at the copy's moment, or is left after the end.
 use Rattle.std.specs.Prelude.{◌≡◌, ℕ, nat_lt, ◌==◌, Bool, false, not, ◌&&◌, List}
 use Rattle.std.specs.Prelude.{[], ◌∷◌, length, count_by, None, IsPermutation}
 use Rattle.std.specs.List.{filter, flat_map, AllByRecursion}
@@ -35,7 +35,7 @@ LeftIsCounted = (model : NetModel) (r : ReportModel) (report : IsReportOf model 
 abbrev pub is_late : (end : ℕ) → Fate → Bool
 is_late end fate = option_map_or (nat_lt end) fate.at false
 
--- the number of copies left in a report is the number of fates in it with an arrival after the end
+-- the number of copies left in a report is the number of fates in the report whose arrival is after the end
 abbrev pub FatesTellLeft : Type 0
 FatesTellLeft = (model : NetModel) (r : ReportModel) → IsReportOf model r → r.left
     ≡ count_by (is_late model.end) (flat_map (λ packet. packet.fates) r.log)

@@ -13,7 +13,7 @@ use Rattle.serial_run.specs.IsInState.{IsEngineAt, KeepsWakes}
 abbrev pub AreNumbered : NetState Node Line → Type 0
 AreNumbered net = (k : ℕ) → (net.states k).mote.state.mote ≡ k
 
--- The engine's state is the state after a prefix of the run: each run that continues from this state is the rest of a
+-- The engine's state is the state after the first turns of a run: each run that continues from this state completes a
 -- run from the boot.
 pub record HasReached (model : NetModel) (engine : Engine) : Type 0 where
   pub state : NetState Node Line

@@ -45,7 +45,7 @@ pub record KeepsWakes (n : NetModel) (net : NetState Node Line) : Type 0 where
   pub wakes : (k : ℕ) → k < length n.motes → filter (is_wake_of k) net.agenda ≡ wake_items k (wake_of (net.states k))
   pub inside : AllByRecursion (λ item. mote_of item < length n.motes) net.agenda
 
--- if the engine represents a state of the net before the turn, it represents the state after the turn afterwards
+-- if the engine represents a state of the net before the turn, then after the turn it represents the net's next state
 abbrev pub TurnLeads : NetModel → (moment mote : ℕ) → Engine → Engine → Type 0
 TurnLeads n moment mote old new = (state : NetState Node Line) → IsEngineAt n old state → KeepsWakes n state
     → IsEngineAt n new (turn_at (system_of n) moment mote state)

@@ -25,9 +25,9 @@ use Rattle.serial_run.specs.NetRun.{packet_with_fates, IsReportOf}
 abbrev pub ReportIsOne : Type 0
 ReportIsOne = (model : NetModel) (a b : ReportModel) → IsReportOf model a → IsReportOf model b → b ≡ a
 
--- A net whose medium has no error and has a place for each mote, as every `Net`, runs forward: each wake is later than
--- the turn that sets it, and each copy arrives no sooner than the lookahead, which is above 0, after its packet was
--- sent.
+-- If a net's medium has no error and has a place for each mote, the net runs forward. Each wake is later than the turn
+-- that sets it, and each copy needs at least the lookahead, which is above 0, to arrive. Every `Net` has such a
+-- medium.
 abbrev pub NetsRunForward : Type 0
 NetsRunForward = (model : NetModel) → medium_fault model.radio ≡ None → length model.radio.places ≡ length model.motes
     → RunsForward (system_of model)
@@ -44,8 +44,8 @@ pub record IsMediumLog (model : NetModel) (motes : (number : ℕ) → LoneMote N
   pub same : IsPermutation joined log
   pub sorted : IsSortedBy is_sooner log
 
--- the report if each mote ran by itself: the lines of each mote, the packets of all motes as a log, and the number of
--- copies left
+-- the report of a run in which each mote runs by itself: the lines of each mote, the packets of all motes as a log,
+-- and the number of copies left
 abbrev pub report_by : (model : NetModel) → (motes : (number : ℕ) → LoneMote Node Line) → (log : List Sent)
     → (rest : List RadioCopy) → ReportModel
 report_by model motes log rest = record {
@@ -54,10 +54,10 @@ report_by model motes log rest = record {
   left = length rest;
 }
 
--- Windows commute. Divide the time from 0 to end + 1 at any rising bounds whose distances are at most the lookahead.
--- Run each mote by itself through each window, on the copies that earlier windows sent to it; the order of the motes
--- in a window is free. Then the lines of each mote, the medium's log sorted by moment, sender and number, and the
--- copies that arrive after the end are those of the net's run.
+-- Windows commute. Divide the time from 0 to end + 1 into any windows, none of which is longer than the lookahead. Run
+-- each mote by itself through each window, with the copies that earlier windows sent to it, in any order of the motes.
+-- Then the result is that of the net's run: the lines of each mote, the medium's log sorted by moment, sender and
+-- number, and the copies that arrive after the end.
 abbrev pub WindowsCommuteInNets : Type 0
 WindowsCommuteInNets = (model : NetModel) → medium_fault model.radio ≡ None
     → length model.radio.places ≡ length model.motes
@@ -92,7 +92,7 @@ abbrev pub AlwaysOneWake : Type 0
 AlwaysOneWake = (model : NetModel) (r : ReportModel) (report : IsReportOf model r)
     → AllByRecursion OneWake (agendas report.run)
 
--- so no mote has two wakes at one moment, before any turn or at the end
+-- so before each turn, and at the end, no mote has two wakes at one moment
 abbrev pub WakesAlwaysDiffer : Type 0
 WakesAlwaysDiffer = (model : NetModel) (r : ReportModel) (report : IsReportOf model r)
     → AllByRecursion WakesDiffer (agendas report.run)

@@ -1,4 +1,4 @@
--- The traces of a net never go back in moment, and the packets of each mote are numbered in order.
+-- In each trace of a net the moments never go back, and the packets of each mote are numbered in order.
 use Rattle.std.specs.Prelude.{◌≡◌, ℕ, ◌==◌, List, map, All}
 use Rattle.std.specs.List.{filter}
 use Rattle.radio_packet.specs.declared.sent.Sent.{Sent}

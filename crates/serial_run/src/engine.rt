@@ -34,7 +34,7 @@ pub struct Engine {
     pub out: Out,
 }
 
-/// Returns `wake`, or `None` if it is at this moment.
+/// Returns `wake`, or `None` if the wake is at this moment.
 fn wake_but_at(moment: u64, wake: Option<u64>) -> Option<u64>
     ensures value { result ≡ wake_but_at moment wake }
 {
@@ -49,8 +49,8 @@ fn wake_but_at(moment: u64, wake: Option<u64>) -> Option<u64>
     }
 }
 
-/// Takes the turn of a mote that has not failed, and whose last turn was before this moment. Returns the mote's next
-/// wake. The packets that the mote sends have this moment and the mote's number.
+/// Takes the turn of a mote, and returns the mote's next wake. The mote has not failed, and its last turn was before
+/// this moment. The packets that the mote sends have this moment and the mote's number.
 fn turn_mote(
     motes: &mut Vec<Mote>,
     program: &Program,

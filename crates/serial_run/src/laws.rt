@@ -14,17 +14,17 @@ pub fn report_is_one()
     ensures report_is_one { ReportIsOne }
 {}
 
-/// A net whose medium has no error and has a place for each mote, as every `Net`, has a report: its wakes and copies
-/// are later than the turns that make them.
+/// If a net's medium has no error and has a place for each mote, the net has a report, because its wakes and copies
+/// are later than the turns that make them. Every `Net` has such a medium.
 pub fn report_is_there()
     ensures forward { NetsRunForward }
     ensures report_is_there { ReportIsThere }
 {}
 
-/// Windows commute. Divide the time from 0 to end + 1 at any rising bounds whose distances are at most the lookahead.
-/// Run each mote by itself through each window, on the copies that earlier windows sent to it; the order of the motes
-/// in a window is free. Then the lines of each mote, the medium's log sorted by moment, sender and number, and the
-/// copies left are those of the net's run.
+/// Windows commute. Divide the time from 0 to end + 1 into any windows, none of which is longer than the lookahead.
+/// Run each mote by itself through each window, with the copies that earlier windows sent to it, in any order of the
+/// motes. Then the result is that of the net's run: the lines of each mote, the medium's log sorted by moment, sender
+/// and number, and the copies left.
 pub fn windows_commute()
     ensures windows_commute_in_nets { WindowsCommuteInNets }
 {}
@@ -35,10 +35,11 @@ pub fn traces_hand_on()
     ensures traces_hand_on { TracesHandOn }
 {}
 
-/// The buckets of an agenda, read one after another, have the items of the net's one list: each packet as often as in
-/// the list, and a wake of a mote at a moment if the list has one. So they are a permutation of the list if no mote
-/// has two wakes at one moment. The function asks the map for its length because the contract of that call states that
-/// the keys rise: no two buckets have the same moment.
+/// The buckets of an agenda have the same items as the net's list of pending events. Each packet occurs in the buckets
+/// as often as in the list. The buckets have a wake of a mote at a moment if and only if the list has such a wake. So
+/// if no mote has two wakes at one moment, the items of all buckets are a permutation of the list. The function asks
+/// the map for its length because the contract of that call states that the keys rise: no two buckets have the same
+/// moment.
 pub fn buckets_hold_items(agenda: &Agenda)
     ensures buckets_hold_items { BucketsHoldItems agenda.now.buckets }
 {
@@ -63,7 +64,7 @@ pub fn left_is_counted()
     ensures left_is_counted { LeftIsCounted }
 {}
 
-/// The number of copies left in a report is the number of fates in its log with an arrival after the end.
+/// The number of copies left in a report is the number of fates in the report's log whose arrival is after the end.
 pub fn fates_tell_left()
     ensures fates_tell_left { FatesTellLeft }
 {}
@@ -79,13 +80,13 @@ pub fn copies_come_in_time()
     ensures copies_come_in_time { CopiesComeInTime }
 {}
 
-/// If the medium has no error and has a place for each mote, as in every `Net`, a turn gets all copies of the log for
-/// its mote and its moment, in the order of sender, then number.
+/// If the medium has no error and has a place for each mote, a turn gets all copies of the log for its mote and its
+/// moment, in the order of sender, then number. Every `Net` has such a medium.
 pub fn turns_are_given_all()
     ensures turns_are_given_all { TurnsAreGivenAll }
 {}
 
-/// The lines of each mote of a net never go back in moment, and in the medium's log the packets of each mote are
+/// In a net the moments of each mote's lines never go back, and in the medium's log the packets of each mote are
 /// numbered from 0 on, in order.
 pub fn moments_and_numbers_rise()
     ensures traces { TracesNeverGoBack }

@@ -1,5 +1,5 @@
-//! The run of a net on one thread, with the turns in the order of moment, then mote number, and the laws of such a
-//! run.
+//! The run of a net on one thread, which takes all turns in the order of moment, then mote number; and the laws of
+//! such a run.
 #![tactic(auto)]
 
 mod engine;

@@ -35,7 +35,7 @@ fn run_to_end(engine: &mut Engine, net: &Net) -> Result<(), AllocError>
 }
 
 /// Runs a net on one thread, and returns its report. The thread takes all turns in the order of moment, then mote
-/// number. In each turn the packets are in the order of sender and number.
+/// number. In each turn the mote gets its packets in the order of sender and number.
 ///
 /// # Errors
 /// Only `Memory`.

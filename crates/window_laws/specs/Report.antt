@@ -26,8 +26,8 @@ RunIsOne {S} {L} system = (end : ℕ) (a b : NetState S L) → Run system end (b
 abbrev pub RunIsThere : {S L : Type 0} → System S L → Type 0
 RunIsThere {S} {L} system = RunsForward system → (end : ℕ) → (net : NetState S L) × Run system end (boot system) net
 
--- if the numbers of each mote's packets rise, the log of a run is the packets of the run, sorted by moment, sender and
--- number
+-- if the packets of each mote have rising numbers, the log of a run is the list of its packets, sorted by moment,
+-- sender and number
 abbrev pub LogIsInOrder : {S L : Type 0} → System S L → Type 0
 LogIsInOrder {S} {L} system =
     RunsForward system → (end : ℕ) (net : NetState S L) → Run system end (boot system) net → NumbersRise net.log

@@ -19,7 +19,7 @@ pub record System (S L : Type 0) : Type 0 where
   pub copies : Sent → List RadioCopy
   pub lookahead : ℕ
 
--- a copy of this packet for a mote of the net; it arrives no sooner than the lookahead after the moment of the packet
+-- a copy of this packet for a mote of the net; the copy needs at least the lookahead to arrive
 pub record IsCopyOf {S L : Type 0} (system : System S L) (sent : Sent) (copy : RadioCopy) : Type 0 where
   pub sender : copy.sender ≡ sent.sender
   pub to : copy.to < system.motes

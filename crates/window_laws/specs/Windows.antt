@@ -57,8 +57,8 @@ pub record IsQuiet (moment : ℕ) (wake : Option ℕ) (given : List RadioCopy) :
   pub no_wake : NoneBefore moment wake
   pub no_copies : AllByRecursion (λ copy. moment ≤ copy.at) given
 
--- A mote that runs by itself, up to a bound. While its next wake or the least moment of a copy is below the bound, it
--- takes its turn at the lesser of both moments, with all copies of this moment, in order.
+-- A mote that runs by itself, up to a bound. As long as its next wake or its first copy is before the bound, the mote
+-- takes a turn. The turn is at the earlier of both moments, with all copies of that moment, in order.
 pub data Alone {S L : Type 0} (system : System S L) (number bound : ℕ) : (given : List RadioCopy)
     → (mote last : LoneMote S L) → Type 0 where
   Rests : {given : List RadioCopy} {mote : LoneMote S L} → IsQuiet bound mote.wake given
@@ -137,7 +137,7 @@ pub record IsSame {S L : Type 0} (system : System S L) (end : ℕ) (net : NetSta
   pub log : (joined : List Sent) → IsJoined system motes joined → net.log ≡ as_log joined
   pub left : (rest : List RadioCopy) → IsLeft system end motes rest → length (packets net.agenda) ≡ length rest
 
--- Windows commute: the net has a run, and its end is the same for all windows that lead from 0 past the end.
+-- Windows commute: the net has a run, and any windows that lead from 0 past the end have the same result as the run.
 abbrev pub WindowsCommute : {S L : Type 0} → System S L → Type 0
 WindowsCommute {S} {L} system = RunsForward system → (end : ℕ) (motes : (number : ℕ) → LoneMote S L)
     → Windows system 0 (suc end) (first_mote system) motes
