@@ -8,7 +8,7 @@ use Rattle.fork_join.specs.declared.fork.Promised.{Promised}
 abbrev pub Handle : (A W T : Type 0) → Type 0
 Handle A W T = PromisedHandle A (Promised W T)
 
--- each result is the one that its thread promised
+-- each result is the result that its thread promised
 abbrev pub AllKept : {A W T : Type 0} → (W → T → T → Type 0) → List (Handle A W T) → List T → Type 0
 AllKept makes handles done = AllZip
     (λ handle worker. makes handle.promise.work.value handle.promise.worker.value worker) handles done

@@ -1,4 +1,4 @@
--- Each name in a block is one of its class, if the marks of the block keep the rules.
+-- If the marks of a block keep the rules, each name in the block belongs to the class that its place requires.
 use Rattle.std.proofs.Common.{◌≡◌, ℕ, ◌+◌, List, [], ◌∷◌, ◌++◌, refl, ap, true, false, Option, Some, None, is_some}
 use Rattle.std.proofs.Common.{option_map}
 use Rattle.std.specs.List.{All}

@@ -52,7 +52,7 @@ Answers text (Err e) = TellsFault text e
 abbrev pub AreSortedByName : List NamedProgram → Type 0
 AreSortedByName ps = IsStrictlySortedBy (slice_cmp nat_cmp) (map (λ p. p.name) ps)
 
--- all programs are read, or the first one that can't be read is reported, unless an allocation failed
+-- all programs are read, or the first program that can't be read is reported, unless an allocation failed
 abbrev pub ReadsPrograms : List ProgramText → Result (Vec NamedProgram Global) ScenarioError → Type 0
 ReadsPrograms texts (Ok v) = AllRead texts (map named_tree v.items)
 ReadsPrograms texts (Err (Program name e)) = FirstRefused texts name e

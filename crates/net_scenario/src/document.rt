@@ -47,7 +47,7 @@ fn check_program(programs: &Table, mote: &Table) -> Result<(), TableFault>
     }
 }
 
-/// Checks each mote, and reports the first one whose program isn't among the programs.
+/// Checks each mote, and reports the first mote whose program isn't among the programs.
 #[tactic(auto, using(crate::proofs::Each::after_item))]
 fn check_programs(programs: &Table, motes: &[Value]) -> Result<(), TableFault>
     ensures checks { Checks result

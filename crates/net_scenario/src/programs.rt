@@ -26,7 +26,7 @@ fn read_program(alloc: Global, name: &str, text: &str) -> Result<NamedProgram, S
     }
 }
 
-/// Reads the programs of a table, also those that no mote runs, or reports the first one that can't be read.
+/// Reads the programs of a table, also those that no mote runs, or reports the first program that can't be read.
 ///
 /// # Errors
 /// `Program` with the first program that can't be read and its error; `Memory` if an allocation failed.

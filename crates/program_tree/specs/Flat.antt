@@ -38,7 +38,7 @@ Branches at c then other (branch d inner else ∷ after) =
     (d ≡ c) × (at then ≡ listed inner ++ after) × (at other ≡ other_block else ++ after)
 Branches at c then other here = ⊥
 
--- the same for a `while`
+-- the rest here begins with a `while`; the places `body` and `after` have the rests of its two outcomes
 abbrev pub Loops : (at : ℕ → List (Statement ℕ)) → Expression ℕ → (body after : ℕ) → (here : List (Statement ℕ))
     → Type 0
 Loops at c body after (while d inner ∷ rest) =

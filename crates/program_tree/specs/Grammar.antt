@@ -285,7 +285,7 @@ abbrev pub process_marks : List (Name × CodeShape) → (after : List Mark) → 
 process_marks [] after = sign token.Semicolon ∷ after
 process_marks (p ∷ ps) after = sign token.Comma ∷ (named p.0 (new a_process p.0) ∷ process_marks ps after)
 
--- the same for `autostart`
+-- the names of `autostart` after the first, each after a comma, and the semicolon of the list
 abbrev pub starting_marks : List Name → (after : List Mark) → List Mark
 starting_marks [] after = sign token.Semicolon ∷ after
 starting_marks (x ∷ xs) after = sign token.Comma ∷ (named x (starts x) ∷ starting_marks xs after)

@@ -48,7 +48,7 @@ with_new n a_variable x = record n { variables = n.variables ++ x ∷ [] }
 with_new n a_timer x = record n { timers = n.timers ++ x ∷ [] }
 with_new n a_thread x = record n { threads = n.threads ++ x ∷ [] }
 
--- the names in scope after a code; its own names aren't in scope any more
+-- the names in scope after a code; the code's own names aren't in scope any more
 abbrev pub outside : NamesInScope → NamesInScope
 outside n = record n { variables = []; first_timer = n.first_timer + length n.timers; timers = []; threads = [] }
 

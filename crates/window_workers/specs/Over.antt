@@ -75,7 +75,7 @@ pub record TakesOneTrace (worker mote : ℕ) (old new : List Ended) (trace : Vec
   pub others : (w k : ℕ) (d : Ended) (e : Vec Line Global) → (k ≡ mote → ⊥) → trace_at new w k d e
       ≡ trace_at old w k d e
 
--- each mote's trace is the one that its worker reports
+-- each mote's trace is the trace that the mote's worker reports
 pub record AreTracesOf (owners : List ℕ) (ended : List Ended) (traces : List (Vec Line Global)) : Type 0 where
   pub count : length traces ≡ length owners
   pub each : (k : ℕ) (d : Ended) (e : Vec Line Global) → k < length owners → slice_index_or traces k e

@@ -24,7 +24,7 @@ fn first_set(program: &Program, process: u8) -> Option<u16>
     Some(code.starts()[usize::from(*variable)])
 }
 
-/// The same value for each of the first two processes, if there are two.
+/// The value that `first_set` returns for each of the first two processes, if there are two.
 fn first_two(program: &Program) -> [Option<u16>; 2] {
     if program.processes() < 2 {
         return [None; 2];

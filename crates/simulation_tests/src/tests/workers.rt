@@ -219,8 +219,8 @@ static TRIALS: [Trials<'static>; 21] = [
         syncs: SYNCS,
         want: "Err(Scenario(Toml)) Some(0) 0|",
     },
-    // The error of a failing reader is reported before any worker is started, and that of a failing writer after the
-    // run.
+    // The error of a failing reader is reported before any worker is started, and the error of a failing writer after
+    // the run.
     Trials {
         trial: Trial {
             reads: 3,

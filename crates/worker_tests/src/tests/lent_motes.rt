@@ -157,8 +157,8 @@ fn alternate<R: Wait + RandomSource + AllocGlobal>(rt: &R, net: &Net) -> Result<
     Err(Fail::new(format_args!("otherwise")))
 }
 
-/// The results of two motes of one worker if a copy is on its way to one of them; and two motes of one worker take
-/// their turns alternately.
+/// The results of two motes of one worker if a copy is on its way to one of them; and the order of turns: two motes of
+/// one worker take their turns alternately.
 #[test]
 fn a_share_of_two_motes(rt: HostRuntime) -> Result<(), Fail> {
     let net = read_scenario(rt.alloc(), TWO_SENDERS)?;
