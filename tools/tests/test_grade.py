@@ -175,7 +175,7 @@ class Entries(Folder):
         self.assertTrue(rows['cem.toml'].endswith('it is the text of a program, not a scenario: a file of such a text '
                                                   'is NAME.mote'))
         self.assertEqual(self.seen.splitlines(), [
-            'grade: %s is named by --net too, so a page of marks shows it' % (self.top / 'task.toml'),
+            'grade: these hidden nets equal a shown net, so a page of marks shows them: task.toml',
             'grade: hidden files, expectations and marks have no row: .ben.mote, x.expect.toml'])
 
     def test_long_names_and_many_names_spoil_no_table(self) -> None:
@@ -227,12 +227,15 @@ class Nets(Folder):
         self.assertEqual(program_of((self.folder / 'ben.mote').read_bytes(), 'ben.mote', 'task'), PROGRAM % 3)
         self.assertEqual(set(self.rows('--net', 'task.toml').values()), {'3 of 3'})
 
+    def write_plan(self, name: str, motes: int) -> None:
+        (self.top / 'task.mote').write_text(PROGRAM % 9)
+        (self.top / name).write_text(
+            'end = 60\n[medium]\nrange = 10\nbase = 2\nper = 100\n[parameters]\nmotes = %d\n[places]\n'
+            'rule = "line"\ncount = "${motes}"\nstep = 10\nprogram = "task.mote"\n' % motes)
+
     def test_several_nets_and_those_of_a_plan(self) -> None:
         (self.top / 'hidden.toml').write_text(net(PROGRAM % 9, motes=5))
-        (self.top / 'task.mote').write_text(PROGRAM % 9)
-        (self.top / 'net.plan.toml').write_text(
-            'end = 60\n[medium]\nrange = 10\nbase = 2\nper = 100\n[parameters]\nmotes = 2\n'
-            '[places]\nrule = "line"\ncount = "${motes}"\nstep = 10\nprogram = "task.mote"\n')
+        self.write_plan('net.plan.toml', motes=2)
         (self.top / 'task.expect.toml').write_text('expect = ["at most 4 motes print", "every mote prints"]\n')
         self.assertEqual(self.rows('--net', 'task.toml', '--net', 'hidden.toml'), {'anna.toml': '1 of 2  broken: 1'})
         words = '--net', 'net.plan.toml', '--vary', 'motes=2..5'
@@ -240,6 +243,32 @@ class Nets(Folder):
         self.assertEqual(self.grade(*words, '--why', 'anna').split('\n')[:3], [
             'broken  at most 4 motes print', '          in net.plan.toml motes=5',
             '          5 motes do; wanted: at most 4'])
+
+    def test_values_for_shown_nets_leave_hidden_ones_unchanged(self) -> None:
+        self.write_plan('net.plan.toml', motes=2)
+        self.write_plan('secret.plan.toml', motes=5)
+        (self.top / 'task.expect.toml').write_text('expect = ["at most 4 motes print", "every mote prints"]\n')
+        words = '--net', 'net.plan.toml', '--vary', 'motes=2..4', '--hidden', 'secret.plan.toml'
+        self.assertEqual(self.rows(*words), {'anna.toml': '1 of 2  broken: 1'})
+        self.assertEqual(self.seen, '')
+        self.assertIn('in secret.plan.toml\n          5 motes do', self.grade(*words, '--why', 'anna'))
+        self.assertEqual(self.rows(*words, '--vary-hidden', 'motes=1..3'), {'anna.toml': '2 of 2'})
+        self.assertEqual(self.seen, 'grade: these hidden nets equal a shown net, so a page of marks shows them: '
+                                    'secret.plan.toml motes=2, secret.plan.toml motes=3\n')
+        self.assertIn('in net.plan.toml motes=6\n', self.grade(
+            *words[:5], 'net.plan.toml', '--vary-hidden', 'motes=6', '--why', 'anna'))
+
+    def test_values_need_a_plan(self) -> None:
+        self.write_plan('net.plan.toml', motes=2)
+        for words, seen in ((('--vary', 'motes=3', '--net', 'task.toml', '--hidden', 'net.plan.toml'),
+                             '--vary needs a plan that --net names; --vary-hidden varies the plans of --hidden'),
+                            (('--vary-hidden', 'motes=3', '--net', 'net.plan.toml'),
+                             '--vary-hidden needs a plan that --hidden names; --vary varies the plans of --net'),
+                            (('--vary-hidden', 'motes', '--hidden', 'net.plan.toml'),
+                             "--vary-hidden needs NAME=VALUES, not 'motes'")):
+            with self.subTest(words):
+                self.grade(*words, status=2)
+                self.assertEqual(self.seen, 'grade: %s\n' % seen)
 
     def test_what_of_a_solution_is_taken(self) -> None:
         self.assertEqual(program_of(net('x').encode(), 'a.toml', 'task'), 'x')
@@ -350,8 +379,8 @@ class Nets(Folder):
     def test_each_option_is_in_the_table_of_its_page(self) -> None:
         page = (TOOLS.parent / 'docs/use/EXPECTATIONS.md').read_text('utf-8')
         table = page[page.index('| `--net NET`'):]
-        named = set(re.findall('--?[a-z]+', ' '.join(re.findall(r'^\| (`-.*?) \|', table, re.M))))
-        options = set(re.findall(r'^  (--?[a-z]+)', self.grade('--help'), re.M)) - {'-h', '--version'}
+        named = set(re.findall('--?[a-z-]+', ' '.join(re.findall(r'^\| (`-.*?) \|', table, re.M))))
+        options = set(re.findall(r'^  (--?[a-z-]+)', self.grade('--help'), re.M)) - {'-h', '--version'}
         self.assertEqual(options - named, set())
 
     def test_a_process_that_nothing_starts_is_named(self) -> None:

@@ -3,7 +3,8 @@
   tools/grade answers task.expect.toml                                 each solution in its own net
   tools/grade answers task.expect.toml --net task.toml                 only its program, in your net
   tools/grade answers task.expect.toml --net task.toml --hidden hidden.toml -o marks.html
-  tools/grade answers task.expect.toml --net task.plan.toml --vary seed=1..5
+  tools/grade answers task.expect.toml --net task.plan.toml --vary seed=1..5 \\
+    --hidden task.plan.toml --vary-hidden seed=77..79
 
 A solution is a scenario NAME.toml, or with --net also a program NAME.mote. With --net only the text of the program
 that --program names (or the only one) is taken from it, so nobody gains by changing the net; a sentence holds if it
@@ -42,7 +43,9 @@ def arguments() -> argparse.Namespace:
     words.add_argument('--hidden', action='append', default=[], metavar='NET', type=Path,
                        help='the same, but keep the net out of a page of marks')
     words.add_argument('--vary', action='append', default=[], metavar='NAME=VALUES',
-                       help='values of a parameter of a plan, such as seed=1..5')
+                       help='values of a parameter of the plans of --net, such as seed=1..5')
+    words.add_argument('--vary-hidden', action='append', default=[], metavar='NAME=VALUES',
+                       help='the same for the plans of --hidden, such as seed=77..79')
     words.add_argument('--program', metavar='NAME', help='the program that the students write, if a net has several')
     words.add_argument('--seconds', type=float, default=SECONDS, metavar='N',
                        help='the limit of a run, in seconds of processor time (20)')

@@ -13,7 +13,7 @@ from motesim.files import replace_whole
 from motesim.grading import page, tables
 from motesim.grading.entries import Entry, anonymous, data_of, entries_of, skipped_of
 from motesim.grading.marking import Marks, Task, page_name, unmarked
-from motesim.grading.nets import nets_of, program_of
+from motesim.grading.nets import Net, hidden_and_shown, nets_of, program_of
 from motesim.grading.own import OF_KEY
 from motesim.grading.pages import keep_names, pages_of, remove_earlier
 from motesim.grading.progress import Progress
@@ -27,7 +27,8 @@ MEGABYTE = 1 << 20
 PATIENCE = 10
 # The most names of solutions that an error lists.
 MOST_NAMES = 20
-MOST_SKIPPED = 5
+# The most nets or files in a remark.
+MOST_LISTED = 5
 # The seconds for each net in addition to its run: for reading and judging its report.
 SPARE = 60
 
@@ -50,7 +51,7 @@ def task_of(asked: argparse.Namespace, pictures: Path | None) -> Task:
     name = str(asked.expectations)
     part = parts_of(text_of(asked.expectations), name)[0]
     nets = [*nets_of(asked.net, asked.vary, asked.program),
-            *nets_of(asked.hidden, asked.vary, asked.program, is_hidden=True)]
+            *nets_of(asked.hidden, asked.vary_hidden, asked.program, is_hidden=True)]
     try:
         read_all(part.sentences, Names())
         for net in nets:
@@ -131,16 +132,15 @@ def entry_of(name: str, entries: Sequence[Entry], folder: Path) -> Entry:
         folder, name, ' (did you mean %s?)' % like if like else '', ', '.join([*names[:MOST_NAMES], *more])))
 
 
-def remarks(asked: argparse.Namespace) -> list[str]:
-    """Lines on things that a teacher may not have meant: files without a row, and a net that is hidden and shown."""
-    skipped = skipped_of(asked.folder)
-    shown = {path.resolve() for path in asked.net}
-    lines = ['%s is named by --net too, so a page of marks shows it' % path for path in asked.hidden
-             if path.resolve() in shown]
-    if skipped:
-        more = ' and {:,} more'.format(len(skipped) - MOST_SKIPPED) if len(skipped) > MOST_SKIPPED else ''
-        names = ', '.join(skipped[:MOST_SKIPPED])
-        lines.append('hidden files, expectations and marks have no row: %s%s' % (names, more))
+def remarks(folder: Path, nets: Sequence[Net]) -> list[str]:
+    """Lines on things that a teacher may not have meant: nets that are hidden and shown, and files without a row."""
+    lines = []
+    for remark, names in (
+            ('these hidden nets equal a shown net, so a page of marks shows them', hidden_and_shown(nets)),
+            ('hidden files, expectations and marks have no row', skipped_of(folder))):
+        if names:
+            more = ' and {:,} more'.format(len(names) - MOST_LISTED) if len(names) > MOST_LISTED else ''
+            lines.append('%s: %s%s' % (remark, ', '.join(names[:MOST_LISTED]), more))
     return lines
 
 
@@ -163,7 +163,7 @@ def status_of(asked: argparse.Namespace) -> int:
         remove_earlier(pictures)
         # (all that it may make: it can be ended at any time)
         keep_names(pictures, task.possible_pictures(entries))
-    for line in remarks(asked) if asked.why is None else ():
+    for line in remarks(asked.folder, task.nets) if asked.why is None else ():
         print('grade: %s' % line, file=sys.stderr)
     marked = grade(entries, task, asked.jobs)
     if pictures:

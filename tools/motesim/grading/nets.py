@@ -20,6 +20,8 @@ from motesim.terminal import cut
 from motesim.toml import MARK, NoToml, read_toml
 
 MOST_NETS = 1_000
+# The options that vary and that name the nets: the shown ones, and the hidden ones.
+OPTIONS = ('--vary', '--net'), ('--vary-hidden', '--hidden')
 # The most names of programs in a message, and the greatest length of each.
 MOST_NAMES, LONGEST_NAME = 5, 40
 
@@ -43,27 +45,35 @@ class Net:
         return scenario_text([], net)
 
 
-def _texts(path: Path, vary: Sequence[str]) -> Iterator[tuple[str, str]]:
-    """The scenarios of a file, each with a name: one, or those of a plan."""
+def _read(path: Path) -> Plan | str:
+    """The plan in a file, or the text of its scenario."""
     text = read_file(path).decode('utf-8', 'replace')
     try:
-        is_plan = 'places' in read_toml(text)
+        return Plan.read(path) if 'places' in read_toml(text) else text
     except NoToml as fault:
         raise Fault('%s is not TOML: %s' % (path, fault)) from None
-    if not is_plan:
-        yield path.name, text
-        return
-    plan = Plan.read(path)
-    asked: dict[str, list[Value]] = {}
+
+
+def _values(vary: Sequence[str], option: str) -> dict[str, list[Value]]:
+    """The values of each parameter that an option names."""
+    asked = {}
     for words in vary:
         name, sign, values = words.partition('=')
         if not sign:
-            raise Fault('--vary needs NAME=VALUES, not %r' % words)
+            raise Fault('%s needs NAME=VALUES, not %r' % (option, words))
         asked[name] = values_of(values)
+    return asked
+
+
+def _texts(file: str, its: Plan | str, asked: dict[str, list[Value]]) -> Iterator[tuple[str, str]]:
+    """The scenarios of a file, each with a name: one, or those of a plan."""
+    if isinstance(its, str):
+        yield file, its
+        return
     for values_now in itertools.islice(itertools.product(*asked.values()), MOST_NETS):
         given = dict(zip(asked, values_now))
         shown = ' '.join('%s=%s' % (name, text_of_value(value)) for name, value in given.items())
-        yield ' '.join(it for it in (path.name, shown) if it), plan.scenario(given)
+        yield ' '.join(it for it in (file, shown) if it), its.scenario(given)
 
 
 def _net(name: str, text: str, program: str | None) -> Net:
@@ -92,9 +102,21 @@ class NoProgram(Fault):
 
 
 def nets_of(paths: Sequence[Path], vary: Sequence[str], program: str | None, is_hidden: bool = False) -> list[Net]:
-    """The nets of these files."""
-    found = [_net(name, text, program) for path in paths for name, text in _texts(path, vary)]
+    """The nets of these files; a plan has one for each combination of these values of parameters. The plans of hidden
+    nets have their own values: with those of the shown nets they would be the same nets."""
+    option, other = OPTIONS[is_hidden], OPTIONS[not is_hidden]
+    asked = _values(vary, option[0])
+    files = [(path.name, _read(path)) for path in paths]
+    if asked and all(isinstance(its, str) for _, its in files):
+        raise Fault('%s needs a plan that %s names; %s varies the plans of %s' % (*option, *other))
+    found = [_net(name, text, program) for file, its in files for name, text in _texts(file, its, asked)]
     return [replace(it, is_hidden=is_hidden) for it in found]
+
+
+def hidden_and_shown(nets: Sequence[Net]) -> list[str]:
+    """The names of the hidden nets that equal a shown one but for the program of the solutions."""
+    shown = {it.with_program('') for it in nets if not it.is_hidden}
+    return [it.name for it in nets if it.is_hidden and it.with_program('') in shown]
 
 
 def program_of(data: bytes, name: str, wanted: str) -> str:
