@@ -110,7 +110,8 @@ pub record IsIn (p : ℕ) (code : Code) (mote : ℕ) (lines_so_far : List Line) 
   pub listed : v.listed ≡ true
   pub comes : ComesHere p code mote lines_so_far next r vars
 
--- The process is at rest. The lines about it are those of its lives, after which it has its current variables.
+-- The process is at rest. The lines about the process are those of its lives. After these lives it has its current
+-- variables.
 pub record RestsAsTraced (program : Tree) (mote p : ℕ) (code : Code) (lines_so_far : List Line) (v : ProcessInMote)
     : Type 0 where
   pub of_program : v.program ≡ program
@@ -124,7 +125,7 @@ pub record RestsAsTraced (program : Tree) (mote p : ℕ) (code : Code) (lines_so
   pub lived : Lives code (Own p) mote code.starts lines_so_far left
   pub where_it_is : IsOut v ⊎ IsIn p code mote lines_so_far AtCall v still left
 
--- The lines so far of a mote are about the lives of the process up to its state, or up to the halt of the mote.
+-- The lines so far of a mote are about the lives of the process, up to its current state or up to the mote's halt.
 pub record TellsSoFar (program : Tree) (mote p : ℕ) (code : Code) (lines : List Line) (m : KernelModel) : Type 0 where
   pub going : m.halted ≡ false → RestsAsTraced program mote p code (starts_and_prints (Own p) lines)
       (process_in_mote p m.state)

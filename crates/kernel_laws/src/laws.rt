@@ -41,7 +41,7 @@ pub fn the_listed_are_running()
 
 /// The polls of the system processes handle each waiting packet and each timer that is due. Each packet that was
 /// accepted into the receive ring is posted to the receiver once, in order, or nobody hears it. For each timer that is
-/// due by now, TIMER is posted to its owner. If the queue was full, a line states this.
+/// due at that moment, TIMER is posted to its owner. If the queue was full, a line states this.
 pub fn what_waits_is_traced()
     ensures packets { PacketsAreHanded }
     ensures timers { DueTimersArePosted }
@@ -93,8 +93,9 @@ pub fn prints_are_the_reading()
     ensures so_far { PrintsSoFarAreTheReading }
 {}
 
-/// The lines so far of a kernel are about the lives of such a process, up to its position. A mote that was not booted
-/// has no lines, and each call of its kernel keeps this relation, whatever was written before the call.
+/// The lines so far of a kernel are about the lives of such a process, up to the process's current position. A mote
+/// that was not booted has no lines, and each call of its kernel keeps this relation, whatever was written before the
+/// call.
 pub fn each_call_tells_lives()
     ensures lives { TellingIsOfLives }
     ensures lives_so_far { TellingIsOfLivesSoFar }

@@ -13,7 +13,7 @@ pub record Node : Type 0 where
 unfoldable pub new_node : Tree → (number queue : ℕ) → Node
 new_node t number queue = record { mote = unbooted t number queue; last = None; collides = false }
 
--- the moment is not later than that of the last turn
+-- the moment is not later than the last turn
 abbrev pub is_past : (moment : ℕ) → (last : Option ℕ) → Bool
 is_past moment None = false
 is_past moment (Some last) = nat_le moment last

@@ -22,7 +22,7 @@ abbrev pub wake_in : Option Node → Option ℕ
 wake_in None = None
 wake_in (Some n) = wake_of n
 
--- there is a node, and this moment isn't later than that of its last turn
+-- there is a node, and this moment isn't later than the node's last turn
 abbrev pub is_past_in : (moment : ℕ) → Option Node → Bool
 is_past_in moment None = false
 is_past_in moment (Some n) = is_past moment n.last

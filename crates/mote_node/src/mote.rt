@@ -24,7 +24,7 @@ pub enum MoteError {
     Memory = 1,
     /// An earlier turn ran out of memory.
     Failed = 2,
-    /// The moment isn't later than that of the last turn.
+    /// The moment isn't later than the last turn.
     Past = 3,
 }
 
@@ -102,7 +102,7 @@ fn wake_after(kernel: &Kernel, moment: u64) -> Option<u64>
     }
 }
 
-/// Returns `true` if the moment isn't later than that of the last turn.
+/// Returns `true` if the moment isn't later than the last turn.
 fn is_past(moment: u64, last: Option<u64>) -> bool
     ensures value { result ≡ is_past moment last }
 {
@@ -182,7 +182,7 @@ impl Mote {
     ///
     /// # Errors
     /// In this order: `Failed` if an earlier turn ran out of memory (the mote has failed for good); `Past` if the
-    /// moment isn't later than that of the last turn (nothing changes then); `Memory` only if an allocation failed.
+    /// moment isn't later than the last turn (nothing changes then); `Memory` only if an allocation failed.
     #[tactic(auto, unfolding(crate::specs::Public::node_in, crate::specs::Turn::turn_of))]
     pub fn turn(
         &mut self,

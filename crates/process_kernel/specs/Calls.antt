@@ -29,7 +29,8 @@ pub record Calls : Type 0 where
   pub call : KernelState → Proc → Event → Went
   pub run : KernelState → Code → Remainder → (process : ℕ) → Event → Outcome Answer
 
--- calls each of these incarnations that is on the process list when its turn comes, except those of one process
+-- calls these incarnations, one after another, except those of one process; an incarnation that isn't on the process
+-- list when its turn comes is skipped
 abbrev pub walk_of : Calls → Event → (skipped : Proc) → List Member → KernelState → Went
 walk_of calls e skipped [] s = Goes tt s
 walk_of calls e skipped (m ∷ ms) s =

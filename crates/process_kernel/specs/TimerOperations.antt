@@ -21,7 +21,7 @@ has_timer s timer = nat_lt timer (length s.timers.timers)
 abbrev pub owner_of : Tree → (timer : ℕ) → (current : ℕ) → Proc
 owner_of program timer current = if is_callback program timer then Ctimer else Own current
 
--- after a timer was set, its callback waits for it, if it has one, and the etimer process is to be polled
+-- after a timer was set, its callback, if there is one, waits for the timer, and the etimer process is to be polled
 unfoldable pub timer_is_set : KernelState → (timer : ℕ) → KernelState
 timer_is_set s timer =
     poll_of

@@ -92,7 +92,7 @@ OutBegins lines sends out =
 abbrev pub Grows : Out → Out → Type 0
 Grows old new = (lines : List Line) (sends : List Sent) → OutBegins lines sends old → OutBegins lines sends new
 
--- each start, except for this many, is paid for by a unit of work; the process list of the beginning stays known
+-- each start, except for this many, is paid for by a unit of work; the process list at the beginning stays known
 abbrev pub Spends : ℕ → Machine → Machine → Type 0
 Spends n old new = (new.fuel ≤ old.fuel) × (new.started + new.fuel ≤ old.started + old.fuel + n)
     × (first_list_of new ≡ first_list_of old)
@@ -107,7 +107,7 @@ Pays p old new =
 abbrev pub HasRoom : ℕ → Machine → Type 0
 HasRoom n m = m.started + m.fuel + n < 2 ^ 32
 
--- no unit of work is spent, no process is started, and the process list of the beginning stays known
+-- no unit of work is spent, no process is started, and the process list at the beginning stays known
 abbrev pub KeepsCounts : Machine → Machine → Type 0
 KeepsCounts old new = (new.fuel ≡ old.fuel) × (new.started ≡ old.started) × (first_list_of new ≡ first_list_of old)
 

@@ -174,7 +174,8 @@ impl Machine {
         Ok(())
     }
 
-    /// Calls each of these incarnations that is on the process list when its turn comes, except those of one process.
+    /// Calls these incarnations, one after another, except those of one process. An incarnation that isn't on the
+    /// process list when its turn comes is skipped.
     #[cycle(kernel)]
     fn walk(
         &mut self,

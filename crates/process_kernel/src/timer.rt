@@ -50,8 +50,8 @@ impl Machine {
         }
     }
 
-    /// Records that a timer was set: its callback, if it has one, waits for it, and the etimer process is to be
-    /// polled.
+    /// Records that a timer was set: the timer's callback, if there is one, waits for the timer, and the etimer
+    /// process is to be polled.
     #[tactic(auto, unfolding(crate::specs::TimerOperations::timer_is_set))]
     fn timer_is_set(&mut self, program: &Program, timer: u16)
         requires is_timer { timer < self.old.shown.timer_count }

@@ -67,8 +67,8 @@ WindowsCommuteInNets = (model : NetModel) → medium_fault model.radio ≡ None
     → IsLeft (system_of model) model.end motes rest
     → IsReportOf model (report_by model motes log rest)
 
--- in the lines of each mote, each accepted event is delivered in order, nothing follows a halt, and a process starts
--- only if it isn't listed
+-- in the lines of each mote, the accepted events are all delivered in order, nothing follows a halt, and a process
+-- starts only if it isn't listed
 abbrev pub TracesHandOn : Type 0
 TracesHandOn = (model : NetModel) (r : ReportModel) (report : IsReportOf model r) (k : ℕ) → k < length model.motes
     → IsInOrder (report.last.traces k)

@@ -29,7 +29,7 @@ pub fn windows_commute()
     ensures windows_commute_in_nets { WindowsCommuteInNets }
 {}
 
-/// In the lines of each mote of a net, each accepted event is delivered in order, nothing follows a halt, and a
+/// In the lines of each mote of a net, the accepted events are all delivered in order, nothing follows a halt, and a
 /// process starts only if it isn't listed.
 pub fn traces_hand_on()
     ensures traces_hand_on { TracesHandOn }
