@@ -3,9 +3,9 @@ tools/dev/spoil_bytes
 
 The scenario is tests/cases/motes/print_then_yield.toml. Each of its bytes is replaced by each byte of a short list
 (SPOILED in tests/test_spoiled_bytes.py). For such a text motesim writes a report and ends with status 0, or writes
-only the line of a fault and ends with status 1. Another simulator with the same rules counted the texts with each
-result, and the total length of their reports. A prefix of the scenario is not TOML (fault 1) or lacks a key (fault 2),
-except the one that lacks only the last line feed.
+only the line of a fault and ends with status 1. The number of texts with each result, and the total length of the
+reports, have to be those of another simulator with the same rules. A prefix of the scenario is not TOML (fault 1) or
+lacks a key (fault 2), except the one that lacks only the last line feed.
 """
 from __future__ import annotations
 

@@ -29,7 +29,7 @@ class Kept:
     sentence  the text, as the caller wrote it
     holds     whether the sentence holds
     why       the reason why it doesn't hold; empty if it holds
-    row       the line of the report that shows it first, counted from 1, or None
+    row       the first line of the report that shows this, counted from 1, or None
     """
     sentence: str
     holds: bool

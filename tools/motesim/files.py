@@ -40,8 +40,8 @@ def write_whole(path: str | Path, parts: Iterable[bytes]) -> None:
 
 
 def replace_whole(path: str | Path, parts: Iterable[bytes]) -> None:
-    """The same, but a symbolic link with this name is replaced, not followed. For folders that somebody else
-    filled."""
+    """Writes a file like `write_whole`, but replaces a symbolic link with this name instead of following it. For
+    folders that somebody else filled."""
     path = Path(path)
     try:
         _replace(path, parts)

@@ -6,16 +6,16 @@ or newer, from any folder: nothing is installed, and nothing is fetched from a n
 
     tar xzf motesim-VERSION.tar.gz && cd motesim-VERSION && ./run examples/flooding.toml
 
-It has the files that git knows, and the folders and files of your own that you name, such as an exercise and its
-worksheet: tools/pack examples/mylab worksheet.pdf. A folder or file outside of this tree is at the top of the archive.
-A file isn't packed if a word of its name, or of its folder's, begins with `solution`, `hidden`, `answer` or `marks`,
-even if you name it; nor are key.csv and docs/use/TEACH.md. With --for-teachers these are packed too. tools/pack lists
-what it adds to the repository's own files, and what it leaves out.
+The archive has the files that git knows. To add folders and files of your own, such as an exercise and its worksheet,
+name them: tools/pack examples/mylab worksheet.pdf. Those from outside of this tree are at the top of the archive. A
+file isn't packed if a word of its name, or of its folder's, begins with `solution`, `hidden`, `answer` or `marks`,
+even if you name it; nor are key.csv and docs/use/TEACH.md. With --for-teachers all these files are packed too.
+tools/pack lists the files that it adds to the repository's own files, and those that it leaves out.
 
 The archive has the binary that the environment variable MOTESIM names, or without it the proved `motesim` of these
-sources, if ./prove has built it; the page PROVED.md then describes the proof and the kit. Otherwise it has one that is
-compiled without a proof; tools/pack and the archive's ./run say so. The same tree and binary yield the same archive,
-byte for byte.
+sources, if ./prove has built it; the page PROVED.md then describes the proof and the kit. Otherwise it has a binary
+that is compiled without a proof, and tools/pack and the archive's ./run say so. The same tree and binary yield the
+same archive, byte for byte.
 """
 from __future__ import annotations
 

@@ -1,9 +1,9 @@
 """Runs motesim, and compiles it first if it isn't built: tools/run_program [arguments], which is ./run
 
 The proved binary of these sources runs if it has been built. Otherwise a binary is compiled without a proof, once, and
-is kept; a line on standard error says so. Before that, arguments that motesim doesn't know, and a file that can't be
-read, are refused. The environment variable MOTESIM names another binary. After an error, a further line says how to
-find out why there is no report. With --help the options of ./run are below those of motesim.
+is kept; a line on standard error says so. Before it compiles, the tool refuses arguments that motesim doesn't know,
+and a file that can't be read. The environment variable MOTESIM names another binary. After an error, a further line
+says how to find out why there is no report. With --help the options of ./run are below those of motesim.
 """
 from __future__ import annotations
 

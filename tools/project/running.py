@@ -58,7 +58,7 @@ def end_on_signals() -> None:
 
 @contextlib.contextmanager
 def locked(file: Path, waiting: str) -> Iterator[None]:
-    """Does the work of a block while no other process does it; if one does, prints a line and waits."""
+    """Does the work of a block while no other process does it. If another process does it, prints a line and waits."""
     file.parent.mkdir(parents=True, exist_ok=True)
     with open(file, 'w', encoding='ascii') as lock:
         try:

@@ -47,7 +47,7 @@ def asked_of(module: Path, named: str) -> tuple[list[str], list[str]]:
 
 def check(module: Path) -> NoReturn:
     """Tests the built motesim with a module of tests/."""
-    names, others = asked_of(module, 'a NAME, FILE or PAGE as in the first lines above, if they have one')
+    names, others = asked_of(module, 'the case, example, page or scenario to test')
     become([*pytest('group'), str(module), *others, *('--name=' + it for it in names)],
            MOTESIM=str(program_path().resolve()))
 

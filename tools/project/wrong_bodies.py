@@ -1,15 +1,15 @@
 """Tries mutants of the crates' functions, many in one check: the prover must refuse each because of its effect.
 
 A mutant is a file NAME.edit of crates/CRATE/must-fail, gate-bodies or wrong-bodies (docs/proof/WRONG_BODIES.md). It is
-refused for its meaning if a goal of a contract fails, one without a proof by hand. If only a proof by hand no longer
-fits, or the prover stops at a limit, it says little about the contract: such a mutant is reported as open, and counts
-as skipped, until it is written so that the contract decides. A control comes first: it has to prove the crate without
-an edit.
+refused for its meaning if a goal of a contract fails for which nobody has written a proof. If only a proof by hand no
+longer fits, or the prover stops at a limit, the refusal says little about the contract: such a mutant is reported as
+open, and counts as skipped, until it is written so that the contract decides. A control comes first: it has to prove
+the crate without an edit.
 
-The libraries below are those in crates/*/out; missing or outdated ones are built first. With --built they are used
-unchanged: rt ci has just built them. The verdicts are noted in log/wrong_bodies.tsv, with a digest of all that the
-verdict depends on. As many checks run in parallel as processors and memory allow, or as RT_JOBS says. The last line is
-`N passed, M failed, K skipped`, and the status 1 if one failed.
+The tool uses the libraries in crates/*/out, and first builds those that are missing or outdated. With --built it uses
+them unchanged, because rt ci has just built them. The verdicts are noted in log/wrong_bodies.tsv, with a digest of all
+that the verdict depends on. As many checks run in parallel as processors and memory allow, or as RT_JOBS says. The
+last line is `N passed, M failed, K skipped`, and the status 1 if one failed.
 """
 from __future__ import annotations
 
@@ -37,7 +37,8 @@ GATE = 'gate-bodies'
 def words() -> argparse.Namespace:
     asked = words_of(__doc__)
     asked.add_argument('--built', action='store_true', help='use the libraries as rt ci has left them, and build none')
-    asked.add_argument('--changed', action='store_true', help='leave out what was refused over exactly the same texts')
+    asked.add_argument('--changed', action='store_true',
+                       help='leave out mutants that were refused with exactly the same texts')
     asked.add_argument('--gate', action='store_true', help='those of %s that have changed, and a tenth of all' % GATE)
     asked.add_argument('names', nargs='*', metavar='CRATE or CRATE/NAME', help='crates, or mutants (all)')
     return asked.parse_args()
@@ -53,8 +54,8 @@ def named(edits: Sequence[Edit], names: Sequence[str]) -> list[Edit]:
 
 
 def tenth(edits: Sequence[Edit], seed: str) -> list[Edit]:
-    """A tenth of the mutants, chosen by a seed: whole batches, of as few crates as possible, since each crate needs a
-    control."""
+    """A tenth of the mutants, chosen by a seed: whole batches, of as few crates as possible, because each crate needs
+    a control."""
     def place(group: list[Edit]) -> list[bytes]:
         return [hashlib.sha256((seed + it).encode()).digest() for it in (group[0].crate.name, group[0].name)]
 

@@ -1,10 +1,10 @@
 """Runs the tests of the tools with pytest: tools/dev/test_tools [NAME ..]
 
 NAME is a file of tools/tests, test_report, or a part of its name; without one all are run. Prints each test that
-fails, with its error, and each that is skipped, with the reason: the program or the package that it lacks. One that
-lacks the browser fails, unless `--may-skip=browser` allows that, and so does a file without tests. The last line is
-`N passed, M failed, K skipped`. With pytest-xdist as many tests run in parallel as there are processors. After 30
-minutes the tests are ended.
+fails, with its error, and each that is skipped, with the reason: the program or the package that it lacks. A test that
+lacks the browser fails, unless `--may-skip=browser` allows that. A file without tests fails too. The last line is `N
+passed, M failed, K skipped`. With pytest-xdist as many tests run in parallel as there are processors. After 30 minutes
+the tests are ended.
 """
 from __future__ import annotations
 

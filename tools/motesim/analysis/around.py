@@ -62,8 +62,8 @@ def _lines(figure: Any, text: str, points: float, most: float) -> list[str]:
 def words_around(figure: Any, width: float, wish: Wish, title: str, footer: str, notes: str) -> bool:
     """Writes the title and the footer; returns whether the footer has room.
 
-    A footer that nobody asked for may need a third of the picture, or a fifth of a narrow one. If it is longer, it is
-    left out, and `notes` says where it is.
+    A footer that nobody asked for may need a third of the picture, or a fifth of a narrow one. If the footer is
+    longer, it is left out, and `notes` says where to find it.
     """
     head = title if wish.title is None else wish.title
     if head:

@@ -82,7 +82,8 @@ def _legend_of(wish: Wish, by: Cell) -> str:
 
 
 def unused_labels(every: Iterable[Cell], wish: Wish) -> list[str]:
-    """The line about texts of values that none of the curves has, whose values these are."""
+    """The line about labels that aren't used, because no curve has their value; `every` has the values of the
+    curves."""
     values = list(dict.fromkeys(map(text_of, every)))
     unused = [value for value, _ in wish.labels if value not in values]
     return ['no line has %s = %s, so this label isn\'t used; there are: %s' % (
@@ -118,7 +119,7 @@ def lengths(found: Sequence[Estimate]) -> list[list[float]]:
 
 def _draw_points(axes: Any, points: list[Point], xs: list[float], wish: Wish, look: dict[str, str],
                  label: str | None, is_scale: bool) -> None:
-    """A curve with its intervals, or all the points; on an axis of names, whose order says nothing, no line."""
+    """Draws a curve with its intervals, or all points. No line joins names, because their order says nothing."""
     if wish.show == 'points':
         # (on an axis of a measure each run has a place of its own)
         places = [it for x, point in zip(xs, points)

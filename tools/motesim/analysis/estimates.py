@@ -1,16 +1,17 @@
 """Estimates from a few runs: means with confidence intervals, medians with quartiles.
 
-An interval by Student's t treats the runs as independent draws from a nearly normal distribution. One by the bootstrap
-assumes no distribution: the runs are drawn again with replacement, and the interval contains the middle part of the
-means. The bootstrap of Student's t (Efron, 1981) draws in the same way, and divides the deviation of each mean by its
-standard error. The draws come from a fixed seed, so the same runs give the same interval anywhere. The middle part is
-a little larger than the confidence (`part_of_draws`), because a few runs spread less than the distribution from which
-they are drawn.
+An interval by Student's t treats the runs as independent draws from a nearly normal distribution. An interval by the
+bootstrap assumes no distribution: the runs are drawn again with replacement, and the interval contains the middle part
+of the means. The bootstrap of Student's t (Efron, 1981) draws in the same way, and divides the deviation of each mean
+by its standard error. The draws come from a fixed seed, so the same runs give the same interval anywhere. The middle
+part is a little larger than the confidence (`part_of_draws`), because a few runs spread less than the distribution
+from which they are drawn.
 
 The interval of a share is always within 0 and 1. If each run is 0 or 1, it is Wilson's score interval. Otherwise, if
-Student's t would pass 0 or 1, it is cut there, or is that of the bootstrap if there are enough runs. An interval by
-the bootstrap of Student's t is cut to Wilson's score interval for runs that lose up to twice as much as the worst run.
-Runs that are all the same have no interval: they don't show how far others would spread.
+the interval by Student's t would pass 0 or 1, it is cut there; if there are enough runs, the interval by the bootstrap
+replaces it. An interval by the bootstrap of Student's t is cut to Wilson's score interval for runs that lose up to
+twice as much as the worst run. Runs that are all the same have no interval: they don't show how far others would
+spread.
 """
 from __future__ import annotations
 

@@ -200,7 +200,7 @@ def difference_by_newcombe(pairs: Sequence[Pair], confidence: float) -> Estimate
 
 
 def _correlation(pairs: Sequence[Pair]) -> float:
-    """The correlation of pairs that are 0 or 1, which is corrected towards 0 if it is above it."""
+    """The correlation of pairs that are 0 or 1. A correlation above 0 is corrected towards 0."""
     counts, runs = Counter((it.one, it.other) for it in pairs), len(pairs)
     both, neither, first, second = counts[1, 1], counts[0, 0], counts[1, 0], counts[0, 1]
     squared = (both + first) * (second + neither) * (both + second) * (first + neither)

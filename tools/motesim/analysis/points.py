@@ -37,7 +37,7 @@ Place = tuple[Cell, Cell]
 class Wish(NamedTuple):
     """A request for a picture or a table, and the texts around it.
 
-    title, footer  the words above and below a picture; None: what it shows, and of which runs; '': none
+    title, footer  the words above and below a picture; None for a text about its content and its runs, '' for no text
     size           the width and the height of a picture in centimetres, `16x10`, or `column`, or nothing
     labels         texts of the legend, by the values of `by`
     nets           whether the runs of a net are averaged first, so that each net counts once

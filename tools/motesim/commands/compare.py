@@ -1,12 +1,12 @@
 """Compares two reports, and shows the first difference: tools/compare A B [--rows N] [--html FILE]
 
-A and B are reports, or scenarios, which are run. The first difference is the one at the earliest moment, not the one
-on the first line. It is shown with the mote, the moment, the line of each side, and the last packets and events of
-that mote before it. Differences between two scenarios are listed too. Then it shows the first collision that only one
-of the two has, and how many lines differ, by mote and by kind. `--html FILE` writes a page with one timeline above the
-other.
+A and B are reports, or scenarios, which are run. The first difference is the difference at the earliest moment, not on
+the first line. It is shown with the mote, the moment, the line of each side, and the last packets and events of that
+mote before it. Differences between two scenarios are listed too. The tool also shows the first collision that only one
+of the two reports has, and the number of lines that differ, by mote and by kind. `--html FILE` writes a page with one
+timeline above the other.
 
-Ends with status 0 if the reports are the same, 1 if they differ, and 2 if one can't be read.
+Ends with status 0 if the reports are the same, 1 if they differ, and 2 if a report can't be read.
 """
 from __future__ import annotations
 
@@ -19,7 +19,8 @@ def main() -> int:
     words = words_of(__doc__)
     words.add_argument('a', metavar='A', help='a report, or a scenario')
     words.add_argument('b', metavar='B', help='another')
-    words.add_argument('--rows', type=int, default=20, metavar='N', help='how many motes the table has at most (20)')
+    words.add_argument('--rows', type=int, default=20, metavar='N',
+                       help='the greatest number of motes in the table (20)')
     words.add_argument('--html', metavar='FILE',
                        help='write both timelines to this page, which opens at the first difference')
     asked = words.parse_args()

@@ -6,17 +6,18 @@
   tools/grade answers task.expect.toml --net task.plan.toml --vary seed=1..5 \\
     --hidden task.plan.toml --vary-hidden seed=77..79
 
-A solution is a scenario NAME.toml, or with --net also a program NAME.mote. With --net only the text of the program
-that --program names (or the only one) is taken from it, so nobody gains by changing the net; a sentence holds if it
-holds in all nets. A net of --hidden counts like one of --net, but a page of marks shows nothing of it.
+A solution is a scenario NAME.toml, or with --net also a program NAME.mote. With --net the tool takes only the text of
+one program from a solution: the program that --program names, or the only one. So nobody gains by changing the net. A
+sentence holds if it holds in all nets. A net that --hidden names counts in the same way, but a page of marks shows
+nothing of it.
 
-Each entry of the folder has a row, whatever it is, and none stops the others: each run has limits (--seconds of
-processor time, --memory, --report), and several run at once (--jobs). If a run lasts 10 times its --seconds
-because the machine has other work, the solution isn't marked: grade it again.
+Each entry of the folder has a row, and an error in one entry doesn't affect the others. Each run has limits (--seconds
+of processor time, --memory, --report), and several run at once (--jobs). If a run lasts 10 times its --seconds because
+the machine has other work, the solution isn't marked: grade it again.
 
 Tables `[[change]]` of EXPECTATIONS are not tried: they replace texts of one solution. -o writes the marks to a file:
 NAME.csv for a spreadsheet, NAME.toml, or NAME.html, a page that links each first failed sentence to its timeline.
---why NAME shows what breaks the sentences in one solution, and where the error of a refused one is. --write FOLDER
+--why NAME shows what breaks the sentences in one solution or, if it is refused, the place of its error. --write FOLDER
 writes each program in each net as a scenario, FOLDER/anna.toml_in_hidden.toml, for the studio and the other tools.
 
 Ends with status 0; with 1 if a solution isn't marked; with 2 if the sentences or the nets can't be read.
@@ -58,7 +59,7 @@ def arguments() -> argparse.Namespace:
     words.add_argument('-o', dest='output', action='append', default=[], metavar='FILE', type=Path,
                        help='write the marks: NAME.csv, NAME.toml or NAME.html')
     words.add_argument('--anonymous', action='store_true',
-                       help='show numbers instead of the names of solutions, drawn again in each marking')
+                       help='show numbers instead of the names of solutions; each marking draws new numbers')
     words.add_argument('--key', metavar='FILE', type=Path,
                        help='with --anonymous: write which solution has which number, for you only')
     words.add_argument('--write', metavar='FOLDER', type=Path,

@@ -1,7 +1,7 @@
 """Shows the lines of all motes in one chronological log.
 
-A line shows the moment, the mote, the line of the report, and what happened. SENTENCE, such as "motes 3 to 7 print
-flood 2", selects the lines that it is about. Without it and without options all lines are shown."""
+Each line shows the moment, the mote, the line number in the report, and what happened. SENTENCE, such as "motes 3 to 7
+print flood 2", selects the lines that it is about. Without SENTENCE and options the tool shows all lines."""
 from __future__ import annotations
 
 from motesim.faults import command

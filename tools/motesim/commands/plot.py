@@ -8,14 +8,14 @@
   tools/plot a.csv --compare b.csv --measure ratio --against period          run by run, both with the same parameters
   tools/plot net.csv --plan net.plan.toml                                    what the plan's `plot` describes
 
-RESULTS is a file that tools/sweep wrote. Each point represents the runs that differ only in `seed` (or in parameters
-that end in `_seed`), or in the parameters of --over; runs with other differences aren't mixed. --show selects the
-statistic: median (with quartiles), mean (with an interval by --interval auto, t, bootstrap or bootstrap-t), points (all
-runs), cdf (the share of the runs with at most this value) or heat (a map of --against and --by). --where seed=3 selects
-some of the runs. A picture is SVG, PDF or PNG, by its name. Next to it the tool writes the table behind it,
-NAME.table.csv, and its origin, NAME.origin.csv: the command and the digests of what made the results. Pictures need
-matplotlib (on Debian: apt-get install python3-matplotlib); without it there is a table, and a line that says so.
-docs/use/EXPERIMENTS.md shows all of it at work.
+RESULTS is a file that tools/sweep wrote. The runs of a point differ only in `seed`, in parameters whose names end in
+`_seed`, or in those that --over names instead. If runs differ in other parameters, the tool refuses to mix them.
+--show selects the statistic: median (with quartiles), mean (with an interval by --interval auto, t, bootstrap or
+bootstrap-t), points (all runs), cdf (the share of the runs with at most this value) or heat (a map of --against and
+--by). --where seed=3 selects some of the runs. A picture is SVG, PDF or PNG, by its name. Next to it the tool writes
+the table behind it, NAME.table.csv, and its origin, NAME.origin.csv: the command and the digests of what made the
+results. Pictures need matplotlib (on Debian: apt-get install python3-matplotlib); without it there is a table, and a
+line that says so. docs/use/EXPERIMENTS.md shows all of it at work.
 
 Ends with status 0, with 1 if there is a table instead of a picture, or with 2 if there is nothing to show.
 """
@@ -35,18 +35,18 @@ def arguments() -> argparse.Namespace:
     words.add_argument('results', metavar='RESULTS', help='a file that tools/sweep wrote')
     words.add_argument('--measure', metavar='NAME', help='the measure')
     words.add_argument('--against', metavar='NAME', help='the parameter, or the measure, on the horizontal axis')
-    words.add_argument('--by', metavar='NAME', help='a parameter with a line for each value')
+    words.add_argument('--by', metavar='NAME', help='draw a line for each value of this parameter')
     words.add_argument('--show', choices=SHOWS,
                        help='the statistic of the runs at each point (median)')
     words.add_argument('--interval', choices=MEANS, default='auto',
-                       help='the method for intervals of means (auto: t, or one for shares)')
+                       help='the method for intervals of means (auto: t, or a method for shares)')
     words.add_argument('--count', action='store_true',
                        help="the measure is a count: it isn't a share, even if all its values are 0 and 1")
     words.add_argument('--confidence', type=float, default=95, metavar='PERCENT',
                        help='the confidence of the intervals (95)')
     words.add_argument('--threshold', metavar='VALUE', help='report where each curve crosses this value')
     words.add_argument('--over', metavar='NAMES',
-                       help='the parameters in which runs of a point may differ (`seed` and those that end in `_seed`)')
+                       help='the parameters in which runs of a point may differ (`seed`, and all with the ending `_seed`)')
     words.add_argument('--nets', action='store_true', help='average the runs of each net first: each net counts once')
     words.add_argument('--compare', metavar='RESULTS', help='the other side of a comparison, run by run')
     words.add_argument('--pair', metavar='NAME=ONE,OTHER', help='compare two values of a parameter, run by run')

@@ -2,9 +2,10 @@
 
   tools/search examples/flooding.toml --faults links,motes --at-most 2
 
-All single faults are tried, then all pairs, up to --at-most. Each minimal set of faults that breaks an expectation is
-written as a scenario with its expectations, into the folder NAME.search or that of -o. The expectations are sentences
-of tools/expect; if no file is named, those of NAME.expect.toml next to the scenario NAME.toml.
+The tool tries all single faults, then all pairs, and so on, up to --at-most faults at once. For each minimal set of
+faults that breaks an expectation, it writes a scenario and its expectations into the folder NAME.search, or into the
+folder that -o names. The expectations are sentences of tools/expect; if no file is named, those of NAME.expect.toml
+next to the scenario NAME.toml.
 
 Kinds of faults, for --faults:
   links        a link loses everything, in one direction
@@ -18,7 +19,7 @@ Kinds of faults, for --faults:
   queues       the event queues are shorter (--queues 8,4,2,1)
   values       range, base or per have other values (--set range=8..12)
   places       a mote is at another place (--step 5)
-  parameters   of a plan, parameters have other values (--set period=10,20)
+  parameters   parameters of a plan have other values (--set period=10,20)
 
 docs/use/SEARCH.md begins with a protocol that looks right, and explains what the result of a search means. Ends with
 status 0 if all expectations hold in every run, 1 if one is broken, 2 if there is no result, and 130 after Ctrl-C.
@@ -44,12 +45,13 @@ def arguments() -> argparse.ArgumentParser:
                        help='an expectation, instead of those of a file')
     words.add_argument('--faults', default='', metavar='KINDS',
                        help='the kinds of faults (links,motes; with --set, the kinds of its values)')
-    words.add_argument('--at-most', type=int, default=1, metavar='K', help='how many faults at once (1)')
-    words.add_argument('--every', default='2', metavar='NUMBERS', help='for `every`: which packets are lost (2)')
+    words.add_argument('--at-most', type=int, default=1, metavar='K',
+                       help='the greatest number of simultaneous faults (1)')
+    words.add_argument('--every', default='2', metavar='NUMBERS', help='for `every`: the values of k (2)')
     words.add_argument('--moments', metavar='NUMBERS', help='for `deaths` and `late`: the moments')
     words.add_argument('--queues', default='8,4,2,1', metavar='NUMBERS', help='for `queues`: the lengths')
     words.add_argument('--set', action='append', default=[], metavar='NAME=VALUES',
-                       help='for `values` and `parameters`')
+                       help='for `values` and `parameters`: the other values')
     words.add_argument('--step', type=int, default=0, metavar='N',
                        help='for `places`: how far (a quarter of the range)')
     words.add_argument('--random', type=int, default=0, metavar='N',

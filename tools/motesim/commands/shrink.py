@@ -3,11 +3,11 @@
   tools/shrink flooding.search/flooding_silent_0.toml "mote 6 prints flood 1"
 
 Motes, losses, processes, statements, timers and constants are removed or made smaller, one step at a time, as long as
-the expectation is still broken in the same way; each step is checked by a run. The small scenario may break the
-expectation for another reason. With --fault the expectation has to hold without the fault, and to be broken with it;
---keep names sentences that have to hold throughout. If motes get other numbers, sentences and faults are adapted.
-If EXPECTATION is a file, the tool uses the first broken sentence in it; without one, that of NAME.expect.toml, next
-to the scenario NAME.toml.
+the expectation is still broken in the same way; each step is checked by a run. The small scenario may still break the
+expectation for another reason. Two options make this less likely: with --fault the expectation has to hold without the
+fault, and to be broken with it; --keep names sentences that have to hold throughout. If motes get other numbers,
+sentences and faults are adapted. If EXPECTATION is a file, the tool uses the first broken sentence in it; without
+EXPECTATION, the first broken sentence in NAME.expect.toml, next to the scenario NAME.toml.
 
 The result is written to NAME.small.toml, with its expectation next to it. It is one-minimal: no single further step is
 possible. docs/use/SEARCH.md has an example. Ends with status 0, with 2 if nothing could be made smaller, for instance

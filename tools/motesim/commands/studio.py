@@ -1,6 +1,6 @@
 """Opens a page on which you write a protocol and see its run at once: tools/studio [FILE.toml]
 
-The page is served on this machine only. Without FILE it opens the first of the examples. Ctrl-C ends it.
+The page is served on this machine only. Without FILE it shows the first of the examples. Ctrl-C ends the studio.
 docs/use/STUDIO.md describes the page.
 """
 from __future__ import annotations

@@ -14,7 +14,7 @@ For a mote and for the net
   late        copies that would have arrived after the end
   ratio     the share of received copies in all that were not late
   posted    events that its queue accepted
-  taken     events that reached a process; an event for all processes counts once for each of them
+  taken     events that reached a process; an event for all processes counts once for each process
   dropped   events whose process wasn't running
   refused   events that found the queue full
   prints    lines that it printed
@@ -23,7 +23,7 @@ For a link
   delay     the moments that a packet needs to arrive
 
 `--flow "print sink"` shows flows from end to end instead: each line `print sink V` is a delivery of the message V,
-which began with the first packet of that value, at the mote that sent it. In `--flow "print source -> print sink"`
+which began with the first packet of that value, at the mote that sent it. With `--flow "print source -> print sink"`
 messages begin with a print. For an origin, and for the net
   sent      messages that began there
   delivered those that arrived at another mote at least once; ratio is their share
@@ -32,10 +32,10 @@ messages begin with a print. For an origin, and for the net
   hops      least hops to the motes reached, on average, if the scenario is known
   least, middle, most   moments from a message's beginning to its first delivery at a mote
 
-`--by N` shows instead what happens in each N moments: docs/use/TOOLS.md describes its columns.
+`--by N` shows the counts for every N moments instead: docs/use/TOOLS.md describes the columns of this table.
 
-`--motes` and `--links` show only one of the tables. `--csv` is for a spreadsheet: the table of motes with the net, or
-with `--links` that of links. `--json` has all of it, for programs.
+`--motes` and `--links` show only one of the tables. `--csv` writes a table for a spreadsheet: the table of motes with
+the net, or with `--links` the table of links. `--json` writes all tables, for programs.
 
 Ends with status 0, or with 2 if the report can't be read.
 """
@@ -58,7 +58,7 @@ def main() -> int:
     part.add_argument('--links', action='store_true', help='only the links')
     part.add_argument('--flow', metavar='WORDS', help='flows from end to end, as "print sink"')
     words.add_argument('--by', metavar='N', type=int,
-                       help='what happens in each N moments; with --flow, the messages that began in them')
+                       help='the counts for every N moments; with --flow, of the messages that began in them')
     asked = words.parse_args()
     if asked.by is not None and (asked.motes or asked.links):
         words.error('--by is for the whole net: it can\'t be combined with --motes or --links')

@@ -2,14 +2,14 @@
 
   tools/sweep net.plan.toml --vary period=10,20,40 --vary seed=1..30 --measure sent --measure ratio -o net.csv
 
-Each combination becomes a row of net.csv (CSV, or SQLite if the name ends in .sqlite), with its parameters. The same
-command again makes only the missing runs. Ctrl-C keeps what is finished. A run with an error has a row with the error;
-a measure that fails has an empty cell and a note. Options that the plan's table `sweep` sets aren't needed; --plot
-draws what its `plot` describes.
+Each combination becomes a row of net.csv (CSV, or SQLite if the name ends in .sqlite), with its parameters. If you
+start the same command again, it makes only the missing runs. After Ctrl-C the finished rows stay in the file. A run
+with an error has a row with the error; a measure that fails has an empty cell and a note. Options that the plan's
+table `sweep` sets aren't needed; --plot draws what its `plot` describes.
 
 Values are 10,20,40 or 1..30 or 0..100..25 (in steps of 25). Measures are
   sent, ratio, collided, ..     the columns of tools/summary, for the net; `sent of mote 3`
-  reachable                     the share of the motes that packets of mote 0 can reach over others
+  reachable                     the share of the motes that packets of mote 0 can reach, directly or through others
   flow most: print sink         the columns of tools/summary --flow, for the net
   holds: no mote halts          1 if a sentence of tools/expect holds, otherwise 0
   moment: every mote prints flood 1
@@ -18,8 +18,9 @@ Values are 10,20,40 or 1..30 or 0..100..25 (in steps of 25). Measures are
   delay: mote 0 sends 1 -> every mote but 0 prints flood 1
                                 the time from the first moment to the second
   delivery: motes 1 to 9 print source -> mote 0 prints sink
-                                the share of the first lines that a second one with the same value follows
-  python: measures.py:energy    a function of yours, in a file next to the plan, whose argument is the run
+                                the share of the lines of the first sentence that are followed by a line of the second
+                                with the same value
+  python: measures.py:energy    your function in a file next to the plan; its argument is the run
 and `name = MEASURE` names its column.
 
 docs/use/EXPERIMENTS.md shows a sweep from its beginning to a plot. Ends with status 0, with 1 if a row has an error or

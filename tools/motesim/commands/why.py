@@ -17,7 +17,7 @@ def main() -> int:
     words.add_argument('question', metavar='QUESTION', nargs='?', help='a sentence, or a line of the report')
     words.add_argument('--scenario', metavar='FILE', help="the report's scenario")
     words.add_argument('--other', metavar='FILE',
-                       help='a second run: show the line at which it leaves the chain of the first')
+                       help='a second run: show the first line of the chain that this run lacks')
     words.add_argument('--other-scenario', metavar='FILE', help='the scenario of a second report')
     words.add_argument('--watch', metavar='WORD', nargs='+',
                        help='show the values of variables over time: --watch mote 3 newest, distance')
@@ -25,7 +25,7 @@ def main() -> int:
     words.add_argument('--state', metavar='WORD', nargs='+',
                        help='show the state of a mote: --state mote 3 at 46, or after a line: --state 3:114')
     words.add_argument('--json', action='store_true', help='for programs')
-    words.add_argument('--short', action='store_true', help='only the hops with a delay')
+    words.add_argument('--short', action='store_true', help='show only the lines of the chain that needed time')
     asked, more = words.parse_known_intermixed_args()
     if any(it.startswith('-') for it in more):
         words.error('unrecognized arguments: %s' % ' '.join(more))

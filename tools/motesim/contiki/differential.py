@@ -1,11 +1,12 @@
 """Compares motesim with the host on random scenarios: tools/differential [--seed S] [--count N]
 
 Each scenario is run by motesim, on one thread and with workers of both kinds, and by the host, a second simulator in C
-(docs/use/CONTIKI.md). All of them have to write the same bytes. If they don't, the tool reduces the scenario to the
-smallest that still differs, and writes it to a file.
+(docs/use/CONTIKI.md). All of these runs have to write the same bytes. If a report differs, the tool reduces the
+scenario to the smallest one whose reports still differ, and writes it to a file.
 
-  tools/differential --count 1000              the scenarios of seeds from 0
-  tools/differential --seed 7000 --count 50000 the scenarios of seeds from 7000
+  tools/differential --count 1000              the scenarios of the seeds from 0 on
+  tools/differential --seed 7000 --count 50000 the scenarios of the seeds from 7000 on
+
   tools/differential net.toml ..               scenarios of your own
   tools/differential --gate                    all examples and cases, and 300 scenarios with the commit as seed
 

@@ -138,7 +138,8 @@ def _motes(judge: Judge, it: Does) -> int:
 
 
 def _delivery(judge: Judge, begin: Does, end: Does) -> float | None:
-    """The share of the lines of a sentence that a line of another with the same value follows; each of these once."""
+    """The share of the lines of one sentence that are followed by a line of the other sentence with the same value.
+    Each line of the other sentence counts once."""
     sent, arrived = (_events(judge, it, judge.chosen(it.motes)) for it in (begin, end))
     lines = sorted([(it.line.at, False, it.line.value) for it in sent] + [(it.line.at, True, it.line.value)
                                                                           for it in arrived], key=lambda it: it[:2])

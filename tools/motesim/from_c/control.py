@@ -17,7 +17,7 @@ class Control(Lines):
     """Reads blocks, tests and loops."""
 
     def closing(self) -> str:
-        """A brace that closes what was opened above these lines, with an `else` behind it."""
+        """A brace that closes a block from above these lines, with an `else` behind the brace."""
         if not self.accept('}'):
             return self.other() if self.token.text == 'else' else ''
         if self.token.text == 'while' and self.place.loop:

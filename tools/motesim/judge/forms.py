@@ -92,8 +92,7 @@ ORDER = Table('ORDER', 'Each of the lines is', ('mote 1 sends 1 %s',), (
     (('within 10 of receiving 1', 'within 10 moments of it receives 1', 'within 1 moment of mote 2 sending 5'),
      'at most that many moments after a line of the event'),
     (('within 10 of each time it receives 1', 'within 10 of every time mote 0 sends'),
-     'the other way around: each line of '
-     'the event is followed by one, at most that many moments later'),
+     'the other way around: after each line of the event there is such a line, at most that many moments later'),
 ))
 OTHER = Table('Sentence', 'Says', ('%s',), (
     (('no copy collides', 'some copy collides at mote 3'), 'lines `collide`'),

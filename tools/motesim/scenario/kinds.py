@@ -1,4 +1,5 @@
-"""The kinds of files that users mix up: programs, scenarios, plans and the results of sweeps; and those of teachers."""
+"""The kinds of files that users mix up: programs, scenarios, plans and the results of sweeps; and files that are only
+for teachers."""
 from __future__ import annotations
 
 import re
