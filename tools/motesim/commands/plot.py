@@ -46,7 +46,8 @@ def arguments() -> argparse.Namespace:
                        help='the confidence of the intervals (95)')
     words.add_argument('--threshold', metavar='VALUE', help='report where each curve crosses this value')
     words.add_argument('--over', metavar='NAMES',
-                       help='the parameters in which runs of a point may differ (`seed`, and all with the ending `_seed`)')
+                       help='the parameters in which runs of a point may differ (`seed` and those with the ending '
+                            '`_seed`)')
     words.add_argument('--nets', action='store_true', help='average the runs of each net first: each net counts once')
     words.add_argument('--compare', metavar='RESULTS', help='the other side of a comparison, run by run')
     words.add_argument('--pair', metavar='NAME=ONE,OTHER', help='compare two values of a parameter, run by run')
