@@ -177,7 +177,8 @@ class PlotTest(unittest.TestCase):
                             ('labels = { thin = "a" }\n', 'Labels are the texts of the lines of `by`.'),
                             ('by = "density"\nlabels = { thin = 3 }\n', 'A label is a text.'),
                             ('where = { seed = 1.5 }\n', 'These are not values.'),
-                            ('show = "cdf"\nlog_y = true\n', 'no measure on the vertical axis')):
+                            ('show = "cdf"\nlog_y = true\n', 'no measure on the vertical axis'),
+                            ('show = "cdf"\n', 'has the measure on its horizontal axis')):
             (self.folder / 'a.plan.toml').write_text('end = 9\n' + plot % 'a.svg' + words)
             done = self.plot('--plan', 'a.plan.toml')
             self.assertEqual(done.returncode, 2, done)

@@ -952,6 +952,12 @@ class Command(unittest.TestCase):
         self.assertEqual([row for row in rows[2:4]], [['11.000', '0.200'], ['12.000', '0.400']])
         self.plot('--measure', 'sent', '--against', 'period', '--show', 'heat', status=2)
 
+    def test_a_cdf_does_not_mix_the_values_of_against(self) -> None:
+        for name in 'period', 'ratio':
+            self.plot('--measure', 'sent', '--against', name, '--where', 'density=thin', '--show', 'cdf', status=2)
+            self.assertEqual(self.seen, 'plot: --show cdf has the measure on its horizontal axis: leave out --against;'
+                                        ' --by NAME draws a curve for each value\n')
+
     def test_the_part_of_the_runs_ends_at_the_part_that_has_a_value(self) -> None:
         # (of 5 runs each, 2 have no value in the thin net, and none has one in the dense net)
         text = re.sub(r',(dense,.|thin,[45]),[0-9]+,', r',\1,,', results())

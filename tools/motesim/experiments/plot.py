@@ -81,6 +81,9 @@ def wishes_of(plan: Plan) -> list[Wish]:
         if values['log'] and values['show'] == 'heat':
             raise tables.fault(path + ('log',), 'A plot with this `show` has no axis with a scale.',
                                'a plot without `log`', False)
+        if values['against'] and values['show'] == 'cdf':
+            raise tables.fault(path + ('against',), 'A plot with this `show` has the measure on its horizontal axis.',
+                               '`by` for several curves', False)
         if values['interval'] != AUTO and values['show'] != 'mean' and not is_paired:
             raise tables.fault(path + ('interval',), 'Only means have such intervals, and this plot shows none.',
                                '`show = "mean"` as well')
@@ -246,6 +249,9 @@ def wishes(asked: argparse.Namespace) -> list[Wish]:
     if not asked.against and asked.show != 'cdf':
         raise Fault('nothing is named for the horizontal axis: add --against NAME, with a parameter or a '
                     'measure; only --show cdf needs none')
+    if asked.against and asked.show == 'cdf':
+        raise Fault('--show cdf has the measure on its horizontal axis: leave out --against; --by NAME draws a curve '
+                    'for each value')
     if asked.output and Path(asked.output).suffix not in FORMATS:
         raise Fault('%s: a picture is SVG, PDF or PNG: its name ends in .svg, .pdf or .png' % asked.output)
     if (asked.pair or asked.compare) and (asked.show or asked.threshold):
