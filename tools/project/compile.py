@@ -18,7 +18,7 @@ from project import kit
 from project.running import end_on_signals, locked
 
 COMPILING = 'motesim is not built yet: compiling it, without a proof; this needs about a minute; ' \
-            'after that, a faster one is compiled in the background'
+            'after that, a faster binary is compiled in the background'
 WAITING = 'another run is compiling the program; this one waits for it'
 
 

@@ -29,7 +29,7 @@ HELP = Path(__file__).with_name('help.txt')
 HELP_OF_RUN = """
 Options of ./run itself, which compiles the program if none is built:
       --unproved     Runs a program that is compiled without a proof, even if a proved one is built
-      --version      Says which version this is, and whether the program that would run is proved"""
+      --version      Prints the version, and whether the program that would run is proved"""
 FAILED, MISUSED = 1, 2
 
 

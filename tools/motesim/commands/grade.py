@@ -42,11 +42,11 @@ def arguments() -> argparse.Namespace:
     words.add_argument('--net', action='append', default=[], metavar='NET', type=Path,
                        help='run the programs in this net, a scenario or a plan; several may be named')
     words.add_argument('--hidden', action='append', default=[], metavar='NET', type=Path,
-                       help='the same, but keep the net out of a page of marks')
+                       help='run the programs in this net too, but keep it out of a page of marks')
     words.add_argument('--vary', action='append', default=[], metavar='NAME=VALUES',
                        help='values of a parameter of the plans of --net, such as seed=1..5')
     words.add_argument('--vary-hidden', action='append', default=[], metavar='NAME=VALUES',
-                       help='the same for the plans of --hidden, such as seed=77..79')
+                       help='values of a parameter of the plans of --hidden, such as seed=77..79')
     words.add_argument('--program', metavar='NAME', help='the program that the students write, if a net has several')
     words.add_argument('--seconds', type=float, default=SECONDS, metavar='N',
                        help='the limit of a run, in seconds of processor time (20)')
@@ -55,7 +55,7 @@ def arguments() -> argparse.Namespace:
     words.add_argument('--report', type=int, default=16, metavar='MEGABYTES',
                        help='the limit of a report (16)')
     words.add_argument('--jobs', type=int, metavar='N',
-                       help='how many runs at a time (one for each processor)')
+                       help='the number of simultaneous runs (one for each processor)')
     words.add_argument('-o', dest='output', action='append', default=[], metavar='FILE', type=Path,
                        help='write the marks: NAME.csv, NAME.toml or NAME.html')
     words.add_argument('--anonymous', action='store_true',

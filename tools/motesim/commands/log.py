@@ -23,7 +23,7 @@ def main() -> int:
     words.add_argument('--last-lines', metavar='N', type=int, help='show only the last N lines')
     words.add_argument('--first-lines', metavar='N', type=int, help='show only the first N lines')
     form = words.add_mutually_exclusive_group()
-    form.add_argument('--counts', action='store_true', help='show how many lines there are, by mote and kind')
+    form.add_argument('--counts', action='store_true', help='show only the numbers of lines, by mote and kind')
     form.add_argument('--csv', action='store_true', help='write columns for a spreadsheet')
     form.add_argument('--json', action='store_true', help='write an object for each line, for programs')
     asked = words.parse_intermixed_args()

@@ -64,7 +64,7 @@ def arguments() -> argparse.ArgumentParser:
     words.add_argument('--bytes', type=int, default=BYTES, metavar='N',
                        help='the limit of a report, in bytes (16,000,000)')
     words.add_argument('--jobs', type=int, default=os.cpu_count() or 1, metavar='N',
-                       help='how many runs at a time (one for each processor)')
+                       help='the number of simultaneous runs (one for each processor)')
     words.add_argument('--dask', metavar='ADDRESS', help='send the runs to the Dask scheduler at this address')
     words.add_argument('-o', dest='output', metavar='FOLDER', help='the folder of the written files (NAME.search)')
     words.add_argument('--csv', metavar='FILE', help='write a table of the sets that were found')

@@ -29,11 +29,11 @@ def main() -> int:
                        help='begin at the first difference from the run of this scenario')
     words.add_argument('--no-open', action='store_true', help='print the address, and open no browser')
     words.add_argument('--seconds', type=positive, default=SECONDS, metavar='N',
-                       help='how many seconds a run may last (%(default)s)')
+                       help='the limit of a run, in seconds (%(default)s)')
     words.add_argument('--memory', type=positive, default=MEMORY, metavar='N',
-                       help='how many megabytes of memory a run may use (%(default)s)')
+                       help='the limit of the memory of a run, in megabytes (%(default)s)')
     words.add_argument('--report', type=positive, default=REPORT, metavar='N',
-                       help='how many megabytes of report a run may write (%(default)s)')
+                       help='the limit of a report, in megabytes (%(default)s)')
     asked = words.parse_args()
     from motesim.studio.command import status_of
     return status_of(asked)

@@ -18,7 +18,7 @@ For a mote and for the net
   dropped   events whose process wasn't running
   refused   events that found the queue full
   prints    lines that it printed
-  halt      the moment at which it halted; for the net, how many motes halted
+  halt      the moment at which it halted; for the net, the number of motes that halted
 For a link
   delay     the moments that a packet needs to arrive
 
@@ -27,7 +27,7 @@ which began with the first packet of that value, at the mote that sent it. With 
 messages begin with a print. For an origin, and for the net
   sent      messages that began there
   delivered those that arrived at another mote at least once; ratio is their share
-  reached   how many motes a message reached, on average
+  reached   the number of motes that a message reached, on average
   copies    deliveries in all; duplicates are those to a mote that had the message already
   hops      least hops to the motes reached, on average, if the scenario is known
   least, middle, most   moments from a message's beginning to its first delivery at a mote

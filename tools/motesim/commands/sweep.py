@@ -14,7 +14,7 @@ Values are 10,20,40 or 1..30 or 0..100..25 (in steps of 25). Measures are
   holds: no mote halts          1 if a sentence of tools/expect holds, otherwise 0
   moment: every mote prints flood 1
                                 the first moment at which each mote has printed it
-  last:, count:, motes:         the last moment, how many lines, how many motes
+  last:, count:, motes:         the last moment, the number of lines, the number of motes
   delay: mote 0 sends 1 -> every mote but 0 prints flood 1
                                 the time from the first moment to the second
   delivery: motes 1 to 9 print source -> mote 0 prints sink
@@ -45,7 +45,7 @@ def main() -> int:
     words.add_argument('--measure', action='append', default=[], metavar='MEASURE', help='a measure of a run')
     words.add_argument('-o', dest='output', metavar='FILE', help='the results (NAME.csv, next to NAME.plan.toml)')
     words.add_argument('--jobs', type=int, default=os.cpu_count() or 1, metavar='N',
-                       help='how many runs at a time (one for each processor)')
+                       help='the number of simultaneous runs (one for each processor)')
     words.add_argument('--seconds', type=float, metavar='N',
                        help='the limit of a run, in seconds of processor time (that of the plan, or 60)')
     words.add_argument('--bytes', type=int, default=MOST_BYTES, metavar='N',

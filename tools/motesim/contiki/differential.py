@@ -189,8 +189,8 @@ def main() -> int:
     words.add_argument('scenario', nargs='*', metavar='SCENARIO', help='scenarios to compare instead of random ones')
     words.add_argument('--seed', default='0',
                        help='the first seed: a number, or a word, to which -0, -1, .. are added')
-    words.add_argument('--count', type=int, default=100, metavar='N', help='how many random scenarios (100)')
-    words.add_argument('--jobs', type=int, metavar='N', help='how many processes (as many as there are processors)')
+    words.add_argument('--count', type=int, default=100, metavar='N', help='the number of random scenarios (100)')
+    words.add_argument('--jobs', type=int, metavar='N', help='the number of processes (one for each processor)')
     words.add_argument('--one-thread', action='store_true', help='leave out the runs with workers')
     words.add_argument('--strict', action='store_true', help='have gcc or clang look for warnings in the programs too')
     words.add_argument('--gate', action='store_true', help='compare all examples and cases, and %d random scenarios '
