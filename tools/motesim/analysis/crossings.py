@@ -3,10 +3,10 @@
 At each value of the axis the curve has the middle (the mean or the median) of the runs. Between these points it is a
 straight line, as in the picture: on logarithmic axes it is straight in the logarithm. For the interval the runs are
 drawn again with replacement (the bootstrap), and each drawn curve crosses at its own place. If points have runs with
-the same seeds, the seeds are drawn, the same ones for the whole curve, because runs of one seed have much in common.
-Otherwise the runs of each point are drawn independently.
+the same seeds, the seeds are drawn, and the same seeds are used for the whole curve, because runs of one seed have
+much in common. Otherwise the runs of each point are drawn independently.
 
-Nobody has measured between two neighbouring points, so each drawn curve only shows between which points it crosses.
+There are no runs between two neighbouring points, so each drawn curve only shows between which points it crosses.
 The interval contains these gaps completely: it reaches from their left ends to their right ends.
 
 If a curve crosses several times, the first and the last crossing have intervals, from the first and the last crossing

@@ -2,8 +2,8 @@
 
 In the pattern a mote draws from the sum of 257 times its number and the seed. If the seed is 257 greater, mote k draws
 the same numbers as mote k + 1, and two runs whose seeds are a multiple of 257 apart aren't independent. Each row of a
-sweep has the names of its seeds of the pattern in the column CHANCE: so any rows show which of them draw the same
-numbers, even if several commands made them.
+sweep has the names of its seeds of the pattern in the column CHANCE: so the rows show which runs draw the same
+numbers, even if several commands made the rows.
 """
 from __future__ import annotations
 

@@ -16,7 +16,8 @@ CUT_CHAIN = 'one more `}` closes it'
 
 
 class Advice(NamedTuple):
-    """A hint, the correct line, and the lines (from 1) that it replaces. If it is empty, those are left out.
+    """A hint, the correct line, and the lines (from 1) that it replaces. If the correct line is empty, these lines are
+    left out.
 
     above  another line to be inserted, usually further up, and the number of the line below which it belongs
     """

@@ -143,8 +143,8 @@ def repaired(found: Repair) -> list[str]:
 
 
 def allowed(may: str) -> list[str]:
-    """All words that are allowed at the place of an error. A hint is above this list, because it is more likely the
-    intention."""
+    """All words that are allowed at the place of an error. A hint is above this list, because it is more likely to
+    show the author's intention."""
     return wrapped('Allowed here: %s' % may)
 
 

@@ -11,15 +11,15 @@ Link = tuple[int, int]
 
 
 def near(about: int, count: int = PRIMES) -> list[int]:
-    """Consecutive primes: on average over them, losses of one packet in each prime are as near as possible to one in
-    `about`."""
+    """Consecutive primes p: losses of one packet in p, averaged over these primes, are as near as possible to losses
+    of one packet in `about`."""
     primes = [it for it in range(2, 20 * about + 100) if is_prime(it)]
     rows = [primes[begin:begin + count] for begin in range(len(primes) - count + 1)]
     return min(rows, key=lambda row: abs(sum(1 / it for it in row) / count - 1 / about))
 
 
 def periods(links: Iterable[Link], about: int, seed: int) -> dict[Link, int]:
-    """The period of each link: of one sender's links, each has a different prime as long as there are any left."""
+    """The period of each link. The links of one sender have different primes, as long as primes are left."""
     chance, primes = Chance(seed, LOSS_STREAM), near(about)
     found: dict[Link, int] = {}
     left: dict[int, list[int]] = {}

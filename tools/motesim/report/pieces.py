@@ -2,7 +2,7 @@
 
 A regular expression matches all lines of the piece, so later steps needn't check their form. A line without its
 digits, such as ` post  blink timer `, is its shape: there are only a few shapes, and each has one kind and its names.
-The lines of each kind, without their letters, are then a list of numbers in which each field has its places.
+The lines of each kind, without their letters, are then a list of numbers, in which each field has fixed places.
 """
 from __future__ import annotations
 

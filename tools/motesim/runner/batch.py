@@ -207,7 +207,7 @@ class _Batch(Generic[Item, Result]):
         return number, Done(self.held.pop(number), result, fault)
 
     def drop(self, worker: _Worker, fault: str) -> tuple[int, Done[Item, Result]]:
-        """Ends a worker: the item on which it worked has the fault, and its other items are sent to workers again."""
+        """Ends a worker: the item on which it worked gets the fault, and its other items are sent to workers again."""
         worker.end()
         self.workers.remove(worker)
         first = worker.given.popleft()

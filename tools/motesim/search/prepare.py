@@ -74,7 +74,7 @@ def difference(base: Base, plain: Plain, program: OneProgram, mote: int, kind: s
 
 
 class Prepared(NamedTuple):
-    """The faults for the search; those that can't be made, with the reasons; and the blind ones.
+    """The faults for the search; those that can't be made, with the reasons; and those that hide some expectations.
 
     blind  for each fault, the expectations that the added process breaks by itself, so that the search can't judge
     them

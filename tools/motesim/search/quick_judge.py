@@ -278,7 +278,7 @@ def _with_hops(window: Window, root: int, lines: LinesOf, holds: Holds, seen: Se
 
 
 def _or_not_reached(unit: Unit, seen: Seen, mote: int) -> bool:
-    """Returns the value of a unit, which is false if there are no hops to its mote."""
+    """Returns the value of `unit` for a mote; false if there are no hops to the mote."""
     try:
         return unit(seen, mote)
     except NotReached:

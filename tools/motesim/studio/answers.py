@@ -54,7 +54,7 @@ def place16(text: str, offset: int) -> list[int]:
 
 
 def unwrapped(lines: list[str]) -> list[str]:
-    """An explanation with each rule on one line of any length, below the place with its mark."""
+    """An explanation as text: the marked place, and below it the rules, each in one long line."""
     head = 0
     if lines and lines[0].endswith(':'):
         head = next((row for row, line in enumerate(lines) if row and not line.startswith('  ')), len(lines))

@@ -70,7 +70,7 @@ program = "hello"
 
 
 def is_name(name: str) -> bool:
-    """True if a file of this name may be a scenario or its expectations: the name is no path, and has no character
+    """True if a file of this name may be a scenario or its expectations: the name isn't a path, and has no character
     that could be a command."""
     stem = name.removesuffix('.toml')
     # (accents may be separate characters, of the kinds Mn and Mc)

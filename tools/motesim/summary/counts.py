@@ -74,7 +74,7 @@ Link = tuple[int, int]
 
 
 def links_of(report: Report) -> Iterator[int]:
-    """The link of each copy as a number: the sender's, times the count of motes, plus the receiver's."""
+    """The link of each copy as a number: the sender's number times the number of motes, plus the receiver's number."""
     log = report.log
     return map(add, log.of_copies(map(mul, log.sender, repeat(len(report.motes)))), log.to)
 

@@ -14,8 +14,8 @@ class Fate(NamedTuple):
     how    taken, dropped, waiting (in the queue at the end), full, deaf, ring, collided, lost, halted, late, unheard
     words  the fate in words
     at     the moment at which the fate was decided
-    where  the line that shows it; None if none does
-    row    the number of the line in the report that shows it, also one of the medium; 0 if none does
+    where  the line of a trace that shows the fate; None if no line shows it
+    row    the number of the line in the report that shows the fate, also a line of the medium; 0 if no line does
     """
     how: str
     words: str

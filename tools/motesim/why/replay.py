@@ -486,7 +486,7 @@ class Replay:
                 self.frame = None
 
     def take(self, event: Event, process: int) -> None:
-        """An event reaches a process, or finds it gone."""
+        """Delivers an event to a process, or drops the event if the process has left."""
         link = Link('posted', event.line)
         if process not in self.list:
             self.write('drop %d %s' % (event.serial, self.name(process)), link)
