@@ -18,7 +18,7 @@ from motesim.words import words_of
 def main() -> int:
     words = words_of(__doc__)
     words.add_argument('a', metavar='A', help='a report, or a scenario')
-    words.add_argument('b', metavar='B', help='another')
+    words.add_argument('b', metavar='B', help='another report or scenario')
     words.add_argument('--rows', type=int, default=20, metavar='N',
                        help='the greatest number of motes in the table (20)')
     words.add_argument('--html', metavar='FILE',

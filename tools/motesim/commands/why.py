@@ -21,10 +21,11 @@ def main() -> int:
     words.add_argument('--other-scenario', metavar='FILE', help='the scenario of a second report')
     words.add_argument('--watch', metavar='WORD', nargs='+',
                        help='show the values of variables over time: --watch mote 3 newest, distance')
-    words.add_argument('--replay', action='store_true', help='show the values of the replay, without added prints')
+    words.add_argument('--replay', action='store_true',
+                       help='with --watch: add no prints, and show only the values of the replay')
     words.add_argument('--state', metavar='WORD', nargs='+',
                        help='show the state of a mote: --state mote 3 at 46, or after a line: --state 3:114')
-    words.add_argument('--json', action='store_true', help='for programs')
+    words.add_argument('--json', action='store_true', help='write the result for programs')
     words.add_argument('--short', action='store_true', help='show only the lines of the chain that needed time')
     asked, more = words.parse_known_intermixed_args()
     if any(it.startswith('-') for it in more):
