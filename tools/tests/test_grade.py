@@ -275,7 +275,8 @@ class Nets(Folder):
         self.assertEqual(program_of(net('x', name='other').encode(), 'a.toml', 'task'), 'x')
         self.assertEqual(program_of(b'[programs]\na = "1"\ntask = "2"\n', 'a.toml', 'task'), '2')
         for text, seen in (b'[programs]\na = "1"\nb = "2"\n', 'no program `task`, but: `a`, `b`'), (
-                b'programs = 3\n', 'no table'), (b'[programs]\ntask = 3\n', 'not a text'):
+                b'programs = 3\n', 'no table'), (b'[programs]\ntask = 3\n', 'not a text'), (
+                b'end = 5\n[program]\nfile = "p.mote"\n[places]\nrule = "line"\n', 'is a plan, not a scenario'):
             with self.subTest(seen), self.assertRaises(Fault) as raised:
                 program_of(text, 'a.toml', 'task')
             self.assertIn(seen, str(raised.exception))

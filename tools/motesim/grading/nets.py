@@ -16,6 +16,7 @@ from motesim.plan.text import scenario_text
 from motesim.runner.run import read_file
 from motesim.scenario import Scenario
 from motesim.scenario.faults import LONGEST_TEXT, find_fault
+from motesim.scenario.kinds import has_plan
 from motesim.terminal import cut
 from motesim.toml import MARK, NoToml, read_toml
 
@@ -129,6 +130,8 @@ def program_of(data: bytes, name: str, wanted: str) -> str:
         raise Fault('the file is not UTF-8 text') from None
     if name.endswith('.mote'):
         return text.removeprefix(MARK)
+    if has_plan(data):
+        raise Fault('the file is a plan, not a scenario')
     try:
         programs = read_toml(text).get('programs')
     except NoToml as fault:
