@@ -125,6 +125,16 @@ class Pack(unittest.TestCase):
                                   env={'PATH': '/usr/bin:/bin', 'MOTESIM_SEEN': str(top / 'said')})
             self.assertEqual((done.returncode, done.stdout or '', done.stderr), (1, '', 'motesim: a fault\n' + more))
 
+    def test_a_plan_has_the_line_of_the_clone(self) -> None:
+        top = self.unpacked()
+        (top / 'said').touch()
+        plan = 'end = 5\n[places]\nrule = "line"\n'
+        for text, is_plan in (plan, True), ('version = 1\n' + plan, False), (plan + '[[mote]]\n', False):
+            (top / 'net.toml').write_text(text)
+            line = ('net.toml is a plan, not a scenario: tools/scenario net.toml -o NAME.toml makes a scenario of it'
+                    if is_plan else './tools/explain net.toml says more')
+            self.assertEqual(self.on_terminal(top, 'net.toml'), (1, ['motesim: a fault', 'motesim: ' + line]))
+
     def test_no_link_of_an_archive_is_dead(self) -> None:
         top = self.unpacked()
         pages = sorted(top.rglob('*.md'))
