@@ -251,6 +251,13 @@ class Scenarios(unittest.TestCase):
         lines = explain.explanation('s', b'version = 1\nx = "\xff"\n', 'motesim: scenario is not UTF-8')
         self.assertEqual(mark_of(lines)[0], 2)
 
+    def test_no_byte_of_a_binary_file_is_shown(self) -> None:
+        for data in b'PK\x03\x04\x14\x00\x06\x00\xe9\xff\x8b', bytes(range(256)), b'#\x00\xff\n' * 300_000:
+            fault = scenario_faults.find_fault(data)
+            assert fault
+            self.assertEqual(explain.explanation('s.docx', data, 'motesim: ' + fault.message), [
+                's.docx isn\'t a text.', scenario_faults.RULES[fault.message], 'Allowed here: text in UTF-8'])
+
     def test_a_text_that_is_too_long(self) -> None:
         lines = explain.explanation('s', b'#\n' * 524_289, 'motesim: scenario too long')
         self.assertEqual(mark_of(lines)[0], 524_289)

@@ -189,6 +189,8 @@ def explanation(name: str, data: bytes, line: str) -> list[str]:
     if encoding:
         return (wrapped(encodings.shown(name, encoding)) + wrapped(rule_of(what))
                 + hinted(encodings.hint(name, encoding)) + allowed('text in UTF-8'))
+    if not encodings.is_text(data):
+        return wrapped('%s isn\'t a text.' % one_line(name)) + wrapped(rule_of(what)) + allowed('text in UTF-8')
     if is_plan(tables_or_none(text)):
         return wrapped(hints.OF_PLAN % (one_line(name), one_line(name)))
     may = allowed(missing.may_stand(fault.lacks) if fault.lacks else fault.may)

@@ -2,11 +2,14 @@
 from __future__ import annotations
 
 import codecs
+import re
 from typing import NamedTuple
 
 MARKS = [(codecs.BOM_UTF32_LE, 'UTF-32'), (codecs.BOM_UTF32_BE, 'UTF-32'), (codecs.BOM_UTF16_LE, 'UTF-16'),
          (codecs.BOM_UTF16_BE, 'UTF-16')]
 LOOKED_AT = 4_096
+# Bytes that no text has, in no encoding of one byte per letter.
+NO_TEXT = re.compile(rb'[\x00-\x08\x0e-\x1a\x1c-\x1f]')
 
 
 class Encoding(NamedTuple):
@@ -30,6 +33,15 @@ def encoding_of(data: bytes) -> Encoding | None:
         if len(data) >= 4 and _has_zeros(ours) and not other.count(0):
             return Encoding('UTF-16', 'UTF-16' + end, 'as every second byte is 0')
     return None
+
+
+def is_text(data: bytes) -> bool:
+    """Returns whether a file may be a text: it is UTF-8, or has no byte that only binary files have."""
+    try:
+        data.decode('utf-8')
+        return True
+    except UnicodeDecodeError:
+        return not NO_TEXT.search(data)
 
 
 def shown(file: str, found: Encoding) -> str:
