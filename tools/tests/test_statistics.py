@@ -376,7 +376,8 @@ class Pairs(unittest.TestCase):
             found = pairs_of([row(1, seed, 0) for seed in range(len(gaps))],
                              [row(1, seed, gap) for seed, gap in enumerate(gaps)], 'sent', ['period', 'seed'], 'period')
             lines = of_pairs(found, differences(found, 0.95, 't'), 'period')
-            self.assertEqual(any('1 mean difference of fewer than 30 skewed pairs' in it for it in lines), is_said)
+            self.assertEqual(any('1 mean difference of fewer than 30 skewed pairs, at period 1: ' in it for it in lines),
+                             is_said)
 
     def test_pairs_of_two_nets_are_counted(self) -> None:
         for places, count in (('a', 0), ('b', 1), (None, 0)):

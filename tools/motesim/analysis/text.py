@@ -384,12 +384,12 @@ def of_pairs(paired: Paired, found: Sequence[Difference], against: str, most: in
              if all(place != it.against for it in found)]
     if empty:
         lines.append('no pair is left at %s %s' % (against, ', '.join(map(text_of, empty))))
-    skewed = sum(it.is_skewed and it.difference.runs < ENOUGH_RUNS and it.difference.method in ('t', 'within pairs')
-                 for it in found)
+    skewed = [text_of(it.against) for it in found if it.is_skewed and it.difference.runs < ENOUGH_RUNS
+              and it.difference.method in ('t', 'within pairs')]
     if skewed:
-        lines.append('%s of fewer than %d skewed pairs: such an interval contains the true mean less often than it '
-                     'says; make more runs, or use --interval bootstrap-t' % (
-                         some(skewed, 'mean difference'), ENOUGH_RUNS))
+        lines.append('%s of fewer than %d skewed pairs, at %s %s: such an interval contains the true mean less often '
+                     'than it says; make more runs, or use --interval bootstrap-t' % (
+                         some(len(skewed), 'mean difference'), ENOUGH_RUNS, against, ', '.join(skewed)))
     if paired.of_two_nets:
         lines.append('in %d of %d pairs the motes have other places on one side than on the other: such a pair '
                      'compares two nets, and doesn\'t remove their effect' % (paired.of_two_nets, len(paired.pairs)))
