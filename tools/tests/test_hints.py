@@ -44,6 +44,8 @@ BODIES = [
     ('yield_untl fired(t);', '`yield_until`'), ('var z = 0;', 'head of `code`'), ('set tt 4;', '`t`'),
     ('seq == 1;', '`=` assigns'), ('send 1 to 2;', 'all motes that hear it'), ('yield_until is(packt);', '`packet`'),
     ('print\u00a01;', 'U+00A0'), ('print \u201cx\u201d;', 'U+201C'), ('seq = [1];', 'arrays'),
+    ('seen |= 1 << from;', '`bit = 1; k = 0; while (k < from) { bit = (bit * 2); k = (k + 1); }`'),
+    ('if (seen & (1 << from)) { }', '`((flags / bit) % 2)`'), ('seq = (seq >> self);', 'bit = (bit / 2);'),
     ('seq = (seq & 1);', 'bits'), ('seq = 1.5;', 'whole'), ('seq = 01;', '`1`'),
 ]
 
@@ -121,6 +123,12 @@ class Hints(unittest.TestCase):
         self.assertIn('Did you mean `fired`?', self.hint(CODE % 'if fird(t) { }'))
         for body in 'print count;', 'if (count > 3) { }':
             self.assertIn('`count` is a word of the notation', self.hint(CODE % body))
+
+    def test_a_name_that_is_declared_twice_before_lines_of_contiki(self) -> None:
+        for body in 'send 1;', 'packetbuf_copyfrom(&x, 2);\nbroadcast_send(&bc);':
+            hint = self.hint('process a;\nautostart a;\ncode a {\n  var dice = 0;\n  var dice = 0;\n  body {\n%s\n'
+                             '  }\n}\n' % body)
+            self.assertTrue(hint.startswith('`dice` is a variable already, declared on line 4 of the program'), hint)
 
     def test_handlers_and_callbacks_of_contiki(self) -> None:
         head = 'process a;\nautostart a;\ncode a {\n  %s\n  body {\n    send 1;\n  }\n}'

@@ -11,6 +11,8 @@ OF_PARENTHESES = ('Only an operation of two values has parentheses, as `(a + b)`
                   'and '
                   'other statements need none.')
 
+# The number of the fault that a name is declared twice.
+NAME_TWICE = 4
 # The end of the reason for an `else if` whose block continues below the line.
 CUT_CHAIN = 'one more `}` closes it'
 
@@ -77,6 +79,8 @@ def advice(source: str, fault: ProgramError) -> Advice | None:
         # (the reason may be about a later line, and the variable that is assigned here needs its declaration first)
         if _is_assigned(source, fault):
             return _declared(source, fault)
+        if hint and fault.kind == NAME_TWICE:
+            return Advice(hint)
         is_misspelt = hint in [hints.MEANT % it for it in ('fired', 'expired', 'running')]
         return Advice(hint if hint and is_misspelt else reasons)
     own = '' if found.above else names.otherwise(source, fault)

@@ -45,6 +45,9 @@ ADDRESSES = ('linkaddr_node_addr', 'rimeaddr_node_addr')
 
 NO_BITS = ('There are no operators on bits: `(x % 256)` is the low byte, `(x / 256)` the high one, and flags are '
            'variables of their own.')
+NO_SHIFTS = ('There are no shifts: a loop %s, `bit = %s; k = 0; while (k < %s) { bit = (bit %s 2); k = (k + 1); }`, '
+             'with `var bit = 0;` and `var k = 0;` at the head of its `code`.')
+OF_FLAG = ' Then `((flags / bit) % 2)` is this bit of `flags`; if it is 0, `flags = (flags + bit);` sets it.'
 NO_ARRAYS = 'There are no arrays: a variable holds one number of 16 bits.'
 NO_FIELDS = 'A packet has no fields: it has one number, `data`. Two small ones make one, `((a * 256) + b)`.'
 NO_TEXTS = 'There are no texts: a program prints numbers, `print 1;`. The line of the report names the process anyway.'
@@ -454,7 +457,11 @@ class Writer:
         return node.kind == 'binary' and node.text == '==' and names == {'ev', 'process_event_timer'}
 
     def shift(self, sign: str, left: Node, right: Node) -> str:
-        places = number_of(right.text) if right.kind == 'number' else None
+        if right.kind != 'number':
+            by, verb = ('*', 'doubles') if sign == '<<' else ('/', 'halves')
+            loop = NO_SHIFTS % (verb, self.text(left), self.text(right), by)
+            return self.refuse(loop + (OF_FLAG if (sign, left) == ('<<', Node('number', '1')) else ''))
+        places = number_of(right.text)
         if places is None or places > 15:
             return self.refuse(NO_BITS)
         self.why('There are no shifts: a shift by %d is `%s %d`.' % (places, '*' if sign == '<<' else '/',
@@ -467,6 +474,8 @@ class Writer:
             return '(%s %s %s)' % (self.text(left), 2 * sign, self.text(right))
         mask = number_of(right.text) if right.kind == 'number' else None
         if sign != '&' or mask is None or mask & (mask + 1) or not mask:
+            # (the advice on a shift in it is more helpful)
+            self.text(left), self.text(right)
             return self.refuse(NO_BITS)
         self.why('There are no operators on bits: `%% %d` has the same lower bits as `& %s`.' % (mask + 1,
                                                                                                    right.text))
