@@ -376,8 +376,8 @@ class Pairs(unittest.TestCase):
             found = pairs_of([row(1, seed, 0) for seed in range(len(gaps))],
                              [row(1, seed, gap) for seed, gap in enumerate(gaps)], 'sent', ['period', 'seed'], 'period')
             lines = of_pairs(found, differences(found, 0.95, 't'), 'period')
-            self.assertEqual(any('1 mean difference of fewer than 30 skewed pairs, at period 1: ' in it for it in lines),
-                             is_said)
+            start = '1 mean difference of fewer than 30 skewed pairs, at period 1: '
+            self.assertEqual(any(it.startswith(start) for it in lines), is_said)
 
     def test_pairs_of_two_nets_are_counted(self) -> None:
         for places, count in (('a', 0), ('b', 1), (None, 0)):
@@ -797,12 +797,41 @@ class Command(unittest.TestCase):
                           r'#[0-9a-f]+; stroke-opacity: 0.4', (self.folder / 'a.svg').read_text())
         self.assertEqual(len(set(bars)), 2, bars)
 
+    def test_the_interval_of_the_only_crossing_is_on_the_threshold(self) -> None:
+        interpreter_with(self, 'matplotlib')
+        self.plot('--measure', 'sent', '--against', 'period', '--by', 'density', '--show', 'mean', '--threshold', '15',
+                  '-o', 'a.svg')
+        picture = (self.folder / 'a.svg').read_text()
+        line, = re.findall(r'd="M [0-9.]+ ([0-9.]+) \nL [0-9.]+ \1 \n" clip-path="[^"]*" style="fill: none; '
+                           r'stroke-dasharray: [^;]*; stroke-dashoffset: 0; stroke: #555555', picture)
+        bars = re.findall(r'd="M [0-9.]+ ([0-9.]+) \nL [0-9.]+ \1 \n" clip-path="[^"]*" style="fill: none; stroke: '
+                          r'#[0-9a-f]+; stroke-opacity: 0.4', picture)
+        self.assertEqual(bars, [line])
+
+    def test_columns_of_a_legend(self) -> None:
+        four = 50, 50, 80, 120
+        for widths, room, columns in ((four, 300, 4), (four, 299, 3), (four, 249, 2), (four, 170, 2), (four, 169, 1),
+                                      ((50, 80, 120), 200, 2), ((50,), 10, 1)):
+            self.assertEqual(drawing.columns_of(widths, room), columns, (widths, room))
+
+    def test_entries_of_a_legend_are_next_to_each_other_if_they_fit(self) -> None:
+        interpreter_with(self, 'matplotlib')
+        self.plot('--measure', 'sent', '--against', 'period', '--by', 'density', '--show', 'mean', '--threshold', '60',
+                  '--size', 'column', '-o', 'a.svg')
+        texts = re.findall(r'y="([-0-9.]+)"[^>]*>(density [a-z]+|threshold 60|interval of the crossing)</text>',
+                           (self.folder / 'a.svg').read_text())
+        self.assertEqual(len({y for y, _ in texts}), 2, texts)
+
     def test_numbers_of_narrow_cells_do_not_touch(self) -> None:
-        from motesim.analysis.drawing import _form_of_numbers
-        for width, digits in (60.0, '0.202'), (21.0, '0.2'), (16.0, '0.2'):
-            form, size = _form_of_numbers([0.202, 0.403, 0.684], width)
-            self.assertEqual(form % 0.202, digits)
+        for width, digits in (60.0, '0.202'), (21.0, '0.20'), (16.0, '0.2'):
+            texts, size = drawing.texts_of_cells([0.202, 0.403, 0.684], width)
+            self.assertEqual(texts[0], digits)
             self.assertLessEqual(0.6 * size * (len(digits) + 1), width + 0.01)
+
+    def test_numbers_of_cells_have_the_same_number_of_digits(self) -> None:
+        for numbers, texts in (([0.9, 0.893, 1, 12, 120], ['0.900', '0.893', '1.00', '12.0', '120']),
+                               ([3, 12, 120, 0], ['3', '12', '120', '0']), ([], [])):
+            self.assertEqual(drawing.texts_of_cells(numbers, 60.0)[0], texts)
 
     def test_a_logarithmic_axis_of_a_cdf(self) -> None:
         self.plot('--measure', 'sent', '--against', 'period', '--by', 'density', '--show', 'heat', '--log', status=2)

@@ -1,6 +1,7 @@
 """Pictures of points, drawn by matplotlib: SVG, PDF or PNG. Pictures of the same points have the same bytes."""
 from __future__ import annotations
 
+import itertools
 import math
 import re
 from collections.abc import Callable, Iterable, Sequence
@@ -155,17 +156,19 @@ def _draw_steps(axes: Any, shown: Shown, wish: Wish) -> None:
         _scale_of_measure(axes)
 
 
-def _form_of_numbers(numbers: Sequence[float], width: float) -> tuple[str, float]:
-    """The form of the numbers in cells of this width, and their size, both in points: with at most 3 digits, and with
-    fewer if they would be smaller than 6 points."""
-    form, size = '', 0.0
-    for form in '%.3g', '%.2g', '%.1g':
-        longest = max((len(form % it) for it in numbers), default=1)
+def texts_of_cells(numbers: Sequence[float], width: float) -> tuple[list[str], float]:
+    """The numbers in cells of this width, and the size of their letters, both in points: with 3 digits, and with fewer
+    if they would be smaller than 6 points. Whole numbers have no zeros after a point."""
+    texts, size = list[str](), 0.0
+    for digits in 3, 2, 1:
+        form = '%%%s.%dg' % ('' if all(float(it).is_integer() for it in numbers) else '#', digits)
+        texts = [(form % it).removesuffix('.') for it in numbers]
+        longest = max(map(len, texts), default=1)
         # (a digit is about 6 tenths as wide as high, and a gap as wide as a digit)
         size = min(8.0, width / (0.6 * (longest + 1)))
         if size >= 6:
             break
-    return form, max(size, 3.0)
+    return texts, max(size, 3.0)
 
 
 def _draw_heat(figure: Any, axes: Any, shown: Shown, wish: Wish) -> None:
@@ -178,12 +181,11 @@ def _draw_heat(figure: Any, axes: Any, shown: Shown, wish: Wish) -> None:
     picture = axes.imshow(cells, origin='lower', aspect='auto', cmap='cividis')
     figure.colorbar(picture, ax=axes, label=wish.measure)
     # (the cells have about 6 tenths of the width)
-    form, size = _form_of_numbers([it for y in cells for it in y if it == it], figure.get_figwidth() * 43 / len(xs))
-    for row, y in enumerate(cells):
-        for column, value in enumerate(y):
-            if value == value:
-                axes.text(column, row, form % value, ha='center', va='center', fontsize=size,
-                          color='white' if picture.norm(value) < 0.6 else 'black')
+    middles = [point.estimate.middle for point in shown.points]
+    texts, size = texts_of_cells(middles, figure.get_figwidth() * 43 / len(xs))
+    for point, text in zip(shown.points, texts):
+        axes.text(xs.index(point.against), ys.index(point.by), text, ha='center', va='center', fontsize=size,
+                  color='white' if picture.norm(point.estimate.middle) < 0.6 else 'black')
     axes.set_xticks(range(len(xs)), [text_of(it) for it in xs])
     axes.set_yticks(range(len(ys)), [dict(wish.labels).get(text_of(it), text_of(it)) for it in ys])
     _name_axes(axes, wish.x or wish.against, wish.y or wish.by)
@@ -368,6 +370,17 @@ def _name_axes(axes: Any, across: str, up: str) -> None:
     axes.set_ylabel(folded(figure, up, points, figure.get_figheight() * POINTS * OF_HEIGHT))
 
 
+def columns_of(widths: Sequence[float], room: float) -> int:
+    """The most columns that have room next to each other, for entries of these widths in their order, as matplotlib
+    distributes them: the first columns may have one more entry."""
+    for columns in range(len(widths), 1, -1):
+        length, more = divmod(len(widths), columns)
+        begins = [it * length + min(it, more) for it in range(columns + 1)]
+        if sum(max(widths[one:other]) for one, other in itertools.pairwise(begins)) <= room:
+            return columns
+    return 1
+
+
 def _legend(axes: Any) -> None:
     """The legend, above the axes: inside them it would hide bars."""
     handles, labels = axes.get_legend_handles_labels()
@@ -378,14 +391,13 @@ def _legend(axes: Any) -> None:
     inches = axes.figure.get_figwidth()
     points = points_of(inches * INCH, 'legend')
     # (the legend begins at the left end of the axes, to the right of their name and labels; a line with its space is
-    # as wide as 4.8 letters)
+    # as wide as 4.6 letters, and the last one needs 0.6 less)
     left = (1.25 * (axes.get_ylabel().count('\n') + 1) + 4) * points_of(inches * INCH, 'text')
-    most = min(inches * POINTS * OF_AXES, inches * POINTS - left) - 4.8 * points
-    labels = [folded(axes.figure, it, points, most) for it in labels]
-    widest = max(width_of(axes.figure, line, points) for it in labels for line in it.split('\n'))
-    columns = max(1, int(inches * POINTS * OF_AXES / (widest + 4.8 * points)))
+    room, of_line = min(inches * POINTS * OF_AXES, inches * POINTS - left), 4.6 * points
+    labels = [folded(axes.figure, it, points, room - of_line) for it in labels]
+    widths = [max(width_of(axes.figure, line, points) for line in it.split('\n')) + of_line for it in labels]
     axes.legend(handles, labels, frameon=False, loc='lower left', bbox_to_anchor=(0.0, 1.0), borderaxespad=0.0,
-                fontsize=points, ncols=min(columns, len(labels)), handlelength=2.4, columnspacing=1.4)
+                fontsize=points, ncols=columns_of(widths, room + 0.6 * points), handlelength=2.4, columnspacing=1.4)
 
 
 def _draw_threshold(axes: Any, shown: Shown, wish: Wish) -> None:
@@ -396,23 +408,24 @@ def _draw_threshold(axes: Any, shown: Shown, wish: Wish) -> None:
     axes.axhline(threshold, color='#555555', linewidth=0.8, linestyle=(0, (6, 3)),
                  label=THRESHOLD + wish.threshold)
     first, last = min(it.x for it in shown.points), max(it.x for it in shown.points)
-    every = crossings_of(shown, wish)
-    if any(it and it.low is not None for it in every.values()):
+    # (lines that don't cross have no bar)
+    every = {number: it for number, it in enumerate(crossings_of(shown, wish).values()) if it}
+    if any(it.low is not None for it in every.values()):
         axes.plot([], [], linewidth=THICK if len(every) == 1 else THIN, alpha=0.4, color='#555555',
                   label=CROSSING)
     transforms: Any = packages.load('matplotlib.transforms')
-    for number, found in enumerate(every.values()):
+    for at, (number, found) in enumerate(every.items()):
         # (next to each other: on one line they would hide each other)
-        up = (number - (len(every) - 1) / 2) * (THIN + 1)
+        up = (at - (len(every) - 1) / 2) * (THIN + 1)
         place = transforms.offset_copy(axes.transData, axes.figure, 0, up, units='points')
-        for ends in [(found.low, found.high), found.last or (None, None)] if found else ():
+        for ends in [(found.low, found.high), found.last or (None, None)]:
             if None in ends:
                 continue
             # (an end that is beyond the axis is drawn up to its first or last point)
             drawn = [end if math.isfinite(end) else min(max(end, first), last) for end in ends if end is not None]
             axes.plot(drawn, [threshold, threshold], linewidth=THICK if len(every) == 1 else THIN, alpha=0.4,
                       color=_look(number)['color'], solid_capstyle='butt', transform=place)
-        if found and (found.low is not None or len(found.places) > 1):
+        if found.low is not None or len(found.places) > 1:
             axes.plot([it.at for it in found.places], [threshold] * len(found.places), color=_look(number)['color'],
                       marker='|', markersize=12 if len(every) == 1 else 2 * THIN, linestyle='', transform=place)
 
