@@ -537,6 +537,14 @@ class SweepTest(Bed):
             self.assertEqual(found, [4, 3, 2, 5, 1], name)
             self.assertIn('3 runs, 0 of them now', self.sweep('--vary', 'period=1,3,5', *words).stdout)
 
+    def test_rows_with_another_default_have_a_warning(self) -> None:
+        words = '--vary', 'motes=2,3', '--measure', 'prints'
+        line = 'sweep: warning: net.csv has rows with period = 6, 4, and this command adds rows with period = 5\n'
+        for period, more, seen in (4, (), ''), (5, ('--vary', 'period=6'), ''), (5, (), line), (5, (), ''):
+            (self.folder / 'net.plan.toml').write_text(PLAN.replace('period = 4', 'period = %d' % period))
+            done = self.sweep(*words, *more)
+            self.assertEqual((done.returncode, done.stderr), (0, seen), (period, more))
+
     def test_two_sweeps_do_not_write_one_file(self) -> None:
         kinds: list[tuple[type[CsvFile] | type[SqliteFile], str]] = [(CsvFile, 'both.csv'), (SqliteFile,
                                                                                              'both.sqlite')]

@@ -31,6 +31,8 @@ from motesim.runner.versions import kit_version, program_version
 
 # The place of a row whose values aren't those of the sweep.
 OTHER = -1
+# The most values of a parameter that a warning lists.
+MOST_VALUES = 5
 
 
 class Sweeper:
@@ -56,6 +58,9 @@ class Sweeper:
         # For each set of files, the parameters that are seeds of the pattern for chance; and the seeds in the results.
         self.chances: dict[tuple[str, ...], list[str]] = {}
         self.drawn = Seeds()
+        # (for each parameter that doesn't vary, except seeds, its values in the file)
+        self.found: dict[str, dict[str, None]] = {name: {} for name in self.plan.parameters
+                                                  if name not in sweep.vary and not is_seed(name)}
         self.file: CsvFile | SqliteFile = open_results(path, self.columns)
 
     def place_of(self, row: Row) -> int | None:
@@ -103,6 +108,8 @@ class Sweeper:
                 continue
             place = self.place_of(row)
             self.drawn.add_row(row)
+            for name, values in self.found.items():
+                values[text_of(row[name])] = None
             spots.append(spot)
             places.append(OTHER if place is None else place)
         if others and not is_renewed:
@@ -119,6 +126,17 @@ class Sweeper:
     def left(self) -> int:
         """The number of missing runs."""
         return self.spots.count(0)
+
+    def of_defaults(self) -> list[str]:
+        """A line for each parameter whose value in the plan no row of the file has, if this sweep adds rows."""
+        lines = []
+        for name, values in self.found.items():
+            value = text_of_value(self.plan.parameters[name])
+            if values and value not in values and self.left():
+                shown = ', '.join([*values][:MOST_VALUES]) + ', ..' * (len(values) > MOST_VALUES)
+                lines.append('%s has rows with %s = %s, and this command adds rows with %s = %s' % (
+                    self.path, name, shown, name, value))
+        return lines
 
     def missing(self) -> Iterator[int]:
         """The places of the missing runs; runs that are no longer missing when their turn comes are skipped."""
@@ -257,7 +275,7 @@ def status_of(asked: argparse.Namespace) -> int:
     sweep.most_bytes = asked.bytes
     sweeper = Sweeper(sweep, Path(asked.output) if asked.output else default_output(asked.plan))
     sweeper.keep(asked.renew, asked.retry)
-    for line in [*sweeper.alike(), *(UNUSED % (it, it) for it in unused(sweep))]:
+    for line in [*sweeper.of_defaults(), *sweeper.alike(), *(UNUSED % (it, it) for it in unused(sweep))]:
         print('sweep: warning: %s' % line, file=sys.stderr)
     try:
         status = said(sweeper, sweeper.run(asked.jobs, asked.dask))
