@@ -242,7 +242,7 @@ class Shrinks(unittest.TestCase):
             self.assertIn('now:    2 motes, 1 loss, 1 program', done.stdout)
             for fault, wanted in (('silent 9', 'is not a MOTE'), ('lynx 0', 'there is no fault `lynx 0`'),
                                   ('lose 0 1', 'must have the form lose SENDER RECEIVER EVERY'),
-                                  ('lose 0 1 1', 'only by these faults')):
+                                  ('lose 0 1 1', 'with these faults, or breaks it even without them')):
                 done = subprocess.run([*words, fault], cwd=folder, capture_output=True, text=True)
                 self.assertEqual((done.returncode, done.stdout), (2, ''))
                 self.assertIn(wanted, done.stderr)

@@ -114,8 +114,8 @@ class Shrinking:
         self.longest = self.last
         self.first = self.now = self.tried
         if self.way is None:
-            more = ' only by these faults' if self.case.effects else ', or breaks a sentence of --keep' * bool(
-                self.case.keeps)
+            more = (' with these faults, or breaks it even without them' if self.case.effects else
+                    ', or breaks a sentence of --keep' * bool(self.case.keeps))
             raise Fault('the scenario does not break `%s`%s' % (self.case.sentence, more))
 
     def seen(self, text: str) -> Seen | None:

@@ -38,9 +38,11 @@ class Asked:
 class Missing:
     """A line that a sentence wants and the report doesn't have.
 
-    motes     the motes that have too few such lines; `patterns` has the lines, and `span` the moments
-    found     the existing lines, of all moments
-    wanted    the number of wanted lines
+    sentence  the sentence; its `deed` has the patterns of the wanted lines
+    motes     the motes that have too few such lines
+    span      the moments at which the lines are wanted
+    found     the existing lines with these patterns
+    remark    the explanation, which names the existing and the wanted lines
     """
     sentence: Does
     motes: tuple[int, ...]
