@@ -161,6 +161,70 @@ class NamesOfPrograms(unittest.TestCase):
                          ['retransmissions', 'seq', 'my_while'])
 
 
+class Processes(unittest.TestCase):
+    """Several lines that name processes, of which none, one or all are converted."""
+    CODES = '\n'.join(['PROCESS_THREAD(%s, ev, data)', '{', '  PROCESS_BEGIN();', '  %s', '  PROCESS_END();', '}'])
+
+    def hint(self, text: str) -> tuple[int, int, str | None]:
+        """The lines that a hint names, and the line to write; the hint itself is about the processes."""
+        fault = find_fault(text)
+        assert fault
+        found = advice(text, fault)
+        assert found
+        self.assertIn('Processes are named by one line', found.hint)
+        return found.first, found.last, found.line
+
+    def test_they_are_named_by_one_line_also_if_some_lack_a_code(self) -> None:
+        below = 'AUTOSTART_PROCESSES(&node, &watchdog);\n' + self.CODES
+        for code in (('node', 'broadcast_send(newest);'), ('node', '')):
+            for top, wanted in (
+                    ('process node;\nPROCESS(watchdog, "Watchdog");', (1, 2, 'process node, watchdog;')),
+                    ('process node;\nprocess watchdog;', (1, 2, 'process node, watchdog;')),
+                    ('PROCESS(node, "Node");\nPROCESS(watchdog, "Watchdog");', (1, 2, 'process node, watchdog;')),
+                    ('process node;\n// others\nPROCESS(watchdog, "W");', (1, 1, 'process node, watchdog;')),
+                    ('process node, watchdog;\nPROCESS(watchdog, "W");', (2, 2, '')),
+                    ('process node;\nPROCESS(node2, "2"); // b\n\nPROCESS(node3_process, "3");',
+                     (1, 4, 'process node, node2, node3_process; // b')),
+                    ('process node;\nPROCESS(watchdog,\n  "Watchdog (old)");', (1, 3, 'process node, watchdog;')),
+                    ('event e;\nPROCESS(node, "N");\nPROCESS(node2, "2");\nPROCESS(watchdog, "W");',
+                     (2, 4, 'process node, node2, watchdog;'))):
+                with self.subTest(top, code=code):
+                    self.assertEqual(self.hint('\n'.join([top, below % code, ''])), wanted)
+
+    def test_a_program_by_its_messages(self) -> None:
+        names = 'sender', 'sensor', 'example_broadcast_process'
+        macros = ['PROCESS(%s, "text");' % it for it in names]
+        below = '\n'.join(['AUTOSTART_PROCESSES(%s);' % ', '.join('&' + it for it in names),
+                           *(self.CODES % (it, 'broadcast_send(&c);') for it in names), ''])
+        ours = 'process sender, sensor, example_broadcas; autostart sender, sensor, example_broadcas; ' + ' '.join(
+            'code %s { body { send 1; } }' % it for it in ('sender', 'sensor', 'example_broadcas'))
+        for top in (macros, ['process sender;', *macros[1:]], ['process sender;', 'process sensor;', macros[2]],
+                    ['process sender, sensor;', macros[2]], ['process sender;', '', *macros],
+                    ['process sender;', '// others', *macros[1:]], macros[::-1]):
+            with self.subTest(top):
+                text = '\n'.join([*top, below]).replace('broadcast_send(&c)', 'send 1')
+                for _ in range(40):
+                    fault = find_fault(text)
+                    if fault is None:
+                        break
+                    text = repaired(text) or ''
+                self.assertEqual(words(text), words(ours))
+
+    def test_advice_on_a_later_statement_is_not_shown_for_this_one(self) -> None:
+        for line, wanted in (('print a;', '`a` is a process'), ('poll n;', '`n` is a variable'),
+                             ('post a n 1;', '`n` is a variable'), ('print fired(n);', '`n` is a variable'),
+                             ('semaphore s = 0;', 'above the `process` line'), ('receiver a;', '')):
+            text = 'process a;\nautostart a;\ncode a {\n  var n = 0;\n  body {\n    %s\n    %s\n  }\n}\n'
+            for below in ('broadcast_send(newest);', 'if (n == 1) {\n      broadcast_send(newest);\n    }'):
+                source = text % (line, below)
+                fault = find_fault(source)
+                assert fault
+                found = advice(source, fault)
+                with self.subTest(line, below=below):
+                    self.assertNotIn('A packet is one number', found.hint if found else '')
+                    self.assertIn(wanted, found.hint if found else '')
+
+
 class Timers(unittest.TestCase):
     SOURCE = 'process a;\nautostart a;\ncode a {\n  body {\n    %s\n    yield;\n  }\n}\n'
 

@@ -5,6 +5,7 @@ from typing import NamedTuple
 
 from motesim.explain import forms, hints, names
 from motesim.from_c.correction import correction
+from motesim.from_c.structure import ONE_LINE
 from motesim.notation.faults import ProgramError, tokens_of
 
 OF_PARENTHESES = ('Only an operation of two values has parentheses, as `(a + b)`, and each has its own; `if`, `while` '
@@ -70,7 +71,7 @@ def advice(source: str, fault: ProgramError) -> Advice | None:
     found = correction(source, fault)
     hint = hints.of_program(source, fault) or names.of_name(source, fault) or forms.of_statement(source, fault)
     small = forms.of_capitals(source, fault)
-    if found and found.line and small and small[1] in found.line:
+    if found and found.line and small and small[1] in found.line and found.reasons != (ONE_LINE,):
         return Advice(small[0], found.line, found.first, found.last, found.above)
     if found is None:
         return Advice(hint + names.otherwise(source, fault)) if hint else _declared(source, fault)

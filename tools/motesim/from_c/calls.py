@@ -6,6 +6,7 @@ import re
 from motesim.from_c.expressions import MOMENTS_OF_SECOND, TICKS, NoCounterpart, Node
 from motesim.from_c.lines import Lines
 from motesim.from_c.scope import allowed
+from motesim.from_c.structure import ONE_LINE
 
 # Calls that have no value. Each has its statement: a keyword, and for each operand its kind and the number of the
 # argument from which it comes.
@@ -115,7 +116,7 @@ class Calls(Lines):
             return 'body {' if self.place.is_head and name == 'process_begin' else ''
         if name in ('process', 'process_name'):
             self.accept(';')
-            self.why('Processes are named by one line, `process a, b;`.')
+            self.why(ONE_LINE)
             return self.of_processes(call.parts[0].text)
         if name == 'autostart_processes':
             self.accept(';')
@@ -138,12 +139,14 @@ class Calls(Lines):
         return short if short in self.scope.codes else self.scope.meant(allowed(name), 'process')
 
     def of_processes(self, name: str) -> str:
-        """The line that names the processes. If this one has a code, it names all processes that have one."""
-        if self.scope.kinds.get(self.of_process(name)) == 'process':
+        """The line that names all processes, or nothing if another line names them already."""
+        its = self.of_process(name)
+        if its in self.scope.named:
             return ''
-        if self.of_process(name) in self.scope.codes:
-            return 'process %s;' % ', '.join(self.scope.codes)
-        return 'process %s;' % allowed(name)
+        line = 'process %s;' % ', '.join(dict.fromkeys([*self.scope.processes, its]))
+        if self.scope.named:
+            raise NoCounterpart('%s Here, it is `%s`' % (ONE_LINE, line))
+        return line
 
     def of_call(self, call: Node) -> str:
         """The statement with the meaning of a call."""

@@ -11,7 +11,7 @@ from motesim.from_c.expressions import NoCounterpart
 from motesim.from_c.scope import Scope
 from motesim.from_c.places import head_for, place_below
 from motesim.from_c.statements import Statements
-from motesim.from_c.structure import process_line, unclosed_block
+from motesim.from_c.structure import ONE_LINE, process_line, process_lines, unclosed_block
 from motesim.notation.faults import ProgramError, find_fault, tokens_of
 
 MOST_LINES = 4
@@ -100,6 +100,13 @@ def _structural(text: str) -> Correction | None:
     return None
 
 
+def _process_lines(text: str, fault: ProgramError) -> Correction | None:
+    """One line instead of several that name processes, if the fault is in one of them."""
+    first, last, line = process_lines(text, fault.token.line)
+    made = Correction(first, last, line, (ONE_LINE,))
+    return made if first and _rank(text, made) else None
+
+
 def _long_comment(text: str, fault: ProgramError) -> Correction | None:
     """Leaves out a comment of several lines that begins at a fault."""
     first = fault.token.line
@@ -141,7 +148,7 @@ def correction(text: str, fault: ProgramError) -> Correction | None:
     scope = Scope.of(text)
     signs = [it.text for it in tokens_of(text)]
     unclosed = signs.count('{') - signs.count('}')
-    whole = _long_comment(text, fault) or _structural(text)
+    whole = _long_comment(text, fault) or _structural(text) or _process_lines(text, fault)
     if whole:
         return whole
     advice, is_only_named = '', _is_only_named(text, fault)
@@ -154,7 +161,8 @@ def correction(text: str, fault: ProgramError) -> Correction | None:
             try:
                 written = reader.written()
             except NoCounterpart as said:
-                if first <= fault.token.line <= last and not (is_only_named and last > fault.token.line):
+                begun = first + reader.begun - 1
+                if begun <= fault.token.line <= last and not (is_only_named and last > fault.token.line):
                     advice = advice or str(said)
                 continue
             made = Correction(first, last, written, tuple(reader.writer.reasons[:MOST_REASONS]))

@@ -18,6 +18,8 @@ class Lines(Expressions):
         # True if a block continues below these lines; true if a header without its brace opens a block.
         self.is_cut = self.opens = False
         self.nested = 0
+        # The line (from 1 among these lines) on which the innermost statement begins that is being read.
+        self.begun = 1
         self.end_of_process = end
         # Declarations that belong to the head of the code (or of a code, if the lines are above all), those of events.
         self.declares: list[str] = []

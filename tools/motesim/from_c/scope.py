@@ -13,6 +13,7 @@ DECLARES = {'event': 'event', 'semaphore': 'semaphore', 'process': 'process', 'v
             'ctimer': 'timer', 'thread': 'thread'}
 NAME = re.compile('[a-z][a-z0-9_]*')
 CODE = re.compile(r'^[ \t]*(?:code[ \t]+(\w+)|PROCESS_THREAD\s*\(\s*(\w+))', re.M)
+MACRO = re.compile(r'^[ \t]*PROCESS(?:_NAME)?[ \t]*\([ \t]*(\w+)', re.M)
 LONGEST = 16
 
 
@@ -20,6 +21,12 @@ def allowed(name: str) -> str:
     """A name that may be declared, as similar to this one as possible: small letters, at most 16, not reserved."""
     name = name.lower().lstrip('_') or 'x'
     return ('my_' + name if name in RESERVED else name)[:LONGEST].rstrip('_')
+
+
+def _process(name: str, known: Iterable[str]) -> str:
+    """The name of a process of Contiki; without the ending `_process` if it is known without it."""
+    short = allowed(name.lower().removesuffix('_process'))
+    return short if short in known else allowed(name)
 
 
 def nearest(word: str, known: Iterable[str]) -> str | None:
@@ -32,12 +39,17 @@ def nearest(word: str, known: Iterable[str]) -> str | None:
 class Scope:
     """Names with their kinds: event, semaphore, process, variable, timer, thread.
 
-    codes     the names of the codes, in their order
-    receiver  whether a process is named as the receiver
+    codes      the names of the codes, in their order
+    receiver   whether a process is named as the receiver
+    named      the processes that lines of the notation name, `process a, b;`
+    processes  all processes: those with a code, in the order of the codes, and then those that are only named, by a
+               line of the notation or by Contiki's `PROCESS`
     """
     kinds: dict[str, str] = field(default_factory=dict)
     codes: tuple[str, ...] = ()
     receiver: bool = False
+    named: tuple[str, ...] = ()
+    processes: tuple[str, ...] = ()
 
     @classmethod
     def of(cls, text: str) -> Scope:
@@ -53,8 +65,12 @@ class Scope:
                 if word != 'process' or words[behind + 1] != ',':
                     break
                 behind += 2
-        codes = tuple(found[1] or found[2].lower() for found in CODE.finditer(text))
-        return cls(kinds, codes, 'receiver' in words)
+        named = tuple(name for name, its in kinds.items() if its == 'process')
+        codes = tuple(found[1] or _process(found[2], named) for found in CODE.finditer(text))
+        macros = [_process(found[1], (*named, *codes)) for found in MACRO.finditer(text)]
+        for name in macros:
+            kinds.setdefault(name, 'process')
+        return cls(kinds, codes, 'receiver' in words, named, tuple(dict.fromkeys([*codes, *named, *macros])))
 
     def of_kind(self, kind: str) -> list[str]:
         """The names of a kind."""

@@ -14,7 +14,6 @@ from motesim.from_c.expressions import (
     DICE, NO_ARRAYS, NO_CALLS, NO_CHANCE, NO_FIELDS, QUALIFIERS, READ_ONLY, STEP, TYPES, NoCounterpart, Node,
 )
 from motesim.from_c.scope import allowed, nearest
-from motesim.from_c.tokens import Token
 from motesim.notation.faults import MOST_LEVELS, STATEMENTS
 
 PRINTS = ('printf', 'print', 'println', 'puts', 'putchar', 'log_info', 'log_dbg', 'log_warn', 'log_err')
@@ -85,8 +84,8 @@ class Statements(Declarations, Calls, Control):
 
     def statement(self) -> str:
         """A statement, with a step of the generator before it if it needs a random number."""
-        word, outside = self.token.text, self.writer.draws
-        self.writer.draws = False
+        word, outside, begun = self.token.text, self.writer.draws, self.begun
+        self.writer.draws, self.begun = False, self.token.line
         self.nested += 1
         if self.nested > MOST_LEVELS:
             raise NoCounterpart
@@ -98,7 +97,7 @@ class Statements(Declarations, Calls, Control):
             if DICE not in self.place.variables:
                 self.declares.append('var %s = 1;' % DICE)
             text = '%s %s' % (STEP, text)
-        self.writer.draws = outside
+        self.writer.draws, self.begun = outside, begun
         return text
 
     def one_statement(self) -> str:
@@ -134,7 +133,7 @@ class Statements(Declarations, Calls, Control):
             self.why('There are two kinds of timer: an `etimer` posts an event to its process, a `ctimer` has a block '
                      'that it '
                      'calls.')
-            self.tokens[self.at] = Token('name', 'etimer')
+            self.tokens[self.at] = self.token._replace(kind='name', text='etimer')
             return self.kept()
         if word in KEEPS:
             return self.kept()
@@ -196,7 +195,7 @@ class Statements(Declarations, Calls, Control):
         if not like:
             raise NoCounterpart
         self.why('Did you mean `%s`?' % like)
-        self.tokens[self.at] = Token('name', like)
+        self.tokens[self.at] = self.token._replace(kind='name', text=like)
         return self.statement()
 
     def of_handler(self, head: str) -> str:
@@ -313,7 +312,7 @@ class Statements(Declarations, Calls, Control):
         if (word, kind) in OTHER:
             meant = OTHER[word, kind]
             self.why('`%s` is %s: `%s` is meant.' % (self.ahead(1).text, OF_OTHER[kind], meant))
-            self.tokens[self.at] = Token('name', meant)
+            self.tokens[self.at] = self.token._replace(kind='name', text=meant)
             word = meant
         self.at += 1
         if word.lower() in PRINTS and word not in ('send',):

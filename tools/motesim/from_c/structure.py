@@ -1,6 +1,7 @@
-"""Mistakes at another place than the fault: in the line that names the processes, or a block that isn't closed.
+"""Mistakes at another place than the fault: in the lines that name the processes, or a block that isn't closed.
 
-Each function returns the number of a line (from 1, or 0 if nothing is found), the corrected line, and the reason.
+The functions `process_line` and `unclosed_block` return the number of a line (from 1, or 0 if nothing is found), the
+corrected line, and the reason.
 """
 from __future__ import annotations
 
@@ -12,6 +13,33 @@ from motesim.notation.faults import tokens_of
 Repair = tuple[int, str, str]
 NOTHING: Repair = (0, '', '')
 PROCESSES = re.compile(r'\s*process\s+([a-z0-9_]+(?:\s*,\s*[a-z0-9_]+)*)\s*;\s*(//.*)?')
+# Lines that only name processes: in the notation, or by a macro of Contiki. Behind them there may be a comment.
+NAMES = re.compile(r'^[ \t]*(?:process\s+([a-z0-9_]+(?:\s*,\s*[a-z0-9_]+)*)\s*;'
+                   r'|PROCESS(?:_NAME)?\s*\((?:[^()";{}]|"[^"\n]*")*\)[ \t]*;?)'
+                   r'[ \t]*(?://[ \t]*(.*?)|/\*[ \t]*(.*?)[ \t]*\*/)?[ \t\r]*$', re.M)
+ONE_LINE = 'Processes are named by one line, `process a, b;`.'
+
+
+def process_lines(text: str, here: int) -> tuple[int, int, str]:
+    """The lines (the first and the last, from 1) that name processes, if the one at a fault isn't the only one, and
+    the line that replaces them: nothing if a line further up names all processes. The numbers are 0 if nothing is
+    found."""
+    rows = text.split('\n')
+    found = [(text.count('\n', 0, it.start()) + 1, text.count('\n', 0, it.end()) + 1, it)
+             for it in NAMES.finditer(text)]
+    at = next((at for at, (first, last, _) in enumerate(found) if first <= here <= last), None)
+    if at is None or len(found) == 1:
+        return 0, 0, ''
+    names = Scope.of(text).processes
+    line = 'process %s;' % ', '.join(names)
+    begin = next((number for number, (_, _, it) in enumerate(found[:at]) if it[1]), at)
+    if begin < at and set(re.split(r'\s*,\s*', found[begin][2][1])) == set(names):
+        begin, line = at, ''
+    end = begin
+    while end + 1 < len(found) and not ''.join(rows[found[end][1]:found[end + 1][0] - 1]).strip():
+        end += 1
+    comments = [it[2] or it[3] for _, _, it in found[begin:end + 1]]
+    return found[begin][0], found[end][1], ' // '.join([line, *filter(None, comments)]).strip()
 
 
 def process_line(text: str) -> Repair:

@@ -18,9 +18,10 @@ TOKEN = re.compile('|'.join('(?P<%s>%s)' % form for form in FORMS), re.S)
 
 
 class Token(NamedTuple):
-    """A token: its kind, as the forms above name it, and its text."""
+    """A token: its kind, as the forms above name it, its text, and its line (from 1) among the lines that are read."""
     kind: str
     text: str
+    line: int = 1
 
 
 END = Token('end', '')
@@ -28,4 +29,8 @@ END = Token('end', '')
 
 def tokens_of(text: str) -> list[Token]:
     """The tokens of some lines."""
-    return [Token(found.lastgroup or 'sign', found[0]) for found in TOKEN.finditer(text)]
+    found, line, behind = [], 1, 0
+    for it in TOKEN.finditer(text):
+        line, behind = line + text.count('\n', behind, it.start()), it.start()
+        found.append(Token(it.lastgroup or 'sign', it[0], line))
+    return found
