@@ -625,9 +625,10 @@ class Command(unittest.TestCase):
         rows = self.plot(*words, '--show', 'mean', '--threshold', '0.6')
         # (from 0.403 at 4 to 0.803 at 8: 4 + 4 * ln(0.6 / 0.403) / ln(0.803 / 0.403))
         self.assertIn('the mean rises above 0.6 at period 6.309', ' '.join(rows[-3]))
-        for more, seen in ((('--show', 'cdf'), '--log-y is for'), (('--threshold', '0'), 'a threshold above 0')):
-            self.plot(*words, *more, status=2)
-            self.assertIn(seen, self.seen)
+        self.plot('--measure', 'ratio', '--by', 'density', '--log-y', '--show', 'cdf', status=2)
+        self.assertIn('--log-y is for', self.seen)
+        self.plot(*words, '--threshold', '0', status=2)
+        self.assertIn('a threshold above 0', self.seen)
         (self.folder / 'net.csv').write_text(re.sub(r'^1,(.*),0[.]10', r'1,\1,-0.10', results(), flags=re.M))
         self.plot(*words, status=2)
         self.assertIn('--log-y needs values above 0, and the median of ratio at period 1 is -0.103', self.seen)
