@@ -6,6 +6,8 @@ import sys
 import tempfile
 import time
 import unittest
+from contextlib import redirect_stdout
+from io import StringIO
 from pathlib import Path
 from types import SimpleNamespace
 from typing import cast
@@ -18,7 +20,8 @@ from motesim.faults import Fault
 from motesim.runner.run import answer
 from motesim.scenario import Scenario
 from motesim.why.callers import Callers
-from motesim.why.chain import MOST_CALLS, Explainer, as_json, cause_of, chain, path_of, places
+from motesim.why.chain import MOST_CALLS, Explainer, as_json, cause_of, chain, on_values, path_of, places
+from motesim.why.command import show_chain
 from motesim.why.diverge import diverged
 from motesim.why.fate import fate_of
 from motesim.why.lines_of_file import ScenarioFile
@@ -203,6 +206,66 @@ medium
 left 0
 '''
 
+# Mote 0 makes the value 7, mote 1 stores it and sends it later, mote 2 prints it.
+STORED = """version = 2
+end = 60
+medium = { range = 10, base = 2, per = 100, collide = false }
+mote = [{ x = 0, y = 0, program = "node" }, { x = 8, y = 0, program = "node" }, { x = 16, y = 0, program = "node" }]
+[programs]
+node = '''
+process node; autostart node; receiver node;
+code node {
+  var last = 0;
+  etimer t;
+  body {
+    if (self == 0) { last = 7; set t 10; }
+    if (self == 1) { set t 20; }
+    while 1 {
+      yield;
+      if is(packet) { if (self == 1) { last = data; } if (self == 2) { print data; } }
+      if fired(t) { send last; }
+    }
+  }
+}
+'''
+"""
+REPORT_OF_STORED = '''mote 0 node
+0 start etimer
+0 start ctimer
+0 start radio
+0 start node
+10 post 0 node timer 0
+10 take 0 node
+10 send 0 7
+22 recv 1 0 7
+22 post 1 node packet 7
+22 take 1 node
+mote 1 node
+0 start etimer
+0 start ctimer
+0 start radio
+0 start node
+12 recv 0 0 7
+12 post 0 node packet 7
+12 take 0 node
+20 post 1 node timer 0
+20 take 1 node
+20 send 0 7
+mote 2 node
+0 start etimer
+0 start ctimer
+0 start radio
+0 start node
+22 recv 1 0 7
+22 post 0 node packet 7
+22 take 0 node
+22 print node 7
+medium
+10 0 0 7 1@12
+20 1 0 7 0@22 2@22
+left 0
+'''
+
 
 def source(scenario: str = SCENARIO, report: str = REPORT) -> Source:
     return Source('test', report.encode(), Scenario.parse(scenario))
@@ -274,6 +337,36 @@ class Causes(unittest.TestCase):
         other = source(report=REPORT.replace('7 recv 0 0 8', '7 recv 0 3 8'))
         with self.assertRaisesRegex(Fault, 'a packet that was never sent: packet 3 of mote 0'):
             chain(other, At(1, 7))
+
+    def test_the_packet_of_a_value_that_was_stored(self) -> None:
+        """Mote 1 stores a value, and sends it when a timer from its start is due."""
+        run = source(STORED, REPORT_OF_STORED)
+        remark = ('Mote 1 had received the value 7 before, in packet 0 of mote 0 at 12. The chain follows events, not '
+                  'values: to follow that packet, ask about line 17.')
+        printed, sent, received = At(2, 7), At(1, 9), At(2, 4)
+        self.assertEqual([on_values(run, chain(run, it)) for it in (printed, sent, received)], [remark] * 3)
+        self.assertEqual(run.traces.row(At(1, 4)), 17)
+        with redirect_stdout(StringIO()) as shown:
+            show_chain(run, cast(Asked, Asker(run).about('mote 2 prints node 7')), is_short=False)
+        self.assertEqual(shown.getvalue().split('\n')[-2], remark)
+        # The chain of mote 1's packet has the packet of the value; and mote 0 made the value.
+        self.assertEqual([on_values(run, chain(run, it)) for it in (At(1, 4), At(0, 6), At(1, 7), At(1, HEAD))],
+                         [''] * 4)
+
+    def test_a_packet_that_no_process_took_or_with_another_value_is_not_named(self) -> None:
+        """Mote 1 has no receiver, and makes the value itself; or it adds its number to the value 6."""
+        deaf = [line.replace('12 post 0 node packet 7', '12 deaf 0 0') for line in REPORT_OF_STORED.split('\n')
+                if not line.startswith(('12 take', '22 post', '22 take', '22 print'))]
+        deaf = [line.replace('22 recv 1 0 7', '22 recv 1 0 7\n22 deaf 1 0').replace('1 node timer', '0 node timer')
+                .replace('take 1', 'take 0') for line in deaf]
+        added = REPORT_OF_STORED.replace('10 send 0 7', '10 send 0 6').replace('12 recv 0 0 7', '12 recv 0 0 6')
+        added = added.replace('12 post 0 node packet 7', '12 post 0 node packet 6').replace('10 0 0 7', '10 0 0 6')
+        for scenario, report in (
+                (STORED.replace(' receiver node;', '').replace('set t 20', 'last = 7; set t 20'), '\n'.join(deaf)),
+                (STORED.replace('last = 7', 'last = 6').replace('send last', 'send (last + self)'), added)):
+            run = source(scenario, report)
+            sent = At(1, run.traces.lines(1).index('20 send 0 7'))
+            self.assertEqual(on_values(run, chain(run, sent)), '')
 
 
 class LinesOfTheFile(unittest.TestCase):

@@ -264,6 +264,45 @@ def path_of(hops: list[Hop]) -> Path:
     return Path(hops[0].at, waits)
 
 
+def received_before(source: Source, hops: list[Hop]) -> At | None:
+    """The `recv` of a packet outside the chain, with the value that the chain's first line prints, sends or receives.
+
+    Going back along the chain, its packets carry the value up to some mote. The packet is the latest one with the
+    value that a process of this mote took before the mote sent or printed the value. None if there is no such packet,
+    or if the chain has it."""
+    _, kind, *words = source.traces.text(hops[0].where).split(' ')
+    if kind not in ('print', 'send', 'recv') or hops[0].how == 'start':
+        return None
+    value, last = words[-1], hops[0].where
+    for hop in hops:
+        it = hop.words.split(' ')
+        if it[0] == 'recv' and it[-1] != value:
+            break
+        if it[0] == 'send':
+            last = hop.where
+    in_chain = {hop.where for hop in hops}
+    replay = source.replay(last.mote)
+    for place in reversed(range(last.place)):
+        link = replay.links[place]
+        if link.how == 'posted' and ' drop ' not in replay.trace[place]:
+            post = replay.links[link.line]
+            if post.how == 'packet' and replay.trace[post.line].split(' ')[-1] == value:
+                found = At(last.mote, post.line)
+                return None if found in in_chain else found
+    return None
+
+
+def on_values(source: Source, hops: list[Hop]) -> str:
+    """The remark on a packet by which a mote of the chain may have learned the value; empty if there is none."""
+    found = received_before(source, hops)
+    if found is None:
+        return ''
+    at, _, sender, number, value = source.traces.text(found).split(' ')
+    return ('Mote %d had received the value %s before, in packet %s of mote %s at %s. The chain follows events, not '
+            'values: to follow that packet, ask about line %d.' % (
+                found.mote, value, number, sender, at, source.traces.row(found)))
+
+
 def as_json(source: Source, hops: list[Hop]) -> dict[str, Any]:
     """A chain for programs."""
     path = path_of(hops)
@@ -293,6 +332,5 @@ def rows(hops: list[Hop]) -> list[str]:
     return found
 
 
-__all__ = ['Explainer', 'Hop', 'Path', 'as_json', 'cause_of', 'chain', 'count', 'in_words', 'path_of', 'places',
-           'rows',
-           'wait_of']
+__all__ = ['Explainer', 'Hop', 'Path', 'as_json', 'cause_of', 'chain', 'count', 'in_words', 'on_values', 'path_of',
+           'places', 'rows', 'wait_of']

@@ -7,7 +7,7 @@ import sys
 
 from motesim.faults import Fault
 from motesim.runner.run import read_file
-from motesim.why.chain import Hop, as_json, chain, path_of, rows
+from motesim.why.chain import Hop, as_json, chain, on_values, path_of, rows
 from motesim.why.diverge import diverged
 from motesim.why.diverge import rows as parted_rows
 from motesim.why.miss import as_json as missed
@@ -40,6 +40,9 @@ def show_chain(source: Source, asked: Asked, is_short: bool) -> None:
     print('\n'.join(rows(short(hops) if is_short else hops)))
     print()
     print(path_of(hops))
+    remark = on_values(source, hops)
+    if remark:
+        print(remark)
 
 
 def show_watch(source: Source, asked: argparse.Namespace) -> int:
