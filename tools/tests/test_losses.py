@@ -150,7 +150,7 @@ class Primes(unittest.TestCase):
         self.assertEqual(near(10), [5, 7, 11, 13, 17, 19])
         self.assertAlmostEqual(sum(1 / it for it in near(10)) / 6, 0.1, delta=0.005)
         self.assertAlmostEqual(sum(1 / it for it in near(30)) / 6, 1 / 30, delta=0.003)
-        self.assertEqual(near(2), [2, 3, 5, 7, 11, 13])
+        self.assertEqual(near(5), [2, 3, 5, 7, 11, 13])
 
     def test_links_of_a_sender_differ(self) -> None:
         links = [(s, r) for s in range(5) for r in range(7) if s != r][:-2]

@@ -202,6 +202,9 @@ flood = 5
         self.assertEqual((len(both), both[0, 1], both[0, 2]), (10, 3, 7))
         some = losses('[[loss]]\nrule = "random"\none_in = 3\nseed = 4\nevery = 2\n')
         self.assertTrue(0 < len(some) < 10, some)
+        # (six primes lose at most one packet in 4.5)
+        with self.assertRaisesRegex(Fault, 'about'):
+            losses('[[loss]]\nrule = "primes"\nabout = 4\nseed = 1\n')
 
     def test_a_program_of_any_signs_comes_through(self) -> None:
         odd = SINK.replace('\n', '\r\n') + '// "\\ \x01\n'

@@ -32,7 +32,7 @@ LOSSES: dict[str, dict[str, Key]] = {
     'all': {'every': EVERY},
     'longer': {'than': needed(int, 0, 100_000), 'every': EVERY},
     'random': {'one_in': needed(int, 1, 1_000_000), 'seed': needed(int, 0, MOST_SEED), 'every': EVERY},
-    'primes': {'about': needed(int, 2, 1_000), 'seed': needed(int, 0, MOST_SEED)},
+    'primes': {'about': needed(int, 5, 1_000), 'seed': needed(int, 0, MOST_SEED)},
     'link': {'from': NUMBER, 'to': NUMBER, 'every': EVERY},
     'csv': {'file': needed(str)},
 }
