@@ -131,7 +131,7 @@ class Entries(Folder):
             'key.toml': '0 of 3  the file is not TOML: A key has more than 80 parts: write fewer dots (at line 1, '
             'column 1)',
             'notes.txt': '0 of 3  its name ends neither in .toml nor in .mote',
-            'zoe.toml.txt': '0 of 3  its name ends neither in .toml nor in .mote: rename it to zoe.toml',
+            'zoe.toml.txt': '0 of 3  its name ends neither in .toml nor in .mote: remove the ending .txt',
             'bytes.toml': '0 of 3  the file is not UTF-8 text',
             'large.toml': '0 of 3  the file is longer than 1,048,576 bytes'})
         self.assertEqual(sorted(name for name, row in rows.items() if row == '3 of 3'),
@@ -706,12 +706,13 @@ class Forms(Folder):
         for name in 'ben.toml', 'cem.toml':
             self.hand_in(name, net(PROGRAM % 4))
         self.hand_in('dora.toml', net((PROGRAM % 4).replace('print', 'prnt', 1)).replace('version = 2', 'x ='))
+        self.hand_in('eva.toml.txt', net(PROGRAM % 4))
         self.grade('--anonymous', '-o', 'marks.html', '--net', 'task.toml')
         pages = [self.page(), *(path.read_text() for path in (self.top / 'marks_runs').iterdir())]
         self.assertEqual(len(pages), 4)
-        for name in 'anna', 'ben', 'cem', 'dora':
+        for name in 'anna', 'ben', 'cem', 'dora', 'eva':
             self.assertFalse(any(name + '.toml' in page for page in pages), name)
-        self.assertEqual(re.findall('<td>(solution-.)</td>', pages[0]), ['solution-%d' % it for it in range(1, 5)])
+        self.assertEqual(re.findall('<td>(solution-.)</td>', pages[0]), ['solution-%d' % it for it in range(1, 6)])
 
     def test_a_page_is_escaped(self) -> None:
         marks = Marks('<b>', (Mark('"a" & <i>', False, ('<net>',), ('<why>',)),))

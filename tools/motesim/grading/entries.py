@@ -70,10 +70,10 @@ def _entries(folder: Path, top: Path, depth: int) -> Iterator[Entry]:
             yield Entry(its, path, _kind(mode))
         elif not it.name.endswith(SUFFIXES):
             small = it.name.lower().endswith(SUFFIXES)
-            plain = it.name.removesuffix('.txt')
+            # (the reason doesn't contain the name, because it is shown on anonymous pages too)
             yield Entry(its, path, 'its name ends neither in .toml nor in .mote%s' % (
-                ': write the ending in small letters' if small else ': rename it to %s' % plain
-                if plain.endswith(SUFFIXES) else ''))
+                ': write the ending in small letters' if small else ': remove the ending .txt'
+                if it.name.removesuffix('.txt').endswith(SUFFIXES) else ''))
         elif not it.name.endswith(OF_TEACHER):
             yield Entry(its, path)
 
