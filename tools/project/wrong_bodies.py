@@ -66,11 +66,19 @@ def tenth(edits: Sequence[Edit], seed: str) -> list[Edit]:
     return found
 
 
+def without_open(edits: Sequence[Edit]) -> list[Edit]:
+    """The mutants without those that were left open with the present texts: another trial has the same result."""
+    kept = log.noted()
+    return [it for it in edits if it.name not in kept or kept[it.name].verdict.kind not in OPEN
+            or kept[it.name].digest != log.digest(it)]
+
+
 def of_gate(edits: Sequence[Edit]) -> list[Edit]:
     """The mutants that the gate tries."""
-    new, of_tenth = log.changed(it for it in edits if it.file.parent.name == GATE), tenth(edits, commit())
-    print('%d of %s have changed; a tenth of all, chosen by the commit %s: %d' % (
-        len(new), GATE, commit()[:8], len(of_tenth)), flush=True)
+    new, decided = log.changed(it for it in edits if it.file.parent.name == GATE), without_open(edits)
+    of_tenth = tenth(decided, commit())
+    print('%d of %s have changed; a tenth of all, chosen by the commit %s: %d; known to be open, and not tried: %d' % (
+        len(new), GATE, commit()[:8], len(of_tenth), len(edits) - len(decided)), flush=True)
     return [it for it in edits if it in new or it in of_tenth]
 
 

@@ -375,6 +375,13 @@ class Choice(unittest.TestCase):
         for seed in 'one', 'two', 'three':
             self.assertEqual(len({it.crate.name for it in wrong_bodies.tenth(self.EVERY, seed)}), 1)
 
+    def test_known_open_mutants_are_left_out(self) -> None:
+        verdicts = [ANSWER, LIMIT, CONTRACT, ANSWER]
+        kept = {edit.name: log.Tried('', Verdict(kind), 'old' if at == 3 else 'now')
+                for at, (edit, kind) in enumerate(zip(self.EVERY, verdicts))}
+        with mock.patch.multiple(log, noted=lambda: kept, digest=lambda _: 'now'):
+            self.assertEqual(wrong_bodies.without_open(self.EVERY[:5]), self.EVERY[2:5])
+
     def test_each_is_tried_in_the_end(self) -> None:
         found = {edit.name for seed in range(200) for edit in wrong_bodies.tenth(self.EVERY, str(seed))}
         self.assertEqual(len(found), 120)
