@@ -5,7 +5,7 @@ use Rattle.program_tree.specs.Forms.{action, Word, no_value, alone, tells_of}
 use Rattle.program_tree.specs.EventNames.{BroadcastEvent, PostedEvent, TestedEvent}
 use Rattle.program_tree.specs.Tree.{Expression, Body}
 
--- a name as it is written, as its bytes
+-- the bytes of a written name
 abbrev pub Name : Type 0
 Name = List ℕ
 
