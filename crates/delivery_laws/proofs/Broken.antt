@@ -8,7 +8,7 @@ use Rattle.std.proofs.lemmas.Bool.Decides.{nat_tests}
 use Rattle.delivery_laws.specs.HandedOn.{Target, ToOne, ToAll, Line, Start, Leave, Post, Take, Drop, Halt, Other, Incarnation, Handing, has_incarnation, process_list, posted_serials, handings, handings_behind, of_serial, IsHandingFor, IsGivenToAll, EndsInHalt, HandedOn}
 use Rattle.delivery_laws.proofs.Lines.{alone}
 use Rattle.delivery_laws.specs.Traces as traces
-use Rattle.delivery_laws.specs.Traces.{TracesThatDoNot}
+use Rattle.delivery_laws.specs.Traces.{TracesThatDoNotDeliver}
 
 abbrev has : ℕ → List ℕ → Bool
 has s xs = list_any (λ x. x == s) xs
@@ -263,7 +263,7 @@ lacks_earlier h =
     let p = at_place _ 0 g.0 g.1 in
     elim g.2 [ inl e ↦ lacks_earlier_at g.0 p.0 p.1 e | inr e ↦ (let f = e.0 in omega (arith, f)) ]
 
-pub broken : TracesThatDoNot
+pub broken : TracesThatDoNotDeliver
 broken = record {
   posts_skip_a_serial = posts_skip;
   posts_share_a_serial = posts_share;

@@ -2,7 +2,7 @@
 use Rattle.std.proofs.Common.{arith, ◌≡◌, List, [], ◌∷◌, refl, inl, inr}
 use Rattle.delivery_laws.specs.HandedOn.{Line, ToOne, ToAll, Start, Leave, Post, Take, Drop, Incarnation, posted_serials, handings, HandedOn}
 use Rattle.delivery_laws.specs.Delivery.{DeliveryMachine, initial, starts, leaves, posts, gives_one, begins_walk, walks_on, writes, DeliveryRuns, stays, goes_on}
-use Rattle.delivery_laws.specs.Traces.{TracesThatHandOn, TracesThatPass}
+use Rattle.delivery_laws.specs.Traces.{TracesThatDeliver, TracesWithUnseenFaults}
 use Rattle.delivery_laws.proofs.Ends.{delivery_hands_on}
 
 some_are_listed : (x : Incarnation) (list : List Incarnation) → x ∷ list ≡ [] → ⊥
@@ -23,7 +23,7 @@ one_left = (_, goes_on _ _ _ _ first_reached.1 (leaves _ 5))
 abbrev next_posted : (m : DeliveryMachine) × DeliveryRuns initial (Start 5 ∷ Post 0 (ToOne 5) ∷ Leave 5 ∷ Post 1 (ToOne 5) ∷ Drop 0 5 ∷ []) m
 next_posted = (_, goes_on _ _ _ _ (goes_on _ _ _ _ (goes_on _ _ _ _ (goes_on _ _ _ _ (goes_on _ _ _ _ stays (starts initial 5 refl)) (posts _ (ToOne 5))) (leaves _ 5)) (posts _ (ToOne 5))) (gives_one _ 0 5 _ refl refl))
 
-pub whole : TracesThatHandOn
+pub whole : TracesThatDeliver
 whole = record {
   broadcast_walk = delivery_hands_on _ (inl (_, goes_on _ _ _ _ (goes_on _ _ _ _ one_left.1 (starts _ 7 refl)) (walks_on _ _ _ refl), refl));
   restarted_within = delivery_hands_on _ (inl (_, goes_on _ _ _ _ (goes_on _ _ _ _ (goes_on _ _ _ _ one_left.1 (starts _ 5 refl)) (walks_on _ _ _ refl)) (writes _), refl));
@@ -45,7 +45,7 @@ no_events t p h = record {
   to_all = λ s b c. absurd (omega arith);
 }
 
-pub pass : TracesThatPass
+pub pass : TracesWithUnseenFaults
 pass = record {
   never_taken = delivery_hands_on _ (inl (_, goes_on _ _ _ _ (goes_on _ _ _ _ (goes_on _ _ _ _ stays (starts initial 5 refl)) (posts _ (ToOne 5))) (writes _), refl));
   list_of_the_post = delivery_hands_on _ (inl (_, goes_on _ _ _ _ (goes_on _ _ _ _ (goes_on _ _ _ _ (goes_on _ _ _ _ (goes_on _ _ _ _ (goes_on _ _ _ _ stays (starts initial 5 refl)) (posts _ ToAll)) (begins_walk _ 0 [] refl refl (some_are_listed _ _))) (starts _ 6 refl)) (writes _)) (walks_on _ _ _ refl), refl));

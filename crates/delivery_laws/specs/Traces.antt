@@ -92,20 +92,20 @@ starts_twice = Start 5 ∷ Start 5 ∷ Leave 6 ∷ []
 abbrev pub goes_on_after_a_halt : List Line
 goes_on_after_a_halt = Halt ∷ Start 5 ∷ []
 
-pub record TracesThatPass : Type 0 where
+pub record TracesWithUnseenFaults : Type 0 where
   pub never_taken : HandedOn never_taken
   pub list_of_the_post : HandedOn list_of_the_post
   pub starts_twice : HandedOn starts_twice
   pub goes_on_after_a_halt : HandedOn goes_on_after_a_halt
 
-pub record TracesThatHandOn : Type 0 where
+pub record TracesThatDeliver : Type 0 where
   pub broadcast_walk : HandedOn broadcast_walk
   pub restarted_within : HandedOn restarted_within
   pub halted_within : HandedOn halted_within
   pub halted_before_the_first : HandedOn halted_before_the_first
   pub taken_by_the_next : HandedOn taken_by_the_next
 
-pub record TracesThatDoNot : Type 0 where
+pub record TracesThatDoNotDeliver : Type 0 where
   pub posts_skip_a_serial : HandedOn posts_skip_a_serial → ⊥
   pub posts_share_a_serial : HandedOn posts_share_a_serial → ⊥
   pub goes_back : HandedOn goes_back → ⊥

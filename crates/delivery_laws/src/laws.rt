@@ -1,7 +1,7 @@
 //! Laws of the delivery of events. Each is a theorem, stated as the contract of an empty function.
 
 ghost use Rattle.delivery_laws.specs.Laws.{DeliveryHandsOn, DeliveryHaltsLast, DeliveryStartsTheUnlisted};
-ghost use Rattle.delivery_laws.specs.Traces.{TracesThatDoNot, TracesThatHandOn, TracesThatPass};
+ghost use Rattle.delivery_laws.specs.Traces.{TracesThatDoNotDeliver, TracesThatDeliver, TracesWithUnseenFaults};
 ghost use Rattle.delivery_laws.specs.Traces.{TracesThatBreakTheOthers};
 
 /// Each trace of the delivery machine delivers events in the order in which they were accepted.
@@ -22,8 +22,8 @@ pub fn only_the_unlisted_start()
 /// Small correct traces have the property `HandedOn`, and small traces with one fault each don't have it. Some faults
 /// aren't detected by this property; the two laws above detect two of these faults.
 pub fn traces_are_distinct()
-    ensures traces_that_hand_on { TracesThatHandOn }
-    ensures broken { TracesThatDoNot }
-    ensures unseen { TracesThatPass }
+    ensures traces_that_deliver { TracesThatDeliver }
+    ensures broken { TracesThatDoNotDeliver }
+    ensures unseen { TracesWithUnseenFaults }
     ensures others { TracesThatBreakTheOthers }
 {}

@@ -18,7 +18,7 @@ use Rattle.worker_window.specs.declared.slot.Slot.{Slot}
 use Rattle.worker_window.specs.Slots.{IsOf}
 use Rattle.worker_window.specs.Calls.{CalledMotes, copies_for}
 use Rattle.worker_window.specs.Share.{mote_here}
-use Rattle.worker_window.specs.Lending.{is_one_of, are_different, numbers_of, IsCalled, IsWakeOf, MotesAreLent}
+use Rattle.worker_window.specs.Lending.{is_one_of, are_different, numbers_of, IsCalled, IsWakeFrom, MotesAreLent}
 use Rattle.worker_window.specs.Lending.{TakesTrace}
 
 -- some of the motes that are called are lent, and the others are still to be lent
@@ -30,7 +30,7 @@ pub record Lent (until : ℕ) (calls rest : CalledMotes) (old now : List (Option
   pub traces_kept : length left ≡ length traces
   pub traces_left : (k : ℕ) → is_one_of k (numbers_of lent_motes) ≡ false → (d : Vec Line Global) → get_or left k d ≡ get_or traces k d
   pub gone : (k : ℕ) → mote_here now k ≡ cond (is_one_of k (numbers_of lent_motes)) None (mote_here old k)
-  pub matches : AllZip (IsWakeOf until) lent_motes wakes
+  pub matches : AllZip (IsWakeFrom until) lent_motes wakes
 
 some_within : {X : Type 0} (xs : List (Option X)) (k : ℕ) (x : X) → get_or xs k None ≡ Some x → k < length xs
 some_within [] k x e = absurd (none_is_not x e)
@@ -187,7 +187,7 @@ module _ (until : ℕ) (calls rest rest' : CalledMotes) (old now now' : List (Op
   no : (j : ℕ) → (j ≡ k → ⊥) → is_one_of j (numbers_of lent_motes') ≡ is_one_of j ks
   no j ne = among j ∙ (ap (λ b. is_one_of j ks || b) (ne_eqb k j (λ f. ne (sym f))) ∙ or_none (is_one_of j ks))
 
-  module _ (mote : mote_here now k ≡ Some r.mote) (put : now' ≡ set now k None) (took : TakesTrace k r.trace left left') (wake : Option ℕ) (matches : IsWakeOf until r wake) (woken : wakes' ≡ wakes ++ wake ∷ []) where
+  module _ (mote : mote_here now k ≡ Some r.mote) (put : now' ≡ set now k None) (took : TakesTrace k r.trace left left') (wake : Option ℕ) (matches : IsWakeFrom until r wake) (woken : wakes' ≡ wakes ++ wake ∷ []) where
     within : k < length now
     within = some_within now k r.mote mote
 
@@ -219,7 +219,7 @@ module _ (until : ℕ) (calls rest rest' : CalledMotes) (old now now' : List (Op
       traces_kept = ap length took.put ∙ (length-set left k took.left ∙ lent.traces_kept);
       traces_left = left_else;
       gone = gone';
-      matches = subst (λ ws. AllZip (IsWakeOf until) (lent_motes ++ r ∷ []) ws) (sym woken) (zip_more (IsWakeOf until) lent_motes wakes r wake lent.matches matches);
+      matches = subst (λ ws. AllZip (IsWakeFrom until) (lent_motes ++ r ∷ []) ws) (sym woken) (zip_more (IsWakeFrom until) lent_motes wakes r wake lent.matches matches);
     }
 
 pub all_lent : (until : ℕ) (calls rest : CalledMotes) (old now : List (Option Mote)) (traces left : List (Vec Line Global)) (lent_motes : List LentMote) (wakes : List (Option ℕ))

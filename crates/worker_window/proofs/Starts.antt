@@ -25,7 +25,7 @@ use Rattle.worker_cut.specs.Crossed.{is_own, IsExpected}
 use Rattle.worker_window.specs.Log.{HaveFates, packets_in}
 use Rattle.worker_window.specs.Share.{Motes, IsShare, IsWholeShare, node_at, mote_here, wake_from}
 use Rattle.worker_window.specs.Window.{outgoing_by}
-use Rattle.worker_window.specs.Lending.{IsCalled, IsWakeOf, MotesAreLent, is_one_of, numbers_of}
+use Rattle.worker_window.specs.Lending.{IsCalled, IsWakeFrom, MotesAreLent, is_one_of, numbers_of}
 use Rattle.worker_window.proofs.Begins.{own_there}
 use Rattle.worker_window.proofs.NoTurnIsPast.{past_later}
 use Rattle.worker_window.proofs.Gives.{IsBack, back, gives_open, goes_open}
@@ -121,7 +121,7 @@ module _ (n : NetModel) (owners : List ℕ) (worker from until : ℕ) (motes : M
       goes_open n until r (motes k).state there (ap (node_at (tree_at n k)) (sym called.mote) ∙ keeps.nodes k h)
       (λ moment next. past_later from moment (not_before from moment wake r.copies.items quiet next.comes) (motes k).state.last (keeps.turned_before k h))
 
-  one_pending : (r : LentMote) (wake : Option ℕ) → IsCalled calls old.motes.items old.traces.items r → IsWakeOf until r wake → IsPending until motes r.number wake
+  one_pending : (r : LentMote) (wake : Option ℕ) → IsCalled calls old.motes.items old.traces.items r → IsWakeFrom until r wake → IsPending until motes r.number wake
   one_pending r wake called matches =
       let k = r.number in
       let h = called_mine k (ap is_some called.copies) in
@@ -138,7 +138,7 @@ module _ (n : NetModel) (owners : List ℕ) (worker from until : ℕ) (motes : M
     different = lent.different;
     now = motes;
     backs = zip_numbers (IsCalled calls old.motes.items old.traces.items) (LentMoteGives n until) (IsBack n mine from until motes boxes) one_gives lent_motes outs lent.called gives;
-    pending = zip_numbers (IsCalled calls old.motes.items old.traces.items) (IsWakeOf until) (IsPending until motes) one_pending lent_motes wakes lent.called lent.matches;
+    pending = zip_numbers (IsCalled calls old.motes.items old.traces.items) (IsWakeFrom until) (IsPending until motes) one_pending lent_motes wakes lent.called lent.matches;
     in_state = in_state_left same;
     waits = λ k e. refl;
     others = λ k e. refl;

@@ -8,7 +8,7 @@ use Rattle.mote_node.specs.declared.mote.MoteError.{MoteError}
 use Rattle.mote_node.specs.declared.mote.MoteError.TheVariants.{Memory}
 use Rattle.worker_window.specs.declared.out.WindowOut.{WindowOut}
 use Rattle.worker_window.specs.declared.slot.Slot.{Slot}
-use Rattle.worker_window.specs.declared.slot.Slot.TheVariants.{Open, Done}
+use Rattle.worker_window.specs.declared.slot.Slot.TheVariants.{Running, Done}
 use Rattle.worker_window.specs.Slots.{SlotsGive, SlotsGoOn, WorkerMayAnswer, is_done, outs_of}
 
 pub rest_done : {X : Type 0} (p : X → Bool) (xs : List X) (x : X) (ys : List X) → xs ≡ x ∷ ys → list_all p xs ≡ true → list_all p ys ≡ true
@@ -29,19 +29,19 @@ answers_done slots ended e h = record { done = subst (λ l. list_all is_done l �
 -- slots that are done have the results that they contain
 pub done_give : {G : Type 0} (slots : List (Slot G)) → list_all is_done slots ≡ true → SlotsGive slots (outs_of slots)
 done_give [] h = tt
-done_give (Open window ∷ slots) h = absurd (false≢true h)
+done_give (Running window ∷ slots) h = absurd (false≢true h)
 done_give (Done made ∷ slots) h = (refl, done_give slots h)
 
 pub outs_more : {G : Type 0} (slots : List (Slot G)) (made : WindowOut) → outs_of (slots ++ Done made ∷ []) ≡ outs_of slots ++ made ∷ []
 outs_more [] made = refl
-outs_more (Open window ∷ slots) made = outs_more slots made
+outs_more (Running window ∷ slots) made = outs_more slots made
 outs_more (Done first ∷ slots) made = ap (λ l. first ∷ l) (outs_more slots made)
 
 -- among slots that are done, the last one and those before it
 pub last_done : {G : Type 0} (slots : List (Slot G)) (slot : Slot G) → list_all is_done (slots ++ slot ∷ []) ≡ true → (list_all is_done slots ≡ true) × (is_done slot ≡ true)
-last_done [] (Open window) h = absurd (false≢true h)
+last_done [] (Running window) h = absurd (false≢true h)
 last_done [] (Done made) h = (refl, refl)
-last_done (Open window ∷ slots) slot h = absurd (false≢true h)
+last_done (Running window ∷ slots) slot h = absurd (false≢true h)
 last_done (Done made ∷ slots) slot h = last_done slots slot h
 
 -- a property of all elements is preserved if one element is replaced by another with the property

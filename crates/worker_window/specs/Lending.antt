@@ -46,8 +46,8 @@ pub record TakesTrace (number : ℕ) (trace : Vec Line Global) (old new : List (
   pub put : new ≡ slice_set old number left
 
 -- the wake of a mote, unless it is before a moment
-abbrev pub IsWakeOf : (until : ℕ) → LentMote → (wake : Option ℕ) → Type 0
-IsWakeOf until lent_mote wake = (tree : Tree) → wake ≡ wake_from until (wake_in (node_in tree lent_mote.mote))
+abbrev pub IsWakeFrom : (until : ℕ) → LentMote → (wake : Option ℕ) → Type 0
+IsWakeFrom until lent_mote wake = (tree : Tree) → wake ≡ wake_from until (wake_in (node_in tree lent_mote.mote))
 
 -- the motes that are called are lent, with their traces, and these are their wakes
 pub record MotesAreLent (until : ℕ) (calls : CalledMotes) (old new : List (Option Mote))
@@ -60,7 +60,7 @@ pub record MotesAreLent (until : ℕ) (calls : CalledMotes) (old new : List (Opt
   pub others : (k : ℕ) → is_one_of k (numbers_of lent_motes) ≡ false → (d : Vec Line Global)
       → slice_index_or left k d ≡ slice_index_or traces k d
   pub gone : (k : ℕ) → mote_here new k ≡ (if is_one_of k (numbers_of lent_motes) then None else mote_here old k)
-  pub matches : AllZip (IsWakeOf until) lent_motes wakes
+  pub matches : AllZip (IsWakeFrom until) lent_motes wakes
 
 -- the mote has this number
 pub record HasNumber (number : ℕ) (mote : Mote) : Type 0 where

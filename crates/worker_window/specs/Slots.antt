@@ -9,19 +9,19 @@ use Rattle.worker_window.specs.declared.out.WindowOut.{WindowOut}
 use Rattle.worker_window.specs.declared.lent_mote.LentMote.{LentMote}
 use Rattle.worker_window.specs.declared.share.Share.{Share}
 use Rattle.worker_window.specs.declared.slot.Slot.{Slot}
-use Rattle.worker_window.specs.declared.slot.Slot.TheVariants.{Open, Done}
+use Rattle.worker_window.specs.declared.slot.Slot.TheVariants.{Running, Done}
 use Rattle.worker_window.specs.Calls.{CalledMotes}
 use Rattle.worker_window.specs.Lending.{MotesAreLent}
 use Rattle.worker_window.specs.Shares.{LentMoteGives, LentMoteGoesOn}
 use Rattle.worker_window.specs.Turns.{MayGive, HasTurns}
 
 abbrev pub is_done : {G : Type 0} → Slot G → Bool
-is_done (Open window) = false
+is_done (Running window) = false
 is_done (Done made) = true
 
 -- the possible results of the slot's window, or the slot's result if its window is done
 abbrev pub SlotGives : {G : Type 0} → Slot G → WindowOut → Type 0
-SlotGives (Open window) out = MayGive window.own out
+SlotGives (Running window) out = MayGive window.own out
 SlotGives (Done made) out = out ≡ made
 
 abbrev pub SlotsGive : {G : Type 0} → List (Slot G) → List WindowOut → Type 0
@@ -29,7 +29,7 @@ SlotsGive slots outs = AllZip SlotGives slots outs
 
 -- the rest of the slot's window can be run
 abbrev pub SlotGoesOn : {G : Type 0} → Slot G → Type 0
-SlotGoesOn (Open window) = HasTurns window.own
+SlotGoesOn (Running window) = HasTurns window.own
 SlotGoesOn (Done made) = Unit {0}
 
 abbrev pub SlotsGoOn : {G : Type 0} → List (Slot G) → Type 0
@@ -66,5 +66,5 @@ WorkerMayAnswer slots (Err e) = SlotsGoOn slots → e ≡ Memory
 -- the results of slots that are done
 abbrev pub outs_of : {G : Type 0} → List (Slot G) → List WindowOut
 outs_of [] = []
-outs_of (Open window ∷ slots) = outs_of slots
+outs_of (Running window ∷ slots) = outs_of slots
 outs_of (Done made ∷ slots) = made ∷ outs_of slots

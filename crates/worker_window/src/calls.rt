@@ -8,7 +8,7 @@ ghost use Rattle.window_laws.specs.Agenda.{Item};
 ghost use Rattle.net_agenda.specs.Items.{copy_at};
 ghost use Rattle.worker_window.specs.Calls.{copies_for, is_not_before, TakesEventsBefore, HasItems, TakesCall};
 
-use crate::scratch::Rooms;
+use crate::worker_buffers::WorkerBuffers;
 use net_agenda::Agenda;
 use radio_packet::{Arrival, RadioCopy};
 use std::alloc::{AllocError, Global};
@@ -45,14 +45,14 @@ impl CalledMotes {
     }
 
     /// Takes out the copies that have arrived at a mote so far.
-    fn take(&mut self, mote: u16, rooms: &mut Rooms) -> Vec<RadioCopy>
+    fn take(&mut self, mote: u16, buffers: &mut WorkerBuffers) -> Vec<RadioCopy>
         requires in_range { mote < length self.old.copies.items }
         ensures copies { result.items ≡ unwrap_or (copies_for self.old.copies.items mote) [] }
         ensures others { self.new.copies.items ≡ slice_set self.old.copies.items mote None }
     {
         match self.copies[usize::from(mote)].take() {
             Some(copies) => copies,
-            None => rooms.copies(),
+            None => buffers.copies(),
         }
     }
 
@@ -62,14 +62,14 @@ impl CalledMotes {
         moment: u64,
         mote: u16,
         arrivals: &[Arrival],
-        rooms: &mut Rooms,
+        buffers: &mut WorkerBuffers,
     ) -> Result<(), AllocError>
         ensures added { OnOk result ((k : ℕ) → copies_for self.new.copies.items k
             ≡ (if mote == k then Some (unwrap_or (copies_for self.old.copies.items mote) []
             ++ map (copy_at moment mote) arrivals.now) else copies_for self.old.copies.items k)) }
     {
         self.reach(mote)?;
-        let mut copies = self.take(mote, rooms);
+        let mut copies = self.take(mote, buffers);
         add_copies(&mut copies, moment, mote, arrivals)?;
         self.copies[usize::from(mote)] = Some(copies);
         Ok(())
@@ -127,7 +127,7 @@ pub fn take_events_before(
     alloc: Global,
     agenda: &mut Agenda,
     until: u64,
-    rooms: &mut Rooms,
+    buffers: &mut WorkerBuffers,
 ) -> Result<CalledMotes, AllocError>
     requires has_items { HasItems agenda.old.buckets }
     ensures taken { IfOk result (λ calls. (items : List Item) → HoldsItems agenda.old.buckets items
@@ -142,7 +142,7 @@ pub fn take_events_before(
             break;
         }
         agenda.take_due_into(moment, mote, &mut arrivals)?;
-        calls.add(moment, mote, &arrivals, rooms)?;
+        calls.add(moment, mote, &arrivals, buffers)?;
     }
     Ok(calls)
 }

@@ -13,7 +13,7 @@ ghost use Rattle.worker_window.specs.Turns.{MayAnswer, TakesTurn, RestsAs, ErrsA
 use crate::gate::Gate;
 use crate::out::WindowOut;
 use crate::own::OwnWindow;
-use crate::room::TurnBuffers;
+use crate::turn_buffers::TurnBuffers;
 use futures::Future;
 use futures::task::{Context, Poll};
 use mote_node::{Mote, MoteError};
@@ -28,7 +28,7 @@ pub struct MoteWindow<'a, G> {
     own: Option<OwnWindow<'a>>,
     worker: u16,
     gate: &'a G,
-    room: Option<Box<TurnBuffers>>,
+    buffers: Option<Box<TurnBuffers>>,
 }
 
 impl<G> Drop for MoteWindow<'_, G> {
@@ -37,7 +37,7 @@ impl<G> Drop for MoteWindow<'_, G> {
             own: _,
             worker: _,
             gate: _,
-            room: _,
+            buffers: _,
         } = self;
     }
 }
@@ -76,28 +76,28 @@ impl<'a, G: Gate> MoteWindow<'a, G> {
             own: Some(own),
             worker,
             gate,
-            room: None,
+            buffers: None,
         }
     }
 
     /// Swaps the scratch buffers of the window's turns with these buffers.
-    pub(crate) fn swap_room(&mut self, room: &mut Option<Box<TurnBuffers>>)
+    pub(crate) fn swap_buffers(&mut self, buffers: &mut Option<Box<TurnBuffers>>)
         ensures same { self.new.own ≡ self.old.own }
     {
-        mem::swap(&mut self.room, room);
+        mem::swap(&mut self.buffers, buffers);
     }
 }
 
 /// Takes the window when no turn is left, and returns its result. It is a separate function, so that a turn clears no
 /// stack space for the result.
 #[inline(always)]
-fn finish(own: &mut Option<OwnWindow<'_>>, room: &mut Option<Box<TurnBuffers>>) -> WindowOut
+fn finish(own: &mut Option<OwnWindow<'_>>, buffers: &mut Option<Box<TurnBuffers>>) -> WindowOut
     requires owned { IsSome own.old }
     ensures made { IfSome own.old (λ own. IfSome (window_in own) (λ w. shown w.program result ≡ Some w.mote)) }
     ensures left { IfSome own.old (λ own. window_in own ≡ None → StaysFailed (course_in own) result) }
     ensures given_up { own.new ≡ None }
 {
-    own.take().unwrap().finish(room)
+    own.take().unwrap().finish(buffers)
 }
 
 /// Drops a window and its mote. It is a separate function for the same reason.
@@ -134,9 +134,9 @@ impl<G: Gate> Future for MoteWindow<'_, G> {
             return Poll::Ready(Err(MoteError::Failed));
         };
         let Some(moment) = own.next_moment() else {
-            return Poll::Ready(Ok(finish(&mut self.own, &mut self.room)));
+            return Poll::Ready(Ok(finish(&mut self.own, &mut self.buffers)));
         };
-        if let Err(e) = own.turn(moment, self.worker, self.gate, &mut self.room) {
+        if let Err(e) = own.turn(moment, self.worker, self.gate, &mut self.buffers) {
             give_up(&mut self.own);
             return Poll::Ready(Err(e));
         }

@@ -11,7 +11,7 @@ ghost use Rattle.worker_window.specs.MoteWindow.{Window, HasTurn, IsOver, IsNext
 
 use crate::gate::Gate;
 use crate::out::WindowOut;
-use crate::room::{TurnBuffers, keep_copies, room_in};
+use crate::turn_buffers::{TurnBuffers, buffers_in, keep_copies};
 use mote_node::{Mote, MoteError};
 use net_agenda::extend_trace;
 use process_kernel::Line;
@@ -119,7 +119,7 @@ impl<'a> OwnWindow<'a> {
         moment: u64,
         worker: u16,
         gate: &G,
-        room: &mut Option<Box<TurnBuffers>>,
+        buffers: &mut Option<Box<TurnBuffers>>,
     ) -> Result<(), MoteError>
         requires moment_bounded { moment ≤ 2 ^ 40 }
         requires left { IfSome (window_in self.old) (HasTurn moment) }
@@ -127,22 +127,22 @@ impl<'a> OwnWindow<'a> {
         ensures err { IfErr result (λ e. IfSome (window_in self.old) (IsErrorAt moment e)) }
         ensures refusal { IfErr result (λ e. window_in self.old ≡ None → IsRefusal e) }
     {
-        let room = room_in(self.alloc, room)?;
-        take_arrivals(&self.copies[self.next..], moment, &mut room.arrivals)?;
-        self.next += room.arrivals.len();
+        let buffers = buffers_in(self.alloc, buffers)?;
+        take_arrivals(&self.copies[self.next..], moment, &mut buffers.arrivals)?;
+        self.next += buffers.arrivals.len();
         gate.inside(worker, moment, self.mote.number());
         self.wake = self
             .mote
-            .turn_into(self.program, moment, &room.arrivals, &mut room.out)?;
-        extend_trace(&mut self.lines, &mut room.out.lines)?;
-        self.sends.append(&mut room.out.sends)?;
+            .turn_into(self.program, moment, &buffers.arrivals, &mut buffers.out)?;
+        extend_trace(&mut self.lines, &mut buffers.out.lines)?;
+        self.sends.append(&mut buffers.out.sends)?;
         Ok(())
     }
 
     /// Returns the result of the window when no turn is left. If there are scratch buffers, they keep the window's
     /// list of copies for a later window.
     #[tactic(auto, unfolding(crate::specs::Own::window_in, crate::specs::Own::course_in))]
-    pub fn finish(self, room: &mut Option<Box<TurnBuffers>>) -> WindowOut
+    pub fn finish(self, buffers: &mut Option<Box<TurnBuffers>>) -> WindowOut
         ensures made { IfSome (window_in self.entry) (λ w. shown w.program result ≡ Some w.mote) }
         ensures left { window_in self.entry ≡ None → StaysFailed (course_in self.entry) result }
     {
@@ -157,7 +157,7 @@ impl<'a> OwnWindow<'a> {
             lines,
             sends,
         } = self;
-        keep_copies(room, copies);
+        keep_copies(buffers, copies);
         WindowOut {
             mote,
             lines,

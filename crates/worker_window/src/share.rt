@@ -13,7 +13,7 @@ ghost use Rattle.worker_window.specs.Next.{TellsNext};
 ghost use Rattle.worker_window.specs.Share.{Motes, IsWholeShare, node_at};
 ghost use Rattle.worker_window.specs.Ended.{TellsAtEnd};
 
-use crate::scratch::Rooms;
+use crate::worker_buffers::WorkerBuffers;
 use mote_net::{LogLine, Net};
 use mote_node::Mote;
 use net_agenda::{Agenda, new_mote};
@@ -31,7 +31,7 @@ pub struct Share {
     pub(crate) traces: Vec<Vec<Line>>,
     pub(crate) log: Vec<LogLine>,
     pub(crate) agenda: Agenda,
-    pub(crate) rooms: Rooms,
+    pub(crate) buffers: WorkerBuffers,
 }
 
 /// Implemented by hand, so that the check of a function that owns a share sees only one call for the drop.
@@ -44,7 +44,7 @@ impl Drop for Share {
             traces: _,
             log: _,
             agenda: _,
-            rooms: _,
+            buffers: _,
         } = self;
     }
 }
@@ -97,7 +97,7 @@ impl Share {
             traces: Vec::new(alloc),
             log: Vec::new(alloc),
             agenda: Agenda::new(alloc),
-            rooms: Rooms::new(alloc),
+            buffers: WorkerBuffers::new(alloc),
         };
         for number in 0..net.motes() {
             let own = is_own(owners, worker, number);
@@ -136,7 +136,7 @@ impl Share {
             traces,
             log,
             agenda,
-            rooms: _,
+            buffers: _,
         } = self;
         let left = agenda.left()?;
         Ok(Ended { traces, log, left })

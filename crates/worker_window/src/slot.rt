@@ -14,7 +14,7 @@ use crate::lent_mote::LentMote;
 use crate::mote_window::MoteWindow;
 use crate::out::WindowOut;
 use crate::own::OwnWindow;
-use crate::room::TurnBuffers;
+use crate::turn_buffers::TurnBuffers;
 use futures::Future;
 use futures::task::{Context, Poll};
 use mote_net::Net;
@@ -23,14 +23,14 @@ use std::alloc::Global;
 
 /// The window of a mote until it is ready, and then its result.
 pub enum Slot<'a, G> {
-    Open(MoteWindow<'a, G>),
+    Running(MoteWindow<'a, G>),
     Done(WindowOut),
 }
 
 impl<G> Drop for Slot<'_, G> {
     fn drop(self) {
         match self {
-            Slot::Open(_) => {}
+            Slot::Running(_) => {}
             Slot::Done(_) => {}
         }
     }
@@ -67,14 +67,14 @@ impl<'a, G: Gate> Slot<'a, G> {
             trace,
             sends,
         );
-        Slot::Open(MoteWindow::over(own, worker, gate))
+        Slot::Running(MoteWindow::over(own, worker, gate))
     }
 
     pub(crate) fn is_done(&self) -> bool
         ensures value { result ≡ is_done self.now }
     {
         match self {
-            Slot::Open(_) => false,
+            Slot::Running(_) => false,
             Slot::Done(_) => true,
         }
     }
@@ -85,7 +85,7 @@ impl<'a, G: Gate> Slot<'a, G> {
         ensures was_done { self.entry ≡ Done result }
     {
         match self {
-            Slot::Open(_) => unreachable!(),
+            Slot::Running(_) => unreachable!(),
             Slot::Done(out) => out,
         }
     }
@@ -93,7 +93,7 @@ impl<'a, G: Gate> Slot<'a, G> {
     /// Polls the window once, if it wasn't ready before. The turn uses these scratch buffers.
     pub(crate) fn advance(
         &mut self,
-        room: &mut Option<Box<TurnBuffers>>,
+        buffers: &mut Option<Box<TurnBuffers>>,
         cx: &mut Context<'_>,
     ) -> Result<(), MoteError>
         ensures same { OnOk result ((out : _) → SlotGives self.new out → SlotGives self.old out) }
@@ -101,12 +101,12 @@ impl<'a, G: Gate> Slot<'a, G> {
         ensures err { IfErr result (λ e. SlotGoesOn self.old → e ≡ Memory) }
         ensures kept { Keeps cx.old cx.new }
     {
-        let Slot::Open(window) = self else {
+        let Slot::Running(window) = self else {
             return Ok(());
         };
-        window.swap_room(room);
+        window.swap_buffers(buffers);
         let polled = window.poll(cx);
-        window.swap_room(room);
+        window.swap_buffers(buffers);
         if let Poll::Ready(answer) = polled {
             *self = Slot::Done(answer?);
         }

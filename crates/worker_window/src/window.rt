@@ -22,10 +22,10 @@ use crate::calls::{CalledMotes, take_events_before};
 use crate::gate::Gate;
 use crate::lent_mote::LentMote;
 use crate::out::WindowOut;
-use crate::scratch::Rooms;
 use crate::share::Share;
 use crate::slot::Slot;
 use crate::worker::run_slots;
+use crate::worker_buffers::WorkerBuffers;
 use fork_join::WorkerError;
 use mote_net::{LogLine, Net};
 use mote_node::Mote;
@@ -105,7 +105,7 @@ pub(crate) fn lend<'a, G: Gate>(
             mote,
             copies,
             trace: take_trace(alloc, &mut share.traces, number),
-            sends: share.rooms.take(),
+            sends: share.buffers.take(),
         };
         slots.push(Slot::open(alloc, net, lent_mote, until, share.worker, gate))?;
     }
@@ -260,7 +260,7 @@ impl Share {
             outgoing,
             &mut self.log,
         )?;
-        self.rooms.put_back(sends)?;
+        self.buffers.put_back(sends)?;
         self.traces[usize::from(number)] = lines;
         self.motes[usize::from(number)] = Some(mote);
         Ok(())
@@ -312,10 +312,10 @@ impl Share {
         ensures refused { IfErr result (λ reason. reason ≢ Stopped) }
     {
         self.agenda.put_copies(&arrived)?;
-        let calls = take_events_before(self.alloc, &mut self.agenda, until, &mut self.rooms)?;
+        let calls = take_events_before(self.alloc, &mut self.agenda, until, &mut self.buffers)?;
         let mut wakes = Vec::new(self.alloc);
         let slots = lend(self, &mut wakes, net, until, calls, gate)?;
-        let mut done = run_slots(rt, self.alloc, slots, &mut self.rooms.turns)?;
+        let mut done = run_slots(rt, self.alloc, slots, &mut self.buffers.turns)?;
         let mut outgoing = Vec::new(self.alloc);
         while let Some(slot) = done.pop() {
             let pending = last_wake(&mut wakes);

@@ -9,8 +9,8 @@ ghost use Rattle.worker_window.specs.declared.out.WindowOut.{WindowOut as OutOfC
 ghost use Rattle.worker_window.specs.Slots.{MayEndAs, SlotsGive, SlotsGoOn, WorkerMayAnswer, is_done};
 
 use crate::gate::Gate;
-use crate::room::TurnBuffers;
 use crate::slot::Slot;
+use crate::turn_buffers::TurnBuffers;
 use fork_join::WorkerError;
 use futures::Future;
 use futures::executor::block_on;
@@ -27,7 +27,7 @@ pub struct ShareWindow<'a, 'b, G> {
     alloc: Global,
     slots: Vec<Slot<'a, G>>,
     /// The scratch buffers of the turns, which are passed from window to window.
-    room: &'b mut Option<Box<TurnBuffers>>,
+    buffers: &'b mut Option<Box<TurnBuffers>>,
 }
 
 impl<G> Drop for ShareWindow<'_, '_, G> {
@@ -35,7 +35,7 @@ impl<G> Drop for ShareWindow<'_, '_, G> {
         let ShareWindow {
             alloc: _,
             slots: _,
-            room: _,
+            buffers: _,
         } = self;
     }
 }
@@ -46,7 +46,7 @@ impl<'a, G: Gate> Future for ShareWindow<'a, '_, G> {
     ghost gives = { λ w r. WorkerMayAnswer w.slots.items r };
 
     fn poll(&mut self, cx: &mut Context<'_>) -> Poll<Self::Output> {
-        if let Err(e) = advance_each(&mut self.slots, self.room, cx) {
+        if let Err(e) = advance_each(&mut self.slots, self.buffers, cx) {
             return Poll::Ready(Err(e));
         }
         if !all_done(&self.slots) {
@@ -59,7 +59,7 @@ impl<'a, G: Gate> Future for ShareWindow<'a, '_, G> {
 /// Polls each unfinished window once.
 fn advance_each<G: Gate>(
     slots: &mut Vec<Slot<'_, G>>,
-    room: &mut Option<Box<TurnBuffers>>,
+    buffers: &mut Option<Box<TurnBuffers>>,
     cx: &mut Context<'_>,
 ) -> Result<(), MoteError>
     ensures same { OnOk result ((outs : List OutOfCode) → SlotsGive slots.new.items outs
@@ -69,7 +69,7 @@ fn advance_each<G: Gate>(
     ensures kept { Keeps cx.old cx.new }
 {
     for k in 0..slots.len() {
-        if let Err(e) = slots[k].advance(room, cx) {
+        if let Err(e) = slots[k].advance(buffers, cx) {
             return Err(e);
         }
     }
@@ -92,7 +92,7 @@ pub fn run_slots<'a, R, G>(
     rt: &R,
     alloc: Global,
     slots: Vec<Slot<'a, G>>,
-    room: &mut Option<Box<TurnBuffers>>,
+    buffers: &mut Option<Box<TurnBuffers>>,
 ) -> Result<Vec<Slot<'a, G>>, WorkerError>
 where
     R: Wait + RandomSource + AllocGlobal,
@@ -105,7 +105,11 @@ where
     if slots.is_empty() {
         return Ok(slots);
     }
-    let worker = ShareWindow { alloc, slots, room };
+    let worker = ShareWindow {
+        alloc,
+        slots,
+        buffers,
+    };
     match block_on(rt, worker) {
         Ok(Ok(done)) => Ok(done),
         Ok(Err(MoteError::Memory)) => Err(WorkerError::Memory),

@@ -3,8 +3,8 @@ use Rattle.delivery_laws.proofs.Broken.{broken}
 use Rattle.delivery_laws.proofs.Whole.{pass, whole}
 use Rattle.delivery_laws.proofs.laws.traces_are_distinct.Goals as goal
 
-pub returns-clause-traces_that_hand_on : goal.returns-clause-traces_that_hand_on
-returns-clause-traces_that_hand_on c = whole
+pub returns-clause-traces_that_deliver : goal.returns-clause-traces_that_deliver
+returns-clause-traces_that_deliver c = whole
 
 pub returns-clause-broken : goal.returns-clause-broken
 returns-clause-broken c = broken

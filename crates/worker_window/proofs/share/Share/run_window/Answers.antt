@@ -14,7 +14,7 @@ use Rattle.worker_window.specs.declared.share.Share.{Share}
 use Rattle.worker_cut.specs.Crossed.{is_own, is_for_others}
 use Rattle.worker_window.specs.Window.{IsOutgoing}
 use Rattle.worker_window.specs.Shares.{LentMoteGives}
-use Rattle.worker_window.specs.Lending.{HasNumber, IsWakeOf, MoteReturns}
+use Rattle.worker_window.specs.Lending.{HasNumber, IsWakeFrom, MoteReturns}
 use Rattle.worker_window.specs.Slots.{IsOf, SlotGives, is_done, outs_of}
 use Rattle.worker_window.proofs.Parts.{window_copies, window_copies_are}
 use Rattle.worker_window.proofs.Lent.{zip_length}
@@ -82,14 +82,14 @@ loop-slot-init g c =
     let outs = outs_of c.in_ok-done.done.items in
     let given = done_give c.in_ok-done.done.items ends.done in
     let gives = zip_zip (IsOf n c.args.until) SlotGives (LentMoteGives n c.args.until) (λ r slot out fresh give. fresh.gives out give) lends.lent_motes c.in_ok-slots.slots.items outs lends.opened (ends.gives outs given) in
-    let share : Share = record c.lend.new.share { rooms = record c.lend.new.share.rooms { turns = c.run_slots.new.room } } in
+    let share : Share = record c.lend.new.share { buffers = record c.lend.new.share.buffers { turns = c.run_slots.new.buffers } } in
     record {
       motes = lent.places ∙ kept.places;
       traces = lent.traces_kept ∙ kept.traces_kept;
       worker = lends.worker;
       done = ends.done;
       wakes =
-          sym (zip_length (IsWakeOf c.args.until) _ _ lent.matches) ∙ (zip_length (LentMoteGives n c.args.until) _ _ gives ∙ sym (zip_length SlotGives _ _ given));
+          sym (zip_length (IsWakeFrom c.args.until) _ _ lent.matches) ∙ (zip_length (LentMoteGives n c.args.until) _ _ gives ∙ sym (zip_length SlotGives _ _ given));
       fits =
           all_fit n c.args.owners.now c.args.self.now (kept_of c.requires.ready) c.args.arrived.items c.requires.to_own c.requires.owners c.args.until c.in_ok-calls.calls.copies.items (c.in_ok-calls.ensures.taken _ base)
           c.lend.new.share.motes.items c.lend.new.share.traces.items lends.lent_motes c.lend.new.wakes.items lent c.requires.ready.order outs gives;

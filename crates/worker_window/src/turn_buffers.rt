@@ -21,32 +21,32 @@ pub struct TurnBuffers {
 const LONGEST_KEPT: usize = 32;
 
 /// Returns the scratch buffers, which are made now if there are none.
-pub(crate) fn room_in(
+pub(crate) fn buffers_in(
     alloc: Global,
-    room: &mut Option<Box<TurnBuffers>>,
+    buffers: &mut Option<Box<TurnBuffers>>,
 ) -> Result<&mut TurnBuffers, AllocError> {
-    if room.is_none() {
+    if buffers.is_none() {
         let made = TurnBuffers {
             arrivals: Vec::new(alloc),
             out: Out::new(alloc),
             copies: Vec::new(alloc),
         };
-        *room = Some(Box::new(alloc, made)?);
+        *buffers = Some(Box::new(alloc, made)?);
     }
-    match room {
-        Some(room) => Ok(&mut **room),
+    match buffers {
+        Some(buffers) => Ok(&mut **buffers),
         None => Err(AllocError),
     }
 }
 
 /// Returns an empty list for the copies of a window: the list of an earlier window, if one was kept.
-pub fn copies_in(alloc: Global, room: &mut Option<Box<TurnBuffers>>) -> Vec<RadioCopy>
+pub fn copies_in(alloc: Global, buffers: &mut Option<Box<TurnBuffers>>) -> Vec<RadioCopy>
     ensures empty { result.items ≡ [] }
 {
-    let Some(room) = room else {
+    let Some(buffers) = buffers else {
         return Vec::new(alloc);
     };
-    match room.copies.pop() {
+    match buffers.copies.pop() {
         Some(mut copies) => {
             copies.clear();
             copies
@@ -56,14 +56,14 @@ pub fn copies_in(alloc: Global, room: &mut Option<Box<TurnBuffers>>) -> Vec<Radi
 }
 
 /// Keeps a list of copies for a later window. It drops a list that has a large capacity or that can't be stored.
-pub(crate) fn keep_copies(room: &mut Option<Box<TurnBuffers>>, copies: Vec<RadioCopy>) {
-    let Some(room) = room else {
+pub(crate) fn keep_copies(buffers: &mut Option<Box<TurnBuffers>>, copies: Vec<RadioCopy>) {
+    let Some(buffers) = buffers else {
         return;
     };
     if copies.capacity() > LONGEST_KEPT {
         return;
     }
-    let list = &mut room.copies;
+    let list = &mut buffers.copies;
     if let Ok(()) = list.reserve(1) {
         list.push_reserved(copies);
     }

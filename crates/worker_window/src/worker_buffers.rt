@@ -2,34 +2,34 @@
 
 ghost use Rattle.std.specs.Prelude.{◌≡◌, []};
 
-use crate::room::{TurnBuffers, copies_in};
+use crate::turn_buffers::{TurnBuffers, copies_in};
 use radio_packet::{RadioCopy, Sent};
 use std::alloc::{AllocError, Global};
 
 /// Buffers for the packets that a mote sends in a window, and the buffers of the turns. Between two windows, their
 /// contents are unspecified.
-pub(crate) struct Rooms {
+pub(crate) struct WorkerBuffers {
     alloc: Global,
-    buffers: Vec<Vec<Sent>>,
+    sends: Vec<Vec<Sent>>,
     pub(crate) turns: Option<Box<TurnBuffers>>,
 }
 
-impl Drop for Rooms {
+impl Drop for WorkerBuffers {
     fn drop(self) {
-        let Rooms {
+        let WorkerBuffers {
             alloc: _,
-            buffers: _,
+            sends: _,
             turns: _,
         } = self;
     }
 }
 
-impl Rooms {
+impl WorkerBuffers {
     /// Makes an empty set of buffers.
-    pub(crate) fn new(alloc: Global) -> Rooms {
-        Rooms {
+    pub(crate) fn new(alloc: Global) -> WorkerBuffers {
+        WorkerBuffers {
             alloc,
-            buffers: Vec::new(alloc),
+            sends: Vec::new(alloc),
             turns: None,
         }
     }
@@ -43,7 +43,7 @@ impl Rooms {
 
     /// Returns a buffer for the packets of a window: the buffer of an earlier window, if one was put back.
     pub(crate) fn take(&mut self) -> Vec<Sent> {
-        match self.buffers.pop() {
+        match self.sends.pop() {
             Some(buffer) => buffer,
             None => Vec::new(self.alloc),
         }
@@ -54,7 +54,7 @@ impl Rooms {
     /// # Errors
     /// `AllocError` if an allocation fails.
     pub(crate) fn put_back(&mut self, buffer: Vec<Sent>) -> Result<(), AllocError> {
-        self.buffers.push(buffer)?;
+        self.sends.push(buffer)?;
         Ok(())
     }
 }
