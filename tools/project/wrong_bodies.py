@@ -7,9 +7,9 @@ open, and counts as skipped, until it is written so that the contract decides. A
 the crate without an edit.
 
 The tool uses the libraries in crates/*/out, and first builds those that are missing or outdated. With --built it uses
-them unchanged and tries no control, because rt ci has just proved the crates and built them. The verdicts are noted in
-log/wrong_bodies.tsv, with a digest of all that the verdict depends on. As many checks run in parallel as processors and
-memory allow, or as RT_JOBS says. The last line is `N passed, M failed, K skipped`, and the status 1 if one failed.
+them unchanged, because rt ci has just built them. The verdicts are noted in log/wrong_bodies.tsv, with a digest of all
+that the verdict depends on. As many checks run in parallel as processors and memory allow, or as RT_JOBS says. The
+last line is `N passed, M failed, K skipped`, and the status 1 if one failed.
 """
 from __future__ import annotations
 
@@ -36,8 +36,7 @@ GATE = 'gate-bodies'
 
 def words() -> argparse.Namespace:
     asked = words_of(__doc__)
-    asked.add_argument('--built', action='store_true',
-                       help='use the libraries as rt ci has left them, build none, and try no control')
+    asked.add_argument('--built', action='store_true', help='use the libraries as rt ci has left them, and build none')
     asked.add_argument('--changed', action='store_true',
                        help='leave out mutants that were refused with exactly the same texts')
     asked.add_argument('--gate', action='store_true', help='those of %s that have changed, and a tenth of all' % GATE)
@@ -55,8 +54,8 @@ def named(edits: Sequence[Edit], names: Sequence[str]) -> list[Edit]:
 
 
 def tenth(edits: Sequence[Edit], seed: str) -> list[Edit]:
-    """A tenth of the mutants, chosen by a seed: whole batches, of as few crates as possible, because the first check of
-    each crate also proves the functions that the mutants call."""
+    """A tenth of the mutants, chosen by a seed: whole batches, of as few crates as possible, because each crate needs
+    a control."""
     def place(group: list[Edit]) -> list[bytes]:
         return [hashlib.sha256((seed + it).encode()).digest() for it in (group[0].crate.name, group[0].name)]
 
@@ -104,21 +103,19 @@ def judge(trial: Trial, group: Sequence[Edit], _jobs: int) -> dict[Edit, Verdict
     return found
 
 
-def judge_all(edits: Sequence[Edit], is_proved: bool) -> dict[Edit, Verdict]:
-    """Tries these mutants, and returns the verdict on each. If the crates are known to be proved, without a control."""
+def judge_all(edits: Sequence[Edit]) -> dict[Edit, Verdict]:
+    """Tries these mutants, and returns the verdict on each."""
     tasks: dict[Any, kit.Task] = {}
     found = {it: Verdict(UNKNOWN, '', "it can't be applied: " + it.trouble) for it in edits if it.trouble}
     print_verdicts(found)
     for crate, of_crate in groupby((it for it in edits if not it.trouble), lambda it: it.crate):
-        tried, judged = [*of_crate], list[Any]()
-        trial, seed, end = Trial(tried, is_proved), (crate.name, 'seed'), (crate.name, 'end')
-        tasks[seed] = kit.Task(crate, [], trial.begin)
-        for number, group in enumerate(groups(tried)):
-            judged.append((crate.name, 'edits', number))
-            # (the first check without a control keeps its results for the others)
-            before = judged[0] if is_proved and number > 0 else seed
-            tasks[judged[number]] = kit.Task(crate, [before], partial(judge, trial, group))
-        tasks[end] = kit.Task(crate, judged, trial.forget)
+        tried = [*of_crate]
+        trial, seed, end = Trial(tried), (crate.name, 'seed'), (crate.name, 'end')
+        judged = {(crate.name, 'edits', number): kit.Task(crate, [seed], partial(judge, trial, group))
+                  for number, group in enumerate(groups(tried))}
+        tasks[seed] = kit.Task(crate, [], trial.control)
+        tasks |= judged
+        tasks[end] = kit.Task(crate, [*judged], trial.forget)
     for verdicts in kit.in_lanes(tasks).values():
         found |= verdicts or {}
     return found
@@ -151,6 +148,6 @@ def main() -> int:
         chosen = log.changed(chosen)
     use_libraries = check_libraries if asked.built else kit.build_libraries
     use_libraries(list({it.crate.name: it.crate for it in chosen}.values()))
-    found = judge_all(chosen, asked.built)
+    found = judge_all(chosen)
     log.note(found, edits)
     return 1 if report(found) else 0

@@ -263,9 +263,9 @@ class Trials(unittest.TestCase):
 
     def trial(self, kept: Path | None, *edits: Edit) -> checks.Trial:
         """A trial whose control keeps this, or isn't proved."""
-        trial = checks.Trial(edits or [self.ONE], False)
+        trial = checks.Trial(edits or [self.ONE])
         with mock.patch.object(checks, 'kept_by_check', lambda crate, flags: kept):
-            trial.begin(1)
+            trial.control(1)
         return trial
 
     def test_nothing_is_known_if_the_control_is_not_proved(self) -> None:
@@ -280,26 +280,8 @@ class Trials(unittest.TestCase):
             return None
         for edits in [self.ONE, self.TWO], [self.ONE, whole]:
             with mock.patch.object(checks, 'kept_by_check', kept):
-                checks.Trial(edits, False).begin(1)
+                checks.Trial(edits).control(1)
         self.assertEqual(tried, [['--only', 'one', '--only', 'two'], [], []])
-
-    def test_a_proved_crate_needs_no_control(self) -> None:
-        trial, used = checks.Trial([self.ONE, self.TWO], True), list[Path]()
-
-        def checked(crate: Any, texts: dict[str, str], flags: list[str], kept: Path) -> Any:
-            used.append(kept)
-            return SimpleNamespace(stdout=self.BAD % 'one' + self.BAD % 'two' + 'logic=not-proved', returncode=1)
-        with mock.patch.multiple(checks, checked=checked, kept_by_check=self.fail, together=lambda group: {},
-                                 linked=lambda kept, to: to, says_nothing=lambda lines, texts: False):
-            trial.begin(1)
-            kept = trial.kept
-            self.assertTrue(kept and kit.results_in(kept).is_dir())
-            trial.verdicts([self.ONE, self.TWO])
-            trial.verdicts([self.TWO])
-        # (the results of the first check are there for the others)
-        self.assertEqual([it == kit.results_in(kept) for it in used if kept], [True, False])
-        trial.forget(1)
-        self.assertFalse(kept and kept.exists())
 
     def test_what_the_control_keeps_is_deleted(self) -> None:
         with tempfile.TemporaryDirectory() as room:

@@ -2,8 +2,7 @@
 
 A control comes first: it checks, without any edit, the functions that are changed and those that they call, or the
 whole crate, and has to prove them. Each group of mutants is checked with the results that the control has kept, so
-that only the changed functions are proved again. A crate that `rt ci` has just proved needs no control: the check of
-the first group keeps its results for the others.
+that only the changed functions are proved again.
 """
 from __future__ import annotations
 
@@ -14,7 +13,7 @@ from collections.abc import Sequence
 from pathlib import Path
 from typing import NamedTuple
 
-from project.kit import checked, kept_by_check, linked, new_results, results_in, says_nothing
+from project.kit import checked, kept_by_check, linked, says_nothing
 from project.mutants.edits import Edit, together
 
 # The verdicts on a mutant, the best first. The prover refuses it for a goal of a contract; only for a loop's invariant;
@@ -146,21 +145,12 @@ def only(edits: Sequence[Edit]) -> list[str]:
 
 
 class Trial:
-    """The checks of mutants of a crate. If the crate is known to be proved, no control is needed."""
+    """The checks of mutants of a crate."""
 
-    def __init__(self, edits: Sequence[Edit], is_proved: bool):
+    def __init__(self, edits: Sequence[Edit]):
         self.crate = edits[0].crate
         self.only = only(edits)
-        self.is_proved = is_proved
         self.kept: Path | None = None
-        self.is_first = False
-
-    def begin(self, jobs: int) -> None:
-        """Makes a folder for results, with those of a control if one is needed."""
-        if self.is_proved:
-            self.kept, self.is_first = new_results(), True
-        else:
-            self.control(jobs)
 
     def control(self, jobs: int) -> None:
         """Checks the crate without an edit; if that isn't proved, nothing is known about any mutant."""
@@ -171,7 +161,7 @@ class Trial:
             self.kept = kept_by_check(self.crate, ['--jobs', str(jobs)])
 
     def forget(self, _jobs: int) -> None:
-        """Deletes the kept results."""
+        """Deletes the results that the control has kept."""
         if self.kept:
             shutil.rmtree(self.kept)
 
@@ -183,13 +173,11 @@ class Trial:
         return {it: found.get(it) or self.verdict_alone(it, self.kept) for it in group}
 
     def check(self, edits: Sequence[Edit], kept: Path) -> tuple[list[str], int, bool]:
-        """The lines and the status of a check with these edits, with a copy of the kept results; and whether the check
-        ended before the proofs. The first check without a control adds its results to these."""
+        """The lines and the status of a check with these edits, with a copy of the results that the control has kept;
+        and whether the check ended before the proofs."""
         texts, words = together(edits), only(edits) if self.only else []
-        is_first, self.is_first = self.is_first, False
         with tempfile.TemporaryDirectory(prefix='mutants-') as room:
-            results = results_in(kept) if is_first else linked(kept, Path(room, 'kept'))
-            ran = checked(self.crate, texts, ['--jobs', '1', *words], results)
+            ran = checked(self.crate, texts, ['--jobs', '1', *words], linked(kept, Path(room, 'kept')))
         lines = ran.stdout.rstrip('\n').split('\n')
         return lines, ran.returncode, says_nothing(lines, texts)
 
