@@ -308,6 +308,33 @@ class FileScope(unittest.TestCase):
         self.assertIn('at the head of its `code`: `var x = 7; var y = 0;`.', found.hint)
 
 
+class BelowTheProcesses(unittest.TestCase):
+    """Declarations of Contiki below the line that names the processes."""
+
+    def corrected(self, lines: str, head: str = '') -> tuple[str, tuple[int, str]]:
+        text = 'process p;\nautostart p;\n%s\ncode p {\n  %s\n  etimer t;\n  body {\n    yield;\n  }\n}\n' % (
+            lines, head)
+        fault = find_fault(text)
+        found = correction(text, fault) if fault else None
+        assert found and found.above and found.line is not None
+        self.assertIsNone(find_fault(found.applied(text)))
+        return found.line, found.above
+
+    def test_semaphores_and_events(self) -> None:
+        for lines, head in ('static struct pt_sem m;', ''), ('', 'struct pt_sem m;'), ('semaphore m = 0;', ''):
+            self.assertEqual(self.corrected(lines, head), ('', (0, 'semaphore m = 0;')))
+        self.assertEqual(self.corrected('static process_event_t full;'), ('', (0, 'event full;')))
+
+    def test_the_count_of_a_semaphore(self) -> None:
+        line, above = self.corrected('static struct pt_sem m; // PT_SEM_INIT(&m, 2)')
+        self.assertEqual((line, above), ('// PT_SEM_INIT(&m, 2)', (0, 'semaphore m = 2;')))
+
+    def test_protothreads(self) -> None:
+        for words in 'static PT_THREAD', 'PT_THREAD':
+            thread = words + '(work(struct pt *pt))\n{\n  PT_BEGIN(pt);\n  PT_YIELD(pt);\n  PT_END(pt);\n}'
+            self.assertEqual(self.corrected(thread), ('', (11, 'thread work { yield; }')))
+
+
 class Packets(unittest.TestCase):
     def test_a_value_that_leaves_no_room_for_an_address_has_no_line(self) -> None:
         for value, line in ('(512 + from)', None), ('300', None), ('(x + 255)', 'send ((from * 256) + (x + 255));'):
@@ -386,6 +413,27 @@ class Calls(unittest.TestCase):
                               'is `yield_until` here', hint.replace(';`', '`'))
                 for nonsense in 'Names have small letters', 'var etimer_set', 'No variable':
                     self.assertNotIn(nonsense, hint)
+
+    def test_protothreads_and_semaphores_that_are_not_declared(self) -> None:
+        for call, line, declared in (
+                ('PT_SPAWN(pt, &child, f(&child));', 'spawn f;', 'thread f { }'),
+                ('PROCESS_PT_SPAWN(&child, f(&child));', 'spawn f;', 'thread f { }'),
+                ('PT_SEM_WAIT(pt, &m);', 'acquire m;', 'semaphore m = 0;'),
+                ('PT_SEM_SIGNAL(pt, &m);', 'signal m;', 'semaphore m = 0;'),
+                ('PT_SEM_INIT(&m, 1);', '', 'semaphore m = 1;')):
+            with self.subTest(call):
+                found, above, hint = self.corrected('1', call)
+                self.assertEqual((found, above), (line, declared))
+                self.assertIn('`%s`' % declared, hint)
+                self.assertNotIn('Names have small letters', hint)
+
+    def test_a_process_that_is_not_declared(self) -> None:
+        for call, line in (('process_post(&b, EV, NULL);', 'post b ev 0;'), ('process_poll(&b);', 'poll b;'),
+                           ('process_start(&b, NULL);', 'start b;')):
+            found, _, hint = self.corrected('1', call)
+            self.assertIsNone(found)
+            self.assertIn('is `%s` here, but no process is named `b`: this program has `p`' % line, hint)
+        self.assertEqual(self.corrected('1', 'process_post(&pp, PROCESS_EVENT_MSG, NULL);')[0], 'post p msg 0;')
 
     def test_a_chain_of_else_if(self) -> None:
         chain = 'if (tries == 1) {\nprint 1;\n} else if (tries == 2) {\nprint 2;\n%s} else {\nprint 4;\n}'

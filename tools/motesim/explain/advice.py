@@ -14,6 +14,8 @@ OF_PARENTHESES = ('Only an operation of two values has parentheses, as `(a + b)`
 
 # The number of the fault that a name is declared twice.
 NAME_TWICE = 4
+# Declarations that are above the line that names the processes.
+OF_TOP = ('event ', 'semaphore ')
 # The end of the reason for an `else if` whose block continues below the line.
 CUT_CHAIN = 'one more `}` closes it'
 
@@ -50,19 +52,20 @@ def _which(first: int, last: int, offset: int | None) -> str:
 
 
 def _inserted(above: tuple[int, str], offset: int | None) -> str:
-    """The place of a line that is inserted: an event is declared above the line that names the processes."""
+    """The place of a line that is inserted: an event or a semaphore is declared above the line that names the
+    processes."""
     line, text = above
-    if text.startswith('event '):
+    if text.startswith(OF_TOP):
         return 'above ' + _which(line + 1, line + 1, offset)
     return 'below ' + _which(line, line, offset)
 
 
 def _indented(source: str, number: int, line: str) -> str:
     """A line that begins in the same column as a line of the program, or further right if that opens a block."""
-    there = source.split('\n')[number - 1] if number and not line.startswith('event ') else ''
+    there = source.split('\n')[number - 1] if number and not line.startswith(OF_TOP) else ''
     indent = len(there) - len(there.lstrip(' '))
     opens = there.rstrip().endswith('{') and not line.rstrip().endswith('{') and line.startswith(
-        ('var ', 'etimer ', 'ctimer ', '  '))
+        ('var ', 'etimer ', 'ctimer ', 'thread ', '  '))
     return '  ' + ' ' * (indent + 2 * opens) + line.strip()
 
 

@@ -3,9 +3,11 @@ from __future__ import annotations
 
 from typing import NamedTuple
 
+from motesim.from_c.control import ELSE_IFS
 from motesim.from_c.correction import Correction
 from motesim.from_c.expressions import QUALIFIERS, TYPES
 from motesim.from_c.places import place_below
+from motesim.from_c.statements import LOOPS
 from motesim.notation.faults import ARTICLES, ProgramError, Token, find_fault, tokens_of
 
 DECLARES = {'event': 'event', 'semaphore': 'semaphore', 'process': 'process', 'var': 'variable', 'etimer': 'timer',
@@ -13,7 +15,7 @@ DECLARES = {'event': 'event', 'semaphore': 'semaphore', 'process': 'process', 'v
 HEAD = {'variable': 'var %s = 0;', 'timer': 'etimer %s;'}
 # Words of other languages that name no variable.
 NO_VARIABLES = {'true', 'false', 'and', 'or', 'not', 'random', 'rand', 'rnd', 'sleep', 'printf', 'break', 'continue',
-                'return', 'goto', 'switch', 'case', 'for', 'do', 'struct', *TYPES, *QUALIFIERS}
+                'return', 'goto', 'switch', 'case', 'for', 'do', 'struct', 'to', *ELSE_IFS, *LOOPS, *TYPES, *QUALIFIERS}
 TOP = {'semaphore': 'semaphore %s = 0;', 'event': 'event %s;'}
 
 

@@ -3,6 +3,7 @@ from __future__ import annotations
 
 import re
 
+from motesim.from_c.declarations import OF_STRUCTURE
 from motesim.from_c.expressions import MOMENTS_OF_SECOND, TICKS, NoCounterpart, Node
 from motesim.from_c.lines import Lines
 from motesim.from_c.scope import allowed
@@ -29,6 +30,10 @@ CALLS = {
     'process_broadcast': 'broadcast event1 expression2', 'process_poll': 'poll process0',
     'process_start': 'start process0', 'process_exit': 'kill process0',
 }
+OF_THREAD = ('A protothread is a thread of the process that spawns it: `thread %s { .. }` is at the head of its '
+             '`code`, below its timers.')
+NO_PROCESS = ('`%s` is `%s;` here, but no process is named `%s`: this program has `%s`. Another one has to be named in '
+              'the `process` line, and needs a `code`.')
 BROADCAST = 'A packet is one number, and goes to all motes that hear it: `send x;`. There is no buffer to fill first.'
 
 
@@ -85,12 +90,26 @@ class Calls(Lines):
                 return self.of_text(shown)
             self.why('A program prints numbers, one in a line.')
         else:
-            values = [self.expression()]
+            values = self.listed() or [self.expression()]
             while self.accept(','):
                 values.append(self.expression())
         values = [it for it in values if it.kind != 'text']
         text = ' '.join('print %s;' % self.writer.text(it) for it in values)
         return self.end(text.removesuffix(';'))
+
+    def listed(self) -> list[Node]:
+        """Several values in parentheses, as in `print(n, x)`; nothing if the parentheses belong to one value."""
+        begin = self.at
+        try:
+            self.need('(')
+            values = self.arguments()
+        except NoCounterpart:
+            values = []
+        if len(values) < 2:
+            self.at = begin
+            return []
+        self.why('A `print` shows one number.')
+        return values
 
     def of_text(self, shown: str) -> str:
         """A text that is printed: a number, with the text as a comment."""
@@ -123,7 +142,14 @@ class Calls(Lines):
             self.why('The processes that start at boot are named by `autostart a, b;`.')
             return 'autostart %s;' % ', '.join(self.of_process(
                 (it.parts[0] if it.kind == 'unary' else it).text) for it in call.parts)
+        if name == 'pt_init':
+            self.why(OF_STRUCTURE)
+            return self.end('').removesuffix(';')
+        if name == 'pt_sem_init':
+            return self.of_count(call)
         if name in ('process_thread', 'pt_thread'):
+            if name == 'pt_thread' and self.place.is_top and self.token.text != ';':
+                return self.of_thread(allowed(call.parts[0].text))
             self.why('A process is a `code NAME { .. }` with a `body`; a protothread is a `thread NAME { .. }`.')
             if self.accept(';'):
                 return ''
@@ -132,6 +158,26 @@ class Calls(Lines):
             inner = call.parts[0].text
             return '%s %s {' % (head, self.of_process(inner) if head == 'code' else allowed(inner))
         return self.end(self.of_call(call))
+
+    def of_thread(self, name: str) -> str:
+        """A protothread above the codes: a thread of the process that spawns it."""
+        self.why(OF_THREAD % name)
+        block = self.body() if self.token.text == '{' else ''
+        if not block or self.is_cut:
+            raise NoCounterpart(OF_THREAD % name)
+        self.declares.append('thread %s %s' % (name, block))
+        return ''
+
+    def of_count(self, call: Node) -> str:
+        """The initial count of a semaphore, which belongs to its declaration."""
+        if len(call.parts) != 2:
+            raise NoCounterpart
+        name = allowed(self.writer.of_kind(call.parts[0], 'semaphore'))
+        declared = 'semaphore %s = %s;' % (name, self.writer.text(call.parts[1]))
+        self.why('A semaphore has its count from its declaration above the `process` line: `%s`.' % declared)
+        if self.scope.kinds.get(name) != 'semaphore':
+            self.events.append(declared)
+        return self.end('').removesuffix(';')
 
     def of_process(self, name: str) -> str:
         """The name of a process, which in Contiki often ends with `_process`."""
@@ -176,10 +222,14 @@ class Calls(Lines):
             named = self.writer.of_kind(part, found[1])
             if found[1] == 'timer':
                 self.declare_timer(named, call.text)
+            elif self.writer.unknown is not None and self.scope.kinds.get(named) != found[1]:
+                return self.writer.new_name(named, found[1])
             return named
 
         written = ARGUMENT.sub(argument, form)
         for word, (kind, its) in (self.writer.unknown or {}).items():
+            if kind == 'process':
+                raise NoCounterpart(NO_PROCESS % (call.text, written, its, '`, `'.join(self.scope.processes)))
             self.declare(word, kind, its, '20' if form.startswith('set') else '0')
         self.writer.unknown = None
         return written
@@ -188,10 +238,14 @@ class Calls(Lines):
         """Declares a name that a call uses without a declaration, and reports this after the first reason."""
         if self.scope.kinds.get(name) == kind:
             return
-        line = {'variable': 'var %s = %s;' % (name, value), 'timer': 'etimer %s;' % name, 'event': 'event %s;' % name}
-        where = ' above the `process` line, or `is(packet)` if a packet is meant' if kind == 'event' else ''
-        self.writer.reasons.insert(1, '`%s` isn\'t declared: `%s`%s.' % (word, line[kind], where))
-        (self.events if kind == 'event' else self.declares).append(line[kind])
+        line = {'variable': 'var %s = %s;' % (name, value), 'timer': 'etimer %s;' % name, 'event': 'event %s;' % name,
+                'semaphore': 'semaphore %s = %s;' % (name, self.scope.counts.get(name, '0')),
+                'thread': 'thread %s { }' % name}
+        where = {'event': ' above the `process` line, or `is(packet)` if a packet is meant',
+                 'semaphore': ' above the `process` line, with its initial count',
+                 'thread': ' at the head of the `code`, with its statements between the braces'}
+        self.writer.reasons.insert(1, '`%s` isn\'t declared: `%s`%s.' % (word, line[kind], where.get(kind, '')))
+        (self.events if kind in ('event', 'semaphore') else self.declares).append(line[kind])
         self.scope.kinds[name] = kind
 
     def declare_timer(self, name: str, call: str) -> None:

@@ -10,6 +10,7 @@ from motesim.notation.faults import STATEMENTS
 
 NO_SWITCH = ('There is no `switch`: each `case` is a test of its own, `if (%s == %s) { .. } else { if (%s == %s) { .. '
              '} }`.')
+ELSE_IFS = ('elif', 'elseif', 'elsif')
 NO_BREAK = 'There is no `break`: let the test of the `while` become false.'
 
 
@@ -18,11 +19,19 @@ class Control(Lines):
 
     def closing(self) -> str:
         """A brace that closes a block from above these lines, with an `else` behind the brace."""
+        if self.ahead(self.token.text == '}').text in ELSE_IFS:
+            self.split_else_if(self.at + (self.token.text == '}'))
         if not self.accept('}'):
             return self.other() if self.token.text == 'else' else ''
         if self.token.text == 'while' and self.place.loop:
             return self.test_behind()
         return '} ' + self.other() if self.token.text == 'else' else '}'
+
+    def split_else_if(self, at: int) -> None:
+        """Reads a word such as `elif` as two."""
+        token = self.tokens[at]
+        self.why('There is no `%s`.' % token.text)
+        self.tokens[at:at + 1] = [token._replace(text=it) for it in ('else', 'if')]
 
     def test_behind(self) -> str:
         """The test behind a block whose `while` is above it."""
@@ -68,6 +77,9 @@ class Control(Lines):
     def condition(self) -> str:
         """The test of an `if` or a `while`, up to its block."""
         begin, inner = self.at, None
+        if self.token.text == '{':
+            self.why('A `while` has a test: `while 1` repeats its block, in which something has to wait.')
+            return '1'
         if self.accept('('):
             inner = self.expression()
             # (an operator behind the parenthesis continues the test; a name or a brace begins the block)
@@ -136,6 +148,8 @@ class Control(Lines):
         self.place = outside._replace(loop=test, is_head=False) if word == 'while' else outside
         text = '%s %s %s' % (word, test, self.body())
         self.place = outside
+        if self.token.text in ELSE_IFS:
+            self.split_else_if(self.at)
         if word == 'if' and self.token.text == 'else' and not self.is_cut:
             text += ' ' + self.other()
         return text

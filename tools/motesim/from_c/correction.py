@@ -70,9 +70,10 @@ def _rank(text: str, made: Correction) -> int:
         made.above is not None and made.above[0] < made.first))
 
 
-def _above_processes(text: str) -> int:
-    """The number of the line above the one that names the processes."""
-    return next((it.line for it in tokens_of(text) if it.text == 'process'), 1) - 1
+def _above_processes(text: str, declared: str) -> int:
+    """The number of the line above the one that names the processes, or the semaphores if an event is declared."""
+    below = ('semaphore', 'process') if declared.startswith('event') else ('process',)
+    return next((it.line for it in tokens_of(text) if it.text in below), 1) - 1
 
 
 def _same(one: str, other: str) -> bool:
@@ -130,12 +131,12 @@ def _is_only_named(text: str, fault: ProgramError) -> bool:
 def _insertions(text: str, reader: Statements) -> list[tuple[int, str] | None]:
     """The lines that may be inserted with a reading, the best one first."""
     if not reader.declares:
-        return [(_above_processes(text), ' '.join(reader.events)) if reader.events else None]
+        return [(_above_processes(text, reader.events[0]), ' '.join(reader.events)) if reader.events else None]
     if reader.events:
         return [None]
     is_top, code = reader.place.is_top, reader.place.code
-    has_timer = any(it.startswith('ctimer') for it in reader.declares)
-    head = head_for(text, reader.declares[0], code) if is_top or has_timer else reader.place.head
+    is_lower = any(it.startswith(('ctimer', 'thread')) for it in reader.declares)
+    head = head_for(text, reader.declares[0], code) if is_top or is_lower else reader.place.head
     declared = head, ' '.join(sorted(reader.declares, key=lambda it: it.split()[0], reverse=True))
     return [declared, None] if is_top and head else [None if is_top else declared]
 

@@ -17,6 +17,9 @@ OF_PACKETS = ('No function is called when a packet arrives: a packet is the even
               'name the process that gets it, `receiver P;`. This process waits by `yield_until is(packet);`, and the '
               'statements of the function follow there: `data` is the value, and `from` the sender.')
 NO_CONNECTION = 'No connection is opened: `send x;` sends, and a packet is the event `packet`.'
+ABOVE = {'semaphore': 'A semaphore is declared above the `process` line, with its count.',
+         'event': 'An event is declared by `event`, above the `process` line.'}
+OF_STRUCTURE = 'A protothread needs no structure: `thread NAME { .. }` declares it, `spawn NAME;` runs it.'
 MOST_MEMBERS = 8
 NO_PLACE = 'Variables are declared at the head of `code`, before its timers, threads and `body`: `var %s = 0;`.'
 
@@ -86,10 +89,8 @@ class Declarations(Lines):
         if 'struct' in words and kind in ('etimer', 'ctimer', 'timer', 'stimer', 'rtimer', 'pt_sem', 'pt'):
             return self.of_struct(kind)
         if 'struct' in words and words[-1] == 'struct' and kind.endswith(('_callbacks', '_conn')):
-            while self.token.kind != 'end' and not self.accept(';'):
-                self.at += 1
             self.why(OF_PACKETS if kind.endswith('_callbacks') and not self.scope.receiver else NO_CONNECTION)
-            return ''
+            return self.rest_left_out()
         if 'struct' in words:
             raise NoCounterpart(NO_FIELDS)
         if self.ahead(1).text == '(':
@@ -180,12 +181,12 @@ class Declarations(Lines):
     def of_struct(self, kind: str) -> str:
         self.at += 1
         if kind == 'pt_sem':
-            self.why('A semaphore is declared above `process`, with its count.')
-            return self.of_names('semaphore', '%s = 0')
+            self.why(ABOVE['semaphore'])
+            count = self.scope.counts.get(allowed(self.token.text), '0')
+            return self.of_names('semaphore', '%s = ' + count)
         if kind == 'pt':
-            raise NoCounterpart('A protothread needs no structure: `thread NAME { .. }` declares it, `spawn NAME;` '
-                                'runs '
-                                'it.')
+            self.why(OF_STRUCTURE)
+            return self.rest_left_out()
         if kind == 'ctimer':
             return self.of_callback()
         if kind == 'rtimer':
@@ -194,6 +195,20 @@ class Declarations(Lines):
                                 'and a callback timer, `ctimer %s { .. }`, runs its block.' % ((self.token.text,) * 2))
         self.why('An event timer is declared by `etimer`.')
         return self.of_names('etimer', '%s')
+
+    def rest_left_out(self) -> str:
+        """Leaves out the rest of a declaration."""
+        while self.token.kind != 'end' and not self.accept(';'):
+            self.at += 1
+        return ''
+
+    def at_top(self, declared: str) -> str:
+        """The declaration of an event or a semaphore, which moves above the line that names the processes."""
+        if not self.place.is_below:
+            return declared
+        self.why(ABOVE[declared.split()[0]])
+        self.events.append(declared)
+        return ''
 
     def of_callback(self) -> str:
         """A callback timer without its block."""
@@ -210,10 +225,11 @@ class Declarations(Lines):
         while True:
             name = self.new_name(self.token.text)
             declared, is_moved = '%s %s;' % (word, form % name), word == 'etimer' and self.is_moved()
-            if is_moved and name in self.place.timers:
+            if name in self.place.timers if is_moved else self.place.is_below and self.scope.kinds.get(name) == word:
                 self.why('`%s` is declared already.' % name)
             else:
-                found.append(self.in_code('Timers', declared) if is_moved else declared)
+                found.append(self.in_code('Timers', declared) if is_moved else
+                             declared if word == 'etimer' else self.at_top(declared))
             self.at += 1
             if not self.accept(','):
                 break
@@ -255,5 +271,5 @@ class Declarations(Lines):
             self.why('A declaration ends with `;`.')
         if words[0] == 'code' and found[-1] == '{':
             self.place = self.place._replace(is_head=True, is_top=False, code=words[1])
-        text = ' '.join(found)
-        return text.replace(' ,', ',').replace(' ;', ';')
+        text = ' '.join(found).replace(' ,', ',').replace(' ;', ';')
+        return self.at_top(text) if words[0] in ABOVE else text

@@ -16,6 +16,8 @@ ENDS = [
     (re.compile('(%s)' % NAME), r'\1 = 0'),
 ]
 # The beginning of a code, up to its last variable, or up to its last event timer.
+# A line above which a thread belongs.
+BELOW_THREADS = re.compile(r'^[ \t]*(?:thread|onpoll|onexit|body|PROCESS_BEGIN)\b', re.M)
 HEADS = {word: re.compile(r'\{(?:(?:\s*+//.*+)*+\s*+(?:%s)\b.*+)*+' % words)
          for word, words in (('var', 'var'), ('etimer', 'var|etimer'), ('ctimer', 'var|etimer'))}
 
@@ -24,7 +26,8 @@ class Surroundings(NamedTuple):
     """The place of lines.
 
     is_head  whether declarations of a `code` may be there
-    is_top   whether declarations above `process` may be there
+    is_top   whether the lines are outside all codes
+    is_below whether the line that names the processes is above the lines
     loop     the test of the innermost `while` around the lines, or nothing
     code     the process whose code it is, or nothing
     head     the line (from 1) below which a variable of this code may be declared, or 0
@@ -42,6 +45,7 @@ class Surroundings(NamedTuple):
     timers: frozenset[str] = frozenset()
     last: str = ''
     before: str = ''
+    is_below: bool = False
 
 
 def place_below(above: list[str]) -> Surroundings:
@@ -61,13 +65,14 @@ def place_below(above: list[str]) -> Surroundings:
     loop = next((it for it in reversed(opened) if it), '')
     codes = [at for at, word in enumerate(words[:-2]) if word == 'code']
     if not codes or not opened:
-        return Surroundings(len(opened) == 1, not opened, loop, last=_last(words), before=last_statement(words))
+        return Surroundings(len(opened) == 1, not opened, loop, last=_last(words), before=last_statement(words),
+                            is_below='process' in words)
     declared = [at for at in range(codes[-1], len(words)) if words[at] == 'var']
     head = tokens[declared[-1] if declared else codes[-1] + 2].line
     names = frozenset(words[at + 1] for at in declared if at + 1 < len(words))
     timers = frozenset(name for word, name in zip(words[codes[-1]:], words[codes[-1] + 1:]) if word == 'etimer')
     return Surroundings(len(opened) == 1, False, loop, words[codes[-1] + 1], head, names, timers, _last(words),
-                        last_statement(words))
+                        last_statement(words), True)
 
 
 def head_for(text: str, declared: str, code: str = '') -> int:
@@ -79,7 +84,11 @@ def head_for(text: str, declared: str, code: str = '') -> int:
     word, name = declared.rstrip(';').split()[:2]
     ends = [it.start() for it in codes[1:]] + [len(text)]
     users = [code for code, end in zip(codes, ends) if re.search(r'\b%s\b' % name, text[code.end():end], re.I)]
-    head = HEADS[word].match(text, text.index('{', (users or codes)[0].end()))
+    begin = text.index('{', (users or codes)[0].end())
+    if word == 'thread':
+        below = BELOW_THREADS.search(text, begin)
+        return text.count('\n', 0, below.start()) if below else 0
+    head = HEADS[word].match(text, begin)
     return text.count('\n', 0, head.end()) + 1 if head else 0
 
 

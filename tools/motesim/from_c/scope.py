@@ -13,6 +13,7 @@ DECLARES = {'event': 'event', 'semaphore': 'semaphore', 'process': 'process', 'v
             'ctimer': 'timer', 'thread': 'thread'}
 NAME = re.compile('[a-z][a-z0-9_]*')
 CODE = re.compile(r'^[ \t]*(?:code[ \t]+(\w+)|PROCESS_THREAD\s*\(\s*(\w+))', re.M)
+SEMAPHORE = re.compile(r'\bPT_SEM_INIT\s*\(\s*&?\s*(\w+)\s*,\s*([0-9]{1,5})\s*\)')
 MACRO = re.compile(r'^[ \t]*PROCESS(?:_NAME)?[ \t]*\([ \t]*(\w+)', re.M)
 LONGEST = 16
 
@@ -44,12 +45,14 @@ class Scope:
     named      the processes that lines of the notation name, `process a, b;`
     processes  all processes: those with a code, in the order of the codes, and then those that are only named, by a
                line of the notation or by Contiki's `PROCESS`
+    counts     the initial counts of the semaphores of Contiki
     """
     kinds: dict[str, str] = field(default_factory=dict)
     codes: tuple[str, ...] = ()
     receiver: bool = False
     named: tuple[str, ...] = ()
     processes: tuple[str, ...] = ()
+    counts: dict[str, str] = field(default_factory=dict)
 
     @classmethod
     def of(cls, text: str) -> Scope:
@@ -70,7 +73,8 @@ class Scope:
         macros = [_process(found[1], (*named, *codes)) for found in MACRO.finditer(text)]
         for name in macros:
             kinds.setdefault(name, 'process')
-        return cls(kinds, codes, 'receiver' in words, named, tuple(dict.fromkeys([*codes, *named, *macros])))
+        return cls(kinds, codes, 'receiver' in words, named, tuple(dict.fromkeys([*codes, *named, *macros])),
+                   {allowed(name): count for name, count in SEMAPHORE.findall(text)})
 
     def of_kind(self, kind: str) -> list[str]:
         """The names of a kind."""

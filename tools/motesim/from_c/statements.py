@@ -9,9 +9,10 @@ import re
 
 from motesim.from_c.calls import BROADCAST, CALLS, Calls
 from motesim.from_c.control import Control
-from motesim.from_c.declarations import OF_PACKETS, Declarations
+from motesim.from_c.declarations import ABOVE, OF_PACKETS, Declarations
 from motesim.from_c.expressions import (
-    DICE, NO_ARRAYS, NO_CALLS, NO_CHANCE, NO_FIELDS, QUALIFIERS, READ_ONLY, STEP, TYPES, NoCounterpart, Node,
+    DICE, MOMENTS_OF_SECOND, NO_ARRAYS, NO_CALLS, NO_CHANCE, NO_FIELDS, QUALIFIERS, READ_ONLY, STEP, TYPES,
+    NoCounterpart, Node,
 )
 from motesim.from_c.scope import allowed, nearest
 from motesim.notation.faults import MOST_LEVELS, STATEMENTS
@@ -58,6 +59,16 @@ OTHER = {
     ('poll', 'semaphore'): 'signal', ('post', 'semaphore'): 'signal',
 }
 OF_OTHER = {'process': 'a process', 'timer': 'a timer', 'thread': 'a thread', 'semaphore': 'a semaphore'}
+# Statements that lack their value: for each the reason, and the statement.
+WITHOUT = {
+    'send': ('A packet has a number: `send 1;`.', 'send 1'),
+    'print': ('A `print` shows a number: `print 1;`.', 'print 1'),
+    'yield_until': ('Without a test it is `yield`; a test follows `yield_until`, such as `is(packet)`.', 'yield'),
+}
+LOOPS = ('loop', 'forever', 'repeat')
+SECONDS = ('s', 'sec', 'secs', 'second', 'seconds')
+UNIT = re.compile('(?:%s|ms|millis|milliseconds?|ticks?|moments?)' % '|'.join(SECONDS))
+TIME = re.compile('([0-9]+)(%s)' % UNIT.pattern)
 KEEPS = ('process', 'autostart', 'receiver', 'code', 'event', 'semaphore', 'etimer', 'ctimer', 'thread', 'body',
          'onpoll', 'onexit')
 PLAIN = ('yield', 'pause', 'restart', 'exit')
@@ -123,6 +134,10 @@ class Statements(Declarations, Calls, Control):
             return self.do_loop()
         if word == 'return':
             return self.of_return()
+        if word in LOOPS and self.ahead(1).text == '{':
+            self.why('There is no `%s`: `while 1 { .. }` repeats its block, in which something has to wait.' % word)
+            self.at += 1
+            return 'while 1 ' + self.body()
         if word in ('switch', 'case', 'break'):
             return {'switch': self.of_switch, 'case': self.of_case, 'break': self.of_break}[word]()
         if word in QUALIFIERS and self.ahead(1).text == 'PT_THREAD' and self.accept(word):
@@ -173,7 +188,8 @@ class Statements(Declarations, Calls, Control):
         if word in STATEMENTS or lower in PRINTS and behind in ('(', '"'):
             return self.own()
         if lower in CALLS or lower in ('process_begin', 'process_end', 'process', 'autostart_processes',
-                                       'process_thread', 'pt_begin', 'pt_end', 'process_name', 'pt_thread'):
+                                       'process_thread', 'pt_begin', 'pt_end', 'process_name', 'pt_thread', 'pt_init',
+                                       'pt_sem_init'):
             return self.macro()
         if behind in ('=', '==', ':=') or behind in ('+', '-', '*', '/', '%', '&', '|') and self.ahead(2).text == '=':
             return self.assignment()
@@ -296,7 +312,7 @@ class Statements(Declarations, Calls, Control):
         """An event that is created by a call: it is declared at the top."""
         self.expression()
         self.end('')
-        self.why('An event is declared by `event`, above the `process` line.')
+        self.why(ABOVE['event'])
         if self.place.is_top:
             return 'event %s;' % self.new_name(name)
         if self.scope.kinds.get(name) != 'event':
@@ -315,6 +331,10 @@ class Statements(Declarations, Calls, Control):
             self.tokens[self.at] = self.token._replace(kind='name', text=meant)
             word = meant
         self.at += 1
+        if word in WITHOUT and self.token.text in (';', ''):
+            reason, word = WITHOUT[word]
+            self.why(reason)
+            return self.end(word)
         if word.lower() in PRINTS and word not in ('send',):
             return self.printed(word)
         if word in PLAIN:
@@ -397,13 +417,30 @@ class Statements(Declarations, Calls, Control):
                 self.why('The time comes directly after the name of the timer.')
             if self.token.text in (';', ')', '}') or self.token.kind == 'end':
                 raise NoCounterpart('A timer is set to a time, in moments: `set %s 10;`.' % parts[1])
-            parts.append(self.value())
+            parts.append(self.time())
         else:
             parts.append(self.writer.of_kind(self.target(), TARGETS[word]))
             if self.accept('('):
                 self.need(')')
                 self.why('A name that follows `%s` has no parentheses.' % word)
         return ' '.join(parts)
+
+    def time(self) -> str:
+        """The time of a timer, which has no unit."""
+        found = TIME.fullmatch(self.token.text)
+        if found and found[2]:
+            self.tokens[self.at:self.at + 1] = [self.token._replace(text=it) for it in found.groups()]
+        value = self.value()
+        unit = self.token.text.lower()
+        if self.token.kind == 'end' or not UNIT.fullmatch(unit):
+            return value
+        self.at += 1
+        if unit not in SECONDS:
+            self.why('A number has no unit: a timer is set in moments.')
+            return value
+        self.why('A number has no unit: a timer is set in moments. Decide how many moments a second has; with %d it is '
+                 'the line below.' % MOMENTS_OF_SECOND)
+        return '(%d * %s)' % (MOMENTS_OF_SECOND, value)
 
     def word_of_event(self) -> str:
         """The word of an event, which is never left out."""
