@@ -1,4 +1,5 @@
 """Marks for a folder of solutions: hostile folders, the teacher's nets, limits, and the forms of marks."""
+import argparse
 import contextlib
 import csv
 import io
@@ -20,6 +21,7 @@ from pathlib import Path
 from unittest import mock
 
 from here import TOOLS
+from motesim.grading.command import status_of
 from motesim.grading.entries import Entry, anonymous, data_of, entries_of
 from motesim.grading.marking import Mark, Marks, Task, page_name
 from motesim.grading.nets import nets_of, program_of
@@ -132,7 +134,7 @@ class Entries(Folder):
             'column 1)',
             'notes.txt': '0 of 3  its name ends neither in .toml nor in .mote',
             'zoe.toml.txt': '0 of 3  its name ends neither in .toml nor in .mote: remove the ending .txt',
-            'bytes.toml': '0 of 3  the file is not UTF-8 text',
+            'bytes.toml': '0 of 3  the file is not UTF-8 text: save it as UTF-8',
             'large.toml': '0 of 3  the file is longer than 1,048,576 bytes'})
         self.assertEqual(sorted(name for name, row in rows.items() if row == '3 of 3'),
                          ['=1+1.toml', 'anna.toml', 'group/eve.toml', 'new\\nline.toml', 'raw\\xff.toml'])
@@ -143,6 +145,10 @@ class Entries(Folder):
         os.mkfifo(self.folder / 'anna.toml')
         with self.assertRaises(Fault):
             data_of(entry)
+
+    def test_arguments_that_are_swapped(self) -> None:
+        with self.assertRaisesRegex(Fault, r'x\.expect\.toml is not: .* swapped\. Write tools/grade \S+ x\.expect'):
+            status_of(argparse.Namespace(folder=Path('x.expect.toml'), expectations=self.folder))
 
     def test_an_empty_folder_and_none(self) -> None:
         (self.folder / 'anna.toml').unlink()

@@ -413,8 +413,8 @@ class Warnings(unittest.TestCase):
             self.assertRegex(found, r'a\.toml is the text of a program, not a scenario\. Hint: .*`\[programs\]`.*'
                                     r'The program has an error, too: .*line 3: .*Did you mean `print`\?')
         data = b'process a;\ncode a { body { } }\n'
-        self.assertEqual(explain.explanation('the text', data, 'motesim: scenario fault 1')[0],
-                         'the text is the text of a program, not a scenario.')
+        self.assertEqual(explain.explanation('the text', data, 'motesim: scenario fault 1')[:2],
+                         ['the text has no error.', 'the text is the text of a program, not a scenario.'])
         self.assertNotIn('an error', self.explained('a.mote', 'process a;\ncode a { body { print 1; } }\n'))
         plan = 'end = 9\nmedium = { range = 9, base = 2, per = 9 }\n[places]\nrule = "line"\ncount = 2\nstep = 5\n'
         found = self.explained('a.plan.toml', plan)

@@ -6,7 +6,9 @@ import io
 import json
 import subprocess
 import sys
+import tempfile
 import unittest
+from pathlib import Path
 from typing import Any
 
 from here import TOOLS, TOP
@@ -16,7 +18,7 @@ from motesim.report import FIELDS, Line, Report
 from motesim.runner.run import answer
 from motesim.scenario import Scenario
 from motesim.why.log import Filter, Log, filtered, kinds_of, numbers_of, of_sentence, sums
-from motesim.why.source import Source, Traces
+from motesim.why.source import Source, Traces, read_traces
 
 # Both motes write lines at moment 2; the program of mote 0 has a process that is called `take`.
 REPORT = '''mote 0 p
@@ -76,6 +78,30 @@ class Logs(unittest.TestCase):
             kinds_of('sends')
 
 
+SCENARIO_OF_ONE = """version = 1
+end = 9
+[medium]
+range = 10
+base = 1
+per = 100
+[programs]
+a = '''
+process a;
+autostart a;
+code a {
+  var n = 0;
+  body {
+    n = n + 1;
+  }
+}
+'''
+[[mote]]
+x = 0
+y = 0
+program = "a"
+"""
+
+
 class Runs(unittest.TestCase):
     def setUp(self) -> None:
         skips.need_program(self)
@@ -113,6 +139,19 @@ class Runs(unittest.TestCase):
     def log(self, *arguments: str) -> str:
         return subprocess.run([sys.executable, str(TOOLS / 'log'), 'examples/flooding.toml', *arguments],
                               capture_output=True, text=True, cwd=TOP, check=True).stdout
+
+    def test_a_scenario_with_an_error(self) -> None:
+        hint = 'Hint: Two values with `+` between them are in parentheses: `(n + 1)`.\nWrite, as line '
+        with tempfile.TemporaryDirectory() as folder:
+            path = Path(folder, 'a.toml')
+            path.write_text(SCENARIO_OF_ONE)
+            with self.assertRaises(Fault) as seen:
+                read_traces(path)
+            self.assertIn(hint, str(seen.exception))
+            path = Path(folder, 'a.mote')
+            path.write_text(SCENARIO_OF_ONE, encoding='utf-16')
+            with self.assertRaisesRegex(Fault, 'looks like a text in UTF-16, .* Save it as UTF-8'):
+                read_traces(path)
 
     def test_the_command(self) -> None:
         shown = self.log('--kind', 'send', '--mote', '0').split('\n')

@@ -793,6 +793,12 @@ class Runs(unittest.TestCase):
         self.assertEqual([it['at'] for it in got['chain']], [46] * 4 + [43] * 4 + [40] * 3 + [0, 0])
         self.assertEqual(got['path']['medium'], {'moments': 6, 'times': 2})
 
+    def test_an_error_names_the_file_if_there_are_two(self) -> None:
+        shown = self.why('examples/flooding.toml', 'mote 99 prints', '--other', 'examples/drift.toml')
+        self.assertIn('why: examples/flooding.toml: ', shown.stderr)
+        shown = self.why('examples/flooding.toml', 'mote 3 prints flood 99', '--other', 'examples/drift.toml')
+        self.assertIn('why: examples/drift.toml: ', shown.stderr)
+
     def test_a_second_run_that_has_the_line(self) -> None:
         with tempfile.TemporaryDirectory() as room:
             path = Path(room, 'lossy.toml')

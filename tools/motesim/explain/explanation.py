@@ -9,12 +9,13 @@ from typing import Any
 from motesim.explain import hints, missing, synonyms
 from motesim.explain.advice import advice
 from motesim.explain.repair import Repair, repair
+from motesim.faults import Fault
 from motesim.notation import faults as program_faults
 from motesim.scenario import encodings
 from motesim.scenario import faults as scenario_faults
 from motesim.explain.lint import Warned, warnings
 from motesim.report import Report
-from motesim.runner.run import Answer, answer, is_report, read_file
+from motesim.runner.run import Answer, NoReport, answer, is_report, read_file
 from motesim.scenario import Scenario
 from motesim.scenario.faults import Place, ScenarioError
 from motesim.scenario.kinds import begins_as_c, begins_as_program
@@ -248,7 +249,15 @@ def program_instead(name: str, data: bytes) -> list[str]:
     source = data.decode('utf-8', 'replace').removeprefix(MARK)
     its = program_faults.find_fault(source)
     lines = ['%s is the text of a program, not a scenario.' % one_line(name), *hinted(hints.OF_PROGRAM)]
-    return lines + ([*wrapped('The program has an error, too:'), *of_program_file(name, source, its)] if its else [])
+    if its is None:
+        return ['%s has no error.' % one_line(name), *lines]
+    return [*lines, *wrapped('The program has an error, too:'), *of_program_file(name, source, its)]
+
+
+def refused(name: str, data: bytes, fault: NoReport) -> Fault:
+    """The fault that a scenario has no report, with its explanation."""
+    line = str(fault).partition(': ')[2]
+    return Fault('\n'.join(['%s: %s' % (name, fault), *explanation(name, data, line)]))
 
 
 def explain(name: str, run: Callable[[bytes], Answer] | None = None) -> int:

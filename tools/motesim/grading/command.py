@@ -146,6 +146,9 @@ def remarks(folder: Path, nets: Sequence[Net]) -> list[str]:
 
 def status_of(asked: argparse.Namespace) -> int:
     """The work of tools/grade; returns the status."""
+    if asked.expectations.is_dir() and not asked.folder.is_dir():
+        raise Fault('%s is a folder, and %s is not: the arguments look swapped. Write tools/grade %s %s' % (
+            asked.expectations, asked.folder, asked.expectations, asked.folder))
     program_path()
     pages = [path for path in asked.output if path.suffix == '.html']
     pictures = pages_of(pages[0]) if pages else None

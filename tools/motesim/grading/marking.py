@@ -12,7 +12,7 @@ from motesim.explain.lint import Program, of_start
 from motesim.faults import Fault
 from motesim.files import replace_whole
 from motesim.grading.entries import Entry, data_of
-from motesim.grading.nets import Net, NoProgram, program_of
+from motesim.grading.nets import NOT_UTF8, Net, NoProgram, program_of
 from motesim.judge.expectations import (
     REFUSED, REQUIRED, Part, UnknownSentence, known_of, more_of, read_all, refused, same_report,
 )
@@ -171,7 +171,7 @@ class Task:
                 found = [self.in_net(net.with_program(text), its, net.program)._replace(
                     net=net.name, is_hidden=net.is_hidden) for net, text in zip(self.nets, source)]
         except UnicodeDecodeError:
-            return Marks(entry.name, why='the file is not UTF-8 text')
+            return Marks(entry.name, why=NOT_UTF8)
         except LimitMet as fault:
             if fault.limit == 'seconds':
                 return unmarked(entry.name, '%s, though the program had used less processor time than it may' % fault)

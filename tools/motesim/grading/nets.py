@@ -25,6 +25,7 @@ MOST_NETS = 1_000
 OPTIONS = ('--vary', '--net'), ('--vary-hidden', '--hidden')
 # The most names of programs in a message, and the greatest length of each.
 MOST_NAMES, LONGEST_NAME = 5, 40
+NOT_UTF8 = 'the file is not UTF-8 text: save it as UTF-8'
 
 
 @dataclass(frozen=True)
@@ -127,7 +128,7 @@ def program_of(data: bytes, name: str, wanted: str) -> str:
     try:
         text = data.decode('utf-8')
     except UnicodeDecodeError:
-        raise Fault('the file is not UTF-8 text') from None
+        raise Fault(NOT_UTF8) from None
     if name.endswith('.mote'):
         return text.removeprefix(MARK)
     if has_plan(data):

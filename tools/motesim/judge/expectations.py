@@ -17,6 +17,7 @@ from motesim.report import Report
 from motesim.runner import LimitMet, ProgramFault
 from motesim.runner.run import Answer, answer, read_file, refuse_others
 from motesim.scenario import Scenario, ScenarioFault
+from motesim.scenario.encodings import decoded
 from motesim.scenario.faults import TOP
 from motesim.judge.sentences import Names, Refused, Sentence, SentenceFault, lacking, names_of, read_sentence
 from motesim.toml import NoToml, read_toml
@@ -43,10 +44,7 @@ REQUIRED = ' (required)'
 
 def text_of(path: Path) -> str:
     """The text of a file."""
-    try:
-        return read_file(path).decode('utf-8')
-    except UnicodeDecodeError:
-        raise Fault('%s is not UTF-8' % path) from None
+    return decoded(str(path), read_file(path))
 
 
 @dataclass(frozen=True)

@@ -6,6 +6,7 @@ from collections.abc import Iterator, Mapping, Sequence
 from pathlib import PurePath
 from typing import Any
 
+from motesim.explain.explanation import of_program_file, wrapped
 from motesim.notation import faults as program_faults
 from motesim.plan import places, primes
 from motesim.plan.chance import Chance
@@ -18,9 +19,13 @@ from motesim.plan.keys import (
 )
 from motesim.plan.tables import Key, NoParameter, PlanFault, Tables, filled, needed, optional, shown, text_of_value
 from motesim.plan.text import Mote, Net, scenario_text
+from motesim.scenario.encodings import decoded
 from motesim.scenario.faults import Path, Place
 from motesim.scenario.kinds import begins_as_scenario
 from motesim.toml import MARK
+
+OF_SCENARIO = 'This file begins as a scenario: a plan needs one with the text of a program only.'
+
 
 def files_of(tables: Tables, files: Files) -> list[str]:
     """The names of the files that a plan needs, as far as they are known."""
@@ -80,13 +85,15 @@ class Builder:
     def read_file(self, name: str, path: Path) -> str:
         """The text of a file next to the plan, which is named at a key."""
         try:
-            return self.files.read(name).decode('utf-8')
-        except UnicodeDecodeError:
-            raise self.tables.fault(path, 'This file is not UTF-8.', 'a file with a text') from None
+            data = self.files.read(name)
         except (Fault, ValueError) as fault:
             # (a ValueError: no file can have this name)
             raise self.tables.fault(path, 'The file can\'t be read: %s.' % fault,
                                     'the name of a file, relative to the folder of the plan') from None
+        try:
+            return decoded(name, data)
+        except Fault as fault:
+            raise self.tables.fault(path, '%s.' % fault, 'a file with a text in UTF-8') from None
 
     def rule(self, table: object, path: Path, rules: Mapping[str, Mapping[str, Key]], more: Mapping[str, Key],
              what: str) -> dict[str, Any]:
@@ -129,13 +136,11 @@ class Builder:
                                   self.tables.names())) from None
         fault_there = program_faults.find_fault(text)
         if fault_there:
-            token = fault_there.token
-            place = Place(token.line, token.column, len(token.text))
-            title, rule = program_faults.RULES[fault_there.kind]
             name = file if text == source else '%s, with its parameters' % file
+            lines = of_program_file(name, text, fault_there)
             if begins_as_scenario(source.encode()):
-                rule += ' This file begins as a scenario: a plan needs one with the text of a program only.'
-            raise PlanFault(shown(name, text, place, '%s: %s' % (title, rule), ', '.join(fault_there.may)))
+                lines += wrapped(OF_SCENARIO)
+            raise PlanFault('\n'.join(lines))
         return text
 
     def motes(self) -> list[Mote]:

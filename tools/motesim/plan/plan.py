@@ -18,6 +18,7 @@ from motesim.plan.keys import TOP
 from motesim.plan.net import Builder, files_of
 from motesim.plan.tables import NAME, Tables, Value, as_truth
 from motesim.runner.run import read_file
+from motesim.scenario.encodings import decoded
 
 UNUSED = 'nothing uses the parameter %s, so its values make no difference: write ${%s} in the plan or in a program'
 
@@ -39,10 +40,7 @@ class Plan:
     @classmethod
     def read(cls, path: str | Path) -> Plan:
         path = Path(path)
-        try:
-            return cls(path.name, read_file(path).decode('utf-8'), Files(path.parent), str(path))
-        except UnicodeDecodeError:
-            raise Fault('%s is not UTF-8' % path) from None
+        return cls(path.name, decoded(str(path), read_file(path)), Files(path.parent), str(path))
 
     def _parameters(self) -> dict[str, Value]:
         """The parameters with their default values."""

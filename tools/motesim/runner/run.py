@@ -25,7 +25,7 @@ from pathlib import Path
 from typing import NamedTuple
 
 from motesim.report.belongs import check_scenario as check_scenario
-from motesim.scenario.encodings import command_for, encoding_of, shown
+from motesim.scenario.encodings import refuse_encoding
 from motesim.faults import Fault
 from motesim.runner.cache import Answer as Answer
 from motesim.runner.process import Limits, Runner
@@ -111,9 +111,8 @@ def read_run(path: str | Path, scenario: str | Path | None = None, limits: Limit
     if not (is_run or data.strip()):
         raise Fault('%s is empty: expected a report or a scenario' % (
             'standard input' if str(path) == '-' else path))
-    encoding = None if is_run else encoding_of(data)
-    if encoding:
-        raise Fault('%s Save it as UTF-8: %s' % (shown(str(path), encoding), command_for(str(path), encoding)))
+    if not is_run:
+        refuse_encoding(str(path), data)
     try:
         if is_run:
             found = Scenario.parse(data)

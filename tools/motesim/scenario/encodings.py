@@ -5,6 +5,8 @@ import codecs
 import re
 from typing import NamedTuple
 
+from motesim.faults import Fault
+
 MARKS = [(codecs.BOM_UTF32_LE, 'UTF-32'), (codecs.BOM_UTF32_BE, 'UTF-32'), (codecs.BOM_UTF16_LE, 'UTF-16'),
          (codecs.BOM_UTF16_BE, 'UTF-16')]
 LOOKED_AT = 4_096
@@ -58,6 +60,22 @@ def hint(file: str, found: Encoding) -> str:
     """Advice on how to save a file of another encoding as UTF-8."""
     return 'Save it as UTF-8: an editor has that under "Save as" or "Encoding". On a command line: `%s`.' % (
         command_for(file, found))
+
+
+def refuse_encoding(file: str, data: bytes) -> None:
+    """Raises a fault if a text seems to have another encoding than UTF-8."""
+    found = encoding_of(data)
+    if found:
+        raise Fault('%s Save it as UTF-8: %s' % (shown(file, found), command_for(file, found)))
+
+
+def decoded(file: str, data: bytes) -> str:
+    """A file's text. Raises a fault if it isn't UTF-8."""
+    refuse_encoding(file, data)
+    try:
+        return data.decode('utf-8')
+    except UnicodeDecodeError:
+        raise Fault('%s is not UTF-8: save it as UTF-8' % file) from None
 
 
 def hint_of_byte(data: bytes) -> str | None:

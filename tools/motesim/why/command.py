@@ -13,7 +13,7 @@ from motesim.why.diverge import rows as parted_rows
 from motesim.why.miss import as_json as missed
 from motesim.why.miss import misses
 from motesim.why.miss import rows as near_rows
-from motesim.why.question import Asked, Asker
+from motesim.why.question import Asked, Asker, Missing
 from motesim.why.source import Source, read_source
 from motesim.why.state import as_json as state_as_json
 from motesim.why.state import read_state
@@ -73,10 +73,20 @@ def show_state(source: Source, asked: argparse.Namespace) -> int:
     return 0
 
 
+def answered(asker: Asker, asked: argparse.Namespace) -> Asked | Missing:
+    """The answer to a question about a run. If there are two runs, an error names the file."""
+    try:
+        return asker.about(asked.question)
+    except Fault as fault:
+        if asked.other is None:
+            raise
+        raise Fault('%s: %s' % (asker.source.name, fault)) from None
+
+
 def show_other(source: Source, asked: argparse.Namespace) -> None:
     """Shows the point at which a run leaves the chain of another run, in which the line exists."""
     other = read_source(asked.other, asked.other_scenario)
-    found = Asker(other).about(asked.question)
+    found = answered(Asker(other), asked)
     print()
     if isinstance(found, Asked):
         first = other.traces.text(found.where)
@@ -90,7 +100,7 @@ def show_other(source: Source, asked: argparse.Namespace) -> None:
 def show_why(source: Source, asked: argparse.Namespace) -> int:
     """Shows a chain, or the near misses."""
     asker = Asker(source)
-    found = asker.about(asked.question)
+    found = answered(asker, asked)
     if not isinstance(found, Asked):
         near = misses(asker, found)
         print(json.dumps({'question': asked.question, **missed(found, near)}, indent=1) if asked.json else

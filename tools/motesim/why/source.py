@@ -10,7 +10,8 @@ from typing import NamedTuple
 from motesim.report.belongs import check_motes, check_scenario
 from motesim.faults import Fault
 from motesim.report import Log, Report, Trace
-from motesim.runner.run import is_scenario, read_file, run_program
+from motesim.runner.run import NoReport, is_scenario, read_file, refuse_others, run_program
+from motesim.scenario.encodings import refuse_encoding
 from motesim.scenario.scenario import Scenario
 from motesim.why.lines_of_file import ScenarioFile
 from motesim.why.replay import QUEUE, Replay
@@ -242,13 +243,19 @@ class Source:
 def read_traces(path: str | Path, scenario: str | Path | None = None) -> tuple[bytes, Scenario | None]:
     """The bytes of a report, and the scenario if it is known: a scenario, which is run; or a report."""
     data = read_file(path)
+    refuse_others(path, data)
     if is_scenario(path, data):
         if scenario is not None:
             raise Fault('%s: it is itself a scenario, so no other can be given' % path)
         try:
             return run_program(data), Scenario.parse(data)
+        except NoReport as fault:
+            # (only an error needs it, and its modules are many)
+            from motesim.explain.explanation import refused
+            raise refused(str(path), data, fault) from None
         except Fault as fault:
             raise Fault('%s: %s' % (path, fault)) from None
+    refuse_encoding(str(path), data)
     if scenario is None:
         return data, None
     try:
