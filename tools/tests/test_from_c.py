@@ -225,6 +225,34 @@ class Processes(unittest.TestCase):
                     self.assertIn(wanted, found.hint if found else '')
 
 
+class HalfWritten(unittest.TestCase):
+    """A process that lacks its name in the `process` line, or its code."""
+    CODE = 'code a {\n  body {\n    yield;\n  }\n}\n'
+    THREAD = 'PROCESS_THREAD(b, ev, data)\n{\n  PROCESS_BEGIN();\n  PROCESS_END();\n}\n'
+
+    def shown(self, text: str) -> str:
+        fault = find_fault(text)
+        found = advice(text, fault) if fault else None
+        assert found
+        return '\n'.join([found.hint, *found.shown(text, 0)])
+
+    def test_no_code(self) -> None:
+        shown = self.shown('process a, b;\nautostart a, b;\n' + self.CODE)
+        self.assertTrue(shown.startswith('Process `b` has no `code` (in Contiki, no `PROCESS_THREAD`)'), shown)
+        self.assertTrue(shown.endswith('Insert below line 7:\n  code b { body { } }'), shown)
+        shown = self.shown('process a, b;\nautostart a;\n' + self.CODE)
+        self.assertIn('`b` has no `code`', shown)
+        self.assertTrue(shown.endswith('Write, as line 1:\n  process a;'), shown)
+
+    def test_no_name(self) -> None:
+        for thread in self.THREAD, self.THREAD[:30]:
+            shown = self.shown('process a;\nautostart a;\n' + self.CODE + thread)
+            self.assertIn('`b` has a `code` (in Contiki, a `PROCESS_THREAD`), but isn\'t named', shown)
+            self.assertTrue(shown.endswith('Write, as line 1:\n  process a, b;'), shown)
+        shown = self.shown('process a;\nAUTOSTART_PROCESSES(&a, &b);\n' + self.CODE)
+        self.assertIn('is `autostart a, b;` here, but no process is named `b`: this program has `a`', shown)
+
+
 class Timers(unittest.TestCase):
     SOURCE = 'process a;\nautostart a;\ncode a {\n  body {\n    %s\n    yield;\n  }\n}\n'
 

@@ -209,8 +209,6 @@ def _of_unexpected(before: list[Token], here: Token, behind: Token, may: list[st
         return 'Did you mean `%s`?' % like if like else None
     if here.kind == 'end' and '`}`' in may:
         return 'A `}` may be missing: each block that was opened is closed.'
-    if here.kind == 'end' and '`code`' in may:
-        return 'Each process of the `process` line has its code: `code a { body { .. } }`.'
     return None
 
 

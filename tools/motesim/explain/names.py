@@ -7,6 +7,7 @@ from motesim.from_c.control import ELSE_IFS
 from motesim.from_c.correction import Correction
 from motesim.from_c.expressions import QUALIFIERS, TYPES
 from motesim.from_c.places import place_below
+from motesim.from_c.scope import Scope
 from motesim.from_c.statements import LOOPS
 from motesim.notation.faults import ARTICLES, ProgramError, Token, find_fault, tokens_of
 
@@ -109,9 +110,20 @@ def otherwise(text: str, fault: ProgramError) -> str:
         _code_at(tokens, fault.token), HEAD['variable'] % fault.token.text)
 
 
+def _lacking_code(text: str) -> tuple[str, Correction]:
+    """The code that is missing at the end of a text."""
+    scope = Scope.of(text)
+    name = next((it for it in scope.named if it not in scope.codes), 'a')
+    hint = 'Process `%s` has no `code` (in Contiki, no `PROCESS_THREAD`): each process of the `process` line has one.'
+    last = text.rstrip().count('\n') + 1
+    return hint % name, Correction(last, last, None, (), (last, 'code %s { body { } }' % name))
+
+
 def undeclared(text: str, fault: ProgramError) -> tuple[str, Correction | None] | None:
     """A hint on a name that isn't declared, with the declaration that it needs."""
     wanted, name, lines = _wanted(fault.may), fault.token.text, text.split('\n')
+    if fault.token.kind == 'end' and '`code`' in fault.may:
+        return _lacking_code(text)
     if fault.kind != 3 or not wanted:
         return None
     if wanted in HEAD:

@@ -140,8 +140,10 @@ class Calls(Lines):
         if name == 'autostart_processes':
             self.accept(';')
             self.why('The processes that start at boot are named by `autostart a, b;`.')
-            return 'autostart %s;' % ', '.join(self.of_process(
-                (it.parts[0] if it.kind == 'unary' else it).text) for it in call.parts)
+            names = [self.of_process((it.parts[0] if it.kind == 'unary' else it).text) for it in call.parts]
+            written = 'autostart ' + ', '.join(names)
+            self.check_processes(call, written, names)
+            return written + ';'
         if name == 'pt_init':
             self.why(OF_STRUCTURE)
             return self.end('').removesuffix(';')
@@ -229,10 +231,17 @@ class Calls(Lines):
         written = ARGUMENT.sub(argument, form)
         for word, (kind, its) in (self.writer.unknown or {}).items():
             if kind == 'process':
-                raise NoCounterpart(NO_PROCESS % (call.text, written, its, '`, `'.join(self.scope.processes)))
+                self.check_processes(call, written, [its])
             self.declare(word, kind, its, '20' if form.startswith('set') else '0')
         self.writer.unknown = None
         return written
+
+    def check_processes(self, call: Node, written: str, names: list[str]) -> None:
+        """Raises the advice on the first process of a call that the program doesn't have."""
+        known = self.scope.processes
+        lacking = next((it for it in names if it not in known), '')
+        if lacking:
+            raise NoCounterpart(NO_PROCESS % (call.text, written, lacking, '`, `'.join(known)))
 
     def declare(self, word: str, kind: str, name: str, value: str) -> None:
         """Declares a name that a call uses without a declaration, and reports this after the first reason."""

@@ -11,7 +11,7 @@ from motesim.from_c.expressions import NoCounterpart
 from motesim.from_c.scope import Scope
 from motesim.from_c.places import head_for, place_below
 from motesim.from_c.statements import Statements
-from motesim.from_c.structure import ONE_LINE, process_line, process_lines, unclosed_block
+from motesim.from_c.structure import ONE_LINE, begins_unnamed_code, process_line, process_lines, unclosed_block
 from motesim.notation.faults import ProgramError, find_fault, tokens_of
 
 MOST_LINES = 4
@@ -92,11 +92,12 @@ def _readings(source: str, scope: Scope, above: list[str], unclosed: int) -> Ite
         yield reader
 
 
-def _structural(text: str) -> Correction | None:
-    """The line that repairs the order of the processes, or a block that isn't closed, if there is no other fault."""
+def _structural(text: str, fault: ProgramError) -> Correction | None:
+    """The line that repairs the order of the processes, or a block that isn't closed, if there is no other fault; or
+    the line that names the process whose code begins at the fault."""
     for line, written, reason in (process_line(text), unclosed_block(text)):
         made = Correction(line, line, written, (reason,))
-        if line and _rank(text, made) == 2:
+        if line and (_rank(text, made) == 2 or begins_unnamed_code(text, fault.token.line)):
             return made
     return None
 
@@ -149,7 +150,7 @@ def correction(text: str, fault: ProgramError) -> Correction | None:
     scope = Scope.of(text)
     signs = [it.text for it in tokens_of(text)]
     unclosed = signs.count('{') - signs.count('}')
-    whole = _long_comment(text, fault) or _structural(text) or _process_lines(text, fault)
+    whole = _long_comment(text, fault) or _structural(text, fault) or _process_lines(text, fault)
     if whole:
         return whole
     advice, is_only_named = '', _is_only_named(text, fault)

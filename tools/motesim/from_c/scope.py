@@ -30,6 +30,11 @@ def _process(name: str, known: Iterable[str]) -> str:
     return short if short in known else allowed(name)
 
 
+def process_of(code: re.Match[str], known: Iterable[str]) -> str:
+    """The process to which the beginning of a code belongs."""
+    return code[1] or _process(code[2], known)
+
+
 def nearest(word: str, known: Iterable[str]) -> str | None:
     """The known word that is most similar to this one, if one is similar."""
     found = difflib.get_close_matches(word.lower(), sorted(known), 1, 0.65)
@@ -69,7 +74,7 @@ class Scope:
                     break
                 behind += 2
         named = tuple(name for name, its in kinds.items() if its == 'process')
-        codes = tuple(found[1] or _process(found[2], named) for found in CODE.finditer(text))
+        codes = tuple(process_of(found, named) for found in CODE.finditer(text))
         macros = [_process(found[1], (*named, *codes)) for found in MACRO.finditer(text)]
         for name in macros:
             kinds.setdefault(name, 'process')

@@ -7,7 +7,7 @@ from __future__ import annotations
 
 import re
 
-from motesim.from_c.scope import Scope
+from motesim.from_c.scope import CODE, Scope, process_of
 from motesim.notation.faults import tokens_of
 
 Repair = tuple[int, str, str]
@@ -51,11 +51,24 @@ def process_line(text: str) -> Repair:
             names = tuple(re.split(r'\s*,\s*', found[1]))
             if names == codes or len(set(codes)) != len(codes):
                 return NOTHING
-            reason = ('The `process` line names the processes in the order of their codes.'
-                      if set(names) == set(codes) else
-                      'The `process` line names each process that has a `code`, in the same order.')
-            return number, 'process %s;' % ', '.join(codes), reason
+            return number, 'process %s;' % ', '.join(codes), _of_names(names, codes)
     return NOTHING
+
+
+def _of_names(names: tuple[str, ...], codes: tuple[str, ...]) -> str:
+    """The reason why the line that names the processes is corrected."""
+    if set(names) == set(codes):
+        return 'The `process` line names the processes in the order of their codes.'
+    unnamed, lacking = [it for it in codes if it not in names], [it for it in names if it not in codes]
+    found = '`%s` has a `code` (in Contiki, a `PROCESS_THREAD`), but isn\'t named' % unnamed[0] if unnamed else \
+        '`%s` has no `code` (in Contiki, no `PROCESS_THREAD`)' % lacking[0]
+    return 'The `process` line names each process that has a `code`, in the same order: %s.' % found
+
+
+def begins_unnamed_code(text: str, line: int) -> bool:
+    """Returns whether a line begins the code of a process that no line names."""
+    found = CODE.match(text.split('\n')[line - 1])
+    return found is not None and process_of(found, Scope.of(text).named) not in Scope.of(text).of_kind('process')
 
 
 def unclosed_block(text: str) -> Repair:
