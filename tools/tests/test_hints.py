@@ -368,6 +368,32 @@ class Warnings(unittest.TestCase):
             with self.subTest(path.name):
                 self.assertEqual([it.text for it in warnings(Scenario.parse(path.read_bytes()))], [])
 
+    def test_a_loop_that_waits_in_one_branch(self) -> None:
+        for body, line, test in (('while 1 {\nif seq { yield; }\n}', 2, 'false'),
+                                 ('while 1 {\nif seq { seq = 2; } else { yield; }\n}', 2, 'true'),
+                                 ('while 1 {\nif seen { yield; } else {\nif seq { pause; } }\n}', 3, 'false'),
+                                 ('while 1 {\nif seq { yield; } else { pause; }\n}', 0, ''),
+                                 ('while 1 {\nif seq { yield; }\npause; }', 0, '')):
+            text = scenario(program='x').replace('"x"', "'''%s'''" % (CODE % ('set t 1; ' + body)))
+            report = 'mote 0 source\n0 start a\n0 halt\nmote 1 source\n0 start a\n0 halt\nmedium\nleft 0\n'
+            found = [it for it in warnings(Scenario.parse(text), Report.parse(report)) if 'one branch' in it.text]
+            self.assertEqual([(it.token.line, it.token.text) for it in found if it.token],
+                             [(line, 'if')] if line else [], body)
+            for it in found:
+                self.assertIn('the `while` on line 1 of the program waits in only one branch: if the test of the `if` '
+                              'on line %d is %s, nothing waits' % (line, test), it.text)
+                self.assertTrue(it.text.endswith('and the mote halts (motes 0, 1)'), it.text)
+
+    def test_a_receiver_that_never_waits_for_packets(self) -> None:
+        two = ('process a, b; autostart a, b; receiver %s; code a { body { yield_until is(packet); print data; } } '
+               'code b { etimer t; body { set t 1; yield_until fired(t); %s } }')
+        self.assertEqual(self.seen(two % ('a', '')), [])
+        self.assertEqual(self.seen(two % ('b', 'post a packet 1;')), [])
+        self.assertIn('the process `a` waits for packets, but they go to the `receiver`, which is `b`; write '
+                      '`receiver a;`', self.seen(two % ('b', ''))[0])
+        alone = CODE.replace('code', 'receiver a; code') % 'set t 1; yield_until fired(t);'
+        self.assertIn('packets go to the process `a`, which never waits for them', self.seen(alone)[0])
+
     def test_one_warning_for_each_cause(self) -> None:
         loop = 'process a; autostart a; code a { body { while 1 { poll a; } } }'
         text = scenario(program=loop) + ''.join('[[mote]]\nx = %d\ny = 0\nprogram = "source"\n' % it for it in (1, 2))

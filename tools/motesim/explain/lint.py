@@ -27,7 +27,8 @@ BUSY = ('a loop that waits for nothing: its test can\'t change before the next c
         'repeats until the mote\'s work is used up, and the mote halts; ')
 BUSY_FOR_STATE = BUSY + '`wait_while` and the same test, without a block, lets the mote wait'
 BUSY_FOR_EVENT = BUSY + '`%s` and the opposite test, without a block, waits for the next call first' % LATER
-LOOPS = ENDLESS, STILL_TRUE, STILL_FALSE, BUSY_FOR_STATE, BUSY_FOR_EVENT
+ONE_BRANCH = ('the `while` on line %d of the program waits in only one branch: if the test of the `if` on line %d is '
+              '%s, nothing waits, so the loop repeats until the mote\'s work is used up, and the mote halts')
 # Statements after which a test may have another value, though no variable in it is assigned.
 CHANGES = frozenset(('spawn', 'synch', 'set', 'reset', 'restart_timer', 'stop', 'start', 'kill', 'acquire', 'signal'))
 OF_CTIMER = ('`%s` is a `ctimer`: its event goes to the process ctimer, which runs its block, so `fired(%s)` is never '
@@ -38,6 +39,10 @@ FACTOR, MOST_DRAWING = '257', 255
 SAME_DRAWS = ('in a net of more than 255 motes, mote k + 255 with one seed draws the same numbers as mote k with '
               'the previous seed (255 * 257 is -1 in 16 bits), so runs of neighbouring seeds are not independent: '
               'use at most 255 motes')
+OTHER_RECEIVER = ('the process `%s` waits for packets, but they go to the `receiver`, which is `%s`; write `receiver '
+                  '%s;` if `%s` is meant')
+NEVER_RECEIVES = ('packets go to the process `%s`, which never waits for them: the report calls them `busy` or drops '
+                  'them unseen; wait by `yield_until is(packet);`, or leave the `receiver` out')
 NATURAL = ('no number is below 0, so this test is %s true: values are 0 to 65,535, and 0 - 1 is 65,535; write '
            '`while (x > 0)` to count down')
 BEHIND = 'the timer `%s` is set only after this wait for it, so the wait never ends: set it before'
@@ -119,6 +124,41 @@ class Program:
             elif word == 'while' and self.is_busy(at):
                 test = self.words[at + 1:self.words.index('{', at)]
                 yield BUSY_FOR_EVENT if set(test) & set(OF_EVENT) else BUSY_FOR_STATE, self.tokens[at]
+
+    def waiting_branches(self) -> Iterator[tuple[str, Token]]:
+        """Each `while` that waits in one branch of an `if`, and in the other one repeats without a wait."""
+        for at, word in enumerate(self.words):
+            if word == 'while':
+                passes, branch = self.way_through(self.words.index('{', at))
+                if passes and branch:
+                    where, test = branch
+                    yield ONE_BRANCH % (self.tokens[at].line, self.tokens[where].line, test), self.tokens[where]
+
+    def way_through(self, begin: int) -> tuple[bool, tuple[int, str] | None]:
+        """Returns whether a block can be passed without a wait; and the first `if` of which one branch waits, with
+        the result of its test in the other one."""
+        found, at, end = None, begin + 1, self.end_of_block(begin)
+        while at < end:
+            word = self.words[at]
+            if word in WAITS:
+                return False, None
+            if word in ('if', 'while'):
+                block = self.words.index('{', at)
+                behind = self.end_of_block(block) + 1
+                passes, inner = self.way_through(block)
+                if word == 'if':
+                    passes_other, of_other = True, None
+                    if self.words[behind] == 'else':
+                        passes_other, of_other = self.way_through(behind + 1)
+                        behind = self.end_of_block(behind + 1) + 1
+                    if not passes and not passes_other:
+                        return False, None
+                    found = found or inner or of_other or (
+                        (at, 'true' if passes else 'false') if passes != passes_other else None)
+                at = behind
+            else:
+                at += 1
+        return True, found
 
     def is_busy(self, at: int) -> bool:
         """Returns whether nothing in the block of a `while` waits or may change its test."""
@@ -210,12 +250,29 @@ def of_start(program: Program) -> Iterator[Warned]:
                          its.text if its else 'P'), name, packet)
 
 
+def of_receiver(program: Program) -> Iterator[Warned]:
+    """Yields the warnings about packets that go to another process than the one that waits for them, or to one that
+    never waits for them."""
+    words = program.words
+    codes = {words[at + 1]: words[at:program.end_of_block(at + 2)] for at, it in enumerate(words) if it == 'code'}
+    for receiver in program.receivers:
+        waits = [it for it, its in codes.items() if 'packet' in its and it != receiver.text]
+        is_posted = any(words[at - 1] in ('post', 'synch', 'broadcast') or words[at - 2] in ('post', 'synch')
+                        for at, it in enumerate(words) if it == 'packet')
+        if {'packet', 'yield', 'data', 'from'}.intersection(codes[receiver.text]) or is_posted:
+            continue
+        text = OTHER_RECEIVER % (waits[0], receiver.text, waits[0], waits[0]) if waits else NEVER_RECEIVES % (
+            receiver.text)
+        yield Warned(text, program.name, receiver, instead=''.join(waits[:1]))
+
+
 def of_program(program: Program) -> Iterator[Warned]:
     """Yields the warnings of a program."""
     name = program.name
     yield from of_start(program)
+    yield from of_receiver(program)
     for text, token in program.endless_loops():
-        yield Warned(text, name, token, instead=LATER if text == STILL_TRUE else '')
+        yield Warned(text, name, token, cause='loop', instead=LATER if text == STILL_TRUE else '')
     for token in program.awaited_ctimers():
         yield Warned(OF_CTIMER % (token.text, token.text), name, token)
     for text, token in program.tests_of_sign():
@@ -271,6 +328,9 @@ def of_net(scenario: Scenario, programs: dict[str, Program], report: Report | No
             yield Warned(what, loss=number, cause='loss')
     if report is not None:
         yield from of_losses(scenario, report)
+        for name in {mote.program: None for mote in report.motes if mote.halted() is not None}:
+            for text, token in programs[name].waiting_branches():
+                yield Warned(text, name, token, cause='loop')
         for mote in report.motes:
             halted = mote.halted()
             if halted is not None:
@@ -287,14 +347,14 @@ def warnings(scenario: Scenario, report: Report | None = None) -> list[Warned]:
 
 def by_cause(found: list[Warned]) -> list[Warned]:
     """One warning for each cause, at its first place, with the number of its places."""
-    loops = {it.program: it.text for it in found if it.text in LOOPS}
+    loops = {it.program: it.text for it in found if it.cause == 'loop'}
     groups: dict[object, list[Warned]] = {}
     for number, it in enumerate(found):
         kind, _, program = it.cause.partition(' ')
         if kind == 'halt' and program in loops:
             groups[loops[program], program].append(it)
         else:
-            key: object = (it.text, it.program) if it.text in LOOPS else it.cause or number
+            key: object = (it.text, it.program) if it.cause == 'loop' else it.cause or number
             groups.setdefault(key, []).append(it)
     return [together(its) for its in groups.values()]
 
@@ -306,7 +366,7 @@ def together(its: list[Warned]) -> Warned:
         return first
     places = [it.mote if it.mote is not None else it.loss for it in others]
     shown = ', '.join(str(it) for it in places[:MOST_PLACES]) + (', ..' if len(places) > MOST_PLACES else '')
-    if first.text in LOOPS:
+    if first.cause == 'loop':
         return first._replace(text='%s (mote%s %s)' % (first.text, 's' if len(places) > 1 else '', shown))
     what = 'loss' if others[0].mote is None else 'mote'
     many = what + ('es' if what == 'loss' else 's')

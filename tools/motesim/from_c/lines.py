@@ -78,6 +78,10 @@ class Lines(Expressions):
         """A statement."""
         raise NotImplementedError
 
+    def body(self) -> str:
+        """A block; a single statement without braces gets braces."""
+        raise NotImplementedError
+
     def assignment(self) -> str:
         """An assignment."""
         raise NotImplementedError

@@ -4,6 +4,7 @@ from __future__ import annotations
 from collections.abc import Iterator
 from typing import Any, NamedTuple
 
+from motesim.explain.lint import Program as Loops
 from motesim.faults import Fault
 from motesim.why.replay import SYSTEM, Frame, Link, Replay
 from motesim.why.source import At, Source
@@ -152,7 +153,8 @@ class Explainer:
             own = '%s %s' % (self.name(frame.process),
                              'was called with exit' if frame.event == 'exit' else 'ended')
         elif kind == 'halt':
-            own = 'the work of this run of the kernel was used up'
+            loops = [text for text, _ in Loops('', self.program.text).waiting_branches()]
+            own = '; '.join(['the work of this run of the kernel was used up', *loops])
         elif link.row and frame:
             own = '%s, %s%s' % (self.name(frame.process), self.statement(link.row), led_by(self.program, link.row))
         else:
