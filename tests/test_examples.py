@@ -1,8 +1,9 @@
-"""Checks the statements about each example: tools/dev/check_examples
+"""Checks the statements about each example: tools/dev/check_examples [NAME ..]
 
 For each scenario of examples/ the sentences of NAME.expect.toml have to hold, as tools/expect checks. The lines of an
 example that README.md and the pages of docs/ quote must be in the example or in its report. For each task of
-examples/lesson the solution has to meet the expectations, and the scenario that students begin with must not.
+examples/lesson the solution has to meet the expectations, and the scenario that students begin with must not. NAME is
+an example, `flooding`, or a task, `task1`; without a name all are checked.
 """
 from __future__ import annotations
 
@@ -21,6 +22,7 @@ PAGES = ['README.md', 'docs/use/EXAMPLES.md', 'docs/use/SCENARIO.md', 'docs/use/
 EXPECTED = '.expect.toml'
 LESSON = TOP / 'examples/lesson'
 EXAMPLES = [it for it in sorted(TOP.glob('examples/*.toml')) if not it.name.endswith(EXPECTED)]
+TASKS = sorted(LESSON.glob('*' + EXPECTED))
 
 
 def check_readings(run: Run) -> None:
@@ -66,8 +68,7 @@ def check_sentences(scenario: Path, expectations: Path) -> None:
         pytest.fail('%s: %d sentences hold, %d are broken' % (expectations.name, held, broken), pytrace=False)
 
 
-@pytest.mark.parametrize('example', EXAMPLES, ids=attrgetter('name'))
-def test_example(example: Path) -> None:
+def check_example(example: Path) -> None:
     check_sentences(example, beside(example))
     quotes = [(page, line) for page in PAGES for name, line in quotes_of((TOP / page).read_text('utf-8'))
               if name == example.stem]
@@ -77,8 +78,21 @@ def test_example(example: Path) -> None:
         check_readings(read_run(example))
 
 
-@pytest.mark.parametrize('task', sorted(LESSON.glob('*' + EXPECTED)), ids=attrgetter('name'))
-def test_task_of_the_lesson(task: Path) -> None:
+def check_task(task: Path) -> None:
     check_sentences(LESSON / 'solutions' / task.name.replace(EXPECTED, '.toml'), task)
     _, broken = expect(LESSON / 'start.toml', task, is_quiet=True)
     assert broken, 'there is nothing to do: start.toml meets all expectations'
+
+
+def pytest_generate_tests(metafunc: pytest.Metafunc) -> None:
+    """Has a test for each example and each task, or for those with one of the names."""
+    known = {it.name.partition('.')[0]: it for it in [*EXAMPLES, *TASKS]}
+    names: list[str] = metafunc.config.getoption('name') or list(known)
+    for name in names:
+        if name not in known:
+            raise pytest.UsageError('there is no example or task %s; there are: %s' % (name, ', '.join(known)))
+    metafunc.parametrize('path', [known[it] for it in names], ids=attrgetter('name'))
+
+
+def test_statements(path: Path) -> None:
+    (check_task if path in TASKS else check_example)(path)

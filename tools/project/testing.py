@@ -13,6 +13,8 @@ from motesim.words import words_of
 from motesim.runner.programs import TOP, program_path
 
 TESTS = TOP / 'tools/tests'
+# The modules of tests/ whose tests have no names.
+WITHOUT_NAMES = ['test_spoiled_bytes.py']
 MINUTES = 30
 NO_PYTEST = ('the tests need pytest: on Debian `apt-get install python3-pytest python3-pytest-xdist` installs it '
              'for %s (.ci/run installs all that the tests need)' % SYSTEM)
@@ -48,6 +50,8 @@ def asked_of(module: Path, named: str) -> tuple[list[str], list[str]]:
 def check(module: Path) -> NoReturn:
     """Tests the built motesim with a module of tests/."""
     names, others = asked_of(module, 'the case, example, page or scenario to test')
+    if names and module.name in WITHOUT_NAMES:
+        raise Fault('this command makes all its tests, and can\'t select %s: leave it out' % ' '.join(names))
     become([*pytest('group'), str(module), *others, *('--name=' + it for it in names)],
            MOTESIM=str(program_path().resolve()))
 

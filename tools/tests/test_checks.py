@@ -120,6 +120,21 @@ class SpoiledBytes(Check):
         self.assertEqual((last, status), ('1 passed, 7 failed, 0 skipped', 1))
         self.assertIn("180 times scenario fault 1, not 0', '0 times scenario is not UTF-8, not 180", said)
 
+    def test_a_name_is_refused(self) -> None:
+        self.put_program('cat')
+        self.assertIn('spoil_bytes: this command makes all its tests, and can\'t select case: leave it out',
+                      self.check('spoil_bytes', 'case')[0])
+
+
+class ChosenExamples(Check):
+    def test_a_name_selects_an_example_or_a_task(self) -> None:
+        self.put_program('exit 1')
+        said, last, _ = self.check('check_examples', 'flooding', 'task1')
+        self.assertEqual(last, '0 passed, 2 failed, 0 skipped')
+        for name in 'flooding.toml', 'task1.expect.toml':
+            self.assertIn('test_statements[%s]' % name, said)
+        self.assertIn('there is no example or task none; there are: broadcast', self.check('check_examples', 'none')[0])
+
 
 class Workers(Check):
     def setUp(self) -> None:

@@ -21,7 +21,7 @@ from pathlib import Path
 from unittest import mock
 
 from here import TOOLS
-from motesim.grading.command import status_of
+from motesim.grading.command import remarks, status_of
 from motesim.grading.entries import Entry, anonymous, data_of, entries_of
 from motesim.grading.marking import Mark, Marks, Task, page_name
 from motesim.grading.nets import nets_of, program_of
@@ -263,6 +263,16 @@ class Nets(Folder):
                                     'secret.plan.toml motes=2, secret.plan.toml motes=3\n')
         self.assertIn('in net.plan.toml motes=6\n', self.grade(
             *words[:5], 'net.plan.toml', '--vary-hidden', 'motes=6', '--why', 'anna'))
+
+    def test_combinations_without_a_net_are_counted(self) -> None:
+        self.write_plan('net.plan.toml', motes=2)
+        words = argparse.Namespace(folder=self.folder, vary=['motes=2..4', 'seed=1..2'], vary_hidden=['motes=1..5'])
+        with mock.patch('motesim.grading.nets.MOST_NETS', 4):
+            self.assertEqual(len(nets_of([self.top / 'net.plan.toml'], ['motes=1..6'], None)), 4)
+            self.assertEqual(remarks(words, []), [
+                '--vary has 6 combinations of values: only the first 4 have a net, and 2 are left out',
+                '--vary-hidden has 5 combinations of values: only the first 4 have a net, and 1 are left out'])
+        self.assertEqual(remarks(words, []), [])
 
     def test_values_need_a_plan(self) -> None:
         self.write_plan('net.plan.toml', motes=2)

@@ -316,6 +316,13 @@ class Searches(unittest.TestCase):
     def setUp(self) -> None:
         need_program(self)
 
+    def test_a_search_that_would_try_nothing_is_refused(self) -> None:
+        with folder_with() as folder:
+            status, _, seen = search(folder, '--at-most', '0')
+            self.assertEqual(status, 2)
+            self.assertIn('with at most 0 faults nothing is tried', seen)
+            self.assertIn(search(folder, '--at-most', '0', '--random', '2')[0], (0, 1))
+
     def test_minimal_sets_worked_out_by_hand(self) -> None:
         # The message takes 0-1-3 or 0-2-3, so one link of each way has to fail.
         with folder_with() as folder:

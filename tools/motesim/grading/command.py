@@ -13,7 +13,7 @@ from motesim.files import replace_whole
 from motesim.grading import page, tables
 from motesim.grading.entries import Entry, anonymous, data_of, entries_of, skipped_of
 from motesim.grading.marking import Marks, Task, page_name, unmarked
-from motesim.grading.nets import Net, hidden_and_shown, nets_of, program_of
+from motesim.grading.nets import Net, hidden_and_shown, nets_of, program_of, without_nets
 from motesim.grading.own import OF_KEY
 from motesim.grading.pages import keep_names, pages_of, remove_earlier
 from motesim.grading.progress import Progress
@@ -132,12 +132,13 @@ def entry_of(name: str, entries: Sequence[Entry], folder: Path) -> Entry:
         folder, name, ' (did you mean %s?)' % like if like else '', ', '.join([*names[:MOST_NAMES], *more])))
 
 
-def remarks(folder: Path, nets: Sequence[Net]) -> list[str]:
-    """Lines on things that a teacher may not have meant: nets that are hidden and shown, and files without a row."""
-    lines = []
+def remarks(asked: argparse.Namespace, nets: Sequence[Net]) -> list[str]:
+    """Lines on things that a teacher may not have meant: combinations of values without a net, nets that are hidden
+    and shown, and files without a row."""
+    lines = [*without_nets(asked.vary), *without_nets(asked.vary_hidden, True)]
     for remark, names in (
             ('these hidden nets equal a shown net, so a page of marks shows them', hidden_and_shown(nets)),
-            ('hidden files, expectations and marks have no row', skipped_of(folder))):
+            ('hidden files, expectations and marks have no row', skipped_of(asked.folder))):
         if names:
             more = ' and {:,} more'.format(len(names) - MOST_LISTED) if len(names) > MOST_LISTED else ''
             lines.append('%s: %s%s' % (remark, ', '.join(names[:MOST_LISTED]), more))
@@ -166,7 +167,7 @@ def status_of(asked: argparse.Namespace) -> int:
         remove_earlier(pictures)
         # (all that it may make: it can be ended at any time)
         keep_names(pictures, task.possible_pictures(entries))
-    for line in remarks(asked.folder, task.nets) if asked.why is None else ():
+    for line in remarks(asked, task.nets) if asked.why is None else ():
         print('grade: %s' % line, file=sys.stderr)
     marked = grade(entries, task, asked.jobs)
     if pictures:

@@ -2,6 +2,7 @@
 from __future__ import annotations
 
 import itertools
+import math
 from collections.abc import Iterable, Iterator, Sequence
 from dataclasses import dataclass, replace
 from pathlib import Path
@@ -20,6 +21,7 @@ from motesim.scenario.kinds import has_plan
 from motesim.terminal import cut
 from motesim.toml import MARK, NoToml, read_toml
 
+# The most nets of a plan.
 MOST_NETS = 1_000
 # The options that vary and that name the nets: the shown ones, and the hidden ones.
 OPTIONS = ('--vary', '--net'), ('--vary-hidden', '--hidden')
@@ -113,6 +115,14 @@ def nets_of(paths: Sequence[Path], vary: Sequence[str], program: str | None, is_
         raise Fault('%s needs a plan that %s names; %s varies the plans of %s' % (*option, *other))
     found = [_net(name, text, program) for file, its in files for name, text in _texts(file, its, asked)]
     return [replace(it, is_hidden=is_hidden) for it in found]
+
+
+def without_nets(vary: Sequence[str], is_hidden: bool = False) -> list[str]:
+    """The line about the combinations of values that have no net, because there are too many."""
+    option = OPTIONS[is_hidden][0]
+    count = math.prod(map(len, _values(vary, option).values()))
+    return ['{} has {:,} combinations of values: only the first {:,} have a net, and {:,} are left out'.format(
+        option, count, MOST_NETS, count - MOST_NETS)] if count > MOST_NETS else []
 
 
 def hidden_and_shown(nets: Sequence[Net]) -> list[str]:

@@ -10,6 +10,7 @@ from collections import Counter
 from collections.abc import Callable, Iterator
 from dataclasses import dataclass
 
+from motesim.faults import Fault
 from motesim.search.kept import Kept
 from motesim.search.runner import Runner
 from motesim.search.sets import Known, Set, Tally, count_of, draws
@@ -27,6 +28,11 @@ class Bounds:
     seed: int = 1
     runs: int | None = None
     seconds: float | None = None
+
+    def __post_init__(self) -> None:
+        if self.at_most < 1 and not self.sample:
+            raise Fault('with at most %d faults nothing is tried, so all expectations would hold: at most 1 is the '
+                        'smallest bound, except with --random' % self.at_most)
 
 
 class Search:
