@@ -16,7 +16,7 @@ from unittest import mock
 from here import TOOLS
 from motesim.analysis import drawing, estimates
 from motesim.analysis.around import dodged, labelled
-from motesim.analysis.crossings import Key, Runs, crossing, place
+from motesim.analysis.crossings import Crossing, Key, Place, Runs, crossing, place
 from motesim.analysis.drawing import lengths, ticks_between, with_gaps
 from motesim.analysis.origin import digest_of_tools, origin_of
 from motesim.analysis.paired import Pair, Paired, differences, pairs_of
@@ -24,7 +24,7 @@ from motesim.analysis.estimates import Estimate
 from motesim.analysis.points import Point, Wish, is_seed, shown_of
 from motesim.analysis.rows import by_net, once, warnings_of
 from motesim.analysis.text import columns_of_crossing, of_crossing, of_pairs, remarks
-from motesim.experiments.results import Row, read_results
+from motesim.experiments.results import Row, number_text, read_results
 from motesim.faults import Fault
 from motesim.plan.chance import Chance
 from skips import interpreter_with
@@ -981,6 +981,28 @@ class Command(unittest.TestCase):
         rows = self.plot('--measure', 'sent', '--where', 'density=thin', '--where', 'period=1', '--show', 'cdf')
         self.assertEqual([row for row in rows[2:4]], [['11.000', '0.200'], ['12.000', '0.400']])
         self.plot('--measure', 'sent', '--against', 'period', '--show', 'heat', status=2)
+
+    def test_the_threshold_of_a_cdf(self) -> None:
+        words = '--measure', 'sent', '--over', 'seed,density', '--by', 'period', '--show', 'cdf', '--threshold', '22'
+        lines = [' '.join(row) for row in self.plot(*words)]
+        self.assertEqual([line for line in lines if 'at most' in line], [
+            'period 1: 10 of 10 runs (1.000) have at most 22', 'period 2: 4 of 10 runs (0.400) have at most 22',
+            'period 10: 0 of 10 runs (0.000) have at most 22'])
+        interpreter_with(self, 'matplotlib')
+        self.plot(*words, '-o', 'a.svg')
+        self.assertIn('>threshold 22</text>', (self.folder / 'a.svg').read_text())
+
+    def test_whole_numbers_are_written_in_full(self) -> None:
+        numbers = 16384.0, 1234567890.0, -20000.0, 16384.6, 0.123456, 12.3456, 1e10
+        self.assertEqual([number_text(it) for it in numbers], [
+            '16384', '1234567890', '-20000', '16385', '0.1235', '12.35', '1e+10'])
+        self.assertEqual(drawing.texts_of_cells([16384.0, 3.0], 60.0)[0], ['16384', '3'])
+        wish = Wish('sent', 'memory', show='mean', threshold='1234567')
+        found = Crossing(16384.0, True, (8192.0, 32768.0), 8192.0, 32768.0, 1.0, 5, (Place(
+            16384.0, True, (8192.0, 32768.0)),), (5, 5))
+        self.assertEqual(of_crossing(found, wish).split('\n'), [
+            'the mean rises above 1234567 at memory 16384, between the points 8192 and 32768',
+            '  with 95 %, by the bootstrap of 5 runs: 8192 to 32768'])
 
     def test_a_cdf_does_not_mix_the_values_of_against(self) -> None:
         for name in 'period', 'ratio':

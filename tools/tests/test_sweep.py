@@ -23,8 +23,8 @@ from unittest import mock
 from here import TOOLS
 from motesim.experiments import packages, runs
 from motesim.faults import Fault
-from motesim.experiments.measures import Bench, Cell, MeasureFault, read_measure
-from motesim.experiments.one_run import Job, Result, run_job
+from motesim.experiments.measures import Bench, Cell, MeasureFault, imports_of, read_measure
+from motesim.experiments.one_run import Job, Result, digest, run_job
 from motesim.plan.plan import Plan
 from motesim.report import Report
 from motesim.experiments.results import CsvFile, SqliteFile, cell, read_results
@@ -102,6 +102,8 @@ MEASURES: list[tuple[str, str, Cell]] = [
     ('count: some packet is sent', 'count: some packet is sent', 2),
     ('motes: every mote prints a', 'motes: every mote prints a', 2),
     ('delay = delay: mote 0 sends 7 -> every mote but 0 prints a 7', 'delay', 6),
+    ('delay: mote 2 prints a -> mote 1 prints a', 'delay: mote 2 prints a -> mote 1 prints a', 3),
+    ('delay: mote 1 prints a twice -> mote 2 prints a', 'delay: mote 1 prints a twice -> mote 2 prints a', None),
     ('ratio = delivery: mote 1 prints a -> mote 2 prints a', 'ratio', 0.5),
     ('pdr = delivery: mote 0 sends -> every mote but 0 prints a', 'pdr', 1.0),
     ('pdr = delivery: motes 1 and 2 print a -> mote 1 prints a after 3', 'pdr', 0.3333),
@@ -168,6 +170,16 @@ class MeasuresTest(unittest.TestCase):
                 read_measure(words, self.names)
 
 
+    def test_a_file_imports_files_next_to_it(self) -> None:
+        sources = {'sub/m.py': 'import one, math\ndef f(run):\n    from two import wrong\n    return wrong(one.two.TWO)\n',
+                   'sub/one.py': 'import two\n', 'sub/two.py': 'TWO = 2\ndef wrong(number):\n    return 1 / number\n'}
+        self.assertEqual(read_measure('python: sub/m.py:f', self.names, sources).of(bench()), 0.5)
+        self.assertEqual(imports_of('sub/m.py', sources['sub/m.py']), ['sub/math.py', 'sub/one.py', 'sub/two.py'])
+        sources['sub/two.py'] = sources['sub/two.py'].replace('TWO = 2', 'TWO = 0')
+        with self.assertRaisesRegex(MeasureFault, 'f of sub/m.py: sub/two.py, line 3: ZeroDivisionError'):
+            read_measure('python: sub/m.py:f', self.names, sources).of(bench())
+
+
 class ValuesTest(unittest.TestCase):
     def test_values(self) -> None:
         self.assertEqual(values_of('10,20, 40'), [10, 20, 40])
@@ -223,6 +235,16 @@ class SweepTest(Bed):
         self.assertEqual({(row['plan'], row['program']) for row in rows}, {('net.plan.toml', 'another')})
         self.assertTrue(all(len(row[name]) == 16 for row in rows for name in row if name.endswith('sha256')))
         self.assertEqual(len({row['scenario_sha256'] for row in rows}), 6)
+        self.assertEqual({row['measures'] for row in rows}, {'end = last: every mote prints a; prints'})
+
+    def test_the_digests_of_all_files_of_a_measure_are_in_the_rows(self) -> None:
+        (self.folder / 'm.py').write_text('import mine, math\ndef f(run):\n    return mine.lines(run)\n')
+        self.assertEqual(self.sweep('--measure', 'python: m.py:f').returncode, 0)
+        files = '; '.join('%s has the SHA-256 %s' % (name, digest((self.folder / name).read_bytes()))
+                          for name in ('m.py', 'mine.py'))
+        self.assertEqual([row['measures'] for row in self.rows()], ['python: m.py:f; ' + files])
+        (self.folder / 'mine.py').write_text(MINE + '# changed\n')
+        self.assertIn('from before a change of the measures', self.sweep('--measure', 'python: m.py:f').stderr)
 
     def test_a_parameter_that_nothing_uses_and_an_error_in_a_picture_are_known_before_the_runs(self) -> None:
         plan = self.folder / 'net.plan.toml'
@@ -460,6 +482,9 @@ class SweepTest(Bed):
         sweep = '[sweep]\nvary = { period = "1..2", motes = [2, 3] }\nmeasure = ["prints"]\n'
         (self.folder / 'net.plan.toml').write_text(PLAN + sweep)
         self.assertEqual(self.sweep().stdout, 'net.csv: 4 runs, 4 of them now, 0 with a fault\n')
+        self.sweep('--vary', 'period=3', '--measure', 'sent', '-o', 'more.csv')
+        self.assertEqual([(row['period'], row['motes'], row['prints'], 'sent' in row) for row in self.rows('more.csv')],
+                         [('3', '2', '2', True), ('3', '3', '3', True)])
         (self.folder / 'net.plan.toml').write_text(PLAN + sweep.replace('motes =', 'mote ='))
         self.assertIn('net.plan.toml, line 16:', self.sweep('-o', 'other.csv').stderr)
 

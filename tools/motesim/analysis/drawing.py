@@ -14,10 +14,10 @@ from motesim.analysis.origin import origin_path
 from motesim.analysis.paired import Difference
 from motesim.analysis.points import Point, Shown, Wish, order
 from motesim.analysis.text import MOST_BELOW, by_methods, counted, crossings, crossings_of, heading, left_out, remarks
-from motesim.analysis.text import threshold_of
+from motesim.analysis.text import parts_at_most, threshold_of
 from motesim.experiments import packages
 from motesim.experiments.measures import Cell
-from motesim.experiments.results import text_of
+from motesim.experiments.results import number_text, text_of
 from motesim.faults import Fault
 
 FORMATS = ('.svg', '.pdf', '.png')
@@ -144,7 +144,8 @@ def _draw_steps(axes: Any, shown: Shown, wish: Wish) -> None:
     """For each curve the part of its runs whose value is at most x, up to the greatest value of all curves."""
     curves = shown.curves()
     every = [value for it in curves for value in it.values]
-    if wish.log and min(every) <= 0:
+    threshold = threshold_of(wish)
+    if wish.log and min([*every, *([] if threshold is None else [threshold])]) <= 0:
         raise Fault('--log needs values above 0, and some of %s are not' % wish.measure)
     for number, it in enumerate(curves):
         look, values = _look(number), it.values or [min(every)]
@@ -162,7 +163,9 @@ def texts_of_cells(numbers: Sequence[float], width: float) -> tuple[list[str], f
     texts, size = list[str](), 0.0
     for digits in 3, 2, 1:
         form = '%%%s.%dg' % ('' if all(float(it).is_integer() for it in numbers) else '#', digits)
-        texts = [(form % it).removesuffix('.') for it in numbers]
+        # (a number in full has no exponent, unless it is far too long for a cell)
+        texts = [number_text(it, digits) if abs(it) >= 10 ** digits else (form % it).removesuffix('.')
+                 for it in numbers]
         longest = max(map(len, texts), default=1)
         # (a digit is about 6 tenths as wide as high, and a gap as wide as a digit)
         size = min(8.0, width / (0.6 * (longest + 1)))
@@ -214,7 +217,7 @@ def _scale_of_measure(axes: Any) -> None:
     axes.set_xscale('log')
     low, high = axes.get_xlim()
     ticks = ticks_between(low, high)
-    axes.set_xticks(ticks, ['%g' % it for it in ticks])
+    axes.set_xticks(ticks, [number_text(it, 6) for it in ticks])
     axes.minorticks_off()
     axes.set_xlim(low, high)
 
@@ -229,7 +232,7 @@ def _scale_upwards(axes: Any, shown: Shown, wish: Wish) -> None:
     axes.set_yscale('log')
     room = (high / low) ** 0.05 if low < high else 1.5
     ticks = ticks_between(low / room, high * room)
-    axes.set_yticks(ticks, ['%g' % it for it in ticks])
+    axes.set_yticks(ticks, [number_text(it, 6) for it in ticks])
     axes.minorticks_off()
     axes.set_ylim(low / room, high * room)
 
@@ -253,7 +256,7 @@ def _scale(axes: Any, places: list[Cell], wish: Wish, is_scale: bool) -> None:
     if is_scale and not wish.log and len(places) > MOST_TICKS:
         return
     at = _numbers(places, is_scale)
-    texts = ['%.4g' % it if type(it) is float else text_of(it) for it in places]
+    texts = [number_text(it) if type(it) is float else text_of(it) for it in places]
     shown = _fitting(axes, at, texts, wish)
     if not is_scale and not all(shown):
         # (each name needs a label, but a number may lack one)
@@ -403,7 +406,12 @@ def _legend(axes: Any) -> None:
 def _draw_threshold(axes: Any, shown: Shown, wish: Wish) -> None:
     """A line at the threshold, and on it, for each curve, a bar over the interval of its crossing."""
     threshold = threshold_of(wish)
-    if threshold is None or wish.show == 'cdf':
+    if threshold is None:
+        return
+    if wish.show == 'cdf':
+        axes.axvline(threshold, color='#555555', linewidth=0.8, linestyle=(0, (6, 3)), label=THRESHOLD + wish.threshold)
+        for number, (count, runs) in enumerate(parts_at_most(shown, wish).values()):
+            axes.plot([threshold], [count / runs], color=_look(number)['color'], marker=_look(number)['marker'])
         return
     axes.axhline(threshold, color='#555555', linewidth=0.8, linestyle=(0, (6, 3)),
                  label=THRESHOLD + wish.threshold)

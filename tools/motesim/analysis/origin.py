@@ -15,7 +15,7 @@ from motesim.version import VERSION
 
 # The columns of results with the digests of what made a row, each with its name in this table.
 OF_ROWS = {'plan': 'plan', 'plan_sha256': 'SHA-256 of the plan, 16 digits', 'program': 'motesim',
-           'program_sha256': 'SHA-256 of motesim, 16 digits', 'kit': 'proved with',
+           'program_sha256': 'SHA-256 of motesim, 16 digits', 'kit': 'proved with', 'measures': 'measures',
            'measures_sha256': 'SHA-256 of the measures, 16 digits'}
 # The most values of a column that are listed.
 MOST = 8

@@ -13,7 +13,7 @@ from motesim.analysis.estimates import Estimate, is_skewed_near_an_end
 from motesim.analysis.paired import Difference, Paired, reasons
 from motesim.analysis.points import Curve, Net, Place, Point, Shown, Wish, order
 from motesim.experiments.measures import Cell
-from motesim.experiments.results import line_of, text_of
+from motesim.experiments.results import line_of, number_text, text_of
 from motesim.faults import Fault
 from motesim.summary.counts import table
 
@@ -203,8 +203,8 @@ def check_log_y(shown: Shown, wish: Wish) -> None:
         return
     low = next((it for it in shown.points if it.estimate.middle <= 0), None)
     if low:
-        raise Fault('--log-y needs values above 0, and the %s of %s at %s %s is %.4g' % (
-            middle_of(wish)[0], wish.measure, wish.against, text_of(low.against), low.estimate.middle))
+        raise Fault('--log-y needs values above 0, and the %s of %s at %s %s is %s' % (
+            middle_of(wish)[0], wish.measure, wish.against, text_of(low.against), number_text(low.estimate.middle)))
     threshold = threshold_of(wish)
     if threshold is not None and threshold <= 0:
         raise Fault('--log-y needs a threshold above 0')
@@ -281,6 +281,11 @@ def threshold_of(wish: Wish) -> float | None:
         raise Fault('a threshold is a number, and not %r' % wish.threshold) from None
 
 
+def shown_threshold(wish: Wish) -> str:
+    """The threshold in a message."""
+    return number_text(float(wish.threshold), 6)
+
+
 def middle_of(wish: Wish) -> tuple[str, Middle]:
     """The middle of some runs that a curve shows, with its name."""
     if wish.show == 'median':
@@ -305,26 +310,39 @@ def crossings_of(shown: Shown, wish: Wish) -> dict[Cell, Crossing | None]:
     return found
 
 
+def parts_at_most(shown: Shown, wish: Wish) -> dict[Cell, tuple[int, int]]:
+    """For each curve of a `cdf` how many runs have at most the threshold, and how many runs it has."""
+    threshold = threshold_of(wish)
+    if threshold is None or wish.show != 'cdf':
+        return {}
+    return {it.by: (sum(value <= threshold for value in it.values), it.runs) for it in shown.curves()}
+
+
 def crossings(shown: Shown, wish: Wish) -> list[str]:
     """The crossing of each curve, in words."""
+    parts = [('%s %s: ' % (wish.by, text_of(by)) if wish.by else '') + '%d of %d %s (%.3f) have at most %s' % (
+        count, runs, counted(wish), count / runs, shown_threshold(wish))
+        for by, (count, runs) in parts_at_most(shown, wish).items()]
+    if parts:
+        return parts
     return [('%s %s: ' % (wish.by, text_of(by)) if wish.by else '') + of_crossing(found, wish)
             for by, found in crossings_of(shown, wish).items()]
 
 
 def of_crossing(found: Crossing | None, wish: Wish) -> str:
     """The crossing of a curve, with its interval."""
-    middle, threshold = middle_of(wish)[0], float(wish.threshold)
+    middle, threshold = middle_of(wish)[0], shown_threshold(wish)
     if found is None:
-        return 'the %s doesn\'t cross %g' % (middle, threshold)
-    ways = ['%s %g at %s %.4g, between the points %.4g and %.4g' % (
-        'rises above' if it.is_rising else 'falls below', threshold, wish.against, it.at, *it.gap)
+        return 'the %s doesn\'t cross %s' % (middle, threshold)
+    ways = ['%s %s at %s %s, between the points %s and %s' % (
+        'rises above' if it.is_rising else 'falls below', threshold, wish.against, *map(number_text, (it.at, *it.gap)))
         for it in found.places]
     if found.low is None or found.high is None:
         ways[-1] += '; there is no interval, because each point has one run'
     if len(ways) == 1:
         lines = ['the %s %s' % (middle, ways[0])]
     else:
-        lines = ['the %s crosses %g %d times:' % (middle, threshold, len(ways)), *ways]
+        lines = ['the %s crosses %s %d times:' % (middle, threshold, len(ways)), *ways]
     if found.low is None or found.high is None:
         return '\n  '.join(lines)
     share = '' if found.share > 0.995 else '; %d %% of the drawn curves cross' % round(100 * found.share)
@@ -339,8 +357,8 @@ def of_crossing(found: Crossing | None, wish: Wish) -> str:
 
 def _ends(low: float, high: float) -> tuple[str, str]:
     """The ends of the interval of a crossing."""
-    return ('before the first point' if math.isinf(low) else '%.4g' % low,
-            'behind the last point' if math.isinf(high) else '%.4g' % high)
+    return ('before the first point' if math.isinf(low) else number_text(low),
+            'behind the last point' if math.isinf(high) else number_text(high))
 
 
 def _range(found: Crossing) -> str:

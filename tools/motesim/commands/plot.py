@@ -44,7 +44,8 @@ def arguments() -> argparse.Namespace:
                        help="the measure is a count: it isn't a share, even if all its values are 0 and 1")
     words.add_argument('--confidence', type=float, default=95, metavar='PERCENT',
                        help='the confidence of the intervals (95)')
-    words.add_argument('--threshold', metavar='VALUE', help='report where each curve crosses this value')
+    words.add_argument('--threshold', metavar='VALUE',
+                       help='report where each curve crosses this value; with --show cdf, the share of runs up to it')
     words.add_argument('--over', metavar='NAMES',
                        help='the parameters in which runs of a point may differ (`seed` and those with the ending '
                             '`_seed`)')

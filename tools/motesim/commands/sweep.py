@@ -4,8 +4,9 @@
 
 Each combination becomes a row of net.csv (CSV, or SQLite if the name ends in .sqlite), with its parameters. If you
 start the same command again, it makes only the missing runs. After Ctrl-C the finished rows stay in the file. A run
-with an error has a row with the error; a measure that fails has an empty cell and a note. Options that the plan's
-table `sweep` sets aren't needed; --plot draws what its `plot` describes.
+with an error has a row with the error; a measure that fails has an empty cell and a note. A plan can have values and
+measures in its table `sweep`: --vary replaces the plan's values of the same parameter, and --measure adds to the
+plan's measures. --plot draws what the plan's `plot` describes.
 
 Values are 10,20,40 or 1..30 or 0..100..25 (in steps of 25). Measures are
   sent, ratio, collided, ..     the columns of tools/summary, for the net; `sent of mote 3`
@@ -16,10 +17,10 @@ Values are 10,20,40 or 1..30 or 0..100..25 (in steps of 25). Measures are
                                 the first moment at which each mote has printed it
   last:, count:, motes:         the last moment, the number of lines, the number of motes
   delay: mote 0 sends 1 -> every mote but 0 prints flood 1
-                                the time from the first moment to the second
+                                the time from the first moment to the second; earlier lines of the second don't count
   delivery: motes 1 to 9 print source -> mote 0 prints sink
                                 the share of the lines of the first sentence that are followed by a line of the second
-                                with the same value
+                                with the same value; messages on the way at the end count as lost
   python: measures.py:energy    your function in a file next to the plan; its argument is the run
 and `name = MEASURE` names its column.
 

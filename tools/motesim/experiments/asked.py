@@ -10,7 +10,7 @@ from dataclasses import dataclass
 
 from motesim.faults import Fault
 from motesim.experiments.draws import CHANCE, seeds_of
-from motesim.experiments.measures import file_of, mote_of, processes_of_flow, read_measure
+from motesim.experiments.measures import file_of, imports_of, mote_of, processes_of_flow, read_measure
 from motesim.explain.synonyms import known
 from motesim.notation.keywords import SYSTEM
 from motesim.plan.plan import Plan
@@ -27,9 +27,9 @@ MOST_TRIED_ALONE = 200
 SECONDS, MOST_SECONDS, MOST_BYTES = 60, 86_400, 200_000_000
 RANGE = re.compile(r'(-?[0-9]{1,9})\.\.(-?[0-9]{1,9})(?:\.\.([0-9]{1,9}))?')
 SWEEP = {'vary': optional(dict, {}), 'measure': optional(list, []), 'seconds': optional(int, SECONDS, 1, MOST_SECONDS)}
-# The columns with the digests of what made a row.
+# The columns with what made a row.
 MADE = ('fault', 'note', 'plan', 'plan_sha256', 'scenario_sha256', 'places_sha256', 'rejected', 'report_sha256',
-        'program', 'program_sha256', 'kit', 'measures_sha256', CHANCE, 'parameters')
+        'program', 'program_sha256', 'kit', 'measures', 'measures_sha256', CHANCE, 'parameters')
 
 
 def values_of(words: str) -> list[Value]:
@@ -122,10 +122,16 @@ def _values_in_plan(plan: Plan, name: str, values: object) -> list[Value]:
 
 
 def sources_of(plan: Plan, measures: Sequence[str]) -> dict[str, str]:
-    """The users' files that the measures need, by their names."""
-    names = sorted({file_of(words) for words in measures} - {''})
+    """The users' files that the measures need, by their names, with the files that these import."""
+    left = sorted({file_of(words) for words in measures} - {''})
+    found: dict[str, str] = {}
     try:
-        return {name: read_file(plan.files.folder / name).decode('utf-8') for name in names}
+        while left:
+            name = left.pop()
+            found[name] = read_file(plan.files.folder / name).decode('utf-8')
+            left += [it for it in imports_of(name, found[name])
+                     if it not in found and (plan.files.folder / it).is_file()]
+        return found
     except UnicodeDecodeError as fault:
         raise Fault('a file of measures is not UTF-8: %s' % fault) from None
 

@@ -5,13 +5,17 @@
 """
 from __future__ import annotations
 
+import ast
+import builtins
 import math
 import re
+import traceback
 from collections import Counter
 from collections.abc import Callable, Mapping
 from dataclasses import dataclass
 from functools import cached_property
 from pathlib import PurePath
+from types import ModuleType
 from typing import Any
 
 from motesim.explain.synonyms import known, nearest
@@ -112,15 +116,22 @@ def _events(judge: Judge, it: Does, motes: tuple[int, ...]) -> list[Event]:
     return sorted(found, key=lambda event: event.line.at)
 
 
-def _moment(judge: Judge, it: Does) -> int | None:
-    """The first moment at which a sentence is fulfilled, or None if it never is."""
+def _moment(judge: Judge, it: Does, since: int = 0) -> int | None:
+    """The first moment at which a sentence is fulfilled by lines from a moment on, or None if it never is."""
     wanted, chosen = max(1, it.count.least), judge.chosen(it.motes)
     groups = [chosen] if it.motes.kind == 'together' else [(mote,) for mote in chosen]
-    found = [events[wanted - 1].line.at for events in (_events(judge, it, group) for group in groups)
-             if len(events) >= wanted]
+    moments = ([event.line.at for event in _events(judge, it, group) if event.line.at >= since] for group in groups)
+    found = [its[wanted - 1] for its in moments if len(its) >= wanted]
     if it.motes.kind == 'some':
         return min(found, default=None)
     return max(found) if found and len(found) == len(groups) else None
+
+
+def _delay(judge: Judge, begin: Does, end: Does) -> int | None:
+    """The time from the first moment of a sentence to that of another one, whose earlier lines don't count."""
+    since = _moment(judge, begin)
+    until = None if since is None else _moment(judge, end, since)
+    return None if since is None or until is None else until - since
 
 
 def _last(judge: Judge, it: Does) -> int | None:
@@ -198,14 +209,9 @@ def _of_sentence(kind: str, words: str, names: Names) -> Callable[[Bench], Cell]
         rows = first
         return _guarded(lambda judge: _count_rows(judge, rows))
     its = [_plain(sentence, part) for sentence, part in zip(sentences, parts)]
-    if kind == 'delay':
-        def delay(judge: Judge) -> Cell:
-            begin, end = _moment(judge, its[0]), _moment(judge, its[1])
-            return None if begin is None or end is None else end - begin
-
-        return _guarded(delay)
-    if kind == 'delivery':
-        return _guarded(lambda judge: _delivery(judge, *its))
+    if kind in OF_TWO:
+        of_two: dict[str, Callable[[Judge, Does, Does], Cell]] = {'delay': _delay, 'delivery': _delivery}
+        return _guarded(lambda judge: of_two[kind](judge, *its))
     work: dict[str, Callable[[Judge, Does], Cell]] = {
         'moment': _moment, 'last': _last, 'count': _count, 'motes': _motes}
     return _guarded(lambda judge: work[kind](judge, its[0]))
@@ -228,17 +234,46 @@ def _checked(value: object, name: str) -> Cell:
     raise MeasureFault('%s must return a number, a text or None, but returns %s' % (name, type(value).__name__))
 
 
+def _beside(file: str, name: str) -> str:
+    """The file next to a user's file that has this name of a module."""
+    return str(PurePath(file).with_name(name.partition('.')[0] + '.py'))
+
+
+def imports_of(file: str, source: str) -> list[str]:
+    """The files next to a user's file that have the names of the modules that it imports."""
+    try:
+        nodes = list(ast.walk(ast.parse(source)))
+    except (SyntaxError, ValueError):
+        # (`read_measure` reports the error)
+        return []
+    names = [it.name for node in nodes if isinstance(node, ast.Import) for it in node.names]
+    names += [node.module for node in nodes if isinstance(node, ast.ImportFrom) and node.module]
+    return sorted({_beside(file, name) for name in names})
+
+
+def _module_of(file: str, sources: Mapping[str, str], loaded: dict[str, ModuleType]) -> ModuleType:
+    """The module of a user's file. It imports files next to it from the sources, because another machine may run
+    it."""
+    if file not in loaded:
+        def load(name: str, *others: Any) -> ModuleType:
+            path = _beside(file, name) if name else ''
+            return _module_of(path, sources, loaded) if path in sources else __import__(name, *others)
+
+        module = loaded[file] = ModuleType(PurePath(file).stem)
+        vars(module).update(__file__=file, __builtins__={**vars(builtins), '__import__': load})
+        exec(compile(sources[file], file, 'exec'), vars(module))
+    return loaded[file]
+
+
 def _of_python(file: str, function: str, sources: Mapping[str, str]) -> Callable[[Bench], Cell]:
     if file not in sources:
         raise MeasureFault('there is no file %s' % file)
-    space: dict[str, Any] = {'__name__': PurePath(file).stem, '__file__': file}
     try:
-        exec(compile(sources[file], file, 'exec'), space)
+        work: Callable[[Run], object] | None = vars(_module_of(file, sources, {})).get(function)
     except Exception as fault:
-        raise MeasureFault('%s: %s' % (file, _said(fault, file))) from None
-    if not callable(space.get(function)):
+        raise MeasureFault('%s: %s' % (file, _said(fault, file, sources))) from None
+    if not callable(work):
         raise MeasureFault('%s has no function %s' % (file, function))
-    work: Callable[[Run], object] = space[function]
 
     def of(bench: Bench) -> Cell:
         try:
@@ -246,19 +281,18 @@ def _of_python(file: str, function: str, sources: Mapping[str, str]) -> Callable
         except (MeasureFault, MemoryError, TimeoutError):
             raise
         except Exception as fault:
-            raise MeasureFault('%s of %s: %s' % (function, file, _said(fault, file))) from None
+            raise MeasureFault('%s of %s: %s' % (function, file, _said(fault, file, sources))) from None
 
     return of
 
 
-def _said(fault: Exception, file: str) -> str:
-    """The error in a user's file, with its line."""
-    line, at = (fault.lineno, None) if isinstance(fault, SyntaxError) else (None, fault.__traceback__)
-    while at:
-        if at.tb_frame.f_code.co_filename == file:
-            line = at.tb_lineno
-        at = at.tb_next
-    where = 'line %d: ' % line if line else ''
+def _said(fault: Exception, file: str, sources: Mapping[str, str]) -> str:
+    """The error in a user's file, or in a file that it imports, with its line."""
+    places = [(frame.f_code.co_filename, line) for frame, line in traceback.walk_tb(fault.__traceback__)]
+    if isinstance(fault, SyntaxError):
+        places.append((fault.filename or '', fault.lineno or 0))
+    name, line = next((it for it in reversed(places) if it[0] in sources), ('', 0))
+    where = 'line %d: ' % line if name == file else '%s, line %d: ' % (name, line) if name else ''
     what = fault.msg if isinstance(fault, SyntaxError) else str(fault)
     return '%s%s: %s' % (where, type(fault).__name__, ' '.join(what.split()))
 

@@ -47,6 +47,12 @@ def text_of(value: Cell) -> str:
     return '' if value is None else repr(value) if type(value) is float else str(value)
 
 
+def number_text(value: float, digits: int = 4) -> str:
+    """A number with these digits in a message or picture; a whole part of up to 10 digits is written in full."""
+    is_full = abs(value) < 10 ** 10 and (value == round(value) or abs(value) >= 10 ** digits)
+    return '%.0f' % value if is_full else '%.*g' % (digits, value)
+
+
 def line_of(values: Iterable[Cell]) -> str:
     """A line of CSV."""
     out = io.StringIO(newline='')

@@ -3,7 +3,6 @@ from __future__ import annotations
 
 import argparse
 import contextlib
-import hashlib
 import itertools
 import subprocess
 import sys
@@ -15,7 +14,7 @@ from pathlib import Path
 from motesim.analysis.points import is_seed
 from motesim.experiments import packages
 from motesim.faults import INTERRUPTED, Fault
-from motesim.experiments.one_run import DIGITS, TOO_BUSY, Job, Result, Work, program_digest
+from motesim.experiments.one_run import DIGITS, TOO_BUSY, Job, Result, Work, digest, program_digest
 from motesim.output import beside
 from motesim.plan.plan import UNUSED, Plan
 from motesim.plan.tables import Value, text_of_value, value_of_text
@@ -46,9 +45,8 @@ class Sweeper:
         self.made: Row = {
             'plan': self.plan.name, 'program': program_version(self.program),
             'program_sha256': program_digest(self.program), 'kit': kit_version(self.program),
-            'parameters': ' '.join(self.plan.parameters),
-            'measures_sha256': hashlib.sha256(repr((sweep.measures, sorted(self.sources.items()))).encode()
-                                              ).hexdigest()[:DIGITS]}
+            'parameters': ' '.join(self.plan.parameters), 'measures': texts_of(sweep.measures, self.sources),
+            'measures_sha256': digest(repr((sweep.measures, sorted(self.sources.items()))).encode())}
         self.path = path
         # (for each parameter that varies, the place of each value)
         self.places = {name: {text_of_value(value): place for place, value in enumerate(values)}
@@ -228,6 +226,12 @@ class Sweeper:
             place = self.place_of(row)
             if place is not None and self.spots[place] == spot:
                 yield row
+
+
+def texts_of(measures: Iterable[str], sources: Mapping[str, str]) -> str:
+    """The texts of the measures, and the digests of their files, in one line."""
+    files = ('%s has the SHA-256 %s' % (name, digest(text.encode())) for name, text in sorted(sources.items()))
+    return '; '.join([*(' '.join(it.split()) for it in measures), *files])
 
 
 def lacks_measure(row: Row) -> bool:
