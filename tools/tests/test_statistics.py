@@ -987,7 +987,7 @@ class Command(unittest.TestCase):
         lines = [' '.join(row) for row in self.plot(*words)]
         self.assertEqual([line for line in lines if 'at most' in line], [
             'period 1: 10 of 10 runs (1.000) have at most 22', 'period 2: 4 of 10 runs (0.400) have at most 22',
-            'period 10: 0 of 10 runs (0.000) have at most 22'])
+            'period 8: 0 of 10 runs (0.000) have at most 22'])
         interpreter_with(self, 'matplotlib')
         self.plot(*words, '-o', 'a.svg')
         self.assertIn('>threshold 22</text>', (self.folder / 'a.svg').read_text())

@@ -171,7 +171,8 @@ class MeasuresTest(unittest.TestCase):
 
 
     def test_a_file_imports_files_next_to_it(self) -> None:
-        sources = {'sub/m.py': 'import one, math\ndef f(run):\n    from two import wrong\n    return wrong(one.two.TWO)\n',
+        sources = {'sub/m.py': 'import one, math\ndef f(run):\n    from two import wrong\n    '
+                               'return wrong(one.two.TWO)\n',
                    'sub/one.py': 'import two\n', 'sub/two.py': 'TWO = 2\ndef wrong(number):\n    return 1 / number\n'}
         self.assertEqual(read_measure('python: sub/m.py:f', self.names, sources).of(bench()), 0.5)
         self.assertEqual(imports_of('sub/m.py', sources['sub/m.py']), ['sub/math.py', 'sub/one.py', 'sub/two.py'])

@@ -269,11 +269,12 @@ def _of_python(file: str, function: str, sources: Mapping[str, str]) -> Callable
     if file not in sources:
         raise MeasureFault('there is no file %s' % file)
     try:
-        work: Callable[[Run], object] | None = vars(_module_of(file, sources, {})).get(function)
+        space = vars(_module_of(file, sources, {}))
     except Exception as fault:
         raise MeasureFault('%s: %s' % (file, _said(fault, file, sources))) from None
-    if not callable(work):
+    if not callable(space.get(function)):
         raise MeasureFault('%s has no function %s' % (file, function))
+    work: Callable[[Run], object] = space[function]
 
     def of(bench: Bench) -> Cell:
         try:
