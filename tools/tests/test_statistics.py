@@ -983,14 +983,13 @@ class Command(unittest.TestCase):
         self.plot('--measure', 'sent', '--against', 'period', '--show', 'heat', status=2)
 
     def test_the_threshold_of_a_cdf(self) -> None:
-        words = '--measure', 'sent', '--over', 'seed,density', '--by', 'period', '--show', 'cdf', '--threshold', '22'
+        words = '--measure', 'sent', '--over', 'seed,density', '--by', 'period', '--show', 'cdf', '--threshold', '42'
         lines = [' '.join(row) for row in self.plot(*words)]
-        self.assertEqual([line for line in lines if 'at most' in line], [
-            'period 1: 10 of 10 runs (1.000) have at most 22', 'period 2: 4 of 10 runs (0.400) have at most 22',
-            'period 8: 0 of 10 runs (0.000) have at most 22'])
+        self.assertIn('period 1: 10 of 10 runs (1.000) have at most 42', lines)
+        self.assertIn('period 8: 0 of 10 runs (0.000) have at most 42', lines)
         interpreter_with(self, 'matplotlib')
         self.plot(*words, '-o', 'a.svg')
-        self.assertIn('>threshold 22</text>', (self.folder / 'a.svg').read_text())
+        self.assertIn('>threshold 42</text>', (self.folder / 'a.svg').read_text())
 
     def test_whole_numbers_are_written_in_full(self) -> None:
         numbers = 16384.0, 1234567890.0, -20000.0, 16384.6, 0.123456, 12.3456, 1e10
