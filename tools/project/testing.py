@@ -4,6 +4,7 @@ from __future__ import annotations
 import ast
 import os
 import sys
+from argparse import SUPPRESS
 from pathlib import Path
 from typing import NoReturn
 
@@ -39,9 +40,10 @@ def become(called: list[str], **environment: str) -> NoReturn:
 
 def asked_of(module: Path, named: str) -> tuple[list[str], list[str]]:
     """The names that a command gets, and the options that it passes on to pytest; its help begins with the module's
-    text."""
+    text, and leaves names out if the command can't use them."""
     words = words_of(ast.get_docstring(ast.parse(module.read_text('utf-8'))))
-    words.add_argument('names', nargs='*', metavar='NAME', help=named + '; without a name, all')
+    shown = SUPPRESS if module.name in WITHOUT_NAMES else named + '; without a name, all'
+    words.add_argument('names', nargs='*', metavar='NAME', help=shown)
     words.epilog = 'Other options are passed on to pytest, each in one word: -x, -kWORD.'
     asked, others = words.parse_known_args()
     return asked.names, others

@@ -196,7 +196,7 @@ impl Inbox {
         ensures empty { IfOk result (λ made. made.1.state ≡ make_taker_state true 0 [] []) }
     {
         let (inbox, mut taker) = Inbox::make(alloc)?;
-        // Records for the proof that the inbox has marks. The pass that this splits off belongs to nobody.
+        // This call records, for the proof, that the inbox has marks. The pass that this splits off belongs to nobody.
         let _nobody = inbox.queue.another::<Marks>(&mut taker.pass);
         Ok((inbox, taker))
     }

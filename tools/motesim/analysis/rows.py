@@ -55,7 +55,7 @@ def once(rows: Sequence[Row], file: str, apart: Sequence[str] = ()) -> tuple[lis
 
 
 def by_net(rows: Sequence[Row], wish: Wish) -> list[Row]:
-    """The rows, with one row for each net: the means of the measures, over its runs in which all have a value.
+    """One row for each net, with the mean of each measure over those runs of the net in which all measures have a value.
 
     Parameters that vary within nets, such as a seed of chance, have no value in these rows. The columns RUNS, WITH,
     WITHOUT and NET say how many runs a net has, how many have values and how many don't, and its name. Rows with

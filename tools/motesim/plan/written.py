@@ -39,7 +39,7 @@ def checked(text: str) -> str:
 
 
 def unused(plan: Plan, given: dict[str, Value]) -> list[str]:
-    """The given parameters that neither the plan nor a file that it needs names."""
+    """The given parameters that occur neither in the plan nor in a file that the plan needs."""
     texts = [plan.text, *(plan.files.read(it).decode('utf-8', 'replace') for it in plan.used_files(given))]
     return [name for name in given if not any('${%s}' % name in text for text in texts)]
 
