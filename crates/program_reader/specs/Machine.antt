@@ -298,6 +298,7 @@ abbrev pub verdict_after : Scope → (left : ℕ) → Token → Step → (Scope 
 verdict_after s left t unfit on = fault (unfit_kind t) left
 verdict_after s left t (take m f) on = fault_or (first_broken s m) left (on (scope_after s m) f)
 
+-- the verdict of the machine on the remaining tokens of a text, which it reads one by one
 abbrev pub tell : Scope → Pending → List Token → Verdict
 tell s f [] = at_end f
 tell s f (t ∷ ts) = verdict_after s (suc (length ts)) t (step f t) (λ s' f'. tell s' f' ts)

@@ -39,7 +39,8 @@ EmitsStatement s after old new = AddsStatements (λ rest. statement_rests s rest
 abbrev pub EmitsOther : Otherwise ℕ → (after : ℕ) → (old new : List Instruction) → Type 0
 EmitsOther o after old new = AddsStatements (λ rest. other_rests o rest) (other_size o) after old new
 
--- the same for the first statements of a block; the statements `later` follow them
+-- The new list of instructions has those of the first statements of a block. The statements `later` follow them, and
+-- their instructions are not yet in the list.
 pub record EmitsFirst (b later : Body ℕ) (after : ℕ) (old new : List Instruction) : Type 0 where
   pub more : List Instruction
   pub extends : new ≡ old ++ more

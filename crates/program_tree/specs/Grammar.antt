@@ -64,6 +64,7 @@ pub data Begun : Type 0 where
   -- a statement that waits, in a simple block
   wait : Begun
 
+-- a token of a text, with its role there and with the part of the program that begins at it
 pub record Mark : Type 0 where
   pub token : Token
   pub role : Role
