@@ -42,6 +42,9 @@ impl Scene {
     }
 }
 
+/// All scenes.
+static SCENES: [Scene; 4] = [Scene::Windows, Scene::Stopped, Scene::Woken, Scene::Late];
+
 /// A copy of mote 0's packet for mote 2.
 fn copy(at: u64, number: u64) -> RadioCopy {
     RadioCopy {
@@ -68,71 +71,49 @@ fn make_worker_2(alloc: Global, taker: Taker) -> Result<MarkEndpoint, InboxError
 }
 
 /// Pushes a copy, and the mark of the window in which it was sent.
-fn push_window<R: Wait>(
-    rt: &R,
-    inbox: &Inbox,
-    sender: &mut Sender,
-    copied: RadioCopy,
-    window: u64,
-) -> Result<(), InboxError>
+fn push_window<R: Wait>(rt: &R, inbox: &Inbox, sender: &mut Sender, copied: RadioCopy, window: u64)
     requires of_inbox { sender.old.inbox ≡ inbox.now }
     requires marked { sender.old.state.marked ≡ true }
     ensures sender { (sender.new.inbox ≡ inbox.now) × (sender.new.state.marked ≡ true) }
 {
-    push(rt, inbox, sender, copied)?;
-    push_mark(rt, inbox, sender, window)
+    push(rt, inbox, sender, copied);
+    push_mark(rt, inbox, sender, window);
 }
 
 /// Pushes the marks of the windows before window `windows`.
-fn push_marks<R: Wait>(
-    rt: &R,
-    inbox: &Inbox,
-    sender: &mut Sender,
-    windows: u64,
-) -> Result<(), InboxError>
+fn push_marks<R: Wait>(rt: &R, inbox: &Inbox, sender: &mut Sender, windows: u64)
     requires of_inbox { sender.old.inbox ≡ inbox.now }
     requires marked { sender.old.state.marked ≡ true }
     ensures sender { (sender.new.inbox ≡ inbox.now) × (sender.new.state.marked ≡ true) }
 {
     for window in 0..windows {
-        push_mark(rt, inbox, sender, window)?;
+        push_mark(rt, inbox, sender, window);
     }
-    Ok(())
 }
 
 /// Worker 0 pushes windows 0 and 1, and worker 1 pushes window 0. So taking window 0 returns the copies that worker 0
 /// sent in both windows. Then worker 1 pushes its next mark, so taking window 1 returns no copies. Last, worker 0
 /// pushes a copy of window 2 that arrives before the window begins.
-fn push_three_windows<R: Wait>(
-    rt: &R,
-    inbox: &Inbox,
-    first: &mut Sender,
-    second: &mut Sender,
-) -> Result<(), InboxError>
+fn push_three_windows<R: Wait>(rt: &R, inbox: &Inbox, first: &mut Sender, second: &mut Sender)
     requires first { (first.old.inbox ≡ inbox.now) × (first.old.state.marked ≡ true) }
     requires second { (second.old.inbox ≡ inbox.now) × (second.old.state.marked ≡ true) }
     ensures second { (second.new.inbox ≡ inbox.now) × (second.new.state.marked ≡ true) }
 {
-    push_window(rt, inbox, first, copy(5, 0), 0)?;
-    push_window(rt, inbox, first, copy(9, 1), 1)?;
-    push_mark(rt, inbox, second, 0)?;
-    push_mark(rt, inbox, second, 1)?;
-    push_window(rt, inbox, first, copy(9, 2), 2)
+    push_window(rt, inbox, first, copy(5, 0), 0);
+    push_window(rt, inbox, first, copy(9, 1), 1);
+    push_mark(rt, inbox, second, 0);
+    push_mark(rt, inbox, second, 1);
+    push_window(rt, inbox, first, copy(9, 2), 2);
 }
 
 /// Worker 0 pushes the marks of the windows up to 1002, and worker 1 those of the windows up to 1001.
-fn push_thousand_marks<R: Wait>(
-    rt: &R,
-    inbox: &Inbox,
-    first: &mut Sender,
-    second: &mut Sender,
-) -> Result<(), InboxError>
+fn push_thousand_marks<R: Wait>(rt: &R, inbox: &Inbox, first: &mut Sender, second: &mut Sender)
     requires first { (first.old.inbox ≡ inbox.now) × (first.old.state.marked ≡ true) }
     requires second { (second.old.inbox ≡ inbox.now) × (second.old.state.marked ≡ true) }
     ensures second { (second.new.inbox ≡ inbox.now) × (second.new.state.marked ≡ true) }
 {
-    push_marks(rt, inbox, first, 1003)?;
-    push_marks(rt, inbox, second, 1002)
+    push_marks(rt, inbox, first, 1003);
+    push_marks(rt, inbox, second, 1002);
 }
 
 /// Pushes the items that are in the inbox of worker 2 from the start.
@@ -142,7 +123,7 @@ fn push_before<R: Wait>(
     first: &mut Sender,
     second: &mut Sender,
     scene: Scene,
-) -> Result<(), InboxError>
+)
     requires first { (first.old.inbox ≡ inbox.now) × (first.old.state.marked ≡ true) }
     requires second { (second.old.inbox ≡ inbox.now) × (second.old.state.marked ≡ true) }
     ensures second { (second.new.inbox ≡ inbox.now) × (second.new.state.marked ≡ true) }
@@ -162,22 +143,10 @@ fn write_scene<R: Threads + Wait + Clock + Sync>(
     scene: Scene,
 ) -> Result<(), InboxError> {
     let (inbox, taker, mut first, mut second) = with_two(alloc, true)?;
-    push_before(rt, &inbox, &mut first, &mut second, scene)?;
+    push_before(rt, &inbox, &mut first, &mut second, scene);
     let worker_2 = make_worker_2(alloc, taker)?;
-    write_team(rt, alloc, text, scene, &inbox, worker_2, second)?;
+    write_team(rt, alloc, text, scene, &inbox, worker_2, second);
     Ok(())
-}
-
-/// Runs all scenes, and writes down their results.
-fn write_scenes<R: Threads + Wait + Clock + Sync>(
-    rt: &R,
-    alloc: Global,
-    text: &mut String,
-) -> Result<(), InboxError> {
-    write_scene(rt, alloc, text, Scene::Windows)?;
-    write_scene(rt, alloc, text, Scene::Stopped)?;
-    write_scene(rt, alloc, text, Scene::Woken)?;
-    write_scene(rt, alloc, text, Scene::Late)
 }
 
 /// Windows that are received although the flag is set; a window whose mark is missing; a worker that sleeps when the
@@ -185,10 +154,12 @@ fn write_scenes<R: Threads + Wait + Clock + Sync>(
 #[test]
 fn windows_by_hand(rt: HostRuntime) -> Result<(), Fail> {
     let mut text = String::new(rt.alloc());
-    write_scenes(&rt, rt.alloc(), &mut text)?;
+    for scene in SCENES.as_slice() {
+        write_scene(&rt, rt.alloc(), &mut text, *scene)?;
+    }
     same_text(
         text.as_str(),
-        "Err(Thread) 5 0, 9 1, marks|marks|Unexpected|Err(Thread) Stopped|Err(Thread) Stopped|\
+        "Err(Thread) 5 2 0 0 9|9 2 0 1 9|marks|marks|Unexpected|Err(Thread) Stopped|Err(Thread) Stopped|\
          Err(Thread) marks|marks|Stopped|",
     )
 }
