@@ -5,6 +5,7 @@
 
 mod blocks;
 mod canonical;
+mod inboxes;
 mod kernels;
 mod looked_up;
 mod medium;

@@ -1,6 +1,4 @@
-//! Most tests write their observations into one text, and a shared function compares this text once. So a test owns
-//! few values when it ends early: owning many values there would make its proof expensive. For the same reason no test
-//! ends when a push, or a write to its text, fails: then the text lacks something, and the comparison fails.
+//! Inboxes, with marks and without, and a worker that waits for marks.
 
 mod marked;
 mod plain;

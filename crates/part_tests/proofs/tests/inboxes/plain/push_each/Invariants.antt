@@ -1,5 +1,5 @@
 use Rattle.std.proofs.Common.{◌≡◌}
-use Rattle.inbox_tests.proofs.tests.plain.push_each.Given as goal
+use Rattle.part_tests.proofs.tests.inboxes.plain.push_each.Given as goal
 
 abbrev pub invariant-loop-sender : goal.invariant-loop-sender
 invariant-loop-sender g l = record {

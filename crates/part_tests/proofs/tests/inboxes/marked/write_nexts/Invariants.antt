@@ -1,5 +1,5 @@
 use Rattle.std.proofs.Common.{◌≡◌}
-use Rattle.inbox_tests.proofs.tests.marked.write_nexts.Given as goal
+use Rattle.part_tests.proofs.tests.inboxes.marked.write_nexts.Given as goal
 
 abbrev pub invariant-loop : goal.invariant-loop
 invariant-loop g l = (l.taker.inbox ≡ l.inbox) × (l.taker.state.marked ≡ l.fn.taker.state.marked)
