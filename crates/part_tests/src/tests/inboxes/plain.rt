@@ -47,8 +47,8 @@ fn write_taken<R: Wait>(rt: &R, text: &mut String, inbox: &Inbox, taker: &mut Ta
     write_known(text, inbox, taker);
 }
 
-/// Lets two senders push these copies, and gathers one sender after the other. Writes down the copies that are taken
-/// after each sender is gathered, and the copies that are left at the end.
+/// Lets two senders push these copies, and gathers the second sender, then the first. Writes down the copies that are
+/// taken after each sender is gathered, and the copies that are left at the end.
 fn write_of_two<R: Wait>(
     rt: &R,
     alloc: Global,
@@ -59,22 +59,22 @@ fn write_of_two<R: Wait>(
     let (inbox, mut taker, first, second) = with_two(alloc, false)?;
     let (first, second) = push_each(rt, &inbox, first, second, copies);
     write_known(text, &inbox, &taker);
-    inbox.gather(rt, &mut taker, first);
-    write_taken(rt, text, &inbox, &mut taker, most.0);
     inbox.gather(rt, &mut taker, second);
+    write_taken(rt, text, &inbox, &mut taker, most.0);
+    inbox.gather(rt, &mut taker, first);
     write_taken(rt, text, &inbox, &mut taker, most.1);
     write_rest(rt, text, inbox, taker);
     Ok(())
 }
 
 /// Rows: a name, the copies that two senders push (as senders and numbers), and the largest number of copies that are
-/// taken after the first sender is gathered, and after the second sender is gathered.
+/// taken after the second sender is gathered, and after the first sender is gathered.
 static OF_TWO: [(&str, &[(u16, u64)], (u64, u64)); 3] = [
     // Two copies of each sender: three are drained, and closing the inbox returns the fourth.
     ("", &[(0, 0), (1, 0), (1, 1), (0, 1)], (0, 3)),
     // A copy is in the inbox before its sender is gathered: the taker gets this copy, because it is the first one in
     // the shared queue, although only the other sender's copy is known.
-    ("of both|", &[(1, 8), (0, 7)], (1, 0)),
+    ("of both|", &[(0, 7), (1, 8)], (1, 0)),
     ("of nobody|", &[], (0, 0)),
 ];
 
@@ -101,14 +101,14 @@ fn write_later<R: Wait>(rt: &R, alloc: Global, text: &mut String) -> Result<(), 
 
 /// The copies that are known and that are taken while senders push copies and are gathered, all in one thread.
 #[test]
-fn in_one_thread(rt: HostRuntime) -> Result<(), Fail> {
+fn inbox_in_one_thread(rt: HostRuntime) -> Result<(), Fail> {
     let mut text = String::new(rt.alloc());
     write_rows(&rt, rt.alloc(), &mut text)?;
     write_later(&rt, rt.alloc(), &mut text)?;
     same_text(
         text.as_str(),
         "known 0|known 2|known 2|known 4|5 1 0 0 9|5 1 1 0 9|5 1 1 1 9|known 1|rest|5 1 0 1 9|\
-         of both|known 0|known 1|5 1 1 8 9|known 1|known 1|known 1|rest|5 1 0 7 9|\
+         of both|known 0|known 1|5 1 0 7 9|known 1|known 1|known 1|rest|5 1 1 8 9|\
          of nobody|known 0|known 0|known 0|known 0|known 0|rest|known 1|5 1 0 7 9|known 0|",
     )
 }
