@@ -1,29 +1,27 @@
 //! Most tests write their observations into one text, and a shared function compares this text once. So a test owns
 //! few values when it ends early: owning many values there would make its proof expensive.
 
-mod failing_executor;
-mod held_back;
+mod few_bytes;
 mod inboxes;
 mod lent_motes;
 mod many_motes;
 mod nets;
-mod overlaps;
+mod observer;
 mod polled;
 mod runs;
 mod shares;
 
-use held_back::write_ahead;
+use few_bytes::FewBytes;
 use inboxes::write_inboxes;
 use net_scenario::{Net, read_scenario};
-use overlaps::write_meetings;
-use runs::write_starts;
+use observer::{Observer, Watch};
 use std::alloc::{AllocError, AllocGlobal, Global};
 use std::random::RandomSource;
 use std::sync::Wait;
 use std::test::Fail;
 use std::thread::Threads;
 use test_helpers::same_text;
-use window_workers::{Cut, Gate, NoGate, Report, RunError, SyncKind, run_serial, run_workers};
+use window_workers::{Cut, Report, RunError, SyncKind, run_serial, run_workers};
 
 /// A mote that sends a packet at 2. Another mote, next to it, gets the packet at 5.
 const PACKET_AFTER_TIMER: &str = "\
@@ -111,32 +109,17 @@ const BUSY_TRIO: &str = "\
     y = 0\n\
     program = \"p\"\n";
 
-/// The common data of runs: a net, the text of its report from one thread, and a kind of synchronisation.
+/// The common data of runs: a net, the text of its report from one thread, a kind of synchronisation, and whether the
+/// test makes the inboxes of the workers.
 #[derive(Clone, Copy)]
 struct Scene<'a> {
     net: &'a Net,
     one: &'a str,
     sync: SyncKind,
+    over_inboxes: bool,
 }
 
-/// The kind of observation in a run.
-#[derive(Clone, Copy)]
-enum Watch {
-    /// The number of starts that are requested, and the number of turns that the motes' own workers take. The worker
-    /// with this number isn't allowed to start.
-    Starts(Option<u16>),
-    /// Observes whether worker 0 gets ahead of worker 1.
-    Ahead,
-    /// For each moment, the number of workers that meet inside their turns.
-    Meetings { over_inboxes: bool },
-    /// The contents of the inboxes at the end of the run.
-    Inboxes,
-}
-
-/// A run in which all workers are allowed to start.
-const STARTS: Watch = Watch::Starts(None);
-
-/// A run: the kind of observation, the number of workers, the worker of each mote, and the greatest length of a window
+/// A run: what its gate observes, the number of workers, the worker of each mote, and the greatest length of a window
 /// (0 means that there is no limit).
 type Case<'a> = (Watch, u16, &'a [u16], u32);
 
@@ -144,6 +127,7 @@ type Case<'a> = (Watch, u16, &'a [u16], u32);
 #[derive(Clone, Copy)]
 struct Trials<'a> {
     scenario: &'a str,
+    over_inboxes: bool,
     cases: &'a [Case<'a>],
     joins: &'a str,
     marks: &'a str,
@@ -177,43 +161,40 @@ fn write_result(
     }
 }
 
-/// Writes down the result of a run with this gate.
-fn write_run<R, G>(
-    rt: &R,
+/// Writes down the result of a run, and the contents of the inboxes at its end if the test makes them.
+fn write_run<R>(
+    rt: &FewBytes<'_, R>,
     scene: Scene<'_>,
     workers: u16,
     cut: &Cut,
-    gate: &G,
+    gate: &Observer<'_>,
     text: &mut String,
-) -> Result<(), AllocError>
+) -> Result<(), Fail>
 where
     R: Threads + Wait + Sync + RandomSource + AllocGlobal,
-    G: Gate + Sync,
 {
+    if scene.over_inboxes {
+        write_inboxes(rt, scene, workers, cut, gate, text)?;
+        return Ok(());
+    }
     let actual = run_workers(rt, rt.alloc(), scene.net, workers, cut, scene.sync, gate);
-    write_result(rt.alloc(), scene.one, actual, text)
+    Ok(write_result(rt.alloc(), scene.one, actual, text)?)
 }
 
-/// Writes down the result of this kind of observation in a run.
+/// Writes down the result of a run, and the counts of its gate.
 fn write_case<R>(rt: &R, scene: Scene<'_>, case: &Case<'_>, text: &mut String) -> Result<(), Fail>
 where
     R: Threads + Wait + Sync + RandomSource + AllocGlobal,
 {
     let (watch, workers, owners, longest) = *case;
-    let owners = owners.to_vec(rt.alloc())?;
     let cut = Cut {
-        of: owners,
+        of: owners.to_vec(rt.alloc())?,
         longest,
     };
-    match watch {
-        Watch::Starts(shut) => write_starts(rt, scene, workers, &cut, shut, text)?,
-        Watch::Ahead => write_ahead(rt, scene, workers, &cut, text)?,
-        Watch::Meetings { over_inboxes } => {
-            write_meetings(rt, scene, workers, &cut, over_inboxes, text)?
-        }
-        Watch::Inboxes => write_inboxes(rt, scene, workers, &cut, &NoGate, text)?,
-    }
-    Ok(())
+    let few = FewBytes::new(rt, watch);
+    let gate = Observer::new(watch, workers, owners);
+    write_run(&few, scene, workers, &cut, &gate, text)?;
+    Ok(gate.write_counts(text)?)
 }
 
 /// Fails unless the text that is written about these runs is `want`.
@@ -245,6 +226,7 @@ where
         net: &net,
         one: one.as_str(),
         sync: SyncKind::Joins,
+        over_inboxes: runs.over_inboxes,
     };
     tells_by(rt, scene, runs.cases, runs.joins)?;
     let scene = Scene {

@@ -138,7 +138,7 @@ code a {
 ";
 
 /// Texts of programs, each with its canonical text.
-const CASES: &[(&str, &str)] = &[
+static CASES: [(&str, &str); 4] = [
     (PRINT_THEN_YIELD, PRINT_THEN_YIELD_PRINTED),
     (
         DECLARATIONS_AND_EMPTY_PARTS,
@@ -150,7 +150,7 @@ const CASES: &[(&str, &str)] = &[
 
 #[test]
 fn canonical_texts(rt: HostRuntime) -> Result<(), Fail> {
-    for (text, want) in CASES {
+    for (text, want) in CASES.as_slice() {
         prints(rt.alloc(), text, want)?;
     }
     Ok(())

@@ -124,7 +124,7 @@ fn tells(alloc: Global, program: &str, acts: &[Act], want: &str) -> Result<(), F
 }
 
 /// Programs, the calls of their kernels, and the text that is written about these calls.
-const CASES: &[(&str, &[Act], &str)] = &[
+static CASES: [(&str, &[Act], &str); 4] = [
     (
         SENDER,
         &[Act::Look, Act::Boot, Act::Look],
@@ -175,7 +175,7 @@ const CASES: &[(&str, &[Act], &str)] = &[
 /// The results and the lines of kernels.
 #[test]
 fn kernels_by_hand(rt: HostRuntime) -> Result<(), Fail> {
-    for (program, acts, want) in CASES {
+    for (program, acts, want) in CASES.as_slice() {
         tells(rt.alloc(), program, acts, want)?;
     }
     Ok(())

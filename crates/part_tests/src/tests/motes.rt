@@ -125,7 +125,7 @@ const SENT: &str =
      0 Leave(Own(0))|sent 0 0 0 5|wake None|None|";
 
 /// The numbers of motes, their programs and turns, and the text that is written about these turns.
-const CASES: &[(u16, &str, &[Turn], &str)] = &[
+static CASES: [(u16, &str, &[Turn], &str); 4] = [
     (
         7,
         PRINT_THEN_YIELD,
@@ -165,7 +165,7 @@ const CASES: &[(u16, &str, &[Turn], &str)] = &[
 /// Two motes that print, one that receives, and one that sends.
 #[test]
 fn mote_by_hand(rt: HostRuntime) -> Result<(), Fail> {
-    for (number, program, turns, want) in CASES {
+    for (number, program, turns, want) in CASES.as_slice() {
         tells(rt.alloc(), *number, program, turns, want)?;
     }
     Ok(())

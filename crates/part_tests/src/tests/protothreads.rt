@@ -136,7 +136,7 @@ fn tells(alloc: Global, program: &str, units: u32, acts: &[Act], want: &str) -> 
 const GO_ON: Act = Act::Event(0x85, 3);
 
 /// Programs with their units, the calls of their threads, and the text that is written about these calls.
-const CASES: &[(&str, u32, &[Act], &str)] = &[
+static CASES: [(&str, u32, &[Act], &str); 14] = [
     // The thread continues from one wait to the next.
     (
         "process a; code a { body { print 1; yield; print 2; } }",
@@ -266,7 +266,7 @@ const CASES: &[(&str, u32, &[Act], &str)] = &[
 /// The steps of threads, call by call.
 #[test]
 fn steps_of_threads(rt: HostRuntime) -> Result<(), Fail> {
-    for (program, units, acts, want) in CASES {
+    for (program, units, acts, want) in CASES.as_slice() {
         tells(rt.alloc(), program, *units, acts, want)?;
     }
     Ok(())

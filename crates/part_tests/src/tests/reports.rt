@@ -85,7 +85,7 @@ fn write_trace(
 }
 
 /// Events with their moments, grouped by their kind.
-const KINDS: &[&[(u64, What)]] = &[
+static KINDS: [&[(u64, What)]; 4] = [
     // Lines of processes.
     &[
         (0, What::Start(A)),
@@ -130,7 +130,7 @@ const KINDS: &[&[(u64, What)]] = &[
 fn write_of_one_mote(alloc: Global, output: &mut Vec<u8>) -> Result<(), Fail> {
     let net = read_scenario(alloc, TWO_PROCESSES)?;
     if net.motes() == 1 {
-        for happens in KINDS {
+        for happens in KINDS.as_slice() {
             write_trace(alloc, &net, happens, output)?;
         }
     }

@@ -2,6 +2,8 @@
 ghost use Rattle.std.specs.List.{AllByRecursion as Each};
 ghost use Rattle.copy_exchange.specs.Inboxes.{IsSettled};
 
+use super::few_bytes::FewBytes;
+use super::observer::Observer;
 use super::{Scene, write_result};
 use copy_exchange::make_inboxes;
 use copy_inbox::{Inbox, InboxError, Taker};
@@ -9,7 +11,7 @@ use std::alloc::AllocGlobal;
 use std::random::RandomSource;
 use std::sync::Wait;
 use std::thread::Threads;
-use window_workers::{Cut, Gate, run_inboxes};
+use window_workers::{Cut, run_inboxes};
 
 /// Writes down the number of copies in an inbox, and the copies.
 fn write_closed<R: Wait>(
@@ -42,17 +44,16 @@ fn write_all_closed<R: Wait>(
 }
 
 /// Writes down the result of a run with new inboxes, one for each worker, and the contents of each inbox at the end.
-pub(super) fn write_inboxes<R, G>(
-    rt: &R,
+pub(super) fn write_inboxes<R>(
+    rt: &FewBytes<'_, R>,
     scene: Scene<'_>,
     workers: u16,
     cut: &Cut,
-    gate: &G,
+    gate: &Observer<'_>,
     text: &mut String,
 ) -> Result<(), InboxError>
 where
     R: Threads + Wait + Sync + RandomSource + AllocGlobal,
-    G: Gate + Sync,
 {
     let pairs = make_inboxes(rt.alloc(), usize::from(workers), scene.sync.has_marks())?;
     match run_inboxes(rt, rt.alloc(), scene.net, cut, scene.sync, gate, pairs) {

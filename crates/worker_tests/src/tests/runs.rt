@@ -1,68 +1,18 @@
 //! Runs with various partitions: their results, the number of starts of threads, and the workers that take the turns.
 
+use super::observer::{STARTS, Watch};
 use super::{
-    BUSY_PAIR, BUSY_TRIO, COPY_PAST_THE_END, Case, PACKET_AFTER_TIMER, STARTS, Scene, Trials,
-    Watch, all_tell, write_case, write_run,
+    BUSY_PAIR, BUSY_TRIO, COPY_PAST_THE_END, Case, PACKET_AFTER_TIMER, Scene, Trials, all_tell,
+    write_case,
 };
 use net_scenario::{Net, read_scenario};
 use std::alloc::{AllocError, AllocGlobal, Global};
 use std::random::RandomSource;
 use std::sync::Wait;
-use std::sync::atomic::AtomicU64;
-use std::sync::atomic::Ordering::SeqCst;
 use std::test::Fail;
 use std::thread::Threads;
 use test_helpers::{TWO_SENDERS, same_text};
-use window_workers::{Cut, Gate, SyncKind};
-
-/// A gate that allows no start of one worker. It counts the starts that are requested, and the turns that a mote's own
-/// worker takes.
-#[derive(Drop)]
-struct Starts<'a> {
-    /// The worker of each mote.
-    owners: &'a [u16],
-    shut: Option<u16>,
-    asked: AtomicU64,
-    own: AtomicU64,
-}
-
-impl Gate for Starts<'_> {
-    fn inside(&self, worker: u16, _moment: u64, mote: u16) {
-        if self.owners.get(usize::from(mote)) == Some(&worker) {
-            self.own.fetch_add(1, SeqCst);
-        }
-    }
-
-    fn start(&self, worker: u16) -> bool {
-        self.asked.fetch_add(1, SeqCst);
-        self.shut != Some(worker)
-    }
-}
-
-/// Writes down the result of a run in which the worker `shut` isn't allowed to start, the number of starts that were
-/// requested, and the number of turns that the motes' own workers took.
-pub(super) fn write_starts<R>(
-    rt: &R,
-    scene: Scene<'_>,
-    workers: u16,
-    cut: &Cut,
-    shut: Option<u16>,
-    text: &mut String,
-) -> Result<(), AllocError>
-where
-    R: Threads + Wait + Sync + RandomSource + AllocGlobal,
-{
-    let gate = Starts {
-        owners: cut.of.as_slice(),
-        shut,
-        asked: AtomicU64::new(0),
-        own: AtomicU64::new(0),
-    };
-    write_run(rt, scene, workers, cut, &gate, text)?;
-    let asked = gate.asked.load(SeqCst);
-    let turns = gate.own.load(SeqCst);
-    write!(text, " {asked} {turns}|")
-}
+use window_workers::{Cut, SyncKind};
 
 /// Runs with windows of any length, and with windows of at most 1, 2 and 3 moments.
 const LENGTHS: [Case<'static>; 5] = [
@@ -76,13 +26,14 @@ const LENGTHS: [Case<'static>; 5] = [
 /// A run of 16 workers, three of which have a mote, in windows of one moment.
 const SPARSE: Case<'static> = (STARTS, 16, &[0, 5, 10], 1);
 
-/// Runs with various partitions, and the observations in them.
+/// Runs with various partitions, and the observations in them. All counts are hexadecimal numbers.
 static RUNS: [Trials<'static>; 11] = [
     // Each of these partitions leads to the same report as one thread: blocks, stripes, workers without a mote, and
     // motes in reverse order. With fork-join each worker is started in each of two windows, and with null messages
     // once.
     Trials {
         scenario: TWO_SENDERS,
+        over_inboxes: false,
         cases: &[
             (STARTS, 1, &[0, 0, 0], 0),
             (STARTS, 2, &[0, 0, 1], 0),
@@ -93,13 +44,14 @@ static RUNS: [Trials<'static>; 11] = [
             (STARTS, 4, &[0, 1, 2], 1),
             (STARTS, 16, &[0, 5, 10], 0),
         ],
-        joins: "Same(0) 2 4|Same(0) 4 4|Same(0) 4 4|Same(0) 4 4|Same(0) 6 4|Same(0) 6 4|Same(0) 8 4|Same(0) 32 4|",
-        marks: "Same(0) 1 4|Same(0) 2 4|Same(0) 2 4|Same(0) 2 4|Same(0) 3 4|Same(0) 3 4|Same(0) 4 4|Same(0) 16 4|",
+        joins: "Same(0) 2 4|Same(0) 4 4|Same(0) 4 4|Same(0) 4 4|Same(0) 6 4|Same(0) 6 4|Same(0) 8 4|Same(0) 20 4|",
+        marks: "Same(0) 1 4|Same(0) 2 4|Same(0) 2 4|Same(0) 2 4|Same(0) 3 4|Same(0) 3 4|Same(0) 4 4|Same(0) 10 4|",
     },
     // Partitions of three motes. Only the last one is accepted. If a partition has several errors, the first is
     // reported: the order is that of the first three runs here. No worker is started.
     Trials {
         scenario: BUSY_TRIO,
+        over_inboxes: false,
         cases: &[
             (STARTS, 0, &[0, 0, 0], 0),
             (STARTS, 2, &[0, 1], 0),
@@ -117,6 +69,7 @@ static RUNS: [Trials<'static>; 11] = [
     // null messages the workers that were started before wait for that worker, but they end.
     Trials {
         scenario: TWO_SENDERS,
+        over_inboxes: false,
         cases: &[
             (Watch::Starts(Some(0)), 1, &[0, 0, 0], 0),
             (Watch::Starts(Some(0)), 2, &[0, 0, 1], 0),
@@ -131,6 +84,7 @@ static RUNS: [Trials<'static>; 11] = [
     // window: the only window, or the first of three.
     Trials {
         scenario: BUSY_TRIO,
+        over_inboxes: false,
         cases: &[
             (Watch::Starts(Some(12)), 16, &[0, 5, 10], 0),
             (Watch::Starts(Some(12)), 16, &[0, 5, 10], 1),
@@ -143,6 +97,7 @@ static RUNS: [Trials<'static>; 11] = [
     // or in three shorter windows. With null messages each worker is started once.
     Trials {
         scenario: PACKET_AFTER_TIMER,
+        over_inboxes: false,
         cases: &LENGTHS,
         joins: "Same(0) 4 4|Same(0) 6 4|Same(0) 6 4|Same(0) 4 4|Same(0) 9 4|",
         marks: "Same(0) 2 4|Same(0) 2 4|Same(0) 2 4|Same(0) 2 4|Same(0) 3 4|",
@@ -151,6 +106,7 @@ static RUNS: [Trials<'static>; 11] = [
     // window, or in two.
     Trials {
         scenario: COPY_PAST_THE_END,
+        over_inboxes: false,
         cases: &LENGTHS,
         joins: "Same(1) 2 3|Same(1) 4 3|Same(1) 4 3|Same(1) 2 3|Same(1) 6 3|",
         marks: "Same(1) 2 3|Same(1) 2 3|Same(1) 2 3|Same(1) 2 3|Same(1) 3 3|",
@@ -159,43 +115,48 @@ static RUNS: [Trials<'static>; 11] = [
     // windows of one moment, or in the only window; with null messages it is started once.
     Trials {
         scenario: BUSY_TRIO,
+        over_inboxes: false,
         cases: &[SPARSE, (STARTS, 16, &[0, 5, 10], 0)],
-        joins: "Same(0) 48 9|Same(0) 16 9|",
-        marks: "Same(0) 16 9|Same(0) 16 9|",
+        joins: "Same(0) 30 9|Same(0) 10 9|",
+        marks: "Same(0) 10 9|Same(0) 10 9|",
     },
     // The first of these two runs, ten times: with null messages no worker stops because another one has ended.
     Trials {
         scenario: BUSY_TRIO,
+        over_inboxes: false,
         cases: &[SPARSE; 10],
-        joins: "Same(0) 48 9|Same(0) 48 9|Same(0) 48 9|Same(0) 48 9|Same(0) 48 9|Same(0) 48 9|Same(0) 48 9|\
-                Same(0) 48 9|Same(0) 48 9|Same(0) 48 9|",
-        marks: "Same(0) 16 9|Same(0) 16 9|Same(0) 16 9|Same(0) 16 9|Same(0) 16 9|Same(0) 16 9|Same(0) 16 9|\
-                Same(0) 16 9|Same(0) 16 9|Same(0) 16 9|",
+        joins: "Same(0) 30 9|Same(0) 30 9|Same(0) 30 9|Same(0) 30 9|Same(0) 30 9|Same(0) 30 9|Same(0) 30 9|\
+                Same(0) 30 9|Same(0) 30 9|Same(0) 30 9|",
+        marks: "Same(0) 10 9|Same(0) 10 9|Same(0) 10 9|Same(0) 10 9|Same(0) 10 9|Same(0) 10 9|Same(0) 10 9|\
+                Same(0) 10 9|Same(0) 10 9|Same(0) 10 9|",
     },
     // A run in windows of one moment. The motes don't hear one another, so a single window would be enough.
     Trials {
         scenario: BUSY_PAIR,
+        over_inboxes: false,
         cases: &[(Watch::Ahead, 2, &[0, 1], 1)],
-        joins: "Same(0) 0|",
-        marks: "Same(0) 0|",
+        joins: "Same(0) 1 0|",
+        marks: "Same(0) 1 0|",
     },
     // The copy would arrive after the end. With fork-join it is in the inbox of its receiver's worker at the end; with
     // null messages that worker has already taken it.
     Trials {
         scenario: COPY_PAST_THE_END,
-        cases: &[(Watch::Inboxes, 2, &[0, 1], 0)],
-        joins: "Same(1)|0 []|1 [RadioCopy { at: 5, to: 1, sender: 0, number: 0, value: 9 }]|",
-        marks: "Same(1)|0 []|0 []|",
+        over_inboxes: true,
+        cases: &[(STARTS, 2, &[0, 1], 0)],
+        joins: "Same(1)|0 []|1 [RadioCopy { at: 5, to: 1, sender: 0, number: 0, value: 9 }]| 2 3|",
+        marks: "Same(1)|0 []|0 []| 2 3|",
     },
     // Each worker of a partition must have an inbox. Of these partitions of three motes only the last one is accepted.
     Trials {
         scenario: BUSY_TRIO,
+        over_inboxes: true,
         cases: &[
-            (Watch::Inboxes, 0, &[0, 0, 1], 0),
-            (Watch::Inboxes, 17, &[0, 0, 1], 0),
-            (Watch::Inboxes, 1, &[0, 0, 1], 0),
-            (Watch::Inboxes, 2, &[0, 0], 0),
-            (Watch::Inboxes, 2, &[0, 0, 1], 0),
+            (STARTS, 0, &[0, 0, 1], 0),
+            (STARTS, 17, &[0, 0, 1], 0),
+            (STARTS, 1, &[0, 0, 1], 0),
+            (STARTS, 2, &[0, 0], 0),
+            (STARTS, 2, &[0, 0, 1], 0),
         ],
         joins: REFUSED_INBOXES,
         marks: REFUSED_INBOXES,
@@ -204,21 +165,86 @@ static RUNS: [Trials<'static>; 11] = [
 
 const REFUSED_CUTS: &str =
     "Fault(Workers) 0 0|Fault(CutLength) 0 0|Fault(CutWorker) 0 0|Fault(Workers) 0 0|\
-    Fault(CutLength) 0 0|Fault(Workers) 0 0|Fault(CutLength) 0 0|Same(0) 16 9|";
+    Fault(CutLength) 0 0|Fault(Workers) 0 0|Fault(CutLength) 0 0|Same(0) 10 9|";
 
 const REFUSED_STARTS: &str =
     "Fault(Thread) 1 0|Fault(Thread) 1 0|Fault(Thread) 2 2|Fault(Thread) 2 1|Fault(Thread) 3 2|";
 
-const REFUSED_OF_SIXTEEN: &str = "Fault(Thread) 13 9|Fault(Thread) 13 3|Fault(Thread) 16 3|";
+const REFUSED_OF_SIXTEEN: &str = "Fault(Thread) d 9|Fault(Thread) d 3|Fault(Thread) 10 3|";
 
 const REFUSED_INBOXES: &str =
-    "Fault(Workers)|Fault(Workers)|Fault(CutWorker)|Fault(CutLength)|Same(0)|0 []|0 []|";
+    "Fault(Workers)| 0 0|Fault(Workers)| 0 0|Fault(CutWorker)| 0 0|Fault(CutLength)| 0 0|\
+    Same(0)|0 []|0 []| 2 9|";
 
 /// The results of runs, the number of starts of threads, the workers that take the turns, and the contents of the
 /// inboxes.
 #[test]
 fn runs_by_any_cut(rt: HostRuntime) -> Result<(), Fail> {
     all_tell(&rt, RUNS.as_slice())
+}
+
+/// In each of three windows, two workers meet, or three workers. Each worker has one mote.
+static MEETINGS: [Trials<'static>; 4] = [
+    Trials {
+        scenario: BUSY_PAIR,
+        over_inboxes: false,
+        cases: &[(Watch::Meetings, 2, &[0, 1], 1)],
+        joins: "Same(0) 20202 20202|",
+        marks: "Same(0) 20202 20202|",
+    },
+    Trials {
+        scenario: BUSY_PAIR,
+        over_inboxes: true,
+        cases: &[(Watch::Meetings, 2, &[0, 1], 1)],
+        joins: "Same(0)|0 []|0 []| 20202 20202|",
+        marks: "Same(0)|0 []|0 []| 20202 20202|",
+    },
+    Trials {
+        scenario: BUSY_TRIO,
+        over_inboxes: false,
+        cases: &[(Watch::Meetings, 3, &[0, 1, 2], 1)],
+        joins: "Same(0) 30303 30303|",
+        marks: "Same(0) 30303 30303|",
+    },
+    Trials {
+        scenario: BUSY_TRIO,
+        over_inboxes: true,
+        cases: &[(Watch::Meetings, 3, &[0, 1, 2], 1)],
+        joins: "Same(0)|0 []|0 []|0 []| 30303 30303|",
+        marks: "Same(0)|0 []|0 []|0 []| 30303 30303|",
+    },
+];
+
+/// The turns of workers overlap in time: inside their turns, all workers meet.
+#[test]
+fn turns_of_workers_overlap(rt: HostRuntime) -> Result<(), Fail> {
+    all_tell(&rt, MEETINGS.as_slice())
+}
+
+const FAILED: &str =
+    "Fault(Thread) 0 0|Fault(Thread) 0 0|Fault(Thread) 0 0|Fault(Thread) 0 0|Same(0) 0 0|";
+
+/// Runs with two workers in three windows. The executors fail after 0, 1, 3, 5 or 6 calls of the source of random
+/// bytes.
+static FAILING: [Trials<'static>; 1] = [Trials {
+    scenario: BUSY_PAIR,
+    over_inboxes: false,
+    cases: &[
+        (Watch::Fails(0), 2, &[0, 1], 1),
+        (Watch::Fails(1), 2, &[0, 1], 1),
+        (Watch::Fails(3), 2, &[0, 1], 1),
+        (Watch::Fails(5), 2, &[0, 1], 1),
+        (Watch::Fails(6), 2, &[0, 1], 1),
+    ],
+    joins: FAILED,
+    marks: FAILED,
+}];
+
+/// If an executor fails, the error is `Thread`, in whichever window it fails. With null messages the other worker
+/// doesn't wait for ever.
+#[test]
+fn executors_that_fail(rt: HostRuntime) -> Result<(), Fail> {
+    all_tell(&rt, FAILING.as_slice())
 }
 
 /// Fails if the reported error is neither the refused start of worker 1 nor a failed allocation.
@@ -228,7 +254,12 @@ where
 {
     let mut text = String::new(rt.alloc());
     // The report is compared with nothing, because there is none.
-    let scene = Scene { net, one: "", sync };
+    let scene = Scene {
+        net,
+        one: "",
+        sync,
+        over_inboxes: false,
+    };
     write_case(
         rt,
         scene,

@@ -1,6 +1,0 @@
-use Rattle.std.proofs.Common.{◌≡◌}
-use Rattle.inbox_tests.proofs.tests.marked.write_four.Given as goal
-
-abbrev pub invariant-loop : goal.invariant-loop
-invariant-loop g l = (l.taker.inbox ≡ l.inbox) × (l.taker.state.made ≡ l.fn.taker.state.made)
-    × (l.taker.state.gathered ≡ l.fn.taker.state.gathered)
