@@ -329,12 +329,15 @@ class Log(unittest.TestCase):
             if self.digest(high) != before:
                 changed.append(path)
         files = ['high/a.edit', 'high/src/lib.rt', 'low/src/lib.rt', 'low/specs/A.antt', 'low/proofs/P.antt',
-                 'crates.txt',
-                 'tools/project/mutants/x.py']
+                 'tools/project/mutants/checks.py']
         same('high/src/lib.rt', '    // A comment only.\nfn b() {}\n')
+        same('crates.txt', 'low:\n# Tests\nother_tests: low\n')
+        same('tools/project/mutants/log.py', 'x = 1\n')
         self.assertEqual(changed, [])
         for path in files:
             same(path, 'x = 1\n')
+        same('crates.txt', 'low may_wait=1:\n')
+        files.append('crates.txt')
         self.assertEqual(changed, files)
         before, self.kit = self.digest(high), 'another'
         self.assertNotEqual(self.digest(high), before)

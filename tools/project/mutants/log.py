@@ -1,27 +1,30 @@
 """The last verdict on each mutant, with a digest of the texts: log/wrong_bodies.tsv.
 
 A line has the mutant, the day, the verdict, the refused function, the goals or the error for which it was refused, and
-a digest of everything on which the verdict depends: the mutant, its crate, the crates below with their proofs,
-crates.txt, the code that judges, and the kit. Lines that have only a comment don't count.
+a digest of everything on which the verdict depends: the mutant, its crate, the crates below with their proofs, the
+lines of these crates in crates.txt, the code that judges, and the kit. Lines that have only a comment don't count.
 """
 from __future__ import annotations
 
 import hashlib
+import re
 import time
 from collections.abc import Iterable, Mapping
 from functools import cache
 from pathlib import Path
 from typing import NamedTuple
 
-from project.kit import version
+from project.kit import Crate, version
 from project.mutants.checks import OPEN, REFUSED, Verdict
 from project.mutants.edits import Edit
 from motesim.runner.programs import ALL_PARTS, TOP
 
 KEPT = TOP / 'log/wrong_bodies.tsv'
 HEAD = '# written by tools/dev/wrong_bodies: mutant, day, what it came to, function, goals or error, digest\n'
+# The code that judges.
+JUDGES = 'kit.py', 'mutants/checks.py', 'mutants/edits.py'
 # The beginnings of lines that have only a comment.
-COMMENTS = {'.rt': b'//', '.antt': b'--', '.txt': b'#'}
+COMMENTS = {'.rt': b'//', '.antt': b'--'}
 MOST_LETTERS = 100
 
 
@@ -48,13 +51,21 @@ def sum_of(folder: Path, parts: Iterable[str]) -> bytes:
     return found.digest()
 
 
+def lines_of(crates: Iterable[Crate], top: Path) -> bytes:
+    """The lines of these crates in crates.txt."""
+    names = {it.name.encode() for it in crates}
+    lines = (top / 'crates.txt').read_bytes().split(b'\n')
+    return b'\n'.join(it for it in lines if re.split(rb'[ :]', it, maxsplit=1)[0] in names)
+
+
 @cache
 def digest(edit: Edit, top: Path = TOP) -> str:
     """A digest of a mutant and of everything on which its verdict depends."""
+    crates = [edit.crate, *sorted(edit.crate.below(), key=lambda it: it.name)]
     found = hashlib.sha256(edit.file.read_bytes() + version().encode())
-    for it in [edit.crate, *sorted(edit.crate.below(), key=lambda it: it.name)]:
+    for it in crates:
         found.update(it.name.encode() + sum_of(Path(it.folder), ALL_PARTS))
-    found.update(sum_of(top, ('crates.txt',)) + sum_of(top / 'tools/project', ('kit.py', 'mutants')))
+    found.update(lines_of(crates, top) + sum_of(top / 'tools/project', JUDGES))
     return found.hexdigest()[:16]
 
 
