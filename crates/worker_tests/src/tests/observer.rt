@@ -6,7 +6,7 @@ use std::sync::atomic::AtomicU64;
 use std::sync::atomic::Ordering::SeqCst;
 use window_workers::Gate;
 
-/// What a gate observes in a run.
+/// The observations that a gate makes in a run.
 #[derive(Clone, Copy)]
 pub(super) enum Watch {
     /// The number of starts that are requested, and the number of turns that the motes' own workers take. The worker
@@ -14,7 +14,7 @@ pub(super) enum Watch {
     Starts(Option<u16>),
     /// For each of four workers, the numbers of its starts and of its turns.
     Each,
-    /// Whether worker 0 begins its turn at 1, and whether worker 1 sees this inside its turn at 0.
+    /// The start of worker 0's turn at moment 1, and if worker 1 sees it inside its turn at moment 0.
     Ahead,
     /// For each moment, the number of workers that begin their turns, and the number of workers that see inside their
     /// turns that all have begun.
