@@ -47,6 +47,24 @@ code hops {
 EVE = BY_NUMBER % 'if (self < 3) { print 1; } else { print (self - 1); }'
 BY_CLOCK = BY_NUMBER % 'print (now / 3);'
 
+# Each mote prints all values on its first packet, and forwards it once, at a moment at which nothing collides.
+EVERY_VALUE = '''process hops;
+autostart hops;
+receiver hops;
+code hops {
+  var value = 0;
+  etimer turn;
+  body {
+    if (self == 0) { send 1; exit; }
+    yield_until is(packet);
+    while (value < 19) { value = (value + 1); print value; }
+    set turn (10 * self);
+    yield_until fired(turn);
+    send 1;
+  }
+}
+'''
+
 
 class Lesson(unittest.TestCase):
     def setUp(self) -> None:
@@ -83,6 +101,18 @@ class Lesson(unittest.TestCase):
                 '        send distance;', '        send distance; while 1 { wait_until 1; }')
             broken = [it.sentence for it in self.marks(task, halting).marks if not it.holds]
             self.assertEqual((task, broken), (task, ['no mote halts']))
+
+    def test_printing_every_value_earns_nothing(self) -> None:
+        values = {1: 'prints hops at most 1 times as often as it receives',
+                  2: 'finally prints hops its distance from mote 0'}
+        for task in NETS:
+            with self.subTest(task=task):
+                program = EVERY_VALUE if task == 3 else EVERY_VALUE.replace('10 * self', '0 * self')
+                found = self.marks(task, program, HIDDEN[task])
+                broken = [it.sentence for it in found.marks if not it.holds]
+                self.assertEqual(found.held, 0)
+                self.assertEqual(broken, ['every mote but 0 ' + values[min(task, 2)],
+                                          *['every mote but 0 prints hops exactly once'] * (task > 1)])
 
     def test_doing_nothing_earns_nothing(self) -> None:
         self.assertEqual([self.marks(task, IDLE).held for task in NETS], [0, 0, 0])

@@ -299,6 +299,8 @@ class QuickJudging(unittest.TestCase):
             names = names_of(base.scenario_itself)
             part = parts_of(beside(path).read_text(), path.name)[0]
             more = [it for it in self.MORE if base.scenario_itself.motes > 1]
+            more += ['some mote prints just %s %s' % (process, value) for process in names.processes or ()
+                     for value in ('its number', 'its distance from mote 0', '1')]
             sentences = read_all([*part.sentences, *more], names)
             quick = QuickJudge(sentences)
             faults = faults_of(base, Asked(('links', 'motes', 'collisions')))

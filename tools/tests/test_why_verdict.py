@@ -38,7 +38,7 @@ COUNTS = ('', 'once', 'at most once', 'at most 0 times', 'exactly 2 times', 'few
           'fewer than 0 times', 'at least 0 times')
 TIMES = ('', 'by 12', 'after 12', 'from 5 to 20', 'in each 10 from 0 to 29', 'at 5 plus 3 for each hop from mote 0')
 LISTS = ('print just a 1', 'print just a 1, 2', 'print just a 1, 2 in any order', 'finally print a 1',
-         'finally print a its number')
+         'finally print a its number', 'print just a its number')
 COPIES = ('no copy', 'every copy', 'some copy', 'at least 2 copies', 'at most 1 copy', 'exactly 2 copies',
           'fewer than 3 copies', 'at least 50 % of the copies', 'at most 20 % of the copies')
 BECAME = (('collides', 'collide'), ('arrives', 'arrive'), ('overflows', 'overflow'), ('is lost', 'are lost'))

@@ -48,6 +48,7 @@ DEED = Table('DEED', 'Lines of the report', ('mote 1 %s',), (
     (('prints', 'prints P', 'prints P VALUE'), '`print P V`'),
     (('prints just P 1, 2, 3',), 'all these lines together have these values, in this order; `1 to 3` is the same'),
     (('prints just P 1 to 29 in any order',), 'the same in any order'),
+    (('prints just P its distance from mote 0',), 'there is one of these lines, with this value, a calculated one'),
     (('finally prints P VALUE',), 'the last of these lines has this value'),
     (('sends', 'sends VALUE'), '`send N V`'),
     (('receives', 'receives VALUE', 'receives VALUE from mote 2'), '`recv F N V`'),

@@ -13,7 +13,7 @@ from operator import and_
 from typing import NamedTuple
 
 from motesim.judge import relations
-from motesim.judge.numbers import TOGETHER, has, has_lines, there_are, verb
+from motesim.judge.numbers import TOGETHER, either, has, has_lines, there_are, verb
 from motesim.judge.sentences import (
     Copies, Count, Deed, Does, Hears, Lines, MediumLine, Motes, Packets, Pattern, Refused, Sentence, Value, Window,
 )
@@ -199,17 +199,21 @@ class Judge:
         later = [event for event in events if event.line.at > span[0] and not _within(event.line.at, span)]
         return Broken(why + '; the next is', later[0].row) if later else Broken(why)
 
+    def listed(self, deed: Deed, mote: int) -> list[set[int]]:
+        """The values of all lines, in their order: for each line, the numbers of which one is its value."""
+        return [self.values(deed.value, mote)] if deed.value else [{value} for value in deed.values]
+
     def ordered(self, deed: Deed, events: list[Event], motes: tuple[int, ...]) -> Broken | None:
         """Checks that the values of all lines are those of a list, in its order."""
-        for event, wanted in zip(events, deed.values):
-            if event.line.value != wanted:
-                why = '%s %s instead of %d' % (verb(self.name(motes), 'print'), event.line.value, wanted)
+        values = self.listed(deed, motes[0])
+        for event, wanted in zip(events, values):
+            if event.line.value not in wanted:
+                why = '%s %s instead of %s' % (verb(self.name(motes), 'print'), event.line.value, either(wanted))
                 return Broken(why, event.row)
-        if len(events) > len(deed.values):
-            return Broken('%s one more value' % verb(self.name(motes), 'print'), events[len(deed.values)].row)
-        if len(events) < len(deed.values):
-            return Broken('%s %d of these %d values' % (verb(self.name(motes), 'print'), len(events),
-                                                        len(deed.values)))
+        if len(events) > len(values):
+            return Broken('%s one more value' % verb(self.name(motes), 'print'), events[len(values)].row)
+        if len(events) < len(values):
+            return Broken('%s %d of these %d values' % (verb(self.name(motes), 'print'), len(events), len(values)))
         return None
 
     def in_any_order(self, deed: Deed, events: list[Event], motes: tuple[int, ...]) -> Broken | None:
@@ -229,8 +233,7 @@ class Judge:
             return Broken('%s no such line' % has(self.name(motes)))
         if events[-1].line.value in allowed:
             return None
-        shown = ' or '.join(map(str, sorted(allowed))) or 'any value'
-        return Broken('the last such line of %s; wanted: %s' % (self.name(motes), shown), events[-1].row)
+        return Broken('the last such line of %s; wanted: %s' % (self.name(motes), either(allowed)), events[-1].row)
 
     def than(self, it: Does, events: list[Event], motes: tuple[int, ...]) -> Broken | None:
         """Compares the number of lines with the number of the other lines."""

@@ -1,6 +1,8 @@
 """Subjects with their verbs in messages: `mote 3 has`, `the motes together have`."""
 from __future__ import annotations
 
+from collections.abc import Iterable
+
 TOGETHER = 'the motes together'
 ONE_OF = {'such copies': 'such copy', 'packets': 'packet', 'lines': 'line'}
 
@@ -12,6 +14,11 @@ def verb(name: str, many: str, before: str = '') -> str:
 
 def has(name: str) -> str:
     return '%s %s' % (name, 'have' if name == TOGETHER else 'has')
+
+
+def either(values: Iterable[int]) -> str:
+    """Numbers of which any is right."""
+    return ' or '.join(map(str, sorted(values))) or 'any value'
 
 
 def has_lines(name: str, number: int) -> str:

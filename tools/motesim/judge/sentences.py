@@ -203,8 +203,8 @@ class Motes:
 class Deed:
     """An action of motes: lines of one of these patterns.
 
-    way     any, finally (the last such line has `value`), just (the values of all such lines are `values`), set (in
-            any order)
+    way     any, finally (the last such line has `value`), just (the values of all such lines are `values`, or only
+            `value`), set (in any order)
     """
     patterns: tuple[Pattern, ...]
     way: str = 'any'
@@ -448,8 +448,10 @@ class _Reader:
     def value(self) -> Value | None:
         """A value, if a value is next."""
         number = self.maybe_number('a value', MOST_WORD)
-        if number is not None:
-            return Value('number', number)
+        return self.calculated() if number is None else Value('number', number)
+
+    def calculated(self) -> Value | None:
+        """A value that differs by mote, if one is next."""
         if self.accept('its number'):
             return Value('self')
         if self.accept('its distance from mote'):
@@ -520,6 +522,9 @@ class _Reader:
             return Deed((('print', process),), way, value)
         if self.accept('just'):
             process = self.needed_process()
+            own = self.calculated()
+            if own:
+                return Deed((('print', process),), 'just', own)
             values = self.ranges(lambda least: self.number('a value', MOST_WORD, least))
             return Deed((('print', process),), 'set' if self.accept('in any order') else 'just', values=tuple(values))
         printer = self.process()
@@ -581,7 +586,7 @@ class _Reader:
             window = self.window()
         if relation and relation.kind == 'each' and (count or never):
             raise SentenceFault(self.sentence, self.places[self.words.index('within')], ['the end'])
-        is_apart = deed.way == 'finally' or (window is not None and window.root is not None)
+        is_apart = deed.value is not None or (window is not None and window.root is not None)
         if motes.kind == 'together' and is_apart:
             place = self.places[self.words.index('together')]
             raise SentenceFault(self.sentence, place, ['the verb, without `together`'])

@@ -231,17 +231,19 @@ def _holds(deed: Deed, count: Count) -> Holds:
         compare, number = COMPARES[count.compare], count.number
         return lambda seen, rows, mote: bool(compare(len(rows), number))
     wanted = [str(value) for value in deed.values]
+    if deed.value:
+        return partial(_ends_with, deed.value, deed.way == 'just')
     if deed.way == 'just':
         return lambda seen, rows, mote: [_last_word(row) for row in rows] == wanted
-    if deed.way == 'set':
-        wanted.sort()
-        return lambda seen, rows, mote: sorted(map(_last_word, rows)) == wanted
-    assert deed.way == 'finally' and deed.value
-    return partial(_ends_with, deed.value)
+    assert deed.way == 'set'
+    wanted.sort()
+    return lambda seen, rows, mote: sorted(map(_last_word, rows)) == wanted
 
 
-def _ends_with(value: Value, seen: Seen, rows: list[Row], mote: int) -> bool:
-    return bool(rows) and int(_last_word(rows[-1])) in seen.links.values(value, mote)
+def _ends_with(value: Value, is_alone: bool, seen: Seen, rows: list[Row], mote: int) -> bool:
+    """Returns whether the last row, which may have to be the only one, has a value."""
+    is_enough = len(rows) == 1 if is_alone else bool(rows)
+    return is_enough and int(_last_word(rows[-1])) in seen.links.values(value, mote)
 
 
 Unit = Callable[[Seen, int], bool]

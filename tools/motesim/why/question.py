@@ -12,7 +12,7 @@ from dataclasses import dataclass, replace
 
 from motesim.faults import Fault
 from motesim.judge.judge import Judge, Span, _Apart
-from motesim.judge.numbers import has, has_lines, there_are, verb
+from motesim.judge.numbers import either, has, has_lines, there_are, verb
 from motesim.report import FIELDS, Report
 from motesim.judge.sentences import (
     Copies, Count, Does, Hears, Packets, Pattern, Sentence, Value, names_of, read_sentence,
@@ -366,7 +366,7 @@ class Asker:
             allowed = self.judge.values(it.deed.value, motes[0]) if it.deed.value else set()
             value = self.value(inside[-1])
             remark = '' if value in allowed else 'the last such line of %s; wanted: %s' % (
-                name, ' or '.join(map(str, sorted(allowed))) or 'any value')
+                name, either(allowed))
             return Asked(inside[-1].where, not remark, remark)
         if count.most is not None and len(inside) > max(count.most, 0):
             return Asked(inside[max(count.most, 0)].where, False, '%s; wanted: %s; this is the first beyond that' % (
@@ -386,15 +386,17 @@ class Asker:
 
         The values of several motes together are in the order of the report.
         """
-        left = list(it.deed.values)
+        left = self.judge.listed(it.deed, motes[0])
         for found in sorted(inside, key=lambda found: found.where):
             value = self.value(found)
-            if not left or value not in (left if it.deed.way == 'set' else left[:1]):
+            allowed = left if it.deed.way == 'set' else left[:1]
+            place = next((at for at, values in enumerate(allowed) if value in values), None)
+            if place is None:
                 remark = '%s %d here' % (verb(name, 'print'), value)
-                return Asked(found.where, False, remark + (', and the list wants %d' % left[0] if left else
+                return Asked(found.where, False, remark + (', and the list wants %s' % either(left[0]) if left else
                                                          ', and the list is over'))
-            left.remove(value)
+            del left[place]
         if left:
-            return Missing(it, motes, span, tuple(inside), '%s %d, the next of the list' % (
-                verb(name, 'print', 'never '), left[0]))
+            return Missing(it, motes, span, tuple(inside), '%s %s, the next of the list' % (
+                verb(name, 'print', 'never '), either(left[0])))
         return Asked(inside[-1].where, True)
