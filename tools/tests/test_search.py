@@ -429,6 +429,26 @@ class Searches(unittest.TestCase):
             self.assertIn('4 NOT JUDGED', said)
             self.assertNotIn('holds in', said)
 
+    def test_copies_that_are_not_lost_alone_are_counted(self) -> None:
+        # (mote 0 sends two packets, of which only the second can be lost alone; the others send one packet)
+        program = PROGRAM.replace('send 7', 'send 7; send 7')
+        with folder_with(DIAMOND.replace(PROGRAM, program)) as folder:
+            words = '--faults', 'packets', '--expect', 'mote 0 sends'
+            status, said, _ = search(folder, *words)
+            self.assertIn('left out: 8 of 10 copies, such as packet 0 of mote 0 on its way to mote 1: no `every` '
+                          'above 1 loses only this packet. Use `--faults links,every`, or let the receiver ignore', said)
+            self.assertIn('1 of 1 expectations hold in every run; 2 runs', said)
+            search(folder, *words, '--json', 'f.json')
+            self.assertIn('left out: 8 of 10 copies', json.loads((folder / 'f.json').read_text())['notes'][0])
+
+    def test_motes_in_one_array_have_one_line(self) -> None:
+        head, *motes = DIAMOND.split('[[mote]]')
+        array = ', '.join('{ %s }' % ', '.join(it.strip().split('\n')) for it in motes)
+        with folder_with('mote = [%s]\n%s' % (array, head)) as folder:
+            status, said, _ = search(folder, '--faults', 'deaths,late')
+            self.assertIn("left out: motes 0, 1, 2, 3 can't be made to fail or start late: diamond.toml has its motes "
+                          'in one array: write a table [[mote]] for each, with its keys on lines of their own\n', said)
+
     def test_kind_without_a_fault(self) -> None:
         # (each mote sends one packet, which can't be lost alone)
         with folder_with() as folder:

@@ -9,7 +9,7 @@ from motesim.judge.sentences import Sentence
 from motesim.runner.programs import optimized_path
 from motesim.search.by_dask import ByDask
 from motesim.search.change import Base
-from motesim.search.faults import WHY_NONE, Asked, faults_of
+from motesim.search.faults import WHY_NONE, Asked, faults_of, untried_copies
 from motesim.search.kept import Kept
 from motesim.search.one_program import Limits, OneProgram
 from motesim.search.prepare import plain_run, prepare
@@ -39,6 +39,7 @@ class Asking:
         asked.sent = tuple(self.plain.sent)
         faults = faults_of(base, asked)
         self.absent = [kind for kind in asked.kinds if not any(fault.kind == kind for fault in faults)]
+        self.untried = untried_copies(base, asked) if 'packets' in asked.kinds else ''
         self.prepared = prepare(base, self.plain, program, sentences, faults)
         program.close()
 
@@ -56,6 +57,11 @@ class Asking:
         rows += ['the process that makes a mote fail or start late breaks this by itself, so the search can\'t judge '
                  'it with such faults: ' + self.texts[number] for number in numbers_of(blind)]
         return rows
+
+    @property
+    def remarks(self) -> list[str]:
+        """The notes, and a line about the single copies that can't be lost: the results aren't about them."""
+        return [*self.notes, *(['left out: ' + self.untried] if self.untried else [])]
 
     def digest(self) -> str:
         """The identity of a search, by which it differs from others."""

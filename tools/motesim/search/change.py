@@ -185,6 +185,9 @@ class Base:
         """Replaces the value of a key."""
         begin, end = self.stretch(path)
         if self.source[begin:end].strip('"\'') != shown(self.tables, path):
+            if path[0] == 'mote':
+                raise CannotChange('%s has its motes in one array: write a table [[mote]] for each, with its keys on '
+                                   'lines of their own' % self.name)
             raise CannotChange('%s: %s is not on a line of its own, so it can\'t be changed in the text'
                                % (self.name, '.'.join(map(str, path))))
         return Edit(begin, end, text)

@@ -121,13 +121,13 @@ def show(words: argparse.Namespace, asking: Asking, search: Search, folder: Path
     write_whole(folder / 'found.csv', as_csv(found))
     if words.csv:
         write_whole(Path(words.csv), as_csv(found))
-    as_text = as_json(search, found, asking.texts, asking.base.name, asking.notes) if words.json else ''
+    as_text = as_json(search, found, asking.texts, asking.base.name, asking.remarks) if words.json else ''
     if words.json == '-':
         print(as_text, end='')
     else:
         if words.json:
             write_whole(Path(words.json), as_text)
-        for row in [*asking.notes, *covered_lines(search), *verdict_lines(search, found, asking.texts, words.all)]:
+        for row in [*asking.remarks, *covered_lines(search), *verdict_lines(search, found, asking.texts, words.all)]:
             print(row)
         print()
         print(last_line(search, found, folder, asking.base))

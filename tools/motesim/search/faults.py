@@ -194,6 +194,20 @@ def _packets(base: Base, asked: Asked) -> Iterator[FaultyPart]:
                              ('link', sender, receiver), ('lose', sender, receiver, number + 1))
 
 
+def untried_copies(base: Base, asked: Asked) -> str:
+    """The copies that no fault of the kind `packets` loses, with an example and advice, or an empty text."""
+    losses = base.scenario_itself.losses
+    tried = {(fault.effect[1], fault.effect[2], int(fault.effect[3]) - 1) for fault in _packets(base, asked)}
+    copies = [(sender, receiver, number) for sender, receiver in _directed(base)
+              for number in range(asked.sent[sender]) if (number + 1) % losses.get((sender, receiver), number + 2)]
+    left = [copy for copy in copies if copy not in tried]
+    if not left:
+        return ''
+    return ('{:,} of {:,} copies, such as packet {} of mote {} on its way to mote {}: no `every` above 1 loses only this '
+            'packet. Use `--faults links,every`, or let the receiver ignore the packet (docs/use/SCENARIO.md, "A lost '
+            'first packet")'.format(len(left), len(copies), left[0][2], *left[0][:2]))
+
+
 def _motes(base: Base, asked: Asked) -> Iterator[FaultyPart]:
     scenario = base.scenario_itself
     for mote in range(scenario.motes):

@@ -21,6 +21,7 @@ from motesim.search.work import mask_of
 from motesim.judge.sentences import Sentence
 
 ADDED = {'fails': DIES, 'late': LATE}
+INTO = {DIES: 'fail', LATE: 'start late'}
 
 
 class Plain(NamedTuple):
@@ -100,7 +101,7 @@ def prepare(base: Base, plain: Plain, program: OneProgram, sentences: list[Sente
     """Leaves out the faults that can't be made, and notes the reasons."""
     judge, seen = QuickJudge(sentences), dict[tuple[int, str], tuple[str, int]]()
     kept: list[FaultyPart] = []
-    left_out, blind = dict[str, None](), dict[int, int]()
+    left_out, blind = dict[tuple[int, str], list[str]](), dict[int, int]()
     for fault in faults:
         kind = ADDED.get(str(fault.effect[0]))
         if kind is not None:
@@ -109,13 +110,22 @@ def prepare(base: Base, plain: Plain, program: OneProgram, sentences: list[Sente
                 seen[mote, kind] = _tried(base, plain, program, judge, mote, kind)
             why, mask = seen[mote, kind]
             if why:
-                left_out['mote %d can\'t be made to %s: %s' % (
-                    mote, 'fail' if kind == DIES else 'start late', why)] = None
+                kinds = left_out.setdefault((mote, why), [])
+                kinds += [INTO[kind]] if INTO[kind] not in kinds else []
                 continue
             if mask:
                 blind[len(kept)] = mask
         kept.append(fault)
-    return Prepared(kept, list(left_out), blind)
+    return Prepared(kept, _left_out(left_out), blind)
+
+
+def _left_out(reasons: dict[tuple[int, str], list[str]]) -> list[str]:
+    """A line for each reason, with the motes for which it is the reason and what they can't do."""
+    motes_of: dict[tuple[str, str], list[str]] = {}
+    for (mote, why), kinds in reasons.items():
+        motes_of.setdefault((why, ' or '.join(kinds)), []).append(str(mote))
+    return ['%s %s can\'t be made to %s: %s' % ('mote' if len(motes) == 1 else 'motes', ', '.join(motes), kinds, why)
+            for (why, kinds), motes in motes_of.items()]
 
 
 def _tried(base: Base, plain: Plain, program: OneProgram, judge: QuickJudge, mote: int, kind: str) -> tuple[str, int]:
