@@ -177,6 +177,14 @@ from to copies received lost ring collided halted late ratio delay
             self.assertTrue(done.stdout.startswith('origin sent'))
         self.say('--flow', 'recv')
 
+    def test_a_flow_whose_motes_print_the_same_value_as_a_source_has_a_warning(self) -> None:
+        prints = '0 print talker 7\n'
+        self.path.write_text('mote 0 talker\n%smote 1 talker\n%smedium\nleft 0\n' % (prints, prints))
+        for more in ((), ('--by', '10')):
+            done = self.run_it('--flow', 'print talker -> print talker', *more)
+            self.assertTrue(done.stderr.startswith('summary: several motes print the same value as a source: motes 0 '
+                                                   'and 1 print 7. '), done)
+
     def test_the_net_is_searched_once_for_each_origin(self) -> None:
         """Mote 0 sends thirty messages, all heard by mote 1: one origin, so one search for its row and one for the
         net."""

@@ -142,6 +142,14 @@ class MeasuresTest(unittest.TestCase):
             measure = read_measure(words, self.names, {'mine.py': MINE})
             self.assertEqual((measure.name, measure.of(bench())), (name, value), words)
 
+    def test_sources_of_the_same_value_in_two_motes_are_a_warning(self) -> None:
+        for words, is_warned in [('delivery: every mote prints a -> mote 2 prints a', True),
+                                 ('flow ratio: print a -> print a', True), ('flow ratio: print a', False),
+                                 ('delivery: mote 1 prints a -> mote 2 prints a', False),
+                                 ('delivery: every mote sends -> mote 2 prints a', False)]:
+            found = read_measure(words, self.names).warning(bench())
+            self.assertEqual('source: motes 1 and 2 print 7. Messages are' in found, is_warned, words)
+
     def test_words_that_are_no_measure(self) -> None:
         for words in WRONG:
             with self.assertRaises(Fault, msg=words):
@@ -366,6 +374,18 @@ class SweepTest(Bed):
                                       '1): %s\n' % warned)
         self.assertIn(' 0 of them now', subprocess.run([*command, '--retry'], cwd=self.folder, capture_output=True,
                                                        text=True).stdout)
+
+    def test_sources_of_the_same_value_are_reported_once_with_the_number_of_runs(self) -> None:
+        need_program(self)
+        (self.folder / 'net.plan.toml').write_text(PLAN)
+        (self.folder / 'a.mote').write_text('process a; autostart a; code a { body { print ${period}; } }')
+        command = self.command('--vary', 'period=1..3', '--measure', 'delivery: every mote prints a -> mote 0 prints a',
+                               '--measure', 'flow ratio: print a -> print a')
+        done = subprocess.run(command, cwd=self.folder, capture_output=True, text=True)
+        self.assertEqual((done.returncode, done.stderr.count('\n')), (0, 1), done)
+        self.assertTrue(done.stderr.startswith(
+            'sweep: 3 runs have a warning in the column note; the first (period = 1): several motes print the same '
+            'value as a source: motes 0 and 1 print 1. '), done)
 
     def test_sqlite(self) -> None:
         done = self.sweep(*self.words, '-o', 'net.sqlite')

@@ -12,9 +12,12 @@ from collections.abc import Iterable, Mapping
 
 from motesim.experiments.measures import Cell
 from motesim.experiments.results import Row
+from motesim.summary.flows import SHARED
 
 # A note with this beginning is about a run that has all its measures.
 WARNING = 'warning: '
+# The beginnings of the warnings of which a sweep reports the number of runs separately.
+ONCE = (SHARED,)
 # The column with the parameters that are seeds of the pattern, and how many consecutive seeds draw different numbers.
 CHANCE, APART = 'chance_seeds', 257
 DRAWS = re.compile(r'self\s*\*\s*257\s*\)?\s*\+\s*\$\{(\w+)\}')
@@ -86,6 +89,14 @@ def lines_of(rows: Iterable[Row]) -> list[str]:
 def without_alike(note: Cell) -> str:
     """A note without its part about runs that draw the same numbers."""
     return NOTE.sub('', str(note or ''))
+
+
+def warnings_in(note: Cell) -> dict[str, str]:
+    """The first warning of each kind in a note; all warnings that aren't in ONCE are of one kind."""
+    found: dict[str, str] = {}
+    for text in without_alike(note).split(WARNING)[1:]:
+        found.setdefault(next(filter(text.startswith, ONCE), ''), text.removesuffix('; '))
+    return found
 
 
 class Notes:

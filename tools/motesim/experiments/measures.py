@@ -23,7 +23,7 @@ from motesim.judge import judge as judges
 from motesim.summary import counts as summary
 from motesim.faults import Fault
 from motesim.summary.flows import NAMES as FLOW_NAMES
-from motesim.summary.flows import FlowFault, flow_rows, read_flow
+from motesim.summary.flows import FlowFault, flow_rows, read_flow, shared, shared_in_flow
 from motesim.judge.judge import Event, Judge
 from motesim.runner.run import Run
 from motesim.scenario import Scenario
@@ -73,11 +73,15 @@ class Bench:
 
 @dataclass(frozen=True)
 class Measure:
-    """A measure: the name of its column, and its text."""
+    """A measure: the name of its column, and its text.
+
+    warning  a reason to doubt the measure of a run, or an empty text
+    """
     name: str
     words: str
     of: Callable[[Bench], Cell]
     file: str = ''
+    warning: Callable[[Bench], str] = lambda bench: ''
 
 
 def _of_summary(name: str, mote: str | None) -> Callable[[Bench], Cell]:
@@ -217,6 +221,14 @@ def _of_sentence(kind: str, words: str, names: Names) -> Callable[[Bench], Cell]
     return _guarded(lambda judge: work[kind](judge, its[0]))
 
 
+def _warning_of_delivery(words: str, names: Names) -> Callable[[Bench], str]:
+    """The warning of a `delivery` if several motes print the same value as a source."""
+    text = words.partition('->')[0].strip()
+    begin = _plain(read_sentence(text, names), text)
+    of = _guarded(lambda judge: shared(it.line for it in _events(judge, begin, judge.chosen(begin.motes))))
+    return lambda bench: str(of(bench) or '')
+
+
 def _checked(value: object, name: str) -> Cell:
     """Checks the result of a user's function, and returns it."""
     if type(value) is float and not math.isfinite(value):
@@ -344,9 +356,14 @@ def read_measure(words: str, names: Names = Names(), sources: Mapping[str, str] 
         if flow and flow[1] not in FLOWS:
             raise MeasureFault('%r is not a measure: a flow has no %s; %s' % (text, flow[1], known(flow[1], FLOWS)))
         if flow:
-            return Measure(name, text, _of_flow(flow[1], flow[2]))
+            words_of_flow = flow[2]
+            return Measure(name, text, _of_flow(flow[1], flow[2]),
+                           warning=lambda bench: shared_in_flow(bench.run.report, words_of_flow))
         if sentence:
-            return Measure(name, text, _of_sentence(sentence[1], sentence[2], names))
+            of = _of_sentence(sentence[1], sentence[2], names)
+            if sentence[1] == 'delivery':
+                return Measure(name, text, of, warning=_warning_of_delivery(sentence[2], names))
+            return Measure(name, text, of)
     except FlowFault as fault:
         raise MeasureFault(str(fault)) from None
     if text == REACHABLE:

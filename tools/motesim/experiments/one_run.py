@@ -147,20 +147,22 @@ def reason_of(failure: BaseException) -> str:
 
 
 def measured(work: Work, bench: Bench, known: Scenario) -> tuple[dict[str, Cell], str]:
-    """The measures of a run, and a note on those that fail. Each measure has the same limit as the run."""
+    """The measures of a run, and a note on those that fail or have a warning. Each has the same limit as the run."""
     found: dict[str, Cell] = {}
-    notes = []
+    notes, doubts = [], dict[str, None]()
     names, sources = names_of(known), dict(work.sources)
     for words in work.measures:
         name = name_of(words)
         try:
             with limited(work.seconds):
-                found[name] = read_measure(words, names, sources).of(bench)
+                measure = read_measure(words, names, sources)
+                found[name] = measure.of(bench)
+                doubts[measure.warning(bench)] = None
         except BaseException as failure:
             # (a user's measure may raise any exception, even one that asks Python to exit)
             found[name] = None
             notes.append('%s: %s' % (name, reason_of(failure)))
-    return found, '; '.join(notes)
+    return found, '; '.join([*notes, *(WARNING + it for it in filter(None, doubts))])
 
 
 def warned(report: Report, known: Scenario, seconds: float) -> list[str]:

@@ -22,7 +22,7 @@ from motesim.experiments.results import CsvFile, Row, SqliteFile, open_results, 
 from motesim.runner.programs import TOP, optimized_path
 from motesim.experiments.asked import Sweep, chance_seeds, columns_of, known_names, some_runs, sources_of, sweep_of
 from motesim.experiments.asked import unused
-from motesim.experiments.draws import CHANCE, WARNING, Notes, Seeds, without_alike
+from motesim.experiments.draws import CHANCE, WARNING, Notes, Seeds, warnings_in
 from motesim.experiments.plot import wishes_of
 from motesim.experiments.progress import Progress
 from motesim.experiments.runs import Stopped, longest, run_by_dask, run_here
@@ -247,20 +247,23 @@ def said(sweeper: Sweeper, ran: int) -> int:
     """Reports the contents of the file; returns the status."""
     counts: Counter[str] = Counter()
     firsts: dict[str, Row] = {}
+    warned: Counter[str] = Counter()
+    texts: dict[str, tuple[Row, str]] = {}
     for row in sweeper.rows():
-        kinds = {'row': True, 'fault': bool(row['fault']), 'warned': WARNING in without_alike(row['note']),
-                 'noted': lacks_measure(row)}
+        kinds = {'row': True, 'fault': bool(row['fault']), 'noted': lacks_measure(row)}
         for kind in (kind for kind, is_so in kinds.items() if is_so):
             counts[kind] += 1
             firsts.setdefault(kind, row)
+        for kind, text in warnings_in(row['note']).items():
+            warned[kind] += 1
+            texts.setdefault(kind, (row, text))
     print('%s: %d runs, %d of them now, %d with a fault' % (sweeper.path, counts['row'], ran, counts['fault']))
     if 'fault' in firsts:
         print('the first fault: %s' % firsts['fault']['fault'])
-    if 'warned' in firsts:
-        first = firsts['warned']
+    for kind, (first, text) in texts.items():
         varied = ', '.join('%s = %s' % (name, text_of(first[name])) for name in sweeper.sweep.vary)
-        print('sweep: %d runs have a warning in the column note; the first (%s): %s' % (
-            counts['warned'], varied, without_alike(first['note']).partition(WARNING)[2]), file=sys.stderr)
+        print('sweep: %d runs have a warning in the column note; the first (%s): %s' % (warned[kind], varied, text),
+              file=sys.stderr)
     if 'noted' in firsts:
         print('%d runs lack a measure; the first: %s' % (counts['noted'], firsts['noted']['note']))
     return 1 if counts['fault'] or counts['noted'] else 0

@@ -13,7 +13,7 @@ from typing import Any
 
 from motesim.faults import Fault
 from motesim.summary.flows import NAMES as FLOW_NAMES
-from motesim.summary.flows import NAMES_BY, flow_rows, flow_rows_by, silent
+from motesim.summary.flows import NAMES_BY, flow_rows, flow_rows_by, shared_in_flow, silent
 from motesim.report import KINDS, LOST, MOST_MOMENT, OUTCOMES, Report
 from motesim.runner.run import Run, read_run
 from motesim.scenario import Scenario
@@ -142,11 +142,16 @@ def write_csv(rows: list[Row], names: list[str]) -> None:
     writer.writerows(rows)
 
 
-def show_flow(run: Run, words: argparse.Namespace) -> int:
-    """Shows the rows of a flow in the chosen form; if the flow has no messages or deliveries, reports the reason."""
-    rows = flow_rows(run.report, run.scenario, words.flow)
-    for line in silent(run.report, run.scenario, words.flow):
+def warn_of_flow(run: Run, words: str) -> None:
+    """Reports why a flow has nothing to show, and whether its motes begin messages of the same value."""
+    for line in filter(None, (*silent(run.report, run.scenario, words), shared_in_flow(run.report, words))):
         print('summary: %s' % line, file=sys.stderr)
+
+
+def show_flow(run: Run, words: argparse.Namespace) -> int:
+    """Shows the rows of a flow in the chosen form."""
+    rows = flow_rows(run.report, run.scenario, words.flow)
+    warn_of_flow(run, words.flow)
     if words.json:
         print(json.dumps({'flow': words.flow, 'origins': rows[:-1], 'net': rows[-1]}, indent=1))
     elif words.csv:
@@ -175,8 +180,7 @@ def show_flow_series(asked: argparse.Namespace) -> int:
         raise Fault('--by: an interval has 1 to %d moments' % MOST_MOMENT)
     run = read_run(asked.report, asked.scenario)
     rows = flow_rows_by(run.report, run.scenario, asked.flow, asked.by)
-    for line in silent(run.report, run.scenario, asked.flow):
-        print('summary: %s' % line, file=sys.stderr)
+    warn_of_flow(run, asked.flow)
     if asked.json:
         print(json.dumps({'flow': asked.flow, 'by': asked.by, 'intervals': rows}, indent=1))
     elif asked.csv:

@@ -9,7 +9,7 @@ from __future__ import annotations
 
 import re
 from collections import defaultdict
-from collections.abc import Iterator
+from collections.abc import Iterable, Iterator
 from dataclasses import dataclass, field
 from statistics import median
 from typing import NamedTuple, Union
@@ -26,6 +26,8 @@ NAMES = ['origin', 'sent', 'delivered', 'ratio', 'reached', 'copies', 'duplicate
 NAMES_BY = ['from', 'to', 'sent', 'delivered', 'ratio', 'reached', 'copies', 'duplicates', 'least', 'middle', 'most']
 FORM = re.compile(r'\s*(?:(send|recv)|print\s+([A-Za-z][A-Za-z0-9_]*))'
                   r'(?:\s+([0-9]{1,5})(?:\s+to\s+([0-9]{1,5}))?)?\s*')
+
+SHARED = 'several motes print the same value as a source'
 
 
 class FlowFault(Fault):
@@ -106,6 +108,23 @@ def silent(report: Report, scenario: Scenario | None, words: str) -> Iterator[st
             more = like(mark.process, scenario, known) if mark.process and mark.process not in known else ''
             yield 'the report has no line `%s`, so %s%s' % (mark, what, more)
             return
+
+
+def shared(sources: Iterable[Line]) -> str:
+    """A warning if several motes print a value as the source of a message; otherwise an empty text."""
+    firsts: dict[int, int] = {}
+    for line in sources:
+        if line.kind == 'print' and line.value is not None and firsts.setdefault(line.value, line.mote) != line.mote:
+            return ('%s: motes %d and %d print %d. Messages are matched by value, so the message of one mote counts as '
+                    'that of the other. Print values that differ for each mote, such as `print ((self * 256) + n)`, '
+                    'or use another measure' % (SHARED, firsts[line.value], line.mote, line.value))
+    return ''
+
+
+def shared_in_flow(report: Report, words: str) -> str:
+    """A warning if several motes begin messages of the same value by a print; otherwise an empty text."""
+    begin, _ = read_flow(words)
+    return shared(it for it in report.lines(begin.kind) if begin.has(it))
 
 
 def messages(report: Report, begin: Mark, end: Mark) -> dict[int, Message]:
