@@ -323,6 +323,14 @@ class Warnings(unittest.TestCase):
             with self.subTest(wanted):
                 self.assertTrue(any(wanted in it for it in self.seen(program, x)))
 
+    def test_a_test_of_sign_has_advice_on_counting_only_in_a_while(self) -> None:
+        loop, branch = (CODE % ('set t 1; %s (seq >= 0) { pause; }' % it) for it in ('while', 'if'))
+        self.assertEqual([['to count down' in it for it in self.seen(program)] for program in (loop, branch)],
+                         [[True], [False]])
+        for comment, count in ('limit = 0', 0), ('a = 10, limit = 0, seed = 1', 0), ('limit = 10', 1), ('a = 0.5', 1):
+            found = warnings(Scenario.parse(scenario(program=branch, x=5)), text='# Parameters: %s\n' % comment)
+            self.assertEqual(len(found), count, comment)
+
     def test_a_timer_that_something_else_may_set(self) -> None:
         for body in ('set t 4; yield_until fired(t); set t 4;', 'yield_until (fired(t) || (seq > 3)); set t 4;',
                      'while 1 { if seen { yield_until fired(t); } set t 4; seen = 1; }', 'if (0 < seq) { set t 4; }',

@@ -17,6 +17,7 @@ from motesim.summary import counts as summary
 from motesim.faults import Fault
 from motesim.summary import flows
 from motesim.summary.flows import flow_rows
+from motesim.explain.lint import of_moments
 from motesim.report import Report
 from motesim.runner.run import Run
 from motesim.scenario import Scenario
@@ -176,6 +177,19 @@ from to copies received lost ring collided halted late ratio delay
             self.assertEqual((done.returncode, done.stderr), (0, 'summary: the report has no line %s\n' % seen))
             self.assertTrue(done.stdout.startswith('origin sent'))
         self.say('--flow', 'recv')
+
+    def test_packets_of_one_moment_that_collide_are_counted_and_have_a_warning(self) -> None:
+        text = ('mote 0 talker\n4 send 0 7\n4 send 1 8\n6 send 2 7\n6 send 3 8\n9 send 4 7\nmote 1 hearer\n'
+                '7 collide 0 0\n7 collide 0 1\n9 collide 0 2\n9 collide 0 3\n12 recv 0 4 7\nmedium\n'
+                '4 0 0 7 1@7\n4 0 1 8 1@7\n6 0 2 7 1@9\n6 0 3 8 1@9\n9 0 4 7 1@12\nleft 0\n')
+        self.path.write_text(text)
+        self.assertEqual(self.run_it('--csv').stderr,
+                         'summary: 4 of the 4 collided copies collided with another packet that their sender sent at '
+                         'the same moment; tools/explain names these motes\n')
+        [found] = of_moments(Report.parse(text))
+        self.assertIn('mote 0 sent 2 packets at moment 4, so their copies arrive together at every receiver, and none '
+                      'is received (2 such moments)', found.text)
+        self.assertEqual([*of_moments(Report.parse(REPORT))], [])
 
     def test_a_flow_whose_motes_print_the_same_value_as_a_source_has_a_warning(self) -> None:
         prints = '0 print talker 7\n'

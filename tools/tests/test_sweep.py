@@ -387,6 +387,18 @@ class SweepTest(Bed):
             'sweep: 3 runs have a warning in the column note; the first (period = 1): several motes print the same '
             'value as a source: motes 0 and 1 print 1. '), done)
 
+    def test_runs_with_packets_of_one_moment_are_counted(self) -> None:
+        need_program(self)
+        plan = PLAN.replace('per = 100', 'per = 100\ncollide = true').replace('"a"', '"a"\nseed = 1')
+        (self.folder / 'net.plan.toml').write_text(plan)
+        (self.folder / 'a.mote').write_text('process a; autostart a; code a { body { if (self == 1) { send ${period}; '
+                                            'send ${seed}; } } }')
+        command = self.command('--vary', 'period=1', '--vary', 'seed=1..3', '--measure', 'sent')
+        done = subprocess.run(command, cwd=self.folder, capture_output=True, text=True)
+        self.assertEqual((done.returncode, done.stderr.count('\n')), (0, 1), done)
+        self.assertIn('sweep: 3 runs have a warning in the column note; the first (period = 1, seed = 1): packets of '
+                      'one moment collide with each other: mote 1 sent 2 packets at moment 0, ', done.stderr)
+
     def test_sqlite(self) -> None:
         done = self.sweep(*self.words, '-o', 'net.sqlite')
         self.assertEqual((done.returncode, done.stdout), (0, 'net.sqlite: 6 runs, 6 of them now, 0 with a fault\n'))

@@ -9,7 +9,8 @@ For a mote and for the net
   received    copies that it received
   lost        copies that the medium lost
   ring        copies that found eight packets waiting
-  collided    copies that arrived together with others
+  collided    copies that arrived together with others; a line on standard error has the number of those that
+              collided with another packet of the same sender and moment
   halted      copies that arrived after it had halted
   late        copies that would have arrived after the end
   ratio     the share of received copies in all that were not late

@@ -12,12 +12,13 @@ from collections.abc import Iterable, Mapping
 
 from motesim.experiments.measures import Cell
 from motesim.experiments.results import Row
+from motesim.explain.moments import SAME_MOMENT
 from motesim.summary.flows import SHARED
 
 # A note with this beginning is about a run that has all its measures.
 WARNING = 'warning: '
 # The beginnings of the warnings of which a sweep reports the number of runs separately.
-ONCE = (SHARED,)
+ONCE = (SHARED, SAME_MOMENT)
 # The column with the parameters that are seeds of the pattern, and how many consecutive seeds draw different numbers.
 CHANCE, APART = 'chance_seeds', 257
 DRAWS = re.compile(r'self\s*\*\s*257\s*\)?\s*\+\s*\$\{(\w+)\}')

@@ -15,7 +15,7 @@ from pathlib import Path
 from types import FrameType
 from typing import NamedTuple
 
-from motesim.explain.lint import by_cause, of_losses, of_seeds, programs_of
+from motesim.explain.lint import by_cause, of_losses, of_moments, of_seeds, programs_of
 from motesim.faults import Fault
 from motesim.runner.batch import fault_of
 from motesim.runner.process import LimitMet, Limits, Runner
@@ -165,12 +165,13 @@ def measured(work: Work, bench: Bench, known: Scenario) -> tuple[dict[str, Cell]
     return found, '; '.join([*notes, *(WARNING + it for it in filter(None, doubts))])
 
 
-def warned(report: Report, known: Scenario, seconds: float) -> list[str]:
-    """The warnings about losses in step and about seeds, unless finding them lasts longer than a run may last."""
+def warned(report: Report, known: Scenario, seconds: float, is_first: bool = True) -> list[str]:
+    """The warnings about packets of one moment and, for the first run of a treatment, about losses in step and about
+    seeds, unless finding them lasts longer than a run may last."""
     try:
         with limited(seconds):
-            found = [*of_losses(known, report), *of_seeds(known, programs_of(known))]
-            return [WARNING + it.text for it in by_cause(found)]
+            of_first = [*of_losses(known, report), *of_seeds(known, programs_of(known))] if is_first else []
+            return [WARNING + it.text for it in by_cause([*of_first, *of_moments(report)])]
     except TimeoutError:
         return []
 
@@ -195,8 +196,8 @@ def run_job(job: Job) -> Result:
         known, read = Scenario.parse(text), Report.parse(got.report)
         places = digest(repr([(it.x, it.y) for it in known.places]).encode())
         measures, note = measured(work, Bench(Run(work.plan, read, known)), known)
-        if job.is_first:
-            note = '; '.join(filter(None, [note, *map(one_line, warned(read, known, work.seconds))]))
+        found = warned(read, known, work.seconds, job.is_first)
+        note = '; '.join(filter(None, [note, *map(one_line, found)]))
     except BaseException as failure:
         fault = reason_of(failure)
     return Result(job.place, measures, scenario, report, fault, note, places, rejected)

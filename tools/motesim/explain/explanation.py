@@ -234,7 +234,7 @@ def all_warnings(name: str, data: bytes, report: bytes) -> list[str]:
     """The warnings of a scenario that has a report."""
     text = data.decode('utf-8')
     lines = []
-    for warning in warnings(Scenario.parse(data), Report.parse(report)):
+    for warning in warnings(Scenario.parse(data), Report.parse(report), text):
         lines += ['', *warned(name, text, warning)]
     return lines
 

@@ -5,9 +5,11 @@ program's text, or the number of a mote. A scenario with warnings is valid, and 
 """
 from __future__ import annotations
 
+import re
 from collections.abc import Iterator
 from typing import NamedTuple
 
+from motesim.explain.moments import bursts
 from motesim.explain.resonance import all_at_once, resonances
 from motesim.notation.faults import OPERATORS, WAITS, Token, tokens_of
 from motesim.report import Report
@@ -43,8 +45,10 @@ OTHER_RECEIVER = ('the process `%s` waits for packets, but they go to the `recei
                   '%s;` if `%s` is meant')
 NEVER_RECEIVES = ('packets go to the process `%s`, which never waits for them: the report calls them `busy` or drops '
                   'them unseen; wait by `yield_until is(packet);`, or leave the `receiver` out')
-NATURAL = ('no number is below 0, so this test is %s true: values are 0 to 65,535, and 0 - 1 is 65,535; write '
-           '`while (x > 0)` to count down')
+NATURAL = 'no number is below 0, so this test is %s true: values are 0 to 65,535, and 0 - 1 is 65,535'
+COUNT_DOWN = '; write `while (x > 0)` to count down'
+# The line of a scenario from a plan with a parameter that is 0: a 0 of a program may be its value.
+ZERO_GIVEN = re.compile(r'^# Parameters: (?:.*, )?\w+ = 0(?:,|$)', re.M)
 BEHIND = 'the timer `%s` is set only after this wait for it, so the wait never ends: set it before'
 FOR_TIMER, SETS = ('yield_until', 'wait_until'), ('set', 'restart_timer', 'reset')
 # The most other places that a warning names.
@@ -176,10 +180,15 @@ class Program:
         """Each test whether a value is at least 0, or below 0, with the warning: the results are always the same."""
         for at in range(1, len(self.words) - 1):
             sign = self.words[at]
-            if sign in ('>=', '<') and self.words[at + 1] == '0':
-                yield NATURAL % ('always' if sign == '>=' else 'never'), self.tokens[at]
-            elif sign in ('<=', '>') and self.words[at - 1] == '0' and self.words[at - 2] in ('(', '!', '&&', '||'):
-                yield NATURAL % ('always' if sign == '<=' else 'never'), self.tokens[at]
+            is_right = sign in ('>=', '<') and self.words[at + 1] == '0'
+            if is_right or sign in ('<=', '>') and self.words[at - 1] == '0' and self.words[at - 2] in (
+                    '(', '!', '&&', '||'):
+                advice = COUNT_DOWN if self.statement_of(at) == 'while' else ''
+                yield NATURAL % ('always' if sign in ('>=', '<=') else 'never') + advice, self.tokens[at]
+
+    def statement_of(self, at: int) -> str:
+        """The first word of the statement that a place is in."""
+        return self.words[next((it for it in range(at, 0, -1) if self.words[it - 1] in ('{', '}', ';')), 0)]
 
     def bodies(self) -> Iterator[tuple[range, range]]:
         """The places of each code, and of its body."""
@@ -266,8 +275,8 @@ def of_receiver(program: Program) -> Iterator[Warned]:
         yield Warned(text, program.name, receiver, instead=''.join(waits[:1]))
 
 
-def of_program(program: Program) -> Iterator[Warned]:
-    """Yields the warnings of a program."""
+def of_program(program: Program, is_zero_given: bool) -> Iterator[Warned]:
+    """Yields the warnings of a program, except those about a 0 that may be the value of a parameter of a plan."""
     name = program.name
     yield from of_start(program)
     yield from of_receiver(program)
@@ -275,7 +284,7 @@ def of_program(program: Program) -> Iterator[Warned]:
         yield Warned(text, name, token, cause='loop', instead=LATER if text == STILL_TRUE else '')
     for token in program.awaited_ctimers():
         yield Warned(OF_CTIMER % (token.text, token.text), name, token)
-    for text, token in program.tests_of_sign():
+    for text, token in () if is_zero_given else program.tests_of_sign():
         yield Warned(text, name, token)
     for token in program.waits_before_set():
         yield Warned(BEHIND % token.text, name, token)
@@ -293,6 +302,12 @@ def of_losses(scenario: Scenario, report: Report) -> Iterator[Warned]:
         yield Warned(str(it), loss=it.place, cause='step %d' % it.every)
     for sender in all_at_once(scenario, report):
         yield Warned(str(sender), mote=sender.sender, loss=sender.place, cause='together')
+
+
+def of_moments(report: Report) -> Iterator[Warned]:
+    """Yields the warnings about packets that one mote sent at the same moment, so that they collided."""
+    for it in bursts(report):
+        yield Warned(str(it), mote=it.sender, cause='moment')
 
 
 def of_seeds(scenario: Scenario, programs: dict[str, Program]) -> Iterator[Warned]:
@@ -328,6 +343,7 @@ def of_net(scenario: Scenario, programs: dict[str, Program], report: Report | No
             yield Warned(what, loss=number, cause='loss')
     if report is not None:
         yield from of_losses(scenario, report)
+        yield from of_moments(report)
         for name in {mote.program: None for mote in report.motes if mote.halted() is not None}:
             for text, token in programs[name].waiting_branches():
                 yield Warned(text, name, token, cause='loop')
@@ -338,10 +354,14 @@ def of_net(scenario: Scenario, programs: dict[str, Program], report: Report | No
                     mote.number, halted), mote=mote.number, cause='halt %s' % mote.program)
 
 
-def warnings(scenario: Scenario, report: Report | None = None) -> list[Warned]:
-    """Returns the warnings of a scenario; with its report, also those that it shows."""
+def warnings(scenario: Scenario, report: Report | None = None, text: str = '') -> list[Warned]:
+    """Returns the warnings of a scenario; with its report, also those that it shows.
+
+    text  the scenario's text, whose comment has the parameters of the plan that made it
+    """
     programs = programs_of(scenario)
-    found = [it for program in programs.values() for it in of_program(program)]
+    is_zero_given = ZERO_GIVEN.search(text) is not None
+    found = [it for program in programs.values() for it in of_program(program, is_zero_given)]
     return by_cause(found + list(of_seeds(scenario, programs)) + list(of_net(scenario, programs, report)))
 
 

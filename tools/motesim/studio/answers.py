@@ -84,7 +84,7 @@ def stretch16(text: str, place: Place) -> list[int]:
 def warned(done: Finished) -> list[dict[str, Any]]:
     """The warnings of tools/explain, about code that is legal, but probably not meant."""
     found = []
-    for it in warnings(done.scenario, done.run.report)[:MOST_WARNINGS]:
+    for it in warnings(done.scenario, done.run.report, done.text)[:MOST_WARNINGS]:
         place = None
         if it.program is not None and it.token is not None:
             place = place_of_token(done.text, it.program, it.token)

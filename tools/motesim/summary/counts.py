@@ -11,6 +11,7 @@ from itertools import repeat
 from operator import add, mul
 from typing import Any
 
+from motesim.explain.moments import collided
 from motesim.faults import Fault
 from motesim.summary.flows import NAMES as FLOW_NAMES
 from motesim.summary.flows import NAMES_BY, flow_rows, flow_rows_by, shared_in_flow, silent
@@ -198,6 +199,10 @@ def status_of(asked: argparse.Namespace) -> int:
     if asked.flow is not None:
         return show_flow(run, asked)
     motes, net, links = summary(run)
+    of_moments = collided(run.report)
+    if of_moments:
+        print('summary: %d of the %d collided copies collided with another packet that their sender sent at the same '
+              'moment; tools/explain names these motes' % (of_moments, net['collided']), file=sys.stderr)
     names, of_links = list(net), LINK_NAMES
     if asked.json:
         parts = {'motes': motes, 'net': {name: net[name] for name in names[2:]}, 'links': links}
