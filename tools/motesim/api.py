@@ -55,16 +55,19 @@ class Comparison:
 
 def run(scenario: str | Path | bytes | Plan, parameters: Mapping[str, Value] | None = None, *,
         limits: Limits = Limits(), program: Path | None = None) -> Run:
-    """Runs a scenario: the name of its file, its text in bytes, or a plan with values of its parameters.
+    """Runs a scenario: the name of its file, its text in bytes, or a plan with values of its parameters. With
+    `parameters`, a name is that of a plan's file.
 
     Returns a `Run` with `report` and `scenario`. Raises a `Fault`, whose text can be shown, if the scenario is
     refused, if the run reaches a limit, or if there is no `motesim`. If the file has a report, nothing runs, and
     `scenario` is None.
     """
+    if parameters is not None and isinstance(scenario, str | Path):
+        scenario = Plan.read(scenario)
     if isinstance(scenario, Plan):
         name, data = 'plan', scenario.scenario(dict(parameters or {})).encode()
     elif parameters is not None:
-        raise Fault('parameters are for plans: read one by motesim.Plan.read')
+        raise Fault("parameters are for plans: motesim.run('NAME.plan.toml', {'seed': 7})")
     elif isinstance(scenario, bytes):
         name, data = 'scenario', scenario
     else:

@@ -65,6 +65,8 @@ class Calls(unittest.TestCase):
         plan = motesim.Plan.read(self.room / 'net.plan.toml')
         self.assertEqual(str(motesim.run(plan).report.motes[1].lines[-1]), '8 print a 4')
         self.assertEqual(str(motesim.run(plan, {'first': 5}).report.motes[1].lines[-1]), '10 print a 5')
+        found = motesim.run(self.room / 'net.plan.toml', {'first': 5})
+        self.assertEqual(str(found.report.motes[1].lines[-1]), '10 print a 5')
         with self.assertRaisesRegex(motesim.Fault, 'parameters are for plans'):
             motesim.run(SCENARIO.encode(), {'first': 5})
 

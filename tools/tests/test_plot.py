@@ -5,6 +5,7 @@ import sys
 import tempfile
 import unittest
 from pathlib import Path
+from unittest import mock
 from xml.etree import ElementTree
 
 from here import TOOLS
@@ -91,6 +92,14 @@ class PlotTest(unittest.TestCase):
         wrong = self.plot('--measure', 'sent', '--against', 'density', '--by', 'period', '--log', '-o', 'a.png')
         self.assertEqual((wrong.returncode, wrong.stdout), (2, ''))
         self.assertIn('--log needs values above 0, and some of density are not', wrong.stderr)
+
+    def test_a_package_that_only_the_interpreter_of_debian_has(self) -> None:
+        with mock.patch.object(packages, 'is_here', return_value=False), mock.patch.object(packages, 'has') as has:
+            with self.assertRaisesRegex(Fault, 'run your script with /usr/bin/python3$'):
+                packages.load('pandas')
+            has.return_value = False
+            with self.assertRaisesRegex(Fault, 'apt-get install python3-pandas'):
+                packages.load('pandas')
 
     def test_without_matplotlib(self) -> None:
         # (an interpreter that finds none, as -I and -S leave the packages out)

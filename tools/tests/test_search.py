@@ -509,8 +509,8 @@ program = "flood.mote"
             self.assertIn('there is no mote 2 with these parameters (1 set)', said)
             text = (folder / 'net.search/net_parameter_motes_2.toml').read_text()
             self.assertEqual(Scenario.parse(text).motes, 2)
-            self.assertIn('`tools/studio FILE --against NAME.toml` shows one next to the scenario that `tools/scenario '
-                          'net.plan.toml -o NAME.toml` makes\n', said)
+            self.assertIn('found.csv; make the scenario of the plan by `tools/scenario net.plan.toml -o NAME.toml`; '
+                          'then `tools/studio FILE --against NAME.toml` shows both\n', said)
 
     def test_limit_on_runs(self) -> None:
         with folder_with() as folder:

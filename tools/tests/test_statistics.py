@@ -668,6 +668,7 @@ class Command(unittest.TestCase):
         self.assertEqual(found['SHA-256 of the results'],
                          hashlib.sha256((self.folder / 'net.csv').read_bytes()).hexdigest())
         self.assertEqual((found['rows'], found['parameters']), ('15', 'period density seed'))
+        self.assertTrue(all(found[it][0].isdigit() for it in ('Python', 'matplotlib')), found)
         self.plot(*words, '--show', 'mean', '--interval', 'bootstrap')
         self.assertIn('note,"bootstrap: 2,000 draws with replacement, by SplitMix64 with the seed 1"\n',
                       (self.folder / 'a.origin.csv').read_text())

@@ -5,10 +5,12 @@ The table has no date, so the same command on the same results writes the same b
 from __future__ import annotations
 
 import hashlib
+import platform
 from collections.abc import Sequence
 from pathlib import Path
 
 from motesim.analysis.points import parameters_of
+from motesim.experiments import packages
 from motesim.experiments.measures import Cell
 from motesim.experiments.results import Row, line_of, text_of
 from motesim.version import VERSION
@@ -42,7 +44,9 @@ def digest_of_tools(top: Path = Path(__file__).parents[1]) -> str:
 def origin_of(command: str, files: Sequence[Path], rows: Sequence[Row], notes: Sequence[str]) -> str:
     """The origin as CSV with the columns `what` and `value`."""
     lines: list[tuple[str, Cell]] = [('command', command), ('tools', 'motesim %s' % VERSION),
-                                     ('SHA-256 of the tools, 16 digits', digest_of_tools())]
+                                     ('SHA-256 of the tools, 16 digits', digest_of_tools()),
+                                     ('Python', platform.python_version()),
+                                     ('matplotlib', packages.version_of('matplotlib'))]
     for path in files:
         lines += [('results', path.name), ('SHA-256 of the results', digest_of_file(path))]
     lines += [('rows', len(rows)), ('parameters', ' '.join(parameters_of(rows)))]

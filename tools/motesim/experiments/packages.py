@@ -6,6 +6,7 @@ Then a tool that needs a package starts again with the interpreter that has it, 
 from __future__ import annotations
 
 import importlib
+import importlib.metadata
 import importlib.util
 import os
 import subprocess
@@ -43,8 +44,17 @@ def is_here(module: str) -> bool:
 def load(module: str) -> Any:
     """The module. Raises a fault if this interpreter doesn't have it."""
     if not is_here(module):
-        raise Fault(how_to_install(module))
+        raise Fault('%s has no %s, but %s has it: run your script with %s' % (
+            sys.executable, module, SYSTEM, SYSTEM) if has(module) else how_to_install(module))
     return importlib.import_module(module)
+
+
+def version_of(package: str) -> str | None:
+    """The version of a package of this interpreter, or None if it isn't installed."""
+    try:
+        return importlib.metadata.version(package)
+    except importlib.metadata.PackageNotFoundError:
+        return None
 
 
 def hand_on(tool: str, module: str, words: Sequence[str]) -> None:

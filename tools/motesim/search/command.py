@@ -170,11 +170,10 @@ def last_line(search: Search, found: list[Found], folder: Path, base: Base) -> s
     said += ', %d %s broken' % (broken, 'is' if broken == 1 else 'are') if broken else ''
     said += '; {:,} runs'.format(search.runs)
     if found:
-        said += '\n%s in %s, with the table found.csv; `tools/studio FILE --against %s` shows one' % (
-            counted(len(found), 'counter-example is', 'counter-examples are'), folder,
-            'NAME.toml' if base.plan else base.name)
-        if base.plan:
-            said += ' next to the scenario that `tools/scenario %s -o NAME.toml` makes' % base.name
+        said += '\n%s in %s, with the table found.csv; ' % (
+            counted(len(found), 'counter-example is', 'counter-examples are'), folder)
+        said += ('make the scenario of the plan by `tools/scenario %s -o NAME.toml`; then `tools/studio FILE --against '
+                 'NAME.toml` shows both' if base.plan else '`tools/studio FILE --against %s` shows one') % base.name
     if search.ended_by:
         said += '\nNOT ALL WAS TRIED: %s; --resume continues' % search.ended_by
     return said
