@@ -203,6 +203,16 @@ class Sentences(unittest.TestCase):
             read_sentence('mote 0 prints 9 times', Names(('p',), 3))
         self.assertNotIn('prints p 9 times', str(caught.exception))
 
+    def test_words_for_but_for_at_most_once_and_for_each_sender(self) -> None:
+        for sentence, hint in (
+                ('every mote except 0 sends', 'Did you mean: every mote but 0 sends'),
+                ('mote 1 sends 0 or 1 times', 'Did you mean: mote 1 sends at most once'),
+                ('mote 1 prints flood 0 or 1', "Hint: write `at most once` for 0 or 1 times; for one of two values, "),
+                ('mote 0 receives 1 from all motes', 'Hint: a packet has one sender, so write a sentence for each: ')):
+            with self.assertRaises(SentenceFault) as caught:
+                read_sentence(sentence, Names(('flood',), 3))
+            self.assertIn(hint, str(caught.exception))
+
     def test_just_and_finally_have_neither_order_nor_count(self) -> None:
         for words, seen in (
                 ('finally prints a 1 after mote 0 sends 1', 'no order: .* `mote 3 prints a 1 after mote 0 sends 1`'),

@@ -298,7 +298,25 @@ class FileScope(unittest.TestCase):
                 self.assertEqual((found.line, found.above), ('', (below, declared)))
                 self.assertIsNone(find_fault(found.applied(source)))
                 self.assertEqual(shown.shown(source, 0), [
-                    'Leave line 1 out,', 'and insert below line %d:' % below, '    ' + declared])
+                    'Insert below line %d:' % below, '    ' + declared, 'and leave line 1 out.'])
+
+    def test_a_variable_is_declared_above_a_line_with_a_timer(self) -> None:
+        source = self.SOURCE % ('', 'etimer_set(&timeout, TIMEOUT);')
+        source = source.replace('etimer u;', 'var m = 0; etimer timeout;')
+        fault = find_fault(source)
+        assert fault
+        found = correction(source, fault)
+        assert found and found.above
+        self.assertEqual((found.line, found.above[1]), ('set timeout my_timeout;', 'var my_timeout = 20;'))
+        self.assertIsNone(find_fault(found.applied(source)))
+
+    def test_a_constant_named_like_a_timer_has_another_name(self) -> None:
+        source = self.SOURCE % ('#define U 12', 'set u 5;')
+        fault = find_fault(source)
+        assert fault
+        found = correction(source, fault)
+        assert found
+        self.assertEqual((found.above or (0, ''))[1], 'var my_u = 12;')
 
     def test_a_timer_among_statements_moves_to_the_head(self) -> None:
         for typed, use, below, declared in (

@@ -139,6 +139,15 @@ class Entries(Folder):
         self.assertEqual(sorted(name for name, row in rows.items() if row == '3 of 3'),
                          ['=1+1.toml', 'anna.toml', 'group/eve.toml', 'new\\nline.toml', 'raw\\xff.toml'])
 
+    def test_a_file_without_a_program_says_so(self) -> None:
+        for name, text in ('a.mote', '\ufeff'), ('b.mote', '// later\n'), ('c.toml', ' \n'), ('d.toml', '# later\n'):
+            self.hand_in(name, text)
+        rows = self.rows('--net', 'task.toml')
+        empty, noted = ('0 of 3  the file %s' % it for it in ('is empty: it has no program',
+                                                              'has only comments, and no program'))
+        self.assertEqual([rows[it] for it in ('a.mote', 'b.mote', 'c.toml', 'd.toml')], [empty, noted, empty, noted])
+        self.assertEqual(self.grade('--net', 'task.toml', '--why', 'a'), 'the file is empty: it has no program\n')
+
     def test_a_pipe_that_takes_the_place_of_a_file_is_not_waited_for(self) -> None:
         entry = next(it for it in entries_of(self.folder) if it.name == 'anna.toml')
         (self.folder / 'anna.toml').unlink()

@@ -89,8 +89,8 @@ x = 0
 y = 0
 program = "p"
 """
-WRITE = re.compile(r'(?:Write, as|Leave) lines? (\d+)(?: to (\d+))?(?::| out)')
-INSERT = re.compile(r'and insert below line (\d+):')
+WRITE = re.compile(r'(?:Write, as|and leave|Leave) lines? (\d+)(?: to (\d+))?(?::| out)')
+INSERT = re.compile(r'(?:and insert|Insert) below line (\d+):')
 
 
 def followed(text: str, message: list[str]) -> str:

@@ -11,6 +11,7 @@ from io import StringIO
 from pathlib import Path
 from types import SimpleNamespace
 from typing import cast
+from unittest.mock import patch
 
 from here import TOOLS, TOP
 import skips
@@ -25,6 +26,7 @@ from motesim.why.command import show_chain
 from motesim.why.diverge import diverged
 from motesim.why.fate import fate_of
 from motesim.why.lines_of_file import ScenarioFile
+from motesim.why import miss
 from motesim.why.miss import _Misses, misses
 from motesim.why.question import Asked, Asker, Missing, Unasked
 from motesim.why.replay import Parted, Reached, Replay
@@ -467,6 +469,9 @@ class Misses(unittest.TestCase):
 
     def test_other_values(self) -> None:
         self.assertIn('it prints 3 values: 7 at 4, 3 at 4, 2 at 6', self.misses('mote 0 prints c 9'))
+        with patch.object(miss, 'MOST_OTHERS', 1):
+            self.assertIn('it prints 3 values: the last are 2 at 6', self.misses('mote 0 prints c 9'))
+            self.assertIn('it prints 3 values: near that time 2 at 6', self.misses('mote 0 prints c 9 by 60'))
         self.assertIn('it never prints anything by a', self.misses('mote 0 prints a 9'))
         self.assertIn('it receives 1 value: 8 at 7', self.misses('mote 1 receives 9'))
 

@@ -7,9 +7,9 @@
     --hidden task.plan.toml --vary-hidden seed=77..79
 
 A solution is a scenario NAME.toml, or with --net also a program NAME.mote. With --net the tool takes only the text of
-one program from a solution: the program that --program names, or the only one. So nobody gains by changing the net. A
-sentence holds if it holds in all nets. A net that --hidden names counts in the same way, but a page of marks shows
-nothing of it.
+one program from a solution: the program that --program names, or the only one. So nobody gains by changing the net.
+With several nets, a sentence counts only if it holds in each of them. A net that --hidden names counts in the same
+way, but a page of marks shows nothing of it.
 
 Each entry of the folder has a row, and an error in one entry doesn't affect the others. Each run has limits (--seconds
 of processor time, --memory, --report), and several run at once (--jobs). If a run lasts 10 times its --seconds because

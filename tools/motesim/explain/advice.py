@@ -39,6 +39,9 @@ class Advice(NamedTuple):
         which = _which(self.first, self.last, offset)
         inserted = ['and insert %s:' % _inserted(self.above, offset), _indented(source, *self.above)] \
             if self.above else []
+        if not self.line and self.above and self.above[0] > self.last:
+            # (in this order the second number is right after the first step)
+            return [inserted[0].replace('and insert', 'Insert'), inserted[1], 'and leave %s out.' % which]
         if not self.line:
             return ['Leave %s out%s' % (which, ',' if inserted else '.'), *inserted]
         return ['Write, as %s:' % which, _indented(source, self.first, self.line), *inserted]

@@ -49,8 +49,8 @@ class Control(Lines):
         if self.token.text != 'if':
             return 'else ' + self.body()
         inner = self.statement()
-        self.why('A block follows `else`, so the next `if` goes into it%s.' % (
-            ', and one more `}` closes it' if self.is_cut else ''))
+        self.why('There is no `else if`: open a block, `else {`, and put the `if` into it%s.' % (
+            '; one more `}` closes it' if self.is_cut else ''))
         return 'else { %s' % inner if self.is_cut else 'else { %s }' % inner
 
     def body(self) -> str:

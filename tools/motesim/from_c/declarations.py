@@ -48,7 +48,9 @@ class Declarations(Lines):
         if value is None:
             raise NoCounterpart('There are no constants: use a variable that is never assigned, `var period = 40;`.')
         self.why('There are no constants: use a variable that is never assigned.')
-        return self.declared(defined[1].lower(), str(value % 65_536))
+        name = defined[1].lower()
+        is_free = self.scope.kinds.get(name, 'variable') == 'variable'
+        return self.declared(name if is_free else 'my_' + name, str(value % 65_536))
 
     def declared(self, name: str, value: str) -> str:
         if self.place.is_top:

@@ -15,6 +15,8 @@ ENDS = [
     (re.compile(r'!(%s)' % NAME), r'\1 = 1'), (re.compile(r'\((%s) == 0\)' % NAME), r'\1 = 1'),
     (re.compile('(%s)' % NAME), r'\1 = 0'),
 ]
+# The words of a code that variables are declared above.
+BEHIND_VARIABLES = {'etimer', 'ctimer', 'thread', 'onpoll', 'onexit', 'body'}
 # The beginning of a code, up to its last variable, or up to its last event timer.
 # A line above which a thread belongs.
 BELOW_THREADS = re.compile(r'^[ \t]*(?:thread|onpoll|onexit|body|PROCESS_BEGIN)\b', re.M)
@@ -68,7 +70,10 @@ def place_below(above: list[str]) -> Surroundings:
         return Surroundings(len(opened) == 1, not opened, loop, last=_last(words), before=last_statement(words),
                             is_below='process' in words)
     declared = [at for at in range(codes[-1], len(words)) if words[at] == 'var']
-    head = tokens[declared[-1] if declared else codes[-1] + 2].line
+    # (a line below one with timers would have its variables below these timers)
+    behind = {token.line for token in tokens if token.text in BEHIND_VARIABLES}
+    lines = [tokens[at].line for at in (codes[-1] + 2, *declared)]
+    head = next((line for line in reversed(lines) if line not in behind), lines[0])
     names = frozenset(words[at + 1] for at in declared if at + 1 < len(words))
     timers = frozenset(name for word, name in zip(words[codes[-1]:], words[codes[-1] + 1:]) if word == 'etimer')
     return Surroundings(len(opened) == 1, False, loop, words[codes[-1] + 1], head, names, timers, _last(words),

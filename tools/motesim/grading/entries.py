@@ -9,6 +9,7 @@ import os
 import random
 import re
 import stat
+from codecs import BOM_UTF8
 from collections.abc import Iterator, Sequence
 from pathlib import Path
 from typing import NamedTuple
@@ -112,6 +113,15 @@ def skipped_of(folder: Path) -> list[str]:
         found += [one_line(str((path / it).relative_to(folder))) for it in sorted([*names, *hidden])
                   if it.startswith('.') or it.endswith(OF_TEACHER) or it in own]
     return found
+
+
+def without_program(entry: Entry, data: bytes) -> str:
+    """The reason why a file has no program: it is empty, or has only comments. Otherwise an empty text."""
+    comment = rb'//[^\n]*' if entry.path.suffix == '.mote' else rb'#[^\n]*'
+    text = data.removeprefix(BOM_UTF8)
+    if len(data) > LONGEST_TEXT or re.sub(comment, b'', text).strip():
+        return ''
+    return 'the file has only comments, and no program' if text.strip() else 'the file is empty: it has no program'
 
 
 def data_of(entry: Entry) -> bytes:

@@ -11,7 +11,7 @@ from motesim.explain.explanation import explanation, of_program, of_program_file
 from motesim.explain.lint import Program, of_start
 from motesim.faults import Fault
 from motesim.files import replace_whole
-from motesim.grading.entries import Entry, data_of
+from motesim.grading.entries import Entry, data_of, without_program
 from motesim.grading.nets import NOT_UTF8, Net, NoProgram, program_of
 from motesim.judge.expectations import (
     REFUSED, REQUIRED, Part, UnknownSentence, known_of, more_of, read_all, refused, same_report,
@@ -155,6 +155,9 @@ class Task:
         data = b''
         try:
             data = data_of(entry)
+            lacks = without_program(entry, data)
+            if lacks:
+                return Marks(entry.name, why=lacks)
             if entry.path.suffix == '.toml' and begins_as_program(data):
                 return Marks(entry.name, why='it is the text of a program, not a scenario: a file of such a text is '
                                              'NAME.mote')

@@ -31,6 +31,8 @@ FORMS: list[tuple[str, Replaced]] = [
     (r'\brec(?:ie|ee|i|e)v(e|es|ing)\b', r'receiv\1'),
     (r'(?<!\bare )(?<!\bis )\bsent\b', 'sends'),
     (r'\b(print|start|halt|receiv)ed\b', lambda it: it[1].replace('receiv', 'receive') + 's'),
+    (r'\b(?:except|excluding)(?: for)?\b', 'but'),
+    (r'\b(?:exactly )?(?:0|no|zero) or (?:1|one|once) (?:time|packet|message)s?\b', 'at most once'),
     (r'\b(?:at ?l[aes]{1,3}t|(?:no|not) (?:less|fewer) th[ae]n)\b', 'at least'),
     (r'\b(?:at ?(?:most|mots|mst|moost|must)|(?:no|not) more th[ae]n)\b', 'at most'),
     (r'\b(?:less|fewer) th[ae]n\b', 'fewer than'),

@@ -46,6 +46,7 @@ REDIRECTS = {
     'node': 'write `mote`.', 'nodes': 'write `motes`.',
     'always': 'write what must not happen, `mote 3 never halts`, or `in each 120 from 0 to 1199`.',
     'eventually': 'leave it out: a sentence without TIMES and WHEN says that it happens at least once.',
+    'or': 'write `at most once` for 0 or 1 times; for one of two values, `writes \'print a 0\' or \'print a 1\'`.',
     'only': '`prints just P 1, 2, 3` says that these are all of the values.',
     'last': '`finally prints P VALUE` is about the last line.',
     'message': 'write `packet`, or `copy` of each receiver.',
@@ -68,9 +69,14 @@ COUNTED = ('`%s` is about all lines of a mote together, so a sentence with it ha
            'with it, and one without it for the count, as in `mote 3 prints a twice`.')
 
 
-def redirected(rest: str) -> str | None:
-    """Advice on what to write instead of the first of these words, if sentences don't have it."""
-    word = re.match(r'[A-Za-z]+', rest)
+FROM_EACH = 'a packet has one sender, so write a sentence for each: `mote 3 receives from mote 1`.'
+
+
+def redirected(sentence: str, place: int) -> str | None:
+    """Advice on what to write instead of the word at a place, if sentences don't have it there."""
+    word = re.match(r'[A-Za-z]+', sentence[place:])
+    if word and word[0] in ('all', 'each', 'every') and sentence[:place].endswith('from '):
+        return FROM_EACH
     return REDIRECTS.get(word[0].lower()) if word else None
 
 
@@ -103,7 +109,7 @@ class SentenceFault(Fault):
         lines = [sentence, ' ' * place + '^', *may]
         lines += ['Did you mean: %s' % like] if like else []
         hints = textwrap.wrap('Hint: %s' % hint, WIDTH, break_on_hyphens=False) if hint else []
-        lines += hints or ['Hint: %s' % it for it in [redirected(sentence[place:])] if it]
+        lines += hints or ['Hint: %s' % it for it in [redirected(sentence, place)] if it]
         # (the sentence with a mark under the word, and the allowed words)
         self.explained = '  ' + '\n  '.join(lines)
         super().__init__('a sentence that is not known\n' + self.explained)

@@ -104,8 +104,14 @@ class _Misses:
         near = sorted(rows, key=lambda it: abs(int(it[1][0]) - self.end))[:MOST_OTHERS]
         shown = ', '.join('%s at %s' % (words[-1], words[0]) for _, words in sorted(near))
         yield Miss('value', 'it %s %s: %s%s' % (
-            verb, count(len(rows), 'value'), 'near that time ' if len(rows) > MOST_OTHERS else '', shown),
+            verb, count(len(rows), 'value'), self.which(len(rows)), shown),
             self.source.traces.row(At(self.mote, near[0][0])))
+
+    def which(self, number: int) -> str:
+        """Which of several values are shown, if not all are: those near the end of the sentence's time."""
+        if number <= MOST_OTHERS:
+            return ''
+        return 'the last are ' if self.missing.span[1] is None else 'near that time '
 
     def halted(self) -> Iterator[Miss]:
         last = self.lines[-1].split(' ')
@@ -164,7 +170,8 @@ class _Misses:
                 words[2], words[1], words[3], words[0], fate.words), fate.row or row, True)
         if lost[False]:
             row, words, fate = lost[False][-1]
-            others = ' with other values' if values else ''
+            is_of_packets = self.kind == 'recv' or lost[True]
+            others = ' with other values' if values and is_of_packets else ''
             yield Miss(fate.how, '%s%s did not reach a process here; the last, packet %s of mote %s, '
                        'was sent at %s: %s' % (count(len(lost[False]), 'copy', 'copies'), others, words[2], words[1],
                                                words[0], fate.words), fate.row or row)
