@@ -89,13 +89,13 @@ MOTES = [
      'halted': 0, 'late': 0, 'ratio': None, 'posted': 1, 'taken': 2, 'dropped': 1, 'refused': 0, 'prints': 0,
      'halt': None},
     {'mote': 1, 'program': 'hearer', 'sent': 0, 'copies': 7, 'received': 1, 'lost': 1, 'ring': 1, 'collided': 2,
-     'halted': 1, 'late': 1, 'ratio': 0.1667, 'posted': 1, 'taken': 1, 'dropped': 0, 'refused': 1, 'prints': 2,
+     'halted': 1, 'late': 1, 'ratio': 0.166666666667, 'posted': 1, 'taken': 1, 'dropped': 0, 'refused': 1, 'prints': 2,
      'halt': 8},
     {'mote': 2, 'program': 'talker', 'sent': 1, 'copies': 0, 'received': 0, 'lost': 0, 'ring': 0, 'collided': 0,
      'halted': 0, 'late': 0, 'ratio': None, 'posted': 0, 'taken': 0, 'dropped': 0, 'refused': 0, 'prints': 0,
      'halt': None}]
 NET = {'mote': 'net', 'program': '', 'sent': 7, 'copies': 7, 'received': 1, 'lost': 1, 'ring': 1, 'collided': 2,
-       'halted': 1, 'late': 1, 'ratio': 0.1667, 'posted': 2, 'taken': 3, 'dropped': 1, 'refused': 1, 'prints': 2,
+       'halted': 1, 'late': 1, 'ratio': 0.166666666667, 'posted': 2, 'taken': 3, 'dropped': 1, 'refused': 1, 'prints': 2,
        'halt': 1}
 LINKS = [
     {'from': 0, 'to': 1, 'copies': 6, 'received': 1, 'lost': 1, 'ring': 1, 'collided': 1, 'halted': 1, 'late': 1,

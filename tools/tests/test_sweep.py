@@ -106,7 +106,7 @@ MEASURES: list[tuple[str, str, Cell]] = [
     ('delay: mote 1 prints a twice -> mote 2 prints a', 'delay: mote 1 prints a twice -> mote 2 prints a', None),
     ('ratio = delivery: mote 1 prints a -> mote 2 prints a', 'ratio', 0.5),
     ('pdr = delivery: mote 0 sends -> every mote but 0 prints a', 'pdr', 1.0),
-    ('pdr = delivery: motes 1 and 2 print a -> mote 1 prints a after 3', 'pdr', 0.3333),
+    ('pdr = delivery: motes 1 and 2 print a -> mote 1 prints a after 3', 'pdr', 0.333333333333),
     ('pdr = delivery: mote 2 sends -> mote 1 prints a', 'pdr', None),
     ('flow most: print a', 'flow most: print a', 6),
     ('python: mine.py:lines', 'lines', 10),

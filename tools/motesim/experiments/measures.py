@@ -24,6 +24,7 @@ from motesim.summary import counts as summary
 from motesim.faults import Fault
 from motesim.summary.flows import NAMES as FLOW_NAMES
 from motesim.summary.flows import FlowFault, flow_rows, read_flow, shared, shared_in_flow
+from motesim.summary.shares import share
 from motesim.judge.judge import Event, Judge
 from motesim.runner.run import Run
 from motesim.scenario import Scenario
@@ -165,7 +166,7 @@ def _delivery(judge: Judge, begin: Does, end: Does) -> float | None:
         elif waiting[value]:
             waiting[value] -= 1
             delivered += 1
-    return round(delivered / len(sent), 4) if sent else None
+    return share(delivered, len(sent))
 
 
 def _count_rows(judge: Judge, it: Copies | Packets) -> int:

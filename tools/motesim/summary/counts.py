@@ -15,6 +15,7 @@ from motesim.explain.moments import collided
 from motesim.faults import Fault
 from motesim.summary.flows import NAMES as FLOW_NAMES
 from motesim.summary.flows import NAMES_BY, flow_rows, flow_rows_by, shared_in_flow, silent
+from motesim.summary.shares import share
 from motesim.report import KINDS, LOST, MOST_MOMENT, OUTCOMES, Report
 from motesim.runner.run import Run, read_run
 from motesim.scenario import Scenario
@@ -35,8 +36,7 @@ COUNTED = {'post': 'posted', 'take': 'taken', 'drop': 'dropped', 'full': 'refuse
 
 def ratio(row: Row) -> float | None:
     """The share of the due copies that were received, or None if no copy was due."""
-    due = row['copies'] - row['late']
-    return round(row['received'] / due, 4) if due else None
+    return share(row['received'], row['copies'] - row['late'])
 
 
 def copies_row(counts: Counter[Any], key: object) -> Row:

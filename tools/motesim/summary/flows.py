@@ -20,6 +20,7 @@ from motesim.notation.keywords import SYSTEM
 from motesim.report import MOST_WORD, Line, Report
 from motesim.scenario import Scenario
 from motesim.judge.sentences import names_of, processes_of
+from motesim.summary.shares import share
 
 Row = dict[str, Union[int, float, str, None]]
 NAMES = ['origin', 'sent', 'delivered', 'ratio', 'reached', 'copies', 'duplicates', 'hops', 'least', 'middle', 'most']
@@ -185,10 +186,10 @@ def _row(origin: int | str, its: list[Message], scenario: Scenario | None) -> Ro
     copies = sum(len(moments) for _, _, moments in pairs)
     return {
         'origin': origin, 'sent': len(its), 'delivered': len(delivered),
-        'ratio': round(len(delivered) / len(its), 4) if its else None,
-        'reached': round(len(pairs) / len(its), 4) if its else None,
+        'ratio': share(len(delivered), len(its)),
+        'reached': share(len(pairs), len(its)),
         'copies': copies, 'duplicates': copies - len(pairs),
-        'hops': round(sum(hops) / len(hops), 4) if hops else None,
+        'hops': share(sum(hops), len(hops)),
         'least': delays[0] if delays else None, 'middle': median(delays) if delays else None,
         'most': delays[-1] if delays else None,
     }

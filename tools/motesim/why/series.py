@@ -7,6 +7,7 @@ from typing import NamedTuple
 
 from motesim.faults import Fault
 from motesim.report import MOST_MOMENT
+from motesim.summary.shares import share
 from motesim.why.source import Traces
 
 # A row, by the names of its columns; None for a mean of no values.
@@ -138,9 +139,9 @@ class Series:
             row: Row = {'from': part * self.by, 'to': (part + 1) * self.by - 1}
             for name in NAMES[2:]:
                 row[name] = its[name]
-            row['ratio'] = round(its['received'] / due, 4) if due else None
-            row['delay'] = round(self.delays[part] / its['received'], 4) if its['received'] else None
-            row['waited'] = round(self.waits[part] / self.taken[part], 4) if self.taken[part] else None
+            row['ratio'] = share(its['received'], due)
+            row['delay'] = share(self.delays[part], its['received'])
+            row['waited'] = share(self.waits[part], self.taken[part])
             row['queue'] = self.peaks[part]
             yield row
 
