@@ -204,8 +204,8 @@ def untried_copies(base: Base, asked: Asked) -> str:
     if not left:
         return ''
     return ('{:,} of {:,} copies, such as packet {} of mote {} on its way to mote {}: no `every` above 1 loses only '
-            'this packet. Use `--faults links,every`, or let the receiver ignore the packet (docs/use/SCENARIO.md, "A lost '
-            'first packet")'.format(len(left), len(copies), left[0][2], *left[0][:2]))
+            'this packet. Use `--faults links,every`, or let the receiver ignore the packet (docs/use/SCENARIO.md, "A '
+            'lost first packet")'.format(len(left), len(copies), left[0][2], *left[0][:2]))
 
 
 def _motes(base: Base, asked: Asked) -> Iterator[FaultyPart]:
