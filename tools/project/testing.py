@@ -14,8 +14,10 @@ from motesim.words import words_of
 from motesim.runner.programs import TOP, program_path
 
 TESTS = TOP / 'tools/tests'
-# The modules of tests/ whose tests have no names.
-WITHOUT_NAMES = ['test_spoiled_bytes.py']
+# The names that a module of tests/ may get, for its help; None if its tests have no names.
+NAMES = {'test_memory.py': 'a scenario, or a scenario, -- and arguments; without it, the small scenarios',
+         'test_spoiled_bytes.py': None}
+CASES = 'the case, example, page or scenario to test; without a name, all'
 MINUTES = 30
 NO_PYTEST = ('the tests need pytest: on Debian `apt-get install python3-pytest python3-pytest-xdist` installs it '
              'for %s (.ci/run installs all that the tests need)' % SYSTEM)
@@ -38,12 +40,11 @@ def become(called: list[str], **environment: str) -> NoReturn:
     os.execvpe(called[0], called, {**os.environ, 'PYTHONDONTWRITEBYTECODE': '1', **environment})
 
 
-def asked_of(module: Path, named: str) -> tuple[list[str], list[str]]:
+def asked_of(module: Path, named: str | None) -> tuple[list[str], list[str]]:
     """The names that a command gets, and the options that it passes on to pytest; its help begins with the module's
     text, and leaves names out if the command can't use them."""
     words = words_of(ast.get_docstring(ast.parse(module.read_text('utf-8'))))
-    shown = SUPPRESS if module.name in WITHOUT_NAMES else named + '; without a name, all'
-    words.add_argument('names', nargs='*', metavar='NAME', help=shown)
+    words.add_argument('names', nargs='*', metavar='NAME', help=named or SUPPRESS)
     words.epilog = 'Other options are passed on to pytest, each in one word: -x, -kWORD.'
     asked, others = words.parse_known_args()
     return asked.names, others
@@ -51,8 +52,9 @@ def asked_of(module: Path, named: str) -> tuple[list[str], list[str]]:
 
 def check(module: Path) -> NoReturn:
     """Tests the built motesim with a module of tests/."""
-    names, others = asked_of(module, 'the case, example, page or scenario to test')
-    if names and module.name in WITHOUT_NAMES:
+    named = NAMES.get(module.name, CASES)
+    names, others = asked_of(module, named)
+    if names and named is None:
         raise Fault('this command makes all its tests, and can\'t select %s: leave it out' % ' '.join(names))
     become([*pytest('group'), str(module), *others, *('--name=' + it for it in names)],
            MOTESIM=str(program_path().resolve()))
@@ -65,7 +67,7 @@ def check_with(module: str) -> NoReturn:
 
 @command('test_tools')
 def test_tools() -> NoReturn:
-    names, others = asked_of(TESTS / 'conftest.py', 'a file of tools/tests, or a part of its name')
+    names, others = asked_of(TESTS / 'conftest.py', 'a file of tools/tests, or a part of its name; without a name, all')
     chosen = [it.name for it in sorted(TESTS.glob('test_*.py')) if not names or any(name in it.stem for name in names)]
     if not chosen:
         raise Fault('no file of tests has a name with %s' % ', '.join(names))

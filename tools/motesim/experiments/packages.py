@@ -24,7 +24,7 @@ DEBIAN = {'matplotlib': 'python3-matplotlib', 'distributed': 'python3-distribute
 
 
 def has(module: str, interpreter: str = SYSTEM) -> bool:
-    """Returns whether an interpreter, which is new enough for the tools, has a module."""
+    """Returns whether an interpreter is new enough for the tools and has a module."""
     asked = 'import sys, importlib.util as u; sys.exit(sys.version_info < (3, 11) or not u.find_spec(%r))' % module
     try:
         return subprocess.run([interpreter, '-c', asked], capture_output=True, timeout=60).returncode == 0
