@@ -643,6 +643,15 @@ class Runs(unittest.TestCase):
         data = (TOP / 'examples' / name).read_bytes()
         return Source(name, answer(data).report, Scenario.parse(data))
 
+    def test_lost_copies_have_other_values_only_if_the_question_has_the_value_of_a_packet(self) -> None:
+        asker = Asker(self.run_of('flooding.toml'))
+        for question, lost in (('mote 1 prints flood 9', '1 copy did'),
+                               ('mote 1 receives 9', '1 copy with other values')):
+            missing = asker.about(question)
+            assert isinstance(missing, Missing)
+            said = [it.words for _, its in misses(asker, missing) for it in its]
+            self.assertTrue(any(it.startswith(lost) for it in said), said)
+
     def test_each_line_has_one_cause_that_is_earlier(self) -> None:
         """On all examples and cases, and on random scenarios, back to the start of a mote."""
         lines = 0
