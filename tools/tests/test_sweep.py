@@ -552,13 +552,16 @@ class SweepTest(Bed):
         self.assertTrue(gc.isenabled())
 
     def test_no_row_is_kept_in_memory(self) -> None:
-        """Each further run needs less than 100 bytes; a row kept as a dictionary needs more than 1,000."""
+        """Each further run needs less than 100 bytes; a row kept as a dictionary needs more than 1,000.
+
+        (Python keeps the memory of up to 2,000 tuples of each length, so both sweeps are longer.)
+        """
         def results(jobs: Iterator[Job], processes: int, seconds: float) -> Iterator[Result]:
             return (Result(job.place, {'prints': job.place}, '%016x' % job.place, '', '') for job in jobs)
 
         peaks = {}
         for kind in 'csv', 'sqlite':
-            for count in 200, 4_200:
+            for count in 2_100, 4_200:
                 with mock.patch.dict(os.environ, MOTESIM=str(self.stub)), mock.patch(
                         'motesim.experiments.sweep.run_here', results), contextlib.redirect_stdout(io.StringIO()):
                     asked = sweep_of(Plan.read(self.folder / 'net.plan.toml'), ['period=1..%d' % count], ['prints'], 9)
@@ -570,7 +573,7 @@ class SweepTest(Bed):
                     peaks[count] = tracemalloc.get_traced_memory()[1]
                     tracemalloc.stop()
                     sweeper.file.close()
-            self.assertLess(peaks[4_200] - peaks[200], 100 * 4_000, kind)
+            self.assertLess(peaks[4_200] - peaks[2_100], 100 * 2_100, kind)
             rows = read_results(self.folder / ('many4200.%s' % kind))[1]
             self.assertEqual([row['period'] for row in rows], list(range(1, 4_201)))
 
