@@ -32,7 +32,7 @@ take_or_drop there s p = if there then Take s p else Drop s p
 
 -- One step: the machine before it, the lines that the step writes, and the machine after it. At any moment, also
 -- between the steps of a walk, processes that are not listed start, and processes leave and post. But the next event
--- is taken only when no walk is in progress.
+-- is taken only when no walk is in progress, and a walk begins only if a process is listed.
 pub data DeliveryStep : DeliveryMachine → List Line → DeliveryMachine → Type 0 where
   starts : (m : DeliveryMachine) (p : ℕ) → has_incarnation m.list p ≡ false →
       DeliveryStep m (Start p ∷ []) (record m

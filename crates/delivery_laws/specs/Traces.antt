@@ -1,5 +1,5 @@
--- Small traces that have the property, and small traces that don't. Each trace of the second kind has the name of the
--- part of the property that it breaks.
+-- Small traces that have the property `HandedOn`, and small traces that don't. Each trace of the second kind is named
+-- after its fault.
 use Rattle.std.specs.Prelude.{List, [], ◌∷◌}
 use Rattle.delivery_laws.specs.StartsAndHalts.{StartsTheUnlisted, HaltIsLast}
 use Rattle.delivery_laws.specs.HandedOn.{ToOne, ToAll, Line, Start, Leave, Post, Take, Drop, Halt, Other, HandedOn}

@@ -19,8 +19,9 @@ pub fn only_the_unlisted_start()
     ensures delivery_starts_the_unlisted { DeliveryStartsTheUnlisted }
 {}
 
-/// Small correct traces have the property `HandedOn`, and small traces with one fault each don't have it. Some faults
-/// aren't detected by this property; the two laws above detect two of these faults.
+/// Small correct traces have the property `HandedOn`, and small traces with one fault each don't have it. `HandedOn`
+/// doesn't detect some faults; the properties of [`nothing_follows_a_halt`] and [`only_the_unlisted_start`] detect two
+/// of these.
 pub fn traces_are_distinct()
     ensures traces_that_deliver { TracesThatDeliver }
     ensures broken { TracesThatDoNotDeliver }

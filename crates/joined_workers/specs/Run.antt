@@ -17,7 +17,7 @@ pub record BeginsAt (end : ℕ) (group : WorkerGroup) (from : ℕ) : Type 0 wher
   pub is : IsNextOfAll group.first_out group.shares.items next
   pub start : from ≡ start_of_window end next
 
--- one window of all workers, which begins at the first pending event and isn't longer than `width`
+-- one window of all workers: from the first pending event for `width` moments, but not past the end
 pub record GroupRunsNext (model : NetModel) (owners : List ℕ) (width : ℕ) (old new : WorkerGroup) : Type 0 where
   pub from : ℕ
   pub begins : BeginsAt model.end old from

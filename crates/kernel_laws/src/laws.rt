@@ -13,8 +13,9 @@ ghost use Rattle.kernel_laws.specs.Laws.{KernelsHandOn, GoingIsInOrder, NoLinesG
 ghost use Rattle.kernel_laws.specs.Laws.{RunAddsItsLines, PollKeeps, PacketKeeps, NoteKeeps, OnlyTheRunningAreCalled};
 ghost use Rattle.kernel_laws.specs.Laws.{CallsKeepStep, ListedAreRunning, CallsStamp, BootStamps, RunStamps};
 
-/// The lines of a kernel, joined, deliver each accepted event, in order; nothing follows a halt; and a process starts
-/// only if it isn't listed. This is true for any program and for any calls after the boot.
+/// In the lines of a kernel, joined, events are delivered in the order in which they were accepted, without gaps (those
+/// left at the end aren't delivered); nothing follows a halt; and a process starts only if it isn't listed. This is
+/// true for any program and for any calls after the boot.
 pub fn kernels_hand_on()
     ensures kernels_hand_on { KernelsHandOn }
 {}

@@ -15,9 +15,10 @@ pub record IsLine (windows finished begun : ℕ) (sent : ℕ → List RadioCopy)
   pub took : HasPrefix pushed taken
   pub heard : begun ≤ marks_in taken
 
+-- no worker has finished more windows than there are, and the items between any two workers are a line (`IsLine`)
 pub record AreInPosition (p : Plan) (w : MarkState) : Type 0 where
   pub within : (v : ℕ) → v < p.workers → w.finished v ≤ p.windows
   pub lines : (v u : ℕ) → IsPair p v u
       → IsLine p.windows (w.finished v) (w.finished u) (p.sent v u) (w.pushed v u) (w.taken v u)
-  -- no worker pushes to itself
+  -- no worker pushes to itself, or takes from itself
   pub own : (v : ℕ) → w.pushed v v ≡ [] × (w.taken v v ≡ [])

@@ -5,6 +5,7 @@ use Rattle.mark_laws.specs.Queues.{Senders, Queued, start_queued, MayHappenQueue
 use Rattle.mark_laws.specs.Steps.{Event, worker_of, WorkerWaits}
 use Rattle.mark_laws.specs.State.{Plan, set_at}
 
+-- the queues and the workers' actions, the workers that are gone, and the flag
 pub record Flagged : Type 0 where
   pub queued : Queued
   -- the workers that have failed or left
@@ -25,11 +26,13 @@ pub record MayDo (p : Plan) (senders : Senders p) (c : Flagged) (e : Event) : Ty
   pub still : c.gone (worker_of e) ≡ false
   pub may : MayHappenQueued p senders c.queued e
 
+-- a worker that isn't gone may fail as long as it has a window left
 pub record MayFail (p : Plan) (c : Flagged) (worker : ℕ) : Type 0 where
   pub there : worker < p.workers
   pub still : c.gone worker ≡ false
   pub runs : c.queued.state.finished worker < p.windows
 
+-- a worker that waits for a mark may leave when the flag is set, also if its queue isn't empty
 pub record MayLeave (p : Plan) (c : Flagged) (worker : ℕ) : Type 0 where
   pub there : worker < p.workers
   pub still : c.gone worker ≡ false

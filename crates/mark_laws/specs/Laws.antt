@@ -104,7 +104,7 @@ TwoWindowsLieThere = (p : Plan) (w : MarkState) → IsReached p w → (v u : ℕ
     + ((length (p.sent v u (w.finished u)) + 1) + (length (p.sent v u (suc (w.finished u))) + 1))
 
 -- ---- with one queue for each worker
--- senders can have numbers
+-- for each plan, the senders can have numbers that differ on each inbox
 abbrev pub SendersAreThere : Type 0
 SendersAreThere = (p : Plan) → Senders p
 
@@ -114,6 +114,7 @@ QueuedRunsAreRuns = (p : Plan) (senders : Senders p) (events : List Event) (q : 
     → RunQueued p senders start_queued events q
     → Run p start events q.state × ((e : Event) → MayHappenQueued p senders q e → MayHappen p q.state e)
 
+-- the laws above, for steps with queues
 abbrev pub QueuedSomeoneGoesOn : Type 0
 QueuedSomeoneGoesOn = (p : Plan) (senders : Senders p) (events : List Event) (q : Queued)
     → RunQueued p senders start_queued events q
@@ -140,8 +141,9 @@ abbrev pub LetsEach : (p : Plan) → Senders p → Queued → (Event → Bool) �
 LetsEach p senders q lets = (e : Event) → MayHappenQueued p senders q e
     → (f : Event) × MayHappenQueued p senders q f × (worker_of f ≡ worker_of e) × (lets f ≡ true)
 
--- The same law if workers keep an order of their own among the steps that they may take, such as all copies of a
--- window before its marks.
+-- Workers may keep an order of their own among the steps that they may take, such as all copies of a window before its
+-- marks. If it lets each worker that has a possible step take one, then a run is at the end when no step that is both
+-- possible and allowed is left.
 abbrev pub OwnOrderDoesNotStick : Type 0
 OwnOrderDoesNotStick = (p : Plan) (senders : Senders p) (events : List Event) (q : Queued)
     → RunQueued p senders start_queued events q

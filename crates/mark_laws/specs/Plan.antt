@@ -1,4 +1,4 @@
--- The threads of a run with marks, as a run of the protocol.
+-- The threads of a run with marks, in the terms of the protocol.
 use Rattle.std.specs.Prelude.{ℕ, suc, List, Option, Some, None}
 use Rattle.std.specs.List.{filter}
 use Rattle.mote_net.specs.Net.{NetModel}

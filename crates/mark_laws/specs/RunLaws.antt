@@ -17,7 +17,8 @@ use Rattle.marked_workers.specs.Run.{GroupRunsMarked}
 use Rattle.marked_workers.specs.WorkerHistory.{WorkerHistory}
 use Rattle.mark_laws.specs.Plan.{plan_of, sender_number, final_state, RanWindow}
 
--- by the contract of `run_by_marks`, the takers of a run are the takers of all threads' actions
+-- if a run has the properties that `run_by_marks` ensures, there is a record of all threads' actions, and the run's
+-- takers took and gathered exactly the items in this record
 abbrev pub EachRunHasAll : Type 0
 EachRunHasAll = (model : NetModel) (owners : List ℕ) (width : ℕ) (old new : WorkerGroup)
     → IsCut (length model.motes) (length old.inboxes.items) owners → GroupRunsMarked model owners width old new

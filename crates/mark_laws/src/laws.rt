@@ -61,8 +61,9 @@ pub fn no_copy_is_too_soon()
     ensures no_copy_is_too_soon { NoCopyIsTooSoon }
 {}
 
-/// The same law for any test of copies: if each copy that passes the test for a window also passes it for the previous
-/// window, then each copy that a worker takes passes the test for the worker's current window.
+/// The same law for any test of copies. Suppose that each copy that passes the test for a window also passes it for the
+/// previous window, and that each copy of a window that the sender has begun passes the test for that window. Then each
+/// copy that a worker takes from this sender passes the test for the worker's current window.
 pub fn each_taken_passes()
     ensures each_taken_passes { EachTakenPasses }
 {}

@@ -1,5 +1,5 @@
-//! Laws of the threads: by their promises, their actions are a run of the protocol. Each is a theorem, stated as the
-//! contract of an empty function.
+//! Laws of the threads: by their promises, their actions end in the state in which the protocol ends. Each is a
+//! theorem, stated as the contract of an empty function.
 
 ghost use Rattle.mark_laws.specs.RunLaws.{EachRunHasAll, RunsEndAtEnd, MarksLeadOn, SendersAreApart};
 ghost use Rattle.mark_laws.specs.RunLaws.{NoCopyIsUnexpected};
@@ -23,9 +23,10 @@ pub fn senders_are_apart()
     ensures senders_are_apart { SendersAreApart }
 {}
 
-/// In every state that the protocol can reach, each copy that a worker may take is expected: it is for a mote of this
-/// worker, is from a mote of another worker, and doesn't arrive before the worker's next window. So no thread finds a
-/// copy that isn't expected, if every other worker ran its motes in each window that it has begun.
+/// Consider a state that the protocol can reach, and a worker that ran its motes in each window that it has begun. Each
+/// copy that another worker may take from it is expected: the copy is for a mote of the taker, isn't from a mote of the
+/// taker, and doesn't arrive before the taker's next window. So if every worker ran its motes in each window that it
+/// has begun, no thread finds a copy that isn't expected.
 pub fn no_copy_is_unexpected()
     ensures no_copy_is_unexpected { NoCopyIsUnexpected }
 {}

@@ -43,8 +43,9 @@ pub record EndAllMarked (model : NetModel) (owners : List ℕ) (width windows : 
       → EndsMarked model owners width windows (length group.inboxes.items) sender worker
       (slice_index_or group.shares.items worker share) (slice_index_or group.takers.items worker taker)
 
--- For every schedule of the threads, all workers are at the end, in the same state as if all copies had been exchanged
--- between the windows; and each worker has taken all items that were pushed to it, with every mark.
+-- Suppose that no window is longer than the lookahead and that each worker kept its promise. Then, for every schedule
+-- of the threads, all workers are at the end, in the same state as if all copies had been exchanged between the
+-- windows; and each worker has taken all items that were pushed to it, with every mark.
 abbrev pub MarkedWindowsLeadToTheEnd : Type 0
 MarkedWindowsLeadToTheEnd = (model : NetModel) → RunsForward (system_of model) → (owners : List ℕ) (width windows : ℕ)
     → width ≤ (system_of model).lookahead → AreWindows width model.end windows

@@ -152,8 +152,8 @@ fn run_one<R: Wait + RandomSource + AllocGlobal, G: Gate, L: Ledger>(
 /// Runs a worker through all windows, to the end of the net.
 ///
 /// # Errors
-/// `Memory` if an allocation fails; `Thread` if the executor returned an error; `Stopped` if the worker stopped
-/// because another worker failed.
+/// `Memory` if an allocation fails; `Thread` if the executor returned an error, or if a copy wasn't expected; `Stopped`
+/// if the worker stopped because another worker failed.
 fn run_worker<R: Wait + RandomSource + AllocGlobal, G: Gate, L: Ledger>(
     rt: &R,
     gate: &G,
@@ -208,7 +208,7 @@ fn with_marks(
     }
 }
 
-/// Removes the counts of marks from a worker. The worker has taken all copies that were delivered to it.
+/// Removes the counts of marks from a worker. Its share and its endpoint stay the same.
 fn without_marks(worker: MarkWorker) -> Worker
     ensures is_same { IsSame result worker }
 {

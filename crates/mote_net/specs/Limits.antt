@@ -7,11 +7,11 @@ fewest_motes = 1
 abbrev pub most_motes : ℕ
 most_motes = 1000
 
--- the last moment at which turns are taken
+-- the greatest number that may be the last moment of a net
 abbrev pub latest_end : ℕ
 latest_end = 1000000
 
--- the number of events for which a mote's queue has room
+-- the least and the greatest number of events for which a mote's queue may have room
 abbrev pub shortest_queue : ℕ
 shortest_queue = 1
 

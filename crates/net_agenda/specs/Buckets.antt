@@ -72,6 +72,7 @@ abbrev pub Falls : List PendingEvent → Type 0
 Falls [] = Unit {0}
 Falls (first ∷ rest) = AllByRecursion (λ one. goes_to one ≤ goes_to first) rest × Falls rest
 
+-- if the flag `falls` is true, the motes of the bucket are in descending order
 abbrev pub FallsIfSaid : Bucket → Type 0
 FallsIfSaid bucket = bucket.falls ≡ true → Falls bucket.coming.items
 
@@ -90,7 +91,8 @@ least_from least (first ∷ rest) = least_from (lower_mote least (goes_to first)
 abbrev pub least_mote : List PendingEvent → Option ℕ
 least_mote all = least_from None all
 
--- the least mote number in a bucket; if the bucket is in descending order, the last event has this mote number
+-- the mote of the last event if `falls` is true in the bucket, as it then is in descending order; otherwise, the least
+-- mote number in it
 abbrev pub first_bucket_mote : Bucket → Option ℕ
 first_bucket_mote bucket =
     let all = bucket.coming.items in
@@ -134,8 +136,9 @@ due_in buckets moment mote = due_of moment mote (bucket_items_at buckets moment)
 abbrev pub is_here : (moment mote t k : ℕ) → Bool
 is_here moment mote t k = (moment == t) && (mote == k)
 
--- the buckets hold the items of this agenda: each bucket has all events that are due at its moment, no bucket is
--- empty, and if `falls` is true in a bucket, its motes are in descending order
+-- the buckets hold the items of this agenda: each bucket has exactly the events that are due at its moment (the copies
+-- for each mote in the order of the agenda), no bucket is empty, and if `falls` is true in a bucket, its motes are in
+-- descending order
 pub record HoldsItems (buckets : Buckets) (items : List Item) : Type 0 where
   pub due : (moment mote : ℕ) → due_in buckets moment mote ≡ due_of moment mote items
   pub ready : (moment : ℕ) (bucket : Bucket) → get nat_cmp buckets moment ≡ Some bucket → IsReadyBucket bucket
@@ -151,7 +154,7 @@ abbrev pub is_none_left : List Arrival → Bool
 is_none_left [] = true
 is_none_left (a ∷ rest) = false
 
--- the due events without the wake; `None` if no packet is left
+-- the due events without the wakes; `None` if no packet is left
 abbrev pub without_wake : Option Due → Option Due
 without_wake None = None
 without_wake (Some due) = if is_none_left due.copies then None else Some (record due { wakes = 0 })

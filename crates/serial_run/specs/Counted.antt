@@ -62,7 +62,7 @@ CopiesAreGiven = (model : NetModel) (r : ReportModel) (report : IsReportOf model
 abbrev pub IsGivenInTime : TurnTaken → Type 0
 IsGivenInTime turn = AllByRecursion (λ (copy : RadioCopy). (copy.at ≡ turn.moment) × (copy.to ≡ turn.mote)) turn.given
 
--- each copy is given to a turn of its receiver at the moment of its arrival
+-- the copies that a turn gets are for its mote, and arrive at its moment
 abbrev pub CopiesComeInTime : Type 0
 CopiesComeInTime = (model : NetModel) (r : ReportModel) (report : IsReportOf model r)
     → AllByRecursion IsGivenInTime (turns report.run)
@@ -71,6 +71,7 @@ CopiesComeInTime = (model : NetModel) (r : ReportModel) (report : IsReportOf mod
 abbrev pub is_copy_for : (moment mote : ℕ) → RadioCopy → Bool
 is_copy_for moment mote copy = (copy.at == moment) && (copy.to == mote)
 
+-- the turn gets exactly those of these copies that are for its mote and its moment, in order
 abbrev pub IsGivenAll : List RadioCopy → TurnTaken → Type 0
 IsGivenAll sent turn = turn.given ≡ in_order (filter (is_copy_for turn.moment turn.mote) sent)
 

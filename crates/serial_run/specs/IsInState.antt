@@ -22,6 +22,7 @@ use Rattle.serial_run.specs.OnTime.{CanTurn}
 use Rattle.window_laws.specs.NetStep.{NetState, turn_at}
 use Rattle.program_tree.specs.Code as code
 
+-- the engine's mote with this number has not failed, and represents the mote's state in the net
 abbrev pub OneNode : NetModel → List Mote → NetState Node Line → (mote : ℕ) → Type 0
 OneNode n motes net k = (d : Mote) → node_in (tree_at n k) (slice_index_or motes k d) ≡ Some (net.states k)
 
@@ -35,22 +36,24 @@ pub record IsEngineAt (n : NetModel) (engine : Engine) (net : NetState Node Line
   pub log : map line_model engine.log.items ≡ map (packet_with_fates n.radio) net.log
   pub agenda : HoldsItems engine.agenda.buckets net.agenda
 
--- each mote has a node and a trace
+-- there are as many motes and as many traces as the net has motes
 pub record IsWhole (n : NetModel) (engine : Engine) : Type 0 where
   pub motes : length engine.motes.items ≡ length n.motes
   pub traces : length engine.traces.items ≡ length n.motes
 
--- the agenda has the next wake of each mote, and no event for a mote that doesn't exist
+-- the agenda has exactly one wake of each mote, its next wake, or none if the mote has no next wake; and it has no
+-- event for a mote that doesn't exist
 pub record KeepsWakes (n : NetModel) (net : NetState Node Line) : Type 0 where
   pub wakes : (k : ℕ) → k < length n.motes → filter (is_wake_of k) net.agenda ≡ wake_items k (wake_of (net.states k))
   pub inside : AllByRecursion (λ item. mote_of item < length n.motes) net.agenda
 
--- if the engine represents a state of the net before the turn, then after the turn it represents the net's next state
+-- if the engine represents a state of the net before the turn, and the agenda of this state has the motes' wakes
+-- (`KeepsWakes`), then after the turn the engine represents the net's next state
 abbrev pub TurnLeads : NetModel → (moment mote : ℕ) → Engine → Engine → Type 0
 TurnLeads n moment mote old new = (state : NetState Node Line) → IsEngineAt n old state → KeepsWakes n state
     → IsEngineAt n new (turn_at (system_of n) moment mote state)
 
--- the mote at this index has not failed, and its last turn was before this moment
+-- the mote at this index has not failed, and its last turn, if there was one, was before this moment
 abbrev pub CanTurnAt : code.Tree → (moment : ℕ) → List Mote → (mote : ℕ) → Type 0
 CanTurnAt tree moment motes k = (d : Mote) → CanTurn moment (node_in tree (slice_index_or motes k d))
 

@@ -32,7 +32,7 @@ abbrev pub NetsRunForward : Type 0
 NetsRunForward = (model : NetModel) → medium_fault model.radio ≡ None → length model.radio.places ≡ length model.motes
     → RunsForward (system_of model)
 
--- a net that runs forward has a report
+-- a net whose medium has no error and has a place for each mote has a report
 abbrev pub ReportIsThere : Type 0
 ReportIsThere = (model : NetModel) → medium_fault model.radio ≡ None → length model.radio.places ≡ length model.motes
     → (r : ReportModel) × IsReportOf model r
@@ -54,10 +54,11 @@ report_by model motes log rest = record {
   left = length rest;
 }
 
--- Windows commute. Divide the time from 0 to end + 1 into any windows, none of which is longer than the lookahead. Run
--- each mote by itself through each window, with the copies that earlier windows sent to it, in any order of the motes.
--- Then the result is that of the net's run: the lines of each mote, the medium's log sorted by moment, sender and
--- number, and the copies that arrive after the end.
+-- Windows commute in a net whose medium has no error and has a place for each mote. Divide the time from 0 to end + 1
+-- into any windows, none of which is longer than the lookahead. Run each mote by itself through each window, with the
+-- copies that earlier windows sent to it, in any order of the motes. Then the result is that of the net's run: the
+-- lines of each mote, the medium's log sorted by moment, sender and number, and the number of copies that arrive after
+-- the end.
 abbrev pub WindowsCommuteInNets : Type 0
 WindowsCommuteInNets = (model : NetModel) → medium_fault model.radio ≡ None
     → length model.radio.places ≡ length model.motes
@@ -67,8 +68,8 @@ WindowsCommuteInNets = (model : NetModel) → medium_fault model.radio ≡ None
     → IsLeft (system_of model) model.end motes rest
     → IsReportOf model (report_by model motes log rest)
 
--- in the lines of each mote, the accepted events are all delivered in order, nothing follows a halt, and a process
--- starts only if it isn't listed
+-- in the lines of each mote, events are delivered in the order in which they were accepted, without gaps (those left
+-- at the end aren't delivered), nothing follows a halt, and a process starts only if it isn't listed
 abbrev pub TracesHandOn : Type 0
 TracesHandOn = (model : NetModel) (r : ReportModel) (report : IsReportOf model r) (k : ℕ) → k < length model.motes
     → IsInOrder (report.last.traces k)

@@ -6,7 +6,7 @@ use Rattle.mote_node.specs.Node.{Node, is_past}
 use Rattle.window_laws.specs.Agenda.{moment_of, mote_of}
 use Rattle.window_laws.specs.NetStep.{NetState}
 
--- the mote has not failed, and its last turn was before this moment
+-- the mote has not failed, and its last turn, if there was one, was before this moment
 abbrev pub CanTurn : (moment : ℕ) → Option Node → Type 0
 CanTurn moment mote = IsSomeAnd mote (λ n. is_past moment n.last ≡ false)
 

@@ -49,8 +49,8 @@ fn wake_but_at(moment: u64, wake: Option<u64>) -> Option<u64>
     }
 }
 
-/// Takes the turn of a mote, and returns the mote's next wake. The mote has not failed, and its last turn was before
-/// this moment. The packets that the mote sends have this moment and the mote's number.
+/// Takes the turn of a mote, and returns the mote's next wake. The mote has not failed, and its last turn, if there was
+/// one, was before this moment. The packets that the mote sends have this moment and the mote's number.
 fn turn_mote(
     motes: &mut Vec<Mote>,
     program: &Program,
@@ -109,8 +109,8 @@ impl Engine {
         Ok(engine)
     }
 
-    /// Takes a mote's turn with all events that are due. The mote has not failed, and its last turn was before this
-    /// moment.
+    /// Takes a mote's turn with all events that are due. The mote has not failed, and its last turn, if there was one,
+    /// was before this moment.
     ///
     /// # Errors
     /// `AllocError` if an allocation fails. In that case some parts of the engine may have changed.

@@ -20,8 +20,7 @@ pub enum RunError {
     Memory = 4,
     /// A thread couldn't be started, the gate refused a start, or the executor in a thread returned an error.
     Thread = 5,
-    /// With null messages: a worker stopped because another worker failed, and no worker reported `Memory` or
-    /// `Thread`.
+    /// Never returned: a worker stops only after another worker failed, and then the other's error is reported.
     Stopped = 6,
 }
 

@@ -21,16 +21,17 @@ pub fn report_is_there()
     ensures report_is_there { ReportIsThere }
 {}
 
-/// Windows commute. Divide the time from 0 to end + 1 into any windows, none of which is longer than the lookahead.
-/// Run each mote by itself through each window, with the copies that earlier windows sent to it, in any order of the
-/// motes. Then the result is that of the net's run: the lines of each mote, the medium's log sorted by moment, sender
-/// and number, and the copies left.
+/// Windows commute if the medium has no error and has a place for each mote, as in every `Net`. Divide the time from 0
+/// to end + 1 into any windows, none of which is longer than the lookahead. Run each mote by itself through each
+/// window, with the copies that earlier windows sent to it, in any order of the motes. Then the result is that of the
+/// net's run: the lines of each mote, the medium's log sorted by moment, sender and number, and the number of copies
+/// left.
 pub fn windows_commute()
     ensures windows_commute_in_nets { WindowsCommuteInNets }
 {}
 
-/// In the lines of each mote of a net, the accepted events are all delivered in order, nothing follows a halt, and a
-/// process starts only if it isn't listed.
+/// In the lines of each mote of a net, events are delivered in the order in which they were accepted, without gaps
+/// (those left at the end aren't delivered), nothing follows a halt, and a process starts only if it isn't listed.
 pub fn traces_hand_on()
     ensures traces_hand_on { TracesHandOn }
 {}

@@ -5,6 +5,7 @@ use Rattle.radio_packet.specs.declared.copy.RadioCopy.{RadioCopy}
 use Rattle.window_laws.specs.System.{System}
 use Rattle.window_laws.specs.Windows.{LoneMote, copies_by, is_from_sender}
 
+-- the copy arrives at this moment or later
 abbrev pub comes_from : (from : ℕ) → RadioCopy → Bool
 comes_from from copy = not (nat_lt copy.at from)
 

@@ -129,21 +129,22 @@ IsLeft system end motes rest =
 abbrev pub as_log : List Sent → List Sent
 as_log sends = sorted_by (λ sent. sent.at) (λ sent. sent.sender) sends
 
--- the net at the end of its run, and the motes at the end of the last window, have the same traces, log and copies
--- left
+-- the net at the end of its run, and the motes at the end of the last window, have the same traces and log, and the
+-- same number of copies left
 pub record IsSame {S L : Type 0} (system : System S L) (end : ℕ) (net : NetState S L)
     (motes : (number : ℕ) → LoneMote S L) : Type 0 where
   pub lines : (number : ℕ) → number < system.motes → net.traces number ≡ (motes number).lines
   pub log : (joined : List Sent) → IsJoined system motes joined → net.log ≡ as_log joined
   pub left : (rest : List RadioCopy) → IsLeft system end motes rest → length (packets net.agenda) ≡ length rest
 
--- Windows commute: the net has a run, and any windows that lead from 0 past the end have the same result as the run.
+-- If a net runs forward, windows commute: the net has a run, and any windows that lead from 0 to end + 1 have the same
+-- result as the run.
 abbrev pub WindowsCommute : {S L : Type 0} → System S L → Type 0
 WindowsCommute {S} {L} system = RunsForward system → (end : ℕ) (motes : (number : ℕ) → LoneMote S L)
     → Windows system 0 (suc end) (first_mote system) motes
     → (net : NetState S L) × Run system end (boot system) net × IsSame system end net motes
 
--- the windows lead to the report of the run, in whatever way their packets and copies are joined
+-- if a net runs forward, its windows lead to the report of the run, in whatever way packets and copies are joined
 abbrev pub WindowsReport : {S L : Type 0} → System S L → Type 0
 WindowsReport {S} {L} system = RunsForward system → (end : ℕ) (motes : (number : ℕ) → LoneMote S L)
     → Windows system 0 (suc end) (first_mote system) motes
