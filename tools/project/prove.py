@@ -3,9 +3,9 @@
 After that, ./run and all tools run the proved binary; until then they run the binary that is already built. A proof
 needs about 20 to 40 minutes on four cores, at a low priority. `rt ci` does the work, on a copy of the crates in
 out/proof. Some kits, such as rattle-kit-13f, keep the results of each proved crate for all clones on this machine. So
-you can interrupt ./prove at any time: the next ./prove, or ./test, continues with the remaining crates. It prints a
-line for each crate. The prover's output is in out/proof.log, and is shown for a crate that isn't proved. ./test is the
-gate, which also proves and runs all tests.
+you can interrupt ./prove at any time: the next ./prove, or ./test, continues with the remaining crates. ./prove prints
+a line for each crate. The prover's output is in out/proof.log, and is shown for a crate that isn't proved. ./test is
+the gate, which also proves and runs all tests.
 """
 from __future__ import annotations
 

@@ -118,7 +118,7 @@ def check_arguments(request: Request) -> None:
 
 
 def program_for(request: Request) -> Path:
-    """The binary for the arguments: one that exists handles them itself."""
+    """The binary that runs with these arguments. If none is built, checks the arguments, and compiles one."""
     if os.environ.get('MOTESIM') and not request.is_unproved:
         return program_path().resolve()
     found = program_of_sources(may_be_proved=not request.is_unproved)

@@ -27,9 +27,9 @@ def ends_with_parent(number: int) -> Callable[[], object]:
 @contextlib.contextmanager
 def started(words: Sequence[str], as_group: bool = False,
             **how: Any) -> Iterator[tuple[subprocess.Popen[str], IO[str]]]:
-    """Starts a command and yields it, with its messages on both streams. It ends when this block or this process ends.
-    With `as_group` it has its own group, and its child processes end with it; without, the keys of the terminal reach
-    it, too."""
+    """Starts a command, and yields its process and the stream of all its messages. The command ends when this block or
+    this process ends. With `as_group` it has its own group, and its child processes end with it; without `as_group`,
+    the keys of the terminal reach it, too."""
     with subprocess.Popen(words, stdin=subprocess.DEVNULL, stdout=subprocess.PIPE, stderr=subprocess.STDOUT,
                           encoding='utf-8', errors='replace', start_new_session=as_group,
                           preexec_fn=ends_with_parent(signal.SIGKILL), **how) as running:

@@ -7,8 +7,8 @@ open, and counts as skipped, until it is written so that the contract decides. A
 the crate without an edit.
 
 The tool uses the libraries in crates/*/out, and first builds those that are missing or outdated. With --built it uses
-them unchanged, because rt ci has just built them. The verdicts are noted in log/wrong_bodies.tsv, with a digest of all
-that the verdict depends on. As many checks run in parallel as processors and memory allow, or as RT_JOBS says. The
+them unchanged, because rt ci has just built them. Each verdict is noted in log/wrong_bodies.tsv, with a digest of
+everything on which it depends. As many checks run in parallel as processors and memory allow, or as RT_JOBS says. The
 last line is `N passed, M failed, K skipped`, and the status 1 if one failed.
 """
 from __future__ import annotations

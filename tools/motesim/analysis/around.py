@@ -13,7 +13,7 @@ POINTS = 72
 # picture and in a narrow one.
 NARROW = 12
 LETTERS = {'text': (10, 8), 'title': (11, 9), 'heading': (9, 8), 'footer': (7, 6), 'legend': (9, 7.5)}
-# The part of a picture's width that its texts may need, and that of its height that a footer may need.
+# The part of a picture's width that its texts may need, and the part of its height that a footer may need.
 ACROSS, BELOW, BELOW_NARROW = 0.96, 0.35, 0.2
 LINE = 1.25
 # The space between two labels of an axis, in points.
@@ -21,7 +21,7 @@ BETWEEN = 4
 
 
 def points_of(width: float, what: str) -> float:
-    """The size of the letters of a text in a picture with a width of this many centimetres."""
+    """The size of a text's letters, in points, in a picture that is this many centimetres wide."""
     wide, narrow = LETTERS[what]
     return narrow if width < NARROW else wide
 
@@ -82,8 +82,8 @@ def words_around(figure: Any, width: float, wish: Wish, title: str, footer: str,
 
 
 def labelled(places: Sequence[float], widths: Sequence[float]) -> list[bool]:
-    """The labels of ascending places that fit next to each other: the first, the last, and others from left to
-    right."""
+    """For each of these ascending places, whether its label is shown, so that labels fit next to each other: the first,
+    the last, and as many others as fit, from left to right."""
     shown = [False] * len(places)
     right = -math.inf
     end = places[-1] - widths[-1] / 2 - BETWEEN
@@ -96,11 +96,11 @@ def labelled(places: Sequence[float], widths: Sequence[float]) -> list[bool]:
 
 
 def dodged(places: Sequence[float], number: int, count: int, is_log: bool) -> list[float]:
-    """The places of a curve among others, moved a little to the left or right, so that error bars don't hide each
+    """The places of one of several curves, moved a little to the left or right, so that error bars don't hide each
     other.
 
-    A step is the width of a bar's end, and all curves together need less than half of the least distance between
-    places.
+    Neighbouring curves are apart by the width of a bar's end, or by less, so that all curves together need less than
+    half of the least distance between places.
     """
     if count < 2 or len(places) < 1:
         return list(places)

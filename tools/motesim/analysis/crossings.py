@@ -78,7 +78,7 @@ def places_of(line: Line, threshold: float, is_log: bool = False, is_log_y: bool
 
 
 def place(line: Line, threshold: float, is_rising: bool | None = None, is_log: bool = False) -> Place | None:
-    """The first place at which a line crosses a threshold, in that direction if one is given."""
+    """The first place at which a line crosses a threshold; if a direction is given, the first in that direction."""
     return next((it for it in places_of(line, threshold, is_log) if is_rising in (None, it.is_rising)), None)
 
 
@@ -115,7 +115,7 @@ def drawn_lines(curve: Sequence[Runs], middle: Middle, count: int) -> Iterator[L
     alone = [list(zip(it.xs, it.ys)) for it in curve]
     for _ in range(count):
         drawn = resampled(names, chance) if points else []
-        # (a point that has none of the drawn runs is drawn by itself)
+        # (if a point has none of the drawn keys, runs are drawn from its own)
         runs = [[points[number][key] for key in drawn if key in points[number]] if points else []
                 for number in range(len(curve))]
         yield sorted(point(own or resampled(alone[number], chance), middle) for number, own in enumerate(runs))

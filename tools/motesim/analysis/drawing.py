@@ -28,12 +28,12 @@ LEAST_SIDE, MOST_SIDE, INCH = 3, 100, 2.54
 # The size of a picture for one column of a paper of two columns, and its name.
 COLUMN, OF_COLUMN = 'column', (8.8, 6.6)
 POINTS = 72
-# The part of a picture's width that its axes need, approximately, and the most marks of an axis on which some lack a
-# label.
+# The approximate part of a picture's width that its axes need; and the greatest number of marks of an axis on which
+# some marks have no label.
 OF_AXES, MOST_MARKS = 0.85, 60
 # The part of a picture's height that the name of the vertical axis may need.
 OF_HEIGHT = 0.6
-# The thickness of the interval of a crossing in points, if there is one curve, and if there are several.
+# The thickness, in points, of the bar for the interval of a crossing: with one curve, and with several.
 THICK, THIN = 5, 3
 # The angle of labels that don't fit next to each other.
 ANGLE = 30
@@ -120,7 +120,8 @@ def lengths(found: Sequence[Estimate]) -> list[list[float]]:
 
 def _draw_points(axes: Any, points: list[Point], xs: list[float], wish: Wish, look: dict[str, str],
                  label: str | None, is_scale: bool) -> None:
-    """Draws a curve with its intervals, or all points. No line joins names, because their order says nothing."""
+    """Draws a curve with its intervals, or all points. On an axis of names no line joins the points, because the order
+    of names means nothing."""
     if wish.show == 'points':
         # (on an axis of a measure each run has a place of its own)
         places = [it for x, point in zip(xs, points)
@@ -158,8 +159,9 @@ def _draw_steps(axes: Any, shown: Shown, wish: Wish) -> None:
 
 
 def texts_of_cells(numbers: Sequence[float], width: float) -> tuple[list[str], float]:
-    """The numbers in cells of this width, and the size of their letters, both in points: with 3 digits, and with fewer
-    if they would be smaller than 6 points. Whole numbers have no zeros after a point."""
+    """Numbers as texts for cells of this width, and the size of their letters; width and size are in points. The
+    numbers have 3 digits, or fewer if their letters would otherwise be smaller than 6 points. Whole numbers have no
+    zeros after a point."""
     texts, size = list[str](), 0.0
     for digits in 3, 2, 1:
         form = '%%%s.%dg' % ('' if all(float(it).is_integer() for it in numbers) else '#', digits)
@@ -223,7 +225,8 @@ def _scale_of_measure(axes: Any) -> None:
 
 
 def _scale_upwards(axes: Any, shown: Shown, wish: Wish) -> None:
-    """A logarithmic vertical axis, from the least to the greatest value or end of an interval above 0."""
+    """A logarithmic vertical axis. It reaches from the least to the greatest of the values and ends of intervals that
+    are above 0."""
     values = [it for point in shown.points for it in (
         point.values if wish.show == 'points' else (point.estimate.low, point.estimate.middle, point.estimate.high))]
     values.append(threshold_of(wish))
@@ -244,7 +247,7 @@ def _check_log(places: Sequence[Cell], wish: Wish) -> None:
 
 
 def _numbers(places: Sequence[Cell], is_scale: bool) -> list[float]:
-    """The places on the axis: numbers themselves, other values by their order."""
+    """The places of values on the axis: a number is its own place, and other values are placed by their order."""
     return [float(it) if is_scale and isinstance(it, int | float) else float(at) for at, it in enumerate(places)]
 
 
@@ -416,14 +419,14 @@ def _draw_threshold(axes: Any, shown: Shown, wish: Wish) -> None:
     axes.axhline(threshold, color='#555555', linewidth=0.8, linestyle=(0, (6, 3)),
                  label=THRESHOLD + wish.threshold)
     first, last = min(it.x for it in shown.points), max(it.x for it in shown.points)
-    # (lines that don't cross have no bar)
+    # (a curve that doesn't cross the threshold has no bar)
     every = {number: it for number, it in enumerate(crossings_of(shown, wish).values()) if it}
     if any(it.low is not None for it in every.values()):
         axes.plot([], [], linewidth=THICK if len(every) == 1 else THIN, alpha=0.4, color='#555555',
                   label=CROSSING)
     transforms: Any = packages.load('matplotlib.transforms')
     for at, (number, found) in enumerate(every.items()):
-        # (next to each other: on one line they would hide each other)
+        # (the bars are one above the other: on one line they would hide each other)
         up = (at - (len(every) - 1) / 2) * (THIN + 1)
         place = transforms.offset_copy(axes.transData, axes.figure, 0, up, units='points')
         for ends in [(found.low, found.high), found.last or (None, None)]:

@@ -122,7 +122,7 @@ def resampled(values: Sequence[Value], chance: Chance) -> list[Value]:
 
 
 def between(found: list[float], confidence: float) -> tuple[float, float]:
-    """The middle part of some numbers: the rest if the same share is cut off at each end."""
+    """The ends of the middle part of some numbers: outside it, each side has the same share of the numbers."""
     found = sorted(found)
     out = (1 - confidence) / 2
     last = len(found) - 1
@@ -134,8 +134,8 @@ def part_of_draws(confidence: float, runs: int) -> float:
     """The middle part of the bootstrap's draws that is an interval of this confidence.
 
     The variance of draws from n runs is too small by a factor of (n - 1) / n, and is treated as known. Hesterberg
-    ("What Teachers Should Know About the Bootstrap", The American Statistician 69, 2015) widens it at both ends, so
-    that the interval for a normal distribution is as wide as Student's t.
+    ("What Teachers Should Know About the Bootstrap", The American Statistician 69, 2015) widens the interval at both
+    ends, so that for a normal distribution it is as wide as the interval by Student's t.
     """
     if runs < 2:
         return confidence
@@ -198,7 +198,8 @@ def mean_by_wilson(values: Sequence[float], confidence: float) -> Estimate:
 
 
 def wilson(share: float, runs: int, confidence: float) -> Estimate:
-    """Wilson's score interval for a share of some runs; the ends are exactly 0 for none of them and 1 for all."""
+    """Wilson's score interval for a share of some runs. If the share is 0 or 1, one end of the interval is exactly the
+    share."""
     z = statistics.NormalDist().inv_cdf((1 + confidence) / 2)
     middle = (share + z * z / (2 * runs)) / (1 + z * z / runs)
     room = z / (1 + z * z / runs) * math.sqrt(share * (1 - share) / runs + z * z / (4 * runs * runs))
@@ -238,12 +239,13 @@ def _within_wilson(values: Sequence[float], found: Estimate, low: float, high: f
     """The interval of a mean of shares; if it is too wide, Wilson's score interval on a range of twice the losses cuts
     it.
 
-    The losses are the distances from 0 or 1, the one nearer to the mean. The range begins there, and its length is
-    twice the greatest loss of the runs, at most 1. Wilson's score interval is that of as many runs at the ends of this
-    range, with the same mean. No numbers in a range have a greater variance than numbers at its ends with the same
-    mean (Bhatia and Davis, The American Mathematical Monthly 107 (4), 2000). bench/coverage.py measures the effect of
-    the factor 2. The interval is too wide if it has no end on a side, or if its end on the far side of the mean is
-    beyond Wilson's. An end that passes the nearer one of 0 and 1 is cut there.
+    The loss of a run is its distance from the nearer end: from 0 or from 1, whichever is nearer to the mean. The range
+    begins at this end, and its length is twice the greatest loss of the runs, at most 1. Wilson's score interval is
+    that of as many runs at the ends of this range, with the same mean. No numbers in a range have a greater variance
+    than numbers at its ends with the same mean (Bhatia and Davis, The American Mathematical Monthly 107 (4), 2000).
+    bench/coverage.py measures the effect of the factor 2. The interval is too wide if it has no end on a side, or if
+    its end on the far side of the mean is beyond Wilson's. An end of the interval that passes the nearer of 0 and 1 is
+    cut there.
     """
     is_near_1 = found.middle > 0.5
     unit = min(1.0, RANGE * (1 - min(values) if is_near_1 else max(values)))

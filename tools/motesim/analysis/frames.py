@@ -39,5 +39,5 @@ def frame(path: str | Path, with_faults: bool = False) -> Any:
 
 
 def _is_of_numbers_and_gaps(values: Sequence[Cell]) -> bool:
-    """Returns whether a column has whole numbers, and no value in some rows. Pandas would make them real numbers."""
+    """Returns whether a column has whole numbers and gaps. Pandas would convert such whole numbers to real numbers."""
     return {type(it) for it in values} == {int, type(None)}

@@ -48,7 +48,7 @@ class Paired(NamedTuple):
     without: Mapping[tuple[Cell, str], int] = {}
 
     def by_net(self) -> Paired:
-        """The same with one pair for each net: the mean of its pairs."""
+        """The pairs, averaged by net: one pair for each net, which is the mean of its pairs."""
         groups: dict[tuple[Cell, ...], list[Pair]] = {}
         for it in self.pairs:
             groups.setdefault((it.against, *it.net), []).append(it)
@@ -107,7 +107,8 @@ def _lack(row: Row | None, measure: str, side: str) -> str:
 def pairs_of(one: Sequence[Row], other: Sequence[Row], measure: str, names: Sequence[str], against: str,
              sides: tuple[str, str] = ('the first side', 'the second side'),
              nets: Sequence[str] | None = None) -> Paired:
-    """The runs that both sides have, by these parameters; with the nets of the pairs, if their names are given."""
+    """The pairs: runs of both sides with the same values of these parameters. If `nets` has the parameters that name
+    nets, each pair has its net."""
     first, second = _by_key(one, names, sides[0]), _by_key(other, names, sides[1])
     if not first.keys() & second.keys():
         raise Fault('the two sides have no pair of runs: no two runs have the same values of %s' % ', '.join(names))

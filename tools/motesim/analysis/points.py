@@ -115,7 +115,7 @@ class Net(NamedTuple):
 
 
 class Curve(NamedTuple):
-    """The runs with one value of `by`: the measured values, in their order, and the number of all runs."""
+    """The runs with one value of `by`: the measured values in ascending order, and the number of all runs."""
     by: Cell
     values: list[float]
     runs: int
@@ -126,13 +126,13 @@ class Shown(NamedTuple):
 
     faults, empty  how many runs have a fault, and how many no value
     not_above_0    how many runs have no place on a logarithmic axis
-    lacking        how many runs have no value, for each value of `by` that has such runs; of averaged nets: how many
-                   nets
+    lacking        how many runs have no value, for each value of `by` that has such runs; if nets are averaged,
+                   how many nets
     shared         the numbers of runs and of nets of a point with several runs in one net, if there is one
     faults_at, empty_at  the places of the omitted runs
-    runs_at        of averaged nets: how many runs each point has
+    runs_at        if nets are averaged: how many runs each point has
     warnings       lines about the runs
-    nets           of averaged nets: those in which runs have no value
+    nets           if nets are averaged: those in which runs have no value
     lacked         with a measure on each axis: the measures that some runs lack
     """
     points: list[Point]
@@ -333,7 +333,7 @@ def _whole(row: Row, name: str) -> int:
 
 
 def _runs_at(rows: Sequence[Row], wish: Wish) -> dict[Place, int]:
-    """The number of runs with a value at each point, of averaged nets."""
+    """For averaged nets, the number of runs with a value at each point."""
     found: Counter[Place] = Counter()
     for row in rows:
         if WITH in row:

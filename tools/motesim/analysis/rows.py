@@ -25,8 +25,8 @@ def shown_key(names: Sequence[str], key: Key) -> str:
 def once(rows: Sequence[Row], file: str, apart: Sequence[str] = ()) -> tuple[list[Row], list[str]]:
     """The rows with each run once, and a line about the rows that are left out.
 
-    Rows that differ in a column of `apart`, such as the digest of motesim, are two runs. Raises a fault if others have
-    the same parameters and another result: they are of two plans or two programs.
+    Rows that differ in a column of `apart`, such as the digest of motesim, are two runs. Raises a fault if two other
+    rows have the same parameters and different results: then they are of two plans or two programs.
     """
     names = [*parameters_of(rows), *(it for it in apart if it in rows[0])]
     compared = [*measures_of(rows), *(it for it in DIGESTS if it in rows[0])]
@@ -55,7 +55,8 @@ def once(rows: Sequence[Row], file: str, apart: Sequence[str] = ()) -> tuple[lis
 
 
 def by_net(rows: Sequence[Row], wish: Wish) -> list[Row]:
-    """One row for each net, with the mean of each measure over those runs of the net in which all measures have a value.
+    """One row for each net, with the mean of each measure of the picture, over those runs of the net in which all of
+    these measures have a value.
 
     Parameters that vary within nets, such as a seed of chance, have no value in these rows. The columns RUNS, WITH,
     WITHOUT and NET say how many runs a net has, how many have values and how many don't, and its name. Rows with

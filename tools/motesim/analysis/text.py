@@ -287,7 +287,7 @@ def shown_threshold(wish: Wish) -> str:
 
 
 def middle_of(wish: Wish) -> tuple[str, Middle]:
-    """The middle of some runs that a curve shows, with its name."""
+    """The statistic that a curve shows for its runs, the median or the mean: its name, and its function."""
     if wish.show == 'median':
         return 'median', statistics.median
     return 'mean', statistics.fmean

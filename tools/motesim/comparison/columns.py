@@ -9,9 +9,9 @@ from itertools import compress
 
 from motesim.report import KINDS, MASKS, Report
 
-# The log of the medium, as the number of a mote.
+# The number of the log of the medium, which is used like the number of a mote.
 MEDIUM = -1
-# The amount of numbers that are compared at once.
+# The number of items of two columns that are compared at once.
 CHUNK = 1 << 12
 
 

@@ -10,7 +10,7 @@ MEDIUM = 'range', 'base', 'per', 'collide'
 
 
 def shown(value: object) -> str:
-    """A value as TOML has it."""
+    """A value in the notation of TOML."""
     return 'none' if value is None else str(value).lower() if isinstance(value, bool) else str(value)
 
 
@@ -19,7 +19,7 @@ def both(what: str, one: object, other: object) -> str:
 
 
 def of_keys(a: Scenario, b: Scenario) -> Iterator[str]:
-    """The keys that occur once in a scenario."""
+    """The differences of those keys that occur only once in a scenario."""
     for name in 'version', 'end':
         if getattr(a, name) != getattr(b, name):
             yield both(name, getattr(a, name), getattr(b, name))
@@ -72,7 +72,7 @@ def differences(a: Scenario, b: Scenario) -> list[str]:
 
 
 def in_words(a: Scenario, b: Scenario, most: int) -> list[str]:
-    """At most this many of these lines, with a line above them."""
+    """The differences as lines of text, at most this many, below a heading."""
     lines = differences(a, b)
     if not lines:
         return ['The scenarios are the same.']

@@ -140,7 +140,8 @@ def items_of_files(names: list[str]) -> Iterator[Item]:
 
 
 def random_items(seed: str, count: int, is_strict: bool = False) -> Iterator[Item]:
-    """The items of consecutive seeds: from a number on, or of a word, such as a commit, with -0, -1, .."""
+    """The items of consecutive seeds. The seeds are numbers from a first one on; or a word, such as a commit, to which
+    -0, -1, .. are added."""
     for number in range(count):
         name = str(int(seed) + number) if seed.isdecimal() else '%s-%d' % (seed, number)
         yield Item('the scenario of seed %s' % name, seed=name, is_strict=is_strict)

@@ -47,7 +47,7 @@ class _CodeUse:
         self.use.inside.add((self.code.process, name))
 
     def part(self, name: str) -> None:
-        """A thread or a callback that can be run."""
+        """Visits the block of a thread or a callback that can be run."""
         if name not in self.seen:
             self.seen.add(name)
             self.block(self.parts[name].block)

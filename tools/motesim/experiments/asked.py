@@ -20,14 +20,14 @@ from motesim.scenario import Scenario
 from motesim.judge.sentences import Names, SentenceFault, names_of
 
 MOST_RUNS = 1_000_000
-# The most runs that are tried in search of one whose plan makes a scenario.
+# The greatest number of runs that are tried to find one for which the plan makes a scenario.
 MOST_TRIED = 40
-# For how many values of parameters, one by one, the files are looked at too.
+# The greatest number of runs, each with one other value of one parameter, whose files are searched for names too.
 MOST_TRIED_ALONE = 200
 SECONDS, MOST_SECONDS, MOST_BYTES = 60, 86_400, 200_000_000
 RANGE = re.compile(r'(-?[0-9]{1,9})\.\.(-?[0-9]{1,9})(?:\.\.([0-9]{1,9}))?')
 SWEEP = {'vary': optional(dict, {}), 'measure': optional(list, []), 'seconds': optional(int, SECONDS, 1, MOST_SECONDS)}
-# The columns with what made a row.
+# The columns besides parameters and measures: errors, and the files and digests from which a row was made.
 MADE = ('fault', 'note', 'plan', 'plan_sha256', 'scenario_sha256', 'places_sha256', 'rejected', 'report_sha256',
         'program', 'program_sha256', 'kit', 'measures', 'measures_sha256', CHANCE, 'parameters')
 
@@ -172,7 +172,7 @@ def some_runs(sweep: Sweep) -> Iterator[dict[str, Value]]:
 
 
 def known_names(sweep: Sweep) -> Names:
-    """The names that sentences may have. Raises the first fault if none of the runs that are tried makes a scenario.
+    """The names that sentences may use. Raises the first fault if none of the runs that are tried makes a scenario.
 
     The names are those of the first net that has all motes that measures name, or of the largest net.
     """
@@ -199,7 +199,7 @@ def known_names(sweep: Sweep) -> Names:
 
 
 def check_flow(sweep: Sweep, words: str, names: Names) -> None:
-    """Refuses a measure of a flow with a process that none of the tried runs has: programs may vary too."""
+    """Refuses a measure of a flow if none of the tried runs has its process. (Programs may vary from run to run.)"""
     missing = set(processes_of_flow(words)).difference(names.processes or ())
     others: set[str] = set(names.processes or ())
     for given in some_runs(sweep) if missing else ():

@@ -1,9 +1,9 @@
 """Runs that draw the same numbers with different seeds: a limit of the pattern for random numbers in EXPERIMENTS.md.
 
-In the pattern a mote draws from the sum of 257 times its number and the seed. If the seed is 257 greater, mote k draws
-the same numbers as mote k + 1, and two runs whose seeds are a multiple of 257 apart aren't independent. Each row of a
-sweep has the names of its seeds of the pattern in the column CHANCE: so the rows show which runs draw the same
-numbers, even if several commands made the rows.
+In the pattern a mote draws from the sum of 257 times its number and the seed. With a seed that is 257 greater, mote k
+draws the numbers that mote k + 1 draws with the first seed. So two runs whose seeds are a multiple of 257 apart aren't
+independent. Each row of a sweep has the names of its seeds of the pattern in the column CHANCE: so the rows show which
+runs draw the same numbers, even if several commands made the rows.
 """
 from __future__ import annotations
 
@@ -17,9 +17,10 @@ from motesim.summary.flows import SHARED
 
 # A note with this beginning is about a run that has all its measures.
 WARNING = 'warning: '
-# The beginnings of the warnings of which a sweep reports the number of runs separately.
+# The beginnings of warnings that a sweep counts separately: for each, it reports the number of runs that have it.
 ONCE = (SHARED, SAME_MOMENT)
-# The column with the parameters that are seeds of the pattern, and how many consecutive seeds draw different numbers.
+# The column with the parameters that are seeds of the pattern; and the number of consecutive seeds that draw different
+# numbers.
 CHANCE, APART = 'chance_seeds', 257
 DRAWS = re.compile(r'self\s*\*\s*257\s*\)?\s*\+\s*\$\{(\w+)\}')
 ADVICE = 'use at most %d seeds in a row' % APART

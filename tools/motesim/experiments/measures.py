@@ -189,7 +189,7 @@ def _plain(sentence: Sentence, words: str) -> Does:
 
 
 def _guarded(work: Callable[[Judge], Cell]) -> Callable[[Bench], Cell]:
-    """The measure, or None if its sentence needs the hops to a mote that can't be reached."""
+    """The measure, made to return None if its sentence needs the hops to a mote that can't be reached."""
     def of(bench: Bench) -> Cell:
         try:
             return work(bench.judge)
@@ -248,7 +248,7 @@ def _checked(value: object, name: str) -> Cell:
 
 
 def _beside(file: str, name: str) -> str:
-    """The file next to a user's file that has this name of a module."""
+    """The file of a module of this name, next to a user's file."""
     return str(PurePath(file).with_name(name.partition('.')[0] + '.py'))
 
 

@@ -30,8 +30,8 @@ from motesim.scenario import Scenario
 from motesim.judge.sentences import names_of
 
 DIGITS = 16
-# The time on the clock that a run may last is this many times its processor time: rows must not depend on the
-# machine's other work. A longer run has a fault with these words, and the same sweep repeats it.
+# The time on the clock that a run may last is this many times its limit of processor time, because rows must not depend
+# on the machine's other work. A longer run has a fault with these words, and the same sweep repeats it.
 BUSY = 30
 TOO_BUSY = 'the machine is too busy'
 LONGEST_FAULT = 400
@@ -41,7 +41,7 @@ class Work(NamedTuple):
     """The data that all runs of a sweep share.
 
     files     the files next to the plan, by name; others are read from the folder
-    measures  their texts, with the sources of users' files
+    measures  the texts of the measures, with the sources of users' files
     program   the path of `motesim`, and its SHA-256: another binary there is a fault
     seconds   the limit of a run, and of each measure, in processor time
     """
@@ -166,8 +166,9 @@ def measured(work: Work, bench: Bench, known: Scenario) -> tuple[dict[str, Cell]
 
 
 def warned(report: Report, known: Scenario, seconds: float, is_first: bool = True) -> list[str]:
-    """The warnings about packets of one moment and, for the first run of a treatment, about losses in step and about
-    seeds, unless finding them lasts longer than a run may last."""
+    """The warnings about packets that a mote sent at one moment, so that they collided; for the first run of a
+    treatment, also the warnings about losses in step and about seeds. If finding them lasts longer than a run may last,
+    there are none."""
     try:
         with limited(seconds):
             of_first = [*of_losses(known, report), *of_seeds(known, programs_of(known))] if is_first else []

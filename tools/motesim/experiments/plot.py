@@ -150,7 +150,7 @@ def write_tables(picture: Path, made: Sequence[text.Row], source: Source, rows: 
 
 
 def warn(lines: Sequence[str], shared: tuple[int, int] | None, warnings: Sequence[str]) -> None:
-    """Prints those of the lines that are about runs that aren't independent on standard error too."""
+    """Prints on standard error, too, those of the lines that are about runs that aren't independent."""
     for line in [*text.of_nets(shared), *warnings]:
         if line in lines:
             print('plot: %s' % line, file=sys.stderr)
@@ -338,7 +338,7 @@ def runs_of(path: Path, where: Sequence[str], apart: Sequence[str] = ()) -> list
 class Sides(NamedTuple):
     """The two sides of a comparison, their names, and the parameters whose values show which runs are a pair.
 
-    compared  the parameters in which two files differ, each with one value in a file
+    compared  the parameters that have one value in each of two files, and not the same value in both
     """
     one: list[Row]
     other: list[Row]

@@ -30,7 +30,7 @@ SQLITE = ('.sqlite', '.sqlite3', '.db')
 NUMBER = re.compile(r'0|-?[1-9][0-9]*')
 # The number of bits of a spot of CSV for the length of a row, and the number of bytes that are read at a time.
 LENGTH, PIECE = 24, 1 << 16
-# The longest time until a row of SQLite is saved.
+# The longest time, in seconds, until a row of SQLite is saved.
 SECONDS_OPEN = 0.5
 REAL = re.compile(r'-?[0-9]+(\.[0-9]+)?(e[-+][0-9]+)?')
 

@@ -126,7 +126,8 @@ class Sweeper:
         return self.spots.count(0)
 
     def of_defaults(self) -> list[str]:
-        """A line for each parameter whose value in the plan no row of the file has, if this sweep adds rows."""
+        """If this sweep adds rows: a line for each parameter of which the file has other values, but not the value in
+        the plan."""
         lines = []
         for name, values in self.found.items():
             value = text_of_value(self.plan.parameters[name])

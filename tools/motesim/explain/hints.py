@@ -85,7 +85,7 @@ OF_QUOTES = 'These are quotes of another kind, as word processors make them: wri
 OF_WORD = '`%s` is a word of the notation%s. A variable needs another name, such as `my_%s`, declared at the head of ' \
           'its `code`.'
 MEANT = 'Did you mean `%s`?'
-# Words that a name in parentheses follows.
+# Words that are followed by a name in parentheses.
 CALLED = {'is', 'fired', 'expired', 'gone', 'running', 'count'}
 # Letters that look like digits.
 DIGITS = str.maketrans('OoIl', '0011')
@@ -243,7 +243,7 @@ def _of_unknown(before: list[Token], here: Token, behind: Token, may: list[str])
 
 
 def _of_no_toml(text: str, fault: ScenarioError, place: tuple[int, int]) -> str | None:
-    """A hint on a text that is not TOML, with the place up to which it is."""
+    """A hint on a text that is not TOML; `place` is the place up to which the text is TOML."""
     row = text.split('\n')[place[0] - 1]
     if row[place[1]:place[1] + 1] in QUOTES and place[1] < len(row):
         return OF_QUOTES

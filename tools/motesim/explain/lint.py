@@ -16,8 +16,9 @@ from motesim.report import Report
 from motesim.scenario import Scenario
 
 ENDLESS = 'an endless loop in which nothing waits: the mote halts when its work is used up'
-# The words that pass at once if their test is already true, or false; the tests that stay true within a call, and the
-# values that stay the same; and the word that waits for another call first.
+# The word that doesn't wait if its test is already true, and the word that doesn't wait if its test is already false;
+# the tests of the event, which keep their results within a call; the word that always waits for another call first; and
+# the signs and values that stay the same within a call.
 AT_ONCE, WHILE, OF_EVENT, LATER = 'wait_until', 'wait_while', ('is', 'fired', 'gone'), 'yield_until'
 SAME = frozenset(('(', ')', '!', 'data', 'from', 'self', *OPERATORS))
 STILL = ('an endless loop in which only `%s` waits: its test is about the event of this call, and stays %s until the '
@@ -35,8 +36,8 @@ ONE_BRANCH = ('the `while` on line %d of the program waits in only one branch: i
 CHANGES = frozenset(('spawn', 'synch', 'set', 'reset', 'restart_timer', 'stop', 'start', 'kill', 'acquire', 'signal'))
 OF_CTIMER = ('`%s` is a `ctimer`: its event goes to the process ctimer, which runs its block, so `fired(%s)` is never '
              'true here; an `etimer` posts its event to its own process')
-# The factor of the pattern for random numbers, the most motes and seeds that draw different numbers by it, and the
-# warning.
+# The factor of the pattern for random numbers; the greatest number of motes that draw different numbers by it with
+# neighbouring seeds; and the warning.
 FACTOR, MOST_DRAWING = '257', 255
 SAME_DRAWS = ('in a net of more than 255 motes, mote k + 255 with one seed draws the same numbers as mote k with '
               'the previous seed (255 * 257 is -1 in 16 bits), so runs of neighbouring seeds are not independent: '

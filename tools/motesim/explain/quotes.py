@@ -25,8 +25,8 @@ def unclosed(text: str, said: str) -> int | None:
 
 
 def other_end(rows: list[str], opened: int) -> tuple[int, str, str] | None:
-    """The first line below the beginning of a text that ends with quotes of another kind; the right ones, and the
-    line with them."""
+    """The first line below the beginning of a text that ends with quotes of another kind; the quotes that it should
+    have, and the line with these."""
     quotes = next(it for it in LONG_QUOTES if it in rows[opened - 1])
     for number, row in enumerate(rows[opened:], opened + 1):
         if found := OTHER_END.fullmatch(row):
@@ -35,7 +35,7 @@ def other_end(rows: list[str], opened: int) -> tuple[int, str, str] | None:
 
 
 def closed_in_comment(text: str, place: tuple[int, int]) -> tuple[int, str] | None:
-    """The line of a comment in a program whose quotes end the text too early, above an error, and these quotes."""
+    """The line, above an error, of a program's comment whose quotes end the text too early; and these quotes."""
     offset = sum(len(row) + 1 for row in text.split('\n')[:place[0] - 1]) + place[1]
     texts = [it for it in pieces(text) if (it['text'] or '').startswith(LONG_QUOTES) and it.end() <= offset]
     if not texts or '\n' not in texts[-1][0]:

@@ -166,7 +166,7 @@ def _replaced(row: str, place: Place, value: str) -> str:
 
 
 def _attempts_at_value(text: str, rows: list[str], tables: object, fault: ScenarioError) -> Iterator[Repair]:
-    """Changes of a value: of another kind, out of range, or one that names nothing."""
+    """Changes of a value that is of another kind, is out of range, or names nothing."""
     place, value = fault.place(text), synonyms.at(tables, fault.path)
     row, number, name = rows[place.line - 1], place.line, str(fault.path[-1])
     header = re.fullmatch(r'\s*\[\[?\s*(\w+)\s*\]\]?\s*(#.*)?', row)

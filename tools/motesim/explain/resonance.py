@@ -11,9 +11,9 @@ common multiple that is too small: with `every = 2` on each link, every second p
 A kind is a flow of packets, which a report doesn't name. So the packets are divided in several ways:
 
     by value            a value that is sent again and again is a kind; the others are kinds by their upper bytes
-    by frequent value   the same, but only values that make up much of all packets: a value that a program sends some
-                        times until it is acknowledged belongs to the flow of its neighbours
-    by repetition       the first packet with a value, and those that repeat one, in each flow
+    by frequent value   as by value, but only a value that makes up much of all packets is a kind of its own: a value
+                        that a program sends some times until it is acknowledged belongs to the flow of its neighbours
+    by repetition       in each flow, the packets that are the first with their value, and the packets that repeat one
 """
 from __future__ import annotations
 

@@ -15,10 +15,10 @@ from motesim.runner.cache import Answer
 from motesim.scenario import Scenario
 
 MEGABYTE = 1 << 20
-# A run whose wall-clock time is so many times its processor time is ended, too.
+# A run also ends if its time on the clock reaches this many times its limit of processor time.
 PATIENCE = 10
 OPTIONS = {'seconds': '--seconds', 'processor': '--seconds', 'memory': '--memory', 'report': '--report'}
-# The limits of the runs that end earlier, and their ends.
+# The limits of runs of the same scenario that end earlier, and the ends of these runs.
 TRIED = Limits(4.0, 256 * MEGABYTE, 8 * MEGABYTE)
 ENDS = (0, *(4 ** it for it in range(10)))
 END = re.compile(rb'^([ \t]*end[ \t]*=[ \t]*)([0-9_]+)', re.M)

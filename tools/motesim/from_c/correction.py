@@ -71,7 +71,8 @@ def _rank(text: str, made: Correction) -> int:
 
 
 def _above_processes(text: str, declared: str) -> int:
-    """The number of the line above the one that names the processes, or the semaphores if an event is declared."""
+    """The number of the line below which a declaration belongs: above the line that names the processes and, for an
+    event, above the semaphores."""
     below = ('semaphore', 'process') if declared.startswith('event') else ('process',)
     return next((it.line for it in tokens_of(text) if it.text in below), 1) - 1
 

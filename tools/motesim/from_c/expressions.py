@@ -28,7 +28,7 @@ TESTS = ('is', 'fired', 'expired', 'gone', 'running', 'count')
 CALLS = {'etimer_expired': 'expired', 'ctimer_expired': 'expired', 'timer_expired': 'expired',
          'stimer_expired': 'expired',
          'process_is_running': 'running', 'pt_sem_count': 'count', 'sem_count': 'count'}
-# Calls that are a word in the notation.
+# Calls for which the notation has a word.
 WORDS_OF_CALLS = {
     'clock_time': ('now', 'The moment is `now`.'), 'clock_seconds': ('now', 'The moment is `now`.'),
     'rtimer_now': ('now', 'The moment is `now`.'),
@@ -75,7 +75,8 @@ ONE_TOO_MANY = 'One `)` is too many.'
 
 
 class NoCounterpart(Exception):
-    """Something in C that the notation lacks; the text says what to do instead, and is empty if it isn't C either."""
+    """Something in C that the notation lacks. The text says what to do instead; it is empty if the words aren't C
+    either."""
 
 
 @dataclass(frozen=True)
@@ -118,7 +119,7 @@ class Expressions:
         return self.tokens[self.at + count] if self.at + count < len(self.tokens) else END
 
     def accept(self, *texts: str) -> str:
-        """One of these tokens, if it is the next."""
+        """Consumes the next token if it is one of these, and returns it; otherwise an empty text."""
         if self.token.text in texts and self.token.kind not in ('text', 'char', 'end'):
             self.at += 1
             return texts[texts.index(self.tokens[self.at - 1].text)]
@@ -241,7 +242,7 @@ class Writer:
     # The test that a timer as a value means: `fired` in a wait, otherwise `expired`.
     of_timer: str = 'expired'
     reasons: list[str] = field(default_factory=list)
-    # Whether a random number is used, for which the generator makes a step first.
+    # True if a random number is used; then the generator makes a step before the statement.
     draws: bool = False
     # The names in a call of Contiki that aren't declared: each with its kind and its form in the notation.
     unknown: dict[str, tuple[str, str]] | None = None
@@ -482,7 +483,7 @@ class Writer:
         return '(%s %% %d)' % (self.text(left), mask + 1) if mask < MOST else self.text(left)
 
     def part(self, node: Node) -> str:
-        """A part of an address is the number of a mote; there are no other arrays and fields."""
+        """The number of a mote instead of a part of its address. Other arrays and fields are refused."""
         words: list[str] = []
         at = node
         while at.kind in ('index', 'member'):

@@ -11,17 +11,18 @@ class Lines(Expressions):
     """Reads lines, and collects their translation into the notation."""
 
     def __init__(self, text: str, scope: Scope, place: Surroundings = Surroundings(), end: str = ''):
-        """`end` is written for `PROCESS_END`: nothing, or a brace if `PROCESS_BEGIN` became one."""
+        """`end` is the text that is written for `PROCESS_END`: empty, or a brace if `PROCESS_BEGIN` became a brace."""
         super().__init__([it for it in tokens_of(text) if it.kind != 'comment'], scope)
         self.comments = [it.text for it in tokens_of(text) if it.kind == 'comment']
         self.place, self.writer = place, Writer(scope)
-        # True if a block continues below these lines; true if a header without its brace opens a block.
+        # Two facts: a block continues below these lines; a header without its brace opens a block.
         self.is_cut = self.opens = False
         self.nested = 0
-        # The line (from 1 among these lines) on which the innermost statement begins that is being read.
+        # The line (from 1 among these lines) on which the innermost of the statements that are being read begins.
         self.begun = 1
         self.end_of_process = end
-        # Declarations that belong to the head of the code (or of a code, if the lines are above all), those of events.
+        # Declarations that belong to the head of the code around the lines (of any code, if the lines are above all
+        # codes); and declarations of events.
         self.declares: list[str] = []
         self.events: list[str] = []
 

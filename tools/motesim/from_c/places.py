@@ -15,7 +15,7 @@ ENDS = [
     (re.compile(r'!(%s)' % NAME), r'\1 = 1'), (re.compile(r'\((%s) == 0\)' % NAME), r'\1 = 1'),
     (re.compile('(%s)' % NAME), r'\1 = 0'),
 ]
-# The words of a code that variables are declared above.
+# The words of a code above which its variables are declared.
 BEHIND_VARIABLES = {'etimer', 'ctimer', 'thread', 'onpoll', 'onexit', 'body'}
 # The beginning of a code, up to its last variable, or up to its last event timer.
 # A line above which a thread belongs.
@@ -81,8 +81,8 @@ def place_below(above: list[str]) -> Surroundings:
 
 
 def head_for(text: str, declared: str, code: str = '') -> int:
-    """The line (from 1) below which a declaration belongs: in the code of a process, or without one in the first code
-    that uses its name, or in the first one; 0 if there is no code."""
+    """The line (from 1) below which a declaration belongs: in the code of this process or, if `code` is empty, in the
+    first code that uses the declared name, otherwise in the first code. 0 if there is no code."""
     codes = [it for it in CODE.finditer(text) if '{' in text[it.end():] and code in ('', it[1])]
     if not codes:
         return 0

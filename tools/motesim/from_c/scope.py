@@ -25,7 +25,7 @@ def allowed(name: str) -> str:
 
 
 def _process(name: str, known: Iterable[str]) -> str:
-    """The name of a process of Contiki; without the ending `_process` if it is known without it."""
+    """The name of a process of Contiki, without the ending `_process` if a name without it is known."""
     short = allowed(name.lower().removesuffix('_process'))
     return short if short in known else allowed(name)
 

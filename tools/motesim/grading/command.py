@@ -165,7 +165,7 @@ def status_of(asked: argparse.Namespace) -> int:
         write_scenarios(asked.write, entries, task)
     if pictures:
         remove_earlier(pictures)
-        # (all that it may make: it can be ended at any time)
+        # (the list has all pages that the marking may write, because the user can end it at any time)
         keep_names(pictures, task.possible_pictures(entries))
     for line in remarks(asked, task.nets) if asked.why is None else ():
         print('grade: %s' % line, file=sys.stderr)

@@ -102,13 +102,13 @@ def anonymous(entries: Sequence[Entry], chance: random.Random | None = None) -> 
 
 
 def skipped_of(folder: Path) -> list[str]:
-    """The names of the files of a folder and of the folders in it that are not entries."""
+    """The names of the files that are not entries, in a folder and in the folders in it."""
     found: list[str] = []
     for at, folders, names in os.walk(folder):
         path = Path(at)
         hidden = [it for it in folders if it.startswith('.')]
         folders[:] = sorted(set(folders) - set(hidden)) if len(path.relative_to(folder).parts) < DEEPEST else []
-        # (the pages of an earlier marking are many, and in a folder of their own)
+        # (an earlier marking wrote its many pages into a folder of their own)
         own = own_of(path) if path == folder else set()
         found += [one_line(str((path / it).relative_to(folder))) for it in sorted([*names, *hidden])
                   if it.startswith('.') or it.endswith(OF_TEACHER) or it in own]

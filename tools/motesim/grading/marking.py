@@ -49,7 +49,7 @@ class Mark(NamedTuple):
     """A sentence: the nets in which it doesn't hold, and the reason in the first of them.
 
     shown        the net and the reason as a page may show them to students: nothing of a hidden net
-    is_required  whether a solution that doesn't meet it earns nothing
+    is_required  whether a solution that doesn't meet the sentence earns nothing
     """
     sentence: str
     holds: bool
@@ -71,7 +71,8 @@ def lines_of(rows: Iterable[str]) -> tuple[str, ...]:
 
 @dataclass(frozen=True)
 class Marks:
-    """A solution: its name; a mark for each sentence, or the reason why there are none; and the names that it lacks.
+    """A solution: its name; a mark for each sentence, or the reason why there are none; and the names that occur in
+    sentences, but not in the solution.
 
     is_open  whether it has to be marked again, because the reason isn't in the solution
     picture  the page with the timeline of its first failed sentence, in the folder of pictures
@@ -93,7 +94,7 @@ class Marks:
     warned: tuple[str, ...] = ()
 
     def in_lines(self) -> Marks:
-        """The same, with each text in one line: names in a solution may have characters that would end or change a
+        """These marks, with each text in one line: names in a solution may have characters that would end or change a
         row."""
         marks = tuple(it._replace(more=lines_of(it.more), shown=lines_of(it.shown)) for it in self.marks)
         lacks = tuple(cut(one_line(it), LONGEST_WHY) for it in self.lacks)
@@ -113,7 +114,7 @@ class Marks:
 
     @property
     def fault(self) -> str:
-        """The reason why it has no marks, or the names in sentences that it doesn't have."""
+        """The reason why the solution has no marks, or the names that occur in sentences, but not in the solution."""
         return self.why or ', '.join(dict.fromkeys(it for it in self.lacks if it))
 
     @property
@@ -139,7 +140,8 @@ class InNet(NamedTuple):
 
 @dataclass(frozen=True)
 class Task:
-    """The common part of all solutions: the sentences, the nets (none: each has its own), and the limits."""
+    """The parts that all solutions have in common: the sentences, the nets (if there are none, each solution has its
+    own), and the limits."""
     part: Part
     nets: tuple[Net, ...]
     limits: Limits
@@ -207,8 +209,8 @@ class Task:
         return tuple(line[:LONGEST_WHY] for line in lines[:MOST_LINES])
 
     def in_net(self, text: str, file: tuple[str, str], program: str = '') -> InNet:
-        """The marks of a scenario, whose program is in a file of this name and text; without a name of the program,
-        the scenario has no program of another author."""
+        """The marks of a scenario. `file` is the name and the text of the solution's file. `program` is the program
+        that the solution has; if it is empty, all programs of the scenario are the solution's."""
         known, names = known_of(text)
         lacks = [lacking(it, names) for it in self.part.sentences]
         part = replace(self.part, sentences=[it for it, lack in zip(self.part.sentences, lacks) if not lack])

@@ -23,7 +23,7 @@ from motesim.toml import MARK, NoToml, read_toml
 
 # The most nets of a plan.
 MOST_NETS = 1_000
-# The options that vary and that name the nets: the shown ones, and the hidden ones.
+# The options with values of parameters and with files: for the shown nets, and for the hidden nets.
 OPTIONS = ('--vary', '--net'), ('--vary-hidden', '--hidden')
 # The most names of programs in a message, and the greatest length of each.
 MOST_NAMES, LONGEST_NAME = 5, 40
@@ -107,7 +107,8 @@ class NoProgram(Fault):
 
 def nets_of(paths: Sequence[Path], vary: Sequence[str], program: str | None, is_hidden: bool = False) -> list[Net]:
     """The nets of these files; a plan has one for each combination of these values of parameters. The plans of hidden
-    nets have their own values: with those of the shown nets they would be the same nets."""
+    nets have their own values: with the values of the shown nets, the hidden nets would be the same as the shown
+    ones."""
     option, other = OPTIONS[is_hidden], OPTIONS[not is_hidden]
     asked = _values(vary, option[0])
     files = [(path.name, _read(path)) for path in paths]

@@ -128,7 +128,7 @@ def toml_of(marked: Sequence[Marks], sentences: Sequence[str], expectations: str
 
 
 def in_nets(nets: Sequence[str]) -> str:
-    """The nets in which a sentence doesn't hold; of several, the reason below is that of the first one."""
+    """The nets in which a sentence doesn't hold; if there are several, the reason below is that of the first one."""
     more = ' and {:,} more'.format(len(nets) - MOST_NAMED) if len(nets) > MOST_NAMED else ''
     return 'in %s%s%s' % (', '.join(nets[:MOST_NAMED]), more, '; in %s:' % nets[0] if len(nets) > 1 else '')
 

@@ -51,7 +51,7 @@ def text_of(path: Path) -> str:
 class Part:
     """The expectations for the scenario, or for a changed scenario, in which some text is replaced.
 
-    required  the number of the first sentences that a solution must meet to earn anything
+    required  how many of the sentences, from the first one on, a solution must meet to earn anything
     """
     name: str
     sentences: list[str]
@@ -215,7 +215,7 @@ def expect(scenario: Path, expectations: Path, is_quiet: bool = False,
         except LimitMet as fault:
             raise Fault('%s: the run was ended: %s' % (scenario, fault)) from None
         except ProgramFault:
-            # (the expectations aren't the reason)
+            # (this error isn't in the expectations, so the message doesn't name their file)
             raise
         except Fault as fault:
             raise Fault('%s: %s' % (part.name, fault)) from None

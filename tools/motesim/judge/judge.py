@@ -200,7 +200,8 @@ class Judge:
         return Broken(why + '; the next is', later[0].row) if later else Broken(why)
 
     def listed(self, deed: Deed, mote: int) -> list[set[int]]:
-        """The values of all lines, in their order: for each line, the numbers of which one is its value."""
+        """The wanted values of all lines, in the order of the lines: for each line, the numbers that its value may
+        be."""
         return [self.values(deed.value, mote)] if deed.value else [{value} for value in deed.values]
 
     def ordered(self, deed: Deed, events: list[Event], motes: tuple[int, ...]) -> Broken | None:

@@ -9,14 +9,14 @@ from collections.abc import Callable, Iterator
 
 NUMBERS = ('no', 'one', 'two', 'three', 'four', 'five', 'six', 'seven', 'eight', 'nine', 'ten')
 VERBS = 'print|send|receive|start|leave|halt'
-# How many times a mote does something, and a deed without its values of several words.
+# The words for how many times a mote does something; and an action, up to the first word of a time.
 TIMES = r'(?:(?:at least|at most|exactly|more than|fewer than) )?(?:once|twice|\d+ times)'
 DEED = r'(?:%s)s?\b(?: (?!(?:at|by|before|after|between|from|within|in)\b)\w+)*' % VERBS
 Replaced = str | Callable[[re.Match[str]], str]
 
 
 def _times(found: re.Match[str]) -> str:
-    """A number of packets in the words of sentences: how often a mote sends or receives."""
+    """A number of packets, such as `exactly 3 packets`, as sentences say it: how often a mote sends or receives."""
     verb, bound, number = found['verb'], found['bound'] or 'exactly ', found['number'].lower()
     many = number if number.isdecimal() else str(NUMBERS.index(number))
     if many == '0' and bound == 'exactly ':

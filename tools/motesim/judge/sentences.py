@@ -26,7 +26,7 @@ COMPARES = {
     'at least': operator.ge, 'at most': operator.le, 'exactly': operator.eq, 'more than': operator.gt,
     'fewer than': operator.lt,
 }
-# How often a sentence is read with one more word respelled.
+# The greatest number of times that a sentence is read, each time with one more word respelled.
 MOST_READINGS = 4
 VERBS = ('print', 'send', 'receive', 'start', 'leave', 'halt', 'write')
 
@@ -350,7 +350,7 @@ class _Reader:
         return found
 
     def verb(self, one: str, many: str) -> bool:
-        """A verb, in the form for one mote or for many."""
+        """Consumes a verb, in the form for one mote or for many; returns whether it was next."""
         if self.word().lower() in (one, many) or self.is_event and self.word().lower() == gerund(many):
             self.at += 1
             return True
@@ -729,7 +729,8 @@ def read_sentence(sentence: str, names: Names = Names()) -> Sentence:
 
 
 def _respelled(sentence: str, names: Names) -> str | None:
-    """The sentence in which the nearest allowed words replace several words, or some words of another form of it."""
+    """A sentence that can be read: this sentence, or another form of it, with the nearest allowed words instead of
+    those that can't be read. None if there is no such sentence, or if only one word has to be replaced."""
     for form in reversed([sentence, *rewritten(sentence)]):
         text = form
         for count in range(MOST_READINGS):

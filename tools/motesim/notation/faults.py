@@ -132,7 +132,7 @@ class _Reader:
         return self.tokens[self.at - 1].text
 
     def accept(self, *words: str) -> str:
-        """One of these words, if it is the next."""
+        """Consumes the next token if it is one of these words, and returns it; otherwise an empty text."""
         if self.token.text in words and self.token.kind != 'end':
             return self.step()
         self.wanted += ['`%s`' % word for word in words]
@@ -162,7 +162,7 @@ class _Reader:
         self.step()
 
     def declare(self, kind: str) -> str:
-        """A new name."""
+        """Reads a new name, and declares it."""
         if not self.is_name('a new name'):
             raise self.unexpected()
         if self.token.text in self.names:
@@ -283,7 +283,8 @@ class _Reader:
         self.level -= 1
 
     def begins(self, *words: str) -> str:
-        """The first word of a statement."""
+        """Consumes the next token if it is one of these first words of statements, and returns it; otherwise an empty
+        text."""
         if self.token.text not in words or self.token.kind == 'end':
             self.wanted += ['`%s`' % word for word in words if not (self.is_simple and word in WAITS)]
             return ''

@@ -63,7 +63,7 @@ RULES = {
 }
 SYSTEM = ('etimer', 'ctimer', 'radio')
 EVENTS = ('continue', 'msg', 'com', 'packet', 'exit', 'timer')
-# The words that declare something, and those that a name follows.
+# The words that declare something, and those that are followed by a name.
 DECLARING = ('event', 'semaphore', 'process', 'autostart', 'receiver', 'code', 'var', 'etimer', 'ctimer', 'thread',
              'onpoll', 'onexit', 'body')
 NAMING = ('event', 'semaphore', 'process', 'code', 'var', 'etimer', 'ctimer', 'thread')

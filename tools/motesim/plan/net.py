@@ -41,7 +41,7 @@ def files_of(tables: Tables, files: Files) -> list[str]:
 
 
 class Builder:
-    """Makes the scenario of a plan whose tables have their parameters."""
+    """Makes the scenario of a plan, from tables in which the values of parameters are known."""
 
     def __init__(self, tables: Tables, files: Files) -> None:
         self.tables, self.files = tables, files
@@ -208,7 +208,7 @@ class Builder:
         return self.places_of_csv(values, path, names)
 
     def of_drawn(self, drawn: places.Drawn) -> list[Point]:
-        """The places of a group that was drawn; the rejected nets are counted."""
+        """The places of a group that was drawn. Counts the nets that were rejected."""
         self.rejected += drawn.rejected
         return drawn.points
 

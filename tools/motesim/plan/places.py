@@ -67,7 +67,7 @@ def is_connected(points: list[Point], reach: int) -> bool:
 
 
 def grid(columns: int, rows: int, step: int) -> list[Point]:
-    """Row after row, from left to right."""
+    """Places in rows, one row after another, each from left to right."""
     return [(column * step, row * step) for row in range(rows) for column in range(columns)]
 
 
@@ -90,7 +90,7 @@ def _rounded(length: int) -> int:
 
 
 def ring(count: int, radius: int) -> list[Point]:
-    """Around the point (0, 0), beginning at the right."""
+    """Places around the point (0, 0), beginning at the right."""
     points = []
     for number in range(count):
         quarter, rest = divmod(4 * number, count)
@@ -134,7 +134,7 @@ def _drawn(net: Callable[[], list[Point]], reach: int | None) -> Drawn:
 
 
 def scattered(count: int, width: int, height: int, seed: int, least: int, reach: int | None, stream: int = 0) -> Drawn:
-    """Anywhere in an area, which includes its edges; with a reach the whole net is connected."""
+    """Places anywhere in an area, which includes its edges; with a reach the whole net is connected."""
     chance = Chance(seed, stream)
 
     def anywhere(number: int) -> Point:
@@ -145,7 +145,7 @@ def scattered(count: int, width: int, height: int, seed: int, least: int, reach:
 
 def clusters(count: int, motes: int, spread: int, width: int, height: int, seed: int, least: int,
              reach: int | None, stream: int = 0) -> Drawn:
-    """This many motes around each of `count` centres, at most `spread` away from it to each side."""
+    """Places around `count` centres: for each centre `motes` places, at most `spread` away from it to each side."""
     chance = Chance(seed, stream)
 
     def net() -> list[Point]:

@@ -58,7 +58,8 @@ class Plan:
         return dict(table)
 
     def with_given(self, given: Mapping[str, Value]) -> dict[str, Value]:
-        """All parameters, some of them with other values; `True`, which Python writes in tables, is true."""
+        """All parameters, with these values instead of the plan's own. The text `True`, as Python writes it in tables,
+        is also a truth value."""
         for name in given:
             if name not in self.parameters:
                 known = ', '.join(self.parameters) or 'none'

@@ -11,8 +11,8 @@ Link = tuple[int, int]
 
 
 def near(about: int, count: int = PRIMES) -> list[int]:
-    """Consecutive primes p: losses of one packet in p, averaged over these primes, are as near as possible to losses
-    of one packet in `about`."""
+    """Consecutive primes p, chosen so that the part 1/p of lost packets, on average over these primes, is as near as
+    possible to 1/`about`."""
     primes = [it for it in range(2, 20 * about + 100) if is_prime(it)]
     rows = [primes[begin:begin + count] for begin in range(len(primes) - count + 1)]
     return min(rows, key=lambda row: abs(sum(1 / it for it in row) / count - 1 / about))

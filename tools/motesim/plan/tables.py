@@ -142,7 +142,7 @@ class Tables:
         return PlanFault(shown(self.shown_as, self.text, place, rule, may))
 
     def filled(self, value: Any, path: Path) -> Any:
-        """A value with its parameters."""
+        """A value with its parameters filled in."""
         if type(value) is not str or '${' not in value:
             return value
         whole = PARAMETER.fullmatch(value)

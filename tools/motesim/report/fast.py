@@ -65,7 +65,8 @@ def _log_pieces(data: bytes, begin: int, end: int) -> Iterator[tuple[int, int]]:
 
 
 def _heads(data: bytes, end: int) -> tuple[list[str], list[Span]]:
-    """The programs of the motes, and the spans of their lines. Raises Bad if a head is not a head."""
+    """The programs of the motes, and the spans of their lines. Raises Bad if a line that has to be the head of a mote
+    isn't one."""
     programs: list[str] = []
     spans: list[Span] = []
     at = 0

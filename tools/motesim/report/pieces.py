@@ -168,7 +168,7 @@ class PieceReader:
         return Lines(counts, array('I', at), codes, of, self.names)
 
     def without_digits(self, text: bytes) -> bytes:
-        """The text, in which names have no digits."""
+        """The text, with a name without digits instead of each name that has a digit."""
         while True:
             for name, alias in self.aliases.items():
                 for end in b' ', b'\n':
@@ -198,7 +198,7 @@ class PieceReader:
         return map(self.number, words[::step]), fields
 
     def packets(self, text: bytes) -> Packets:
-        """Reads lines of the log. Raises Bad or OverflowError if they aren't."""
+        """Reads lines of the log. Raises Bad or OverflowError if a line isn't one of the log."""
         if not LOG.fullmatch(text):
             raise Bad('packets')
         rows = text.split(b'\n')

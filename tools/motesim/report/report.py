@@ -1,9 +1,9 @@
 """Reads reports: docs/use/REPORT.md describes them.
 
-A report is read strictly: each line has to be one of docs/use/REPORT.md, with allowed names and numbers. Moments don't
-decrease within a trace, packets and their receivers are in order, and nothing follows `left K`. It isn't checked that
-the traces agree with the log of the medium. `Report.text()` returns the same text, byte for byte. Any other text
-raises a `ReportFault`, which has the line of the error.
+A report is read strictly: each line has to have a form of docs/use/REPORT.md, with allowed names and numbers. Moments
+don't decrease within a trace, packets and their receivers are in order, and nothing follows `left K`. It isn't checked
+that the traces agree with the log of the medium. A text that breaks one of these rules raises a `ReportFault`, which
+has the line of the error. `Report.text()` returns the text that was read, byte for byte.
 """
 from __future__ import annotations
 
@@ -52,8 +52,8 @@ class Outcome(NamedTuple):
 
 OUTCOMES = ('received', 'lost', 'full', 'collided', 'halted', 'left')
 _LOST, _HALTED, _LEFT = (OUTCOMES.index(it) for it in ('lost', 'halted', 'left'))
-# The number of copies from which several processes look for the outcomes, and the number of motes for which each looks
-# at a time.
+# The least number of copies for which several processes find the outcomes; and the number of motes for which each of
+# these processes finds them at a time.
 MANY, MOTES_AT_ONCE = 200_000, 256
 _BECAME = {'recv': 'received', 'lost': 'full', 'collide': 'collided'}
 
@@ -123,7 +123,7 @@ class Report:
         return self.medium_row + len(self.log) + 1
 
     def text(self) -> str:
-        """The report as it was read."""
+        """The text of the report, exactly as it was read."""
         return ''.join(row + '\n' for row in self.rows())
 
     @cached_property

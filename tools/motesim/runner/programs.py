@@ -32,8 +32,8 @@ DAY = 86_400
 PROGRAMS = TOP / 'out/programs'
 # The folder next to a binary that isn't optimized yet, with the inputs of the linker.
 PARTS = 'parts'
-# The binary in an archive that tools/pack made, which has no crates; and the page that the archive has if the binary
-# was proved.
+# The binary in an archive that tools/pack made (an archive has no crates); and the page that the archive has if the
+# binary was proved.
 PACKED, PACKED_PROVED = TOP / 'motesim', TOP / 'PROVED.md'
 CODE, ALL_PARTS = ('src',), ('src', 'specs', 'proofs')
 # (./run has this line too, for machines without Python)
@@ -147,7 +147,7 @@ def compiled_program() -> Path | None:
 
 def optimize(program: Path, waits: bool = False) -> None:
     """Starts a process in the background that replaces a compiled binary by an optimized one, unless this is done
-    already or another process does it. With `waits`, prints a line and returns after this."""
+    already or another process does it. With `waits`, prints a line, and returns once the binary is optimized."""
     script = program.resolve().parent / PARTS / 'optimize'
     # (the script is deleted at the end)
     with contextlib.suppress(FileNotFoundError):

@@ -18,8 +18,8 @@ LONGEST_TEXT = 1_048_576
 # A table or a key: the names and the numbers that lead to it.
 Path = tuple[str | int, ...]
 
-# For each line that reports a fault, without `motesim: `, the rule. program_faults has the rules for the faults of
-# programs.
+# For each line that reports a fault, without `motesim: `, the rule. motesim.notation.faults has the rules for the
+# faults of programs.
 RULES: dict[str, str] = {
     'read fault': 'The scenario could not be read: the file is not there, is a folder, or reading it failed.',
     'scenario too long': 'A scenario has at most 1,048,576 bytes.',

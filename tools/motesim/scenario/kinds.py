@@ -18,7 +18,7 @@ PLACES = re.compile(rb'^[ \t]*(?:\[\[?[ \t]*places[ \t]*\]|places[ \t]*=)', re.M
 OF_SCENARIO = re.compile(rb'^[ \t]*(?:\[\[?[ \t]*mote[ \t]*\]|(?:mote|version)[ \t]*=)', re.M)
 RESULTS = re.compile(rb'[^\n]*,fault,note,plan,[^\n]*,parameters\r?\n')
 
-# The name of a file or folder that students shouldn't see: a word of it begins so.
+# The name of a file or folder that students shouldn't see: one of its words begins like this.
 FOR_TEACHERS = re.compile(r'(?:.*[^a-z])?(?:solution|hidden|answer|marks|key\.csv\Z)', re.S | re.I)
 
 

@@ -25,7 +25,7 @@ class NoRoom(Fault):
 
 
 def halts(program: str) -> bool:
-    """Returns whether a mote with this program fails by halting, since killing its processes might not silence it."""
+    """Returns whether a mote with this program fails by halting, because killing its processes might not silence it."""
     return any(token.text in GOES_ON for token in tokens_of(program))
 
 
@@ -85,7 +85,7 @@ def _inner_names(tokens: list[Token]) -> set[str]:
 
 
 def changed_program(program: str, kind: str, moment: int) -> str:
-    """The text of a program with the process added: its own text stays, except for two lines."""
+    """The text of a program with the process added. The text of the program stays, except for two lines."""
     tokens, offsets = tokens_of(program), offsets_of(program)
     name = _free_name(tokens, kind)
     processes = processes_of(tokens)

@@ -17,8 +17,8 @@ from motesim.runner.programs import ProgramFault
 from motesim.search.runner import IsOver
 from motesim.search.work import Bench, Outcome, Task, Work
 
-# A batch for a cluster goes over the network, so it has more tasks than one on this machine. The second number is that
-# of the batches that each worker of the cluster has at a time.
+# A batch for a cluster goes over the network, so it has more tasks than one on this machine. The second number is how
+# many batches each worker of the cluster has at a time.
 BATCH, AHEAD = 64, 3
 # For each thread of a worker, its bench, and the search for which the bench is.
 _here = threading.local()

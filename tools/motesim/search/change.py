@@ -1,8 +1,8 @@
 """The changes that faults make to a scenario, and the scenario's text with them.
 
 `Base.read(text, name)` is a scenario to which faults are added. A `Change` has the differences from this scenario;
-faults add to the change. `Base.text(change)` is the text with only these differences: its comments and its layout
-stay. `Base.scenario(change)` is the scenario that this text describes, without reading it again.
+faults add to the change. `Base.text(change)` is the text with only these differences: its comments and its layout stay.
+`Base.scenario(change)` is the scenario that this text describes; the text isn't read again for it.
 """
 from __future__ import annotations
 

@@ -305,8 +305,8 @@ MOTES_OF = {'lose': (1, 2), 'apart': (1, 2), 'silent': (1,), 'fails': (1,), 'lat
 
 
 def change_of(faults: Sequence[FaultyPart], base: Base) -> Change:
-    """The changes that faults make together: parameters first, because the other faults change the scenario that they
-    make."""
+    """The changes that faults make together: those of parameters first, because the other faults change the scenario
+    that the plan makes with these parameters."""
     change = Change()
     for fault in faults:
         if fault.kind == 'parameters':

@@ -77,7 +77,8 @@ class NetStep(NamedTuple):
 
 
 def parts(count: int) -> Iterator[tuple[int, int]]:
-    """Ranges among this many members: all of them, then halves, quarters, .. down to single ones."""
+    """Ranges among this many members: first the range of all members, then its halves, its quarters, .. down to single
+    members."""
     size = count
     while size:
         for begin in range(0, count, size):

@@ -89,7 +89,7 @@ class OneProgram:
         return status
 
     def wait_by_looking(self, child: int) -> int | None:
-        """The same in another thread."""
+        """The status of a run, or None once its time is over. For threads that get no alarms."""
         end, pause = time.monotonic() + self.limits.seconds, PAUSE
         while time.monotonic() < end:
             found, status = os.waitpid(child, os.WNOHANG)

@@ -83,9 +83,9 @@ class Hops:
         return [(begin + later, None if end is None else end + later)]
 
 
-# (for at most this many motes, lines are looked for mote by mote)
+# (for at most this many motes, lines are read mote by mote)
 FEW = 3
-# Kinds that are reserved words: they are in no other line, and a line has more after them.
+# Kinds that are reserved words, so they occur only in lines of their kind, and that are followed by other words.
 COUNTED = frozenset(('send', 'print', 'start', 'post'))
 
 

@@ -28,7 +28,8 @@ def _begin(work: Work) -> None:
 
 
 def _run(tasks: list[Task]) -> list[Outcome]:
-    """The outcomes of a batch; if its time is over before its end, only those of its beginning."""
+    """The outcomes of the tasks of a batch; if its time is over before all are done, only the outcomes of the first
+    tasks."""
     assert _bench
     begun, found = time.monotonic(), []
     for task in tasks:
@@ -49,7 +50,7 @@ class Runner(Protocol):
         """Ends the processes that were begun for the runs."""
 
     def kill(self) -> None:
-        """Stops what has begun."""
+        """Stops the tasks that have begun."""
 
 
 class IsOver(Protocol):
@@ -89,6 +90,6 @@ class Here:
         self.pool.shutdown(cancel_futures=True)
 
     def kill(self) -> None:
-        """Stops what has begun."""
+        """Stops the tasks that have begun."""
         for process in multiprocessing.active_children():
             process.terminate()

@@ -16,7 +16,7 @@ from motesim.search.runner import Runner
 from motesim.search.sets import Known, Set, Tally, count_of, draws
 from motesim.search.work import RUN, SAME, STOPPED, UNMADE, Outcome, Task
 
-# The most faults of a random set in addition to the exhaustive bound.
+# The greatest number of faults that a random set has in addition to the exhaustive bound.
 LARGER = 3
 
 

@@ -1,7 +1,7 @@
 """Smaller programs: all single steps from a program to a smaller one.
 
-Each step leaves fewer words, or a number instead of a name, or a smaller number, so a sequence of steps is finite.
-Some results aren't programs, for instance if a removed variable is still used; callers have to check this.
+After each step a program has fewer words, or a number instead of a name, or a smaller number. So each sequence of steps
+is finite. Some results aren't programs, for instance if a removed variable is still used; callers have to check this.
 """
 from __future__ import annotations
 

@@ -66,7 +66,8 @@ def asking_of(study: dict[str, Any], scenario: Path) -> Asking:
 
 
 def wrong_with(study: dict[str, Any], asking: Asking, processes: int) -> list[str]:
-    """The difference from the expected results, or an empty text."""
+    """The differences from the expected results, one in each line, with notes on the search; an empty list if there are
+    none."""
     search = asking.search(processes, Kept())
     found = found_by(search, asking.texts)
     rows = asking.notes

@@ -128,8 +128,8 @@ def difference(before: Finished, after: Finished, is_pinned: bool) -> dict[str, 
 
 
 def side(report: Report, it: Difference) -> dict[str, Any]:
-    """The line of a report at a difference: its row, its text, and its origin. If it has no text, there is no such
-    mote (`has_mote` is false), or the mote's trace ends earlier."""
+    """The line of a report at a difference: its row, its text, and its origin. If there is no text, the report has no
+    such mote (`has_mote` is false), or the mote's trace ends earlier."""
     lines = lists_of(report).get(it.mote)
     if lines is None or it.place >= len(lines):
         return {'row': None, 'text': None, 'why': '', 'has_mote': lines is not None}
@@ -149,7 +149,8 @@ def part_for(text: str, saved: str, parts: list[expectations.Part]) -> expectati
 
 
 def checks(done: Finished, saved: str, expected: tuple[str, str] | None) -> dict[str, Any] | None:
-    """Which expectations hold: for each sentence a mark, with the row of the report that breaks it."""
+    """The expectations of the text: for each sentence a mark that says whether it holds, with the row of the report
+    that breaks it."""
     if expected is None:
         return None
     name, source = expected

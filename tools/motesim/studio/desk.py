@@ -105,7 +105,7 @@ def bytes_of(text: str, returns: bool, mark: bool) -> bytes:
 
 
 def document(where: str, name: str, data: bytes) -> Document:
-    """A file's text. If all lines end with CR and LF, it has LF only."""
+    """A file's text. If all lines of the file end with CR and LF, the text has only LF."""
     try:
         text = data.decode('utf-8')
     except UnicodeDecodeError:
@@ -152,7 +152,7 @@ class Desk:
                       and (has_all or name in self.written or not is_for_teachers(name)))
 
     def path(self, where: str, name: str) -> Path:
-        """The path of a file that may be read: it is in its folder itself, and isn't a link to another place."""
+        """The path of a file that may be read: the file is in the folder itself, and isn't a link to another place."""
         folder = self.folder_of(where)
         path = folder / name
         if not is_name(name):

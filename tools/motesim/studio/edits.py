@@ -67,7 +67,7 @@ class Text:
         return place.line - 1, last
 
     def number(self, path: tuple[str | int, ...], number: int) -> Change:
-        """The change to another number of a key."""
+        """The change that sets a key to another number."""
         key = self.places.get(path)
         value = value_of(self.text, key) if key else None
         if value is None or value == key:
@@ -156,7 +156,7 @@ def remove(text: Text, wish: dict[str, Any], wanted: dict[str, Any]) -> tuple[li
 
 
 def lose(text: Text, wish: dict[str, Any], wanted: dict[str, Any]) -> tuple[list[Change], str]:
-    """Sets the losses from one mote to another: one packet in `every` is lost, or none if it is 0."""
+    """Sets the losses from one mote to another: one packet in `every` is lost, or none if `every` is 0."""
     sender, receiver = _mote(text, wish, 'from'), _mote(text, wish, 'to')
     every = _number(wish, 'every', 0, MOST_EVERY)
     if sender == receiver:

@@ -25,8 +25,8 @@ LEVEL = 6
 OF_FIELDS = {'process': 'p', 'sender': 'p', 'serial': 'x', 'number': 'x', 'event': 'e', 'word': 'w', 'value': 'w'}
 ARRAYS = {'u8': 'B', 'u16': 'H', 'u32': 'I'}
 TOO_LARGE = 'the report has a number that is too large for a page'
-# The number of lines from which several processes make the columns, and the number of motes for which each works at a
-# time.
+# The least number of lines for which several processes make the columns; and the number of motes for which each of
+# these processes makes them at a time.
 MANY, MOTES_AT_ONCE = 300_000, 16
 
 

@@ -150,8 +150,8 @@ class Callers:
             self.program.processes[process].name, in_words(self.program, waits), here[-1].at if here else 0)
 
     def sentence(self, numbers: Sequence[int], depth: int) -> str:
-        """The statements that call it, with the moments at which they were last reached, and the reasons why not
-        later."""
+        """The statements of these numbers, which call a process, thread or timer: for each, the moment at which it was
+        last reached, and the reason why it wasn't reached later."""
         found = []
         for number in numbers[:MOST_CALLERS]:
             here = self.reached(number)

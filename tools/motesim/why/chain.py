@@ -27,7 +27,7 @@ class Hop(NamedTuple):
     how      as in a `Link`; `start` at the head of a mote
     waited   the moments since its cause, and `wait` the thing for which it waited: timer, full (a timer that was due,
              and found the queue full), medium or queue
-    program, program_row   the program's line that wrote it or, for a timer's event, set the timer
+    program, program_row   the line of the program that wrote this line or, for a timer's event, set the timer
     """
     where: At
     row: int
@@ -46,7 +46,7 @@ def count(number: int, one: str, many: str = '') -> str:
 
 
 def cause_of(source: Source, where: At) -> At | None:
-    """The one cause of a line; None for the head of a mote, with which it starts."""
+    """The one cause of a line; None for the head of a mote, because each chain starts there."""
     if where.place < 0:
         return None
     link = source.replay(where.mote).links[where.place]

@@ -18,7 +18,7 @@ COUNTERS = ('serial', 'number')
 class Diverged(NamedTuple):
     """The first hop of a chain, from its start, that another run doesn't have.
 
-    common   the number of hops that both have, and `last` the last of these, with its place in the other run
+    common   the number of hops that both runs have, and `last` the last of these, with its place in the other run
     hop      the hop that only the first run has, and `words` the text about the other run at this place
     """
     common: int
@@ -46,8 +46,8 @@ def moment(line: str) -> int:
 def counterpart(one: Source, other: Source, hop: Hop, there: At) -> At | None:
     """The line of another run that corresponds to a hop; `there` is the line of the other run for the hop's cause.
 
-    It is the arrival or the end of the same packet or event, or otherwise a line with the same words, except for
-    numbers that count. If a moment has several such lines, the one with the same rank counts.
+    It is the arrival or the end of the same packet or event, or otherwise a line with the same words, except for the
+    numbers of its event and its packet. If a moment has several such lines, the one with the same rank counts.
     """
     where = hop.where
     if where.mote >= other.traces.motes:
@@ -111,7 +111,7 @@ def instead(one: Source, other: Source, hop: Hop, there: At) -> str:
 
 
 def rows(one: Source, other: Source, found: Diverged | None) -> list[str]:
-    """The same as text."""
+    """The text about a chain of one run and another run, with the point at which they part, if there is one."""
     if found is None:
         return ['%s has all of this chain too.' % other.name]
     last, hop = found.last, found.hop

@@ -22,7 +22,7 @@ PIECE = 1 << 20
 
 
 class Filter(NamedTuple):
-    """The conditions for lines to be shown."""
+    """The conditions that a line has to meet to be shown."""
     motes: frozenset[int] | None
     kinds: tuple[str, ...]
     process: str | None
@@ -148,7 +148,7 @@ def add_all(log: Log, mote: int, _: re.Pattern[str], span: tuple[int, int]) -> I
 
 
 def is_inside(line: Found, asker: Asker, it: Copies | Packets) -> bool:
-    """Returns whether a line is in the time of a sentence, which may depend on the hops of its mote."""
+    """Returns whether a line is in the time of a sentence. (This time may depend on the hops of the line's mote.)"""
     return any(within([line], span) for span in asker.judge.spans(it.window, (line.where.mote,)))
 
 

@@ -66,7 +66,7 @@ class _Misses:
         yield from self.silent()
 
     def outside(self) -> Iterator[Miss]:
-        """The line, at another moment."""
+        """The wanted line, at another moment."""
         own = [it for it in self.missing.found if it.where.mote == self.mote]
         late = [it for it in own if it.at > self.end]
         for it in late[:1]:
@@ -80,7 +80,7 @@ class _Misses:
                        self.source.traces.row(it.where), True)
 
     def deed(self, found: Found) -> str:
-        """A line, after its moment."""
+        """A line without its moment."""
         return '`%s`' % self.source.traces.text(found.where).partition(' ')[2]
 
     def past_the_end(self) -> Iterator[Miss]:
@@ -304,7 +304,7 @@ def misses(asker: Asker, missing: Missing) -> list[tuple[int, list[Miss]]]:
 
 
 def as_json(missing: Missing, found: list[tuple[int, list[Miss]]]) -> dict[str, Any]:
-    """The same for programs."""
+    """The near misses for programs."""
     return {
         'holds': False, 'about': missing.remark, 'line': None,
         'from': missing.span[0], 'to': missing.span[1] if missing.span[1] != ENDLESS else None,
@@ -314,7 +314,7 @@ def as_json(missing: Missing, found: list[tuple[int, list[Miss]]]) -> dict[str, 
 
 
 def rows(missing: Missing, found: list[tuple[int, list[Miss]]]) -> list[str]:
-    """The same as text."""
+    """The near misses as text."""
     lines = [missing.remark]
     for mote, its in found:
         lines += ['', 'Near misses at mote %d:' % mote]

@@ -28,7 +28,7 @@ ENDLESS = 1_000_000
 
 @dataclass(frozen=True)
 class Asked:
-    """The line of a question, and its role in it: `holds` says whether the sentence holds."""
+    """The line that a question is about. `holds` says whether the question's sentence holds."""
     where: At
     holds: bool
     remark: str = ''
@@ -305,7 +305,7 @@ class Asker:
                      and it.motes.kind == 'each' else '')
 
     def by_time(self, answers: list[Answer]) -> list[Asked]:
-        """Those of them that have a line, in the order of the lines' moments."""
+        """The members of this list that have a line, in the order of the lines' moments."""
         shown = [it for it in answers if isinstance(it, Asked)]
         return sorted(shown, key=lambda one: self.traces.moment(one.where))
 

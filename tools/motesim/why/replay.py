@@ -41,7 +41,7 @@ class Frame(NamedTuple):
     line     the last line of the trace that led to the call: its `start` or `take`, or, if the call writes none, the
              line of the call that made it
     made_by  the call that made this one; None if the kernel made it
-    row      the statement of the program that made it, by its number from 1; 0 if none did
+    row      the statement of the program that made the call, by its number from 1; 0 if none did
     """
     process: int
     event: str

@@ -80,7 +80,7 @@ class Series:
         self.traces.kept.pop(mote, None)
 
     def keep_peak(self, depth: int, first: int, last: int) -> None:
-        """A queue had this length from one interval to another."""
+        """Notes that a queue had this length from one interval to another."""
         for part in range(first, last + 1):
             if self.peaks[part] < depth:
                 self.peaks[part] = depth
@@ -123,7 +123,8 @@ class Series:
         return copy.arrival <= self.last[copy.to]
 
     def add_silent(self, silent: list[Copy]) -> None:
-        """Copies for motes that halted: those that would arrive last are late, as many as the report has left."""
+        """Counts copies for motes that had halted. Those that would arrive last are late, as many as the report's last
+        line says."""
         late = self.traces.left() - sum(its['late'] for its in self.counts)
         silent.sort(key=lambda it: it.arrival)
         for place, copy in enumerate(silent):

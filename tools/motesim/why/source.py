@@ -189,7 +189,7 @@ class Traces:
             yield row, it[0].decode('ascii')
 
     def packet(self, sender: int, number: int) -> tuple[int, str] | None:
-        """The line of the medium of a packet."""
+        """The line of a packet in the log of the medium."""
         mark = b' %d %d ' % (sender, number)
         at = self.data.find(mark, self.medium_begin, self.medium_end)
         while at >= 0:
@@ -241,7 +241,7 @@ class Source:
 
 
 def read_traces(path: str | Path, scenario: str | Path | None = None) -> tuple[bytes, Scenario | None]:
-    """The bytes of a report, and the scenario if it is known: a scenario, which is run; or a report."""
+    """The bytes of a report, and the scenario if it is known. The file has a scenario, which is run, or a report."""
     data = read_file(path)
     refuse_others(path, data)
     if is_scenario(path, data):
@@ -278,7 +278,7 @@ def scenario_file(path: str | Path) -> ScenarioFile | None:
 
 
 def read_source(path: str | Path, scenario: str | Path | None = None) -> Source:
-    """A scenario, which is run; or a report, with its scenario."""
+    """The source for a file: it has a scenario, which is run, or a report, for which `scenario` names the scenario."""
     data, found = read_traces(path, scenario)
     if found is None:
         raise Fault("%s: a report doesn't have the programs, which its causes follow from: name its scenario, by "

@@ -59,7 +59,8 @@ def motes_of(words: str | None, count: int) -> list[int]:
 
 
 def variables_of(program: Program, name: str, words: str) -> list[Watched]:
-    """The variables of a program with a name such as newest or flood.newest; none if it has none with the name."""
+    """The variables of a program with a name such as newest or flood.newest; an empty list if the program has none of
+    this name."""
     found = []
     process, _, variable = words.rpartition('.')
     for it in program.processes:
@@ -193,7 +194,7 @@ class _Stripped:
 
     @staticmethod
     def differ(mote: int, found: str, wanted: str) -> None:
-        """The run with added prints differs from the run without them."""
+        """Raises an `Unwatched`: the run with added prints differs from the run without them."""
         if found.endswith(' halt') or wanted.endswith(' halt'):
             raise Unwatched("the added prints use up the work of mote %d at %s, so that it halts: this run can't be "
                             'watched by prints' % (mote, found.split(' ')[0]))

@@ -2,7 +2,8 @@
 
 A line has the mutant, the day, the verdict, the refused function, the goals or the error for which it was refused, and
 a digest of everything on which the verdict depends: the mutant, its crate, the crates below with their proofs, the
-lines of these crates in crates.txt, the code that judges, and the kit. Lines that have only a comment don't count.
+lines of these crates in crates.txt, the code that judges, and the kit. In the crates, lines that have only a comment
+don't count; in the code that judges, which is in Python, they do.
 """
 from __future__ import annotations
 
@@ -23,7 +24,7 @@ KEPT = TOP / 'log/wrong_bodies.tsv'
 HEAD = '# written by tools/dev/wrong_bodies: mutant, day, what it came to, function, goals or error, digest\n'
 # The code that judges.
 JUDGES = 'kit.py', 'mutants/checks.py', 'mutants/edits.py'
-# The beginnings of lines that have only a comment.
+# The beginnings of lines that have only a comment, by the ending of the file.
 COMMENTS = {'.rt': b'//', '.antt': b'--'}
 MOST_LETTERS = 100
 
