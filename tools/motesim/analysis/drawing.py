@@ -37,7 +37,7 @@ OF_HEIGHT = 0.6
 THICK, THIN = 5, 3
 # The angle of labels that don't fit next to each other.
 ANGLE = 30
-# The texts of the legend about a threshold, which follow those of the curves.
+# The texts of the legend about a threshold. They follow the texts of the curves.
 THRESHOLD, CROSSING = 'threshold ', 'interval of the crossing'
 # Colours that readers with colour blindness can distinguish (Okabe and Ito); lines differ by their marks too.
 COLOURS = ['#0072b2', '#d55e00', '#009e73', '#cc79a7', '#e69f00', '#56b4e9', '#000000']

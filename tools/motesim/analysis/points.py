@@ -30,7 +30,7 @@ SEPARATES = (*MADE_BY, PROGRAM)
 # and the net's name. (No parameter has such a name.)
 RUNS, WITH, WITHOUT, NET = '(runs)', '(with a value)', '(without a value)', '(net)'
 
-# The place of a point: the value of `by`, and that of the parameter on the horizontal axis.
+# The place of a point: the value of `by`, and the value of the parameter on the horizontal axis.
 Place = tuple[Cell, Cell]
 
 
@@ -84,7 +84,7 @@ class Wish(NamedTuple):
 
 
 class Point(NamedTuple):
-    """The runs of one group: its place on the horizontal axis, with an interval if it is that of a measure, and its
+    """The runs of one group: its place on the horizontal axis, with an interval if this axis shows a measure; and its
     estimate."""
     by: Cell
     against: Cell

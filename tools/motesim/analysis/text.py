@@ -249,7 +249,8 @@ def of_nets(shared: tuple[int, int] | None) -> list[str]:
 
 
 def of_intervals(estimates: Sequence[Estimate], is_drawn: bool = False) -> list[str]:
-    """The draws of the bootstrap, if one is used; the intervals that are missing, and those that are too narrow."""
+    """Lines about intervals: the draws of the bootstrap, if one is used; missing intervals; and intervals that are too
+    narrow."""
     lines = []
     if is_drawn or any(it.method in DRAWING for it in estimates):
         lines.append('bootstrap: %s' % DRAWN)

@@ -23,7 +23,7 @@ def main() -> int:
     words = words_of(__doc__)
     words.add_argument('scenario', metavar='SCENARIO', help='a scenario, NAME.toml')
     words.add_argument('expectations', nargs='?', metavar='EXPECTATIONS',
-                       help='the sentences (NAME.expect.toml next to it)')
+                       help='the sentences (NAME.expect.toml next to the scenario)')
     add_limits(words)
     asked = words.parse_intermixed_args()
     from motesim.explain.within import runs_within

@@ -61,12 +61,12 @@ def arguments() -> argparse.Namespace:
     words.add_argument('--anonymous', action='store_true',
                        help='show numbers instead of the names of solutions; each marking draws new numbers')
     words.add_argument('--key', metavar='FILE', type=Path,
-                       help='with --anonymous: write which solution has which number, for you only')
+                       help='with --anonymous: write the number of each solution to this file, which is only for you')
     words.add_argument('--write', metavar='FOLDER', type=Path,
                        help='also write each program in each net as a scenario, to look at it in the studio')
     words.add_argument('--excel', action='store_true',
                        help='give NAME.csv a byte order mark, and `;` between its cells')
-    words.add_argument('--csv', action='store_true', help='print the marks for a spreadsheet')
+    words.add_argument('--csv', action='store_true', help='print the marks in CSV')
     words.add_argument('--why', metavar='NAME', help='show what breaks the sentences in one solution')
     asked = words.parse_args()
     if asked.seconds <= 0 or asked.memory < 1 or asked.report < 1 or (asked.jobs or 1) < 1:

@@ -33,7 +33,7 @@ SHOWS, MEANS = ('median', 'mean', 'points', 'cdf', 'heat'), ('auto', 't', 'boots
 def arguments() -> argparse.Namespace:
     words = words_of(__doc__)
     words.add_argument('results', metavar='RESULTS', help='a file that tools/sweep wrote')
-    words.add_argument('--measure', metavar='NAME', help='the measure')
+    words.add_argument('--measure', metavar='NAME', help='the measure to show')
     words.add_argument('--against', metavar='NAME', help='the parameter, or the measure, on the horizontal axis')
     words.add_argument('--by', metavar='NAME', help='draw a line for each value of this parameter')
     words.add_argument('--show', choices=SHOWS,
@@ -45,7 +45,8 @@ def arguments() -> argparse.Namespace:
     words.add_argument('--confidence', type=float, default=95, metavar='PERCENT',
                        help='the confidence of the intervals (95)')
     words.add_argument('--threshold', metavar='VALUE',
-                       help='report where each curve crosses this value; with --show cdf, the share of runs up to it')
+                       help='report where each curve crosses this value; with --show cdf, the share of runs with at '
+                            'most this value')
     words.add_argument('--over', metavar='NAMES',
                        help='the parameters in which runs of a point may differ (`seed` and those with the ending '
                             '`_seed`)')
@@ -53,7 +54,7 @@ def arguments() -> argparse.Namespace:
     words.add_argument('--compare', metavar='RESULTS', help='the other side of a comparison, run by run')
     words.add_argument('--pair', metavar='NAME=ONE,OTHER', help='compare two values of a parameter, run by run')
     words.add_argument('--where', action='append', default=[], metavar='NAME=VALUES',
-                       help='only runs with these values: 20, or 10,20, or 10..30')
+                       help='use only runs with these values: 20, or 10,20, or 10..30')
     words.add_argument('--title', metavar='TEXT', help="the title of the picture; '' is none")
     words.add_argument('--footer', metavar='TEXT', help="the text below the picture; '' is none")
     words.add_argument('--x', metavar='TEXT', default='', help='the text at the horizontal axis')

@@ -40,7 +40,7 @@ def arguments() -> argparse.ArgumentParser:
     words = words_of(__doc__)
     words.add_argument('scenario', nargs='?', metavar='SCENARIO', help='a scenario, NAME.toml, or a plan')
     words.add_argument('expectations', nargs='?', metavar='EXPECTATIONS',
-                       help='the sentences (NAME.expect.toml next to it)')
+                       help='the sentences (NAME.expect.toml next to the scenario)')
     words.add_argument('--expect', action='append', default=[], metavar='SENTENCE',
                        help='an expectation, instead of those of a file')
     words.add_argument('--faults', default='', metavar='KINDS',
@@ -53,7 +53,7 @@ def arguments() -> argparse.ArgumentParser:
     words.add_argument('--set', action='append', default=[], metavar='NAME=VALUES',
                        help='for `values` and `parameters`: the other values')
     words.add_argument('--step', type=int, default=0, metavar='N',
-                       help='for `places`: how far (a quarter of the range)')
+                       help='for `places`: the distance by which a mote is moved (a quarter of the range)')
     words.add_argument('--random', type=int, default=0, metavar='N',
                        help='afterwards try N larger sets, drawn at random')
     words.add_argument('--seed', type=int, default=1, metavar='S', help='the seed of --random (1)')
@@ -69,13 +69,13 @@ def arguments() -> argparse.ArgumentParser:
     words.add_argument('-o', dest='output', metavar='FOLDER', help='the folder of the written files (NAME.search)')
     words.add_argument('--csv', metavar='FILE', help='write a table of the sets that were found')
     words.add_argument('--json', metavar='FILE',
-                       help='write all results, for another program; - is standard output')
+                       help='write all results in JSON to this file; - is standard output')
     words.add_argument('--all', action='store_true', help='show all sets, not only ten for each expectation')
     words.add_argument('--shrink', action='store_true',
                        help='make the first counter-example of each broken expectation as small as possible')
     words.add_argument('--progress', action='store_true', help='report progress in lines of JSON, on standard error')
     words.add_argument('--studies', nargs='+', metavar='FILE',
-                       help='check that the searches of these files have the results that they state')
+                       help='check that the searches in these files have the results that the files state')
     words.add_argument('--resume', action='store_true', help='continue the same search after it was stopped')
     return words
 

@@ -36,7 +36,7 @@ messages begin with a print. For an origin, and for the net
 `--by N` shows the counts for every N moments instead: docs/use/TOOLS.md describes the columns of this table.
 
 `--motes` and `--links` show only one of the tables. `--csv` writes a table for a spreadsheet: the table of motes with
-the net, or with `--links` the table of links. `--json` writes all tables, for programs.
+the net, or with `--links` the table of links. `--json` writes all tables in JSON.
 
 Ends with status 0, or with 2 if the report can't be read.
 """
@@ -53,13 +53,13 @@ def main() -> int:
     words.add_argument('--scenario', metavar='FILE', help="the report's scenario")
     form = words.add_mutually_exclusive_group()
     form.add_argument('--csv', action='store_true', help='write a table for a spreadsheet')
-    form.add_argument('--json', action='store_true', help='write all tables, for programs')
+    form.add_argument('--json', action='store_true', help='write all tables in JSON')
     part = words.add_mutually_exclusive_group()
     part.add_argument('--motes', action='store_true', help='show only the table of motes, with the net')
     part.add_argument('--links', action='store_true', help='show only the table of links')
     part.add_argument('--flow', metavar='WORDS', help='show flows from end to end, such as "print sink"')
     words.add_argument('--by', metavar='N', type=int,
-                       help='the counts for every N moments; with --flow, of the messages that began in them')
+                       help='show the counts for each interval of N moments; with --flow, of the messages that began in it')
     asked = words.parse_args()
     if asked.by is not None and (asked.motes or asked.links):
         words.error('--by is for the whole net: it can\'t be combined with --motes or --links')

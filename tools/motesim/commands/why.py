@@ -18,15 +18,16 @@ def main() -> int:
     words.add_argument('--scenario', metavar='FILE', help="the report's scenario")
     words.add_argument('--other', metavar='FILE',
                        help='a second run: show the first line of the chain that this run lacks')
-    words.add_argument('--other-scenario', metavar='FILE', help='the scenario of a second report')
+    words.add_argument('--other-scenario', metavar='FILE', help='the scenario of the report that --other names')
     words.add_argument('--watch', metavar='WORD', nargs='+',
                        help='show the values of variables over time: --watch mote 3 newest, distance')
     words.add_argument('--replay', action='store_true',
                        help='with --watch: add no prints, and show only the values of the replay')
     words.add_argument('--state', metavar='WORD', nargs='+',
                        help='show the state of a mote: --state mote 3 at 46, or after a line: --state 3:114')
-    words.add_argument('--json', action='store_true', help='write the result for programs')
-    words.add_argument('--short', action='store_true', help='show only the lines of the chain that needed time')
+    words.add_argument('--json', action='store_true', help='write the result in JSON')
+    words.add_argument('--short', action='store_true',
+                       help='show only the first and the last line of the chain, and the lines that waited for something')
     asked, more = words.parse_known_intermixed_args()
     if any(it.startswith('-') for it in more):
         words.error('unrecognized arguments: %s' % ' '.join(more))

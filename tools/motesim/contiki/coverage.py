@@ -11,7 +11,7 @@ OF_PROGRAM = ('autostart', 'receiver', 'var', 'etimer', 'ctimer', 'thread', 'onp
               'odd number')
 LIMITS = ('events', 'semaphores', 'processes', 'variables', 'timers', 'threads', 'statements', 'levels')
 OF_SCENARIO = ('version 1', 'version 2', 'collide true', 'collide false', 'loss', 'queue of 1', 'queue of 128')
-# The forms of a report's lines; that of a trace begins with a moment.
+# The forms of a report's lines; the form of a line of a trace begins with a moment.
 FORMS = {
     'start': r'\d+ start \w+$', 'leave': r'\d+ leave \w+$', 'post': r'\d+ post \d+ (?!all )\w+ \w+ \d+$',
     'post all': r'\d+ post \d+ all \w+ \d+$', 'full': r'\d+ full (?!all )\w+ \w+ \d+$',

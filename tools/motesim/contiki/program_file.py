@@ -58,7 +58,8 @@ class ProgramFile:
         self.program = program
         self.counts_work = counts_work
         self.use = use_of(program)
-        # (the callbacks that the code names; the code that runs once names those of timers that are only reset)
+        # (the timers whose callbacks are named: by the statements that set them, or, for timers that are reset, by the
+        # code that runs once)
         self.called = self.use.set_timers | (self.use.again if program.autostart else set())
         self.names = Names(program)
         self.numbers = {timer: number for number, timer in enumerate(program.timers())}

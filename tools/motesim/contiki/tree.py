@@ -58,7 +58,7 @@ class Comments:
 
 @dataclass
 class Statement:
-    """A statement, by its first keyword; that of an assignment is `=`."""
+    """A statement. `kind` is its first keyword, or `=` for an assignment."""
     kind: str
     comments: Comments
     target: str = ''

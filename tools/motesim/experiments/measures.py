@@ -133,7 +133,8 @@ def _moment(judge: Judge, it: Does, since: int = 0) -> int | None:
 
 
 def _delay(judge: Judge, begin: Does, end: Does) -> int | None:
-    """The time from the first moment of a sentence to that of another one, whose earlier lines don't count."""
+    """The time from the moment at which one sentence is fulfilled to the moment at which another one is. Earlier lines
+    of the other sentence don't count."""
     since = _moment(judge, begin)
     until = None if since is None else _moment(judge, end, since)
     return None if since is None or until is None else until - since

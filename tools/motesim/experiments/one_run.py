@@ -102,7 +102,8 @@ def program_digest(path: Path) -> str:
 
 
 def program_here(work: Work) -> Path:
-    """The path of `motesim`: the one that MOTESIM names here, or that of the job; the binary has to be the sweep's."""
+    """The path of `motesim`: the one that MOTESIM names on this machine, or that of the job. The binary has to be that
+    of the sweep."""
     path = Path(os.environ.get('MOTESIM') or work.program)
     try:
         if program_digest(path) != work.program_digest:
@@ -147,7 +148,8 @@ def reason_of(failure: BaseException) -> str:
 
 
 def measured(work: Work, bench: Bench, known: Scenario) -> tuple[dict[str, Cell], str]:
-    """The measures of a run, and a note on those that fail or have a warning. Each has the same limit as the run."""
+    """The measures of a run, and a note on those that fail or have a warning. Each measure has the same limit as the
+    run."""
     found: dict[str, Cell] = {}
     notes, doubts = [], dict[str, None]()
     names, sources = names_of(known), dict(work.sources)

@@ -110,7 +110,7 @@ class CsvFile:
         return rows_of_csv(self.path)
 
     def keep(self, spots: Iterable[int], is_last: bool = False, note_of: NoteOf | None = None) -> array[int]:
-        """Keeps only the rows of these spots, in this order, with other notes; returns their new spots."""
+        """Keeps only the rows of these spots, in this order, with the notes of `note_of`; returns their new spots."""
         head = line_of(self.columns).encode()
         made, at = array('Q'), len(head)
 
@@ -194,9 +194,9 @@ class SqliteFile:
         return ((row[0], dict(zip(names, row[1:]))) for row in found)
 
     def keep(self, spots: Iterable[int], is_last: bool = False, note_of: NoteOf | None = None) -> array[int]:
-        """Keeps only the rows of these spots, in this order, with other notes; returns their new spots.
+        """Keeps only the rows of these spots, in this order, with the notes of `note_of`; returns their new spots.
 
-        `is_last` packs the file.
+        With `is_last` the file is also made as small as possible.
         """
         made = array('Q')
         try:

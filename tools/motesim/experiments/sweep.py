@@ -51,7 +51,7 @@ class Sweeper:
         # (for each parameter that varies, the place of each value)
         self.places = {name: {text_of_value(value): place for place, value in enumerate(values)}
                        for name, values in sweep.vary.items()}
-        # The spot of each run's row in the file, or 0 for a missing one, and those of rows with other values.
+        # The spot of each run's row in the file, 0 for a missing row; and the spots of the rows with other values.
         self.spots, self.others = array('Q', bytes(8 * sweep.runs())), array('Q')
         # For each set of files, the parameters that are seeds of the pattern for chance; and the seeds in the results.
         self.chances: dict[tuple[str, ...], list[str]] = {}

@@ -162,7 +162,7 @@ def _of_unexpected(before: list[Token], here: Token, behind: Token, may: list[st
     if word == '(' and named == 'spawn':
         return OF_ARGUMENTS
     if last and last.text in CALLED and may == ['`(`']:
-        return OF_WORD % (last.text, ', which a name in parentheses follows', last.text)
+        return OF_WORD % (last.text, ', which is followed by a name in parentheses', last.text)
     if last and last.text == 'else' and word == 'if':
         return 'A block follows `else`: put the `if` into it, `else { if .. { .. } }`.'
     if word in ('+', '-') and behind.text == word or last and last.text == word and word in ('+', '-'):

@@ -356,7 +356,7 @@ def of_net(scenario: Scenario, programs: dict[str, Program], report: Report | No
 
 
 def warnings(scenario: Scenario, report: Report | None = None, text: str = '') -> list[Warned]:
-    """Returns the warnings of a scenario; with its report, also those that it shows.
+    """Returns the warnings of a scenario. If its report is given, they include those about what happened in the run.
 
     text  the scenario's text, whose comment has the parameters of the plan that made it
     """

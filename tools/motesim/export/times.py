@@ -23,7 +23,7 @@ class Turn(NamedTuple):
     lines: list[Line]
 
     def time(self, place: int) -> int:
-        """The time of a line; that of the place after the last line is the end of the turn."""
+        """The time of a line, by its place; for the place after the last line, the end of the turn."""
         return self.begin + place * self.step
 
 

@@ -119,7 +119,7 @@ class Expressions:
         return self.tokens[self.at + count] if self.at + count < len(self.tokens) else END
 
     def accept(self, *texts: str) -> str:
-        """Consumes the next token if it is one of these, and returns it; otherwise an empty text."""
+        """Consumes and returns the next token if it is one of these; otherwise returns an empty text."""
         if self.token.text in texts and self.token.kind not in ('text', 'char', 'end'):
             self.at += 1
             return texts[texts.index(self.tokens[self.at - 1].text)]

@@ -43,7 +43,8 @@ def process_lines(text: str, here: int) -> tuple[int, int, str]:
 
 
 def process_line(text: str) -> Repair:
-    """The line that names the processes, if its names aren't those of the codes, in their order."""
+    """The line that names the processes, if it doesn't name exactly the processes that have a code, in the order of the
+    codes."""
     codes = Scope.of(text).codes
     for number, line in enumerate(text.split('\n'), 1):
         found = PROCESSES.fullmatch(line)

@@ -124,7 +124,8 @@ class Marks:
 
 
 class InNet(NamedTuple):
-    """The marks of a solution in one net (its name), with the place of each broken sentence."""
+    """The marks of a solution in one net, and for each sentence the name that the scenario lacks, and the reason if the
+    sentence is broken."""
     marks: list[Mark]
     lacks: list[str]
     why: str
@@ -263,9 +264,10 @@ class Task:
         return [page_name(number, entry.name, net) for number, entry in enumerate(entries, 1) for net in nets]
 
     def picture(self, number: int, marks: Marks, found: list[InNet]) -> tuple[str, str]:
-        """Writes the timeline that shows the first failed sentence; returns its name, or the reason why there is none.
+        """Writes a page with the timeline of the first failed sentence. Returns the name of the page, or the reason why
+        there is none.
 
-        A run in a hidden net has no timeline.
+        A run in a hidden net has no page.
         """
         place = marks.first_failed
         if place is None or self.pictures is None:

@@ -70,7 +70,7 @@ def _values(vary: Sequence[str], option: str) -> dict[str, list[Value]]:
 
 
 def _texts(file: str, its: Plan | str, asked: dict[str, list[Value]]) -> Iterator[tuple[str, str]]:
-    """The scenarios of a file, each with a name: one, or those of a plan."""
+    """The scenarios of a file, each with a name: the only scenario of the file, or the scenarios of a plan."""
     if isinstance(its, str):
         yield file, its
         return

@@ -30,7 +30,7 @@ def is_marks(path: Path) -> bool:
 
 
 def own_of(folder: Path) -> set[str]:
-    """The names of the files that earlier markings wrote into a folder. None of them can be a solution of its own."""
+    """The names of the files that earlier markings wrote into a folder. None of these files can be a solution."""
     pages = {it for it in names_in(folder) if it.endswith('.html')} if folder.name.endswith(OF_PAGES) else set()
     names = {it.name for it in os.scandir(folder) if it.is_file(follow_symlinks=False)}
     marks = {it for it in names if it.endswith(tuple(HEADS)) and is_marks(folder / it)}

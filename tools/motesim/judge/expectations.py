@@ -109,7 +109,8 @@ def changed(scenario: str, replace: dict[str, str]) -> str:
 
 
 class UnknownSentence(Fault):
-    """A sentence that can't be read: its number, in one line; the text of the error also shows its place."""
+    """A sentence that can't be read. `which` names the sentence in one line; the text of the error also shows the place
+    in it."""
 
     def __init__(self, number: int, explained: str):
         self.which = 'sentence %d is not known' % number

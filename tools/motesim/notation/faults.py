@@ -132,7 +132,7 @@ class _Reader:
         return self.tokens[self.at - 1].text
 
     def accept(self, *words: str) -> str:
-        """Consumes the next token if it is one of these words, and returns it; otherwise an empty text."""
+        """Consumes and returns the next token if it is one of these words; otherwise returns an empty text."""
         if self.token.text in words and self.token.kind != 'end':
             return self.step()
         self.wanted += ['`%s`' % word for word in words]
@@ -283,8 +283,8 @@ class _Reader:
         self.level -= 1
 
     def begins(self, *words: str) -> str:
-        """Consumes the next token if it is one of these first words of statements, and returns it; otherwise an empty
-        text."""
+        """Consumes and returns the next token if it is one of these first words of statements; otherwise returns an
+        empty text."""
         if self.token.text not in words or self.token.kind == 'end':
             self.wanted += ['`%s`' % word for word in words if not (self.is_simple and word in WAITS)]
             return ''

@@ -234,7 +234,7 @@ class Builder:
         return CsvTable(file, self.read_file(file, path), columns, more)
 
     def numbers(self, value: object, path: Path, count: int) -> list[int]:
-        """Motes by their numbers: one, an array of them, or a text such as `0, 3 to 5`."""
+        """Motes by their numbers: one number, an array of numbers, or a text such as `0, 3 to 5`."""
         value = self.tables.filled(value, path)
         found: list[int] = []
         for part in value if type(value) is list else str(value).split(','):

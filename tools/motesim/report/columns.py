@@ -53,7 +53,7 @@ class Trace:
         return len(self.at)
 
     def extend(self, at: array[int], kind: bytes, of: dict[str, Fields]) -> None:
-        """Adds lines. If they end a trace, the caller adds its end to `starts`."""
+        """Adds lines. If they end a trace, the caller adds the trace's end to `starts`."""
         self.at.extend(at)
         self.kind += kind
         for name, fields in of.items():
@@ -134,7 +134,7 @@ class Trace:
         return made
 
     def lines(self, mote: int, first: int = 0, end: int | None = None, kinds: Iterable[str] = KINDS) -> Iterator[Line]:
-        """The lines of a mote, from one up to another; only those of some kinds, if these are given."""
+        """The lines of a mote, from one line up to another; if kinds are given, only the lines of these kinds."""
         begin, last = self.starts[mote], self.starts[mote + 1]
         end = last if end is None else min(last, begin + end)
         first += begin

@@ -94,7 +94,7 @@ class Report:
         return cls([program for program, _, _ in by_line.motes], trace, log, by_line.left)
 
     def lines(self, *kinds: str) -> Iterator[Line]:
-        """The lines of all traces, mote after mote; only those of some kinds, if these are named."""
+        """The lines of all traces, mote after mote; if kinds are named, only the lines of these kinds."""
         for mote in self.motes:
             yield from self.trace.lines(mote.number, kinds=kinds or KINDS)
 
@@ -132,7 +132,7 @@ class Report:
         return {(packet.sender, packet.number): packet for packet in self.medium}
 
     def packet(self, sender: int, number: int) -> Packet | None:
-        """A packet by its sender and its number there: for a few packets this is faster than `packets`."""
+        """A packet by its sender and its number at this sender. For a few packets this is faster than `packets`."""
         places = compress(count(), map(number.__eq__, self.log.number))
         return next((self.log[place] for place in places if self.log.sender[place] == sender), None)
 
@@ -184,12 +184,12 @@ class Report:
 
 
 def _keys(senders: Iterable[int], numbers: Iterable[int], motes: int) -> Iterator[int]:
-    """A number for each packet: one for its sender and its number."""
+    """The keys of packets: for each packet one number, made from its sender and its number."""
     return map(add, map(mul, numbers, repeat(motes)), senders)
 
 
 class Rows(Sequence[str]):
-    """The lines of a report's text, without their ends, which are made when they are needed."""
+    """The lines of a report's text, without their ends; each line is made when it is needed."""
 
     def __init__(self, report: Report):
         self.report = report

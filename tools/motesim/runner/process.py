@@ -201,7 +201,7 @@ class Running:
             os.close(ended)
 
     def _take(self, pipe: int, is_report: bool) -> bytes | None:
-        """Reads from a pipe: None if there is nothing yet, and no bytes at its end."""
+        """Reads from a pipe. Returns None if there is nothing to read yet, and no bytes at the end of the pipe."""
         try:
             data = os.read(pipe, CHUNK)
         except BlockingIOError:

@@ -234,7 +234,8 @@ def _program_here() -> Path:
 
 
 def optimized_path() -> Path:
-    """The same binary, once it is optimized: for tools that write its digest or measure it."""
+    """The binary to run, as `program_path` returns it, once it is optimized: for tools that write its digest or measure
+    it."""
     path = program_path().resolve()
     optimize(path, waits=True)
     return path

@@ -14,7 +14,7 @@ def kit_version(program: Path) -> str:
 
 
 def program_version(program: Path) -> str:
-    """The version of the binary, if it is this tree's; another binary is identified only by its digest."""
+    """The version of the binary, if the binary is this tree's; another binary is identified only by its digest."""
     if is_proved(program):
         return VERSION
     return '%s unproved' % VERSION if is_compiled(program) else 'another'

@@ -73,7 +73,7 @@ def added_name(program: str, kind: str) -> str:
 
 
 def offsets_of(text: str) -> list[int]:
-    """The places at which the tokens of a program begin; the last one is its end."""
+    """The places at which the tokens of a program begin; the last place is the end of the text."""
     begins = [0]
     for row in text.split('\n'):
         begins.append(begins[-1] + len(row) + 1)

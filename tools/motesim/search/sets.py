@@ -83,7 +83,8 @@ class Known:
         return filter(self.is_possible, itertools.combinations(range(len(self.faults)), size))
 
     def add(self, found: Set, broken: int) -> None:
-        """Notes which expectations a set breaks. It is minimal for those that no smaller set in it breaks."""
+        """Notes which expectations a set breaks. The set is minimal for those of them that no smaller set in it
+        breaks."""
         new = self.left(found) & broken
         if new:
             self.minimal[found] = new

@@ -58,8 +58,8 @@ def note_of(run: Run, sentence: str, broken: Broken | None, more: tuple[str, ...
 
 
 def _near(asker: Asker, missing: Missing) -> tuple[Line, ...]:
-    """The near misses of a missing line, first those about the wanted packet itself. A report that no kernel writes
-    has none."""
+    """The near misses of a missing line, first those about the wanted packet itself. If no run of the program can have
+    this report, there are none."""
     try:
         lines = [Line('mote %d: %s' % (mote, it.words), it.row) for mote, its in misses(asker, missing)
                  for it in sorted(its, key=lambda it: not it.is_wanted)]

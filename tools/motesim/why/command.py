@@ -25,7 +25,7 @@ from motesim.why.watch import rows as value_rows
 
 
 def short(hops: list[Hop]) -> list[Hop]:
-    """The hops that waited for something, the first and the last."""
+    """The first hop, the last hop, and the hops that waited for something."""
     return [hop for place, hop in enumerate(hops) if hop.waited or place in (0, len(hops) - 1)]
 
 

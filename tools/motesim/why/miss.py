@@ -23,7 +23,7 @@ MOST_COPIES, MOST_OTHERS = 8, 3
 
 
 class Miss(NamedTuple):
-    """A near miss: its kind, a sentence about it, and the line that shows it, if one does.
+    """A near miss: its kind, a sentence about it, and the line that shows it, if there is one.
 
     is_wanted  whether it is about exactly the line, packet or event that the sentence wants
     """
@@ -120,7 +120,8 @@ class _Misses:
                        self.source.traces.row(At(self.mote, len(self.lines) - 1)))
 
     def refused(self) -> Iterator[Miss]:
-        """Events for the process that were refused or dropped up to the last moment: those with the value first."""
+        """Events for the process that were refused or dropped up to the last moment: those with a wanted value
+        first."""
         if self.kind != 'print' or len(self.pattern) < 2:
             return
         name, values, found = self.pattern[1], self.values(), []
@@ -155,8 +156,8 @@ class _Misses:
         return self.asker.judge.values(wanted, self.mote)
 
     def copies(self) -> Iterator[Miss]:
-        """Copies for this mote that it didn't get up to the last moment: those with the value, and the number of
-        all."""
+        """Copies that this mote didn't get, up to the last moment: the last few copies with a wanted value, and the
+        number of the others."""
         values = self.values()
         lost: dict[bool, list[tuple[int, list[str], Fate]]] = {True: [], False: []}
         for row, words in self.sent_to():
@@ -298,8 +299,8 @@ class _Misses:
 
 
 def misses(asker: Asker, missing: Missing) -> list[tuple[int, list[Miss]]]:
-    """Returns the near misses of each mote that a sentence is about; if it is about several motes together, those of
-    the first few."""
+    """Returns the near misses of each mote that has too few of the wanted lines, but only for the first few of these
+    motes."""
     return [(mote, list(_Misses(asker, missing, mote).found())) for mote in missing.motes[:MOST_OTHERS]]
 
 

@@ -254,7 +254,8 @@ class Replay:
 
     def call(self, process: int, event: str, word: int, sender: int, how: str, row: int, line: int | None = None
              ) -> None:
-        """Calls a running process. `line` is the cause, if that isn't the line of the present call."""
+        """Calls a running process. `line` is the line that caused the call, if that isn't the line of the present
+        call."""
         if self.state[process] != 1:
             return
         before, current = self.frame, self.current

@@ -45,8 +45,8 @@ class Timer:
 
 
 class Around(NamedTuple):
-    """A statement around another, by its number: an `if` or a `while`; `is_else` is true if the other is in its
-    `else`."""
+    """A statement around another one, by its number: an `if` or a `while`. `is_else` is true if the other statement is
+    in the `else` of this one."""
     number: int
     is_else: bool
 
