@@ -9,13 +9,12 @@
         print(kept.sentence, kept.holds, kept.why)
     print(motesim.compare(run, motesim.run('examples/tdma.toml')).text)
 
-    run       runs a scenario: a `Run` with `report` and `scenario`        Limits    what a run may use
-    expect    which sentences hold for a run: a list of `Kept`               Fault     an error, with its message
-    compare   how two runs diverge: a `Comparison`                         Plan      scenarios by rule
+    run       runs a scenario: a `Run` with `report` and `scenario`        Limits    the limits of a run
+    expect    checks which sentences hold for a run: a list of `Kept`      Fault     an error, with its message
+    compare   shows how two runs diverge: a `Comparison`                   Plan      makes scenarios by rule
     Scenario  motes, places, who hears whom, losses                        Report    traces and the log of the medium
 
-The packages below are for the commands in tools/: report, scenario, runner, judge, summary, comparison, timeline,
-export, explain, plan, experiments, studio. docs/use/TOOLS.md shows scripts.
+The packages in this folder are for the commands in tools/. docs/use/TOOLS.md shows scripts.
 """
 import sys
 from typing import TYPE_CHECKING

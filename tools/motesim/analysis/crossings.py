@@ -51,7 +51,7 @@ class Crossing(NamedTuple):
                None if each point has one run
     last       the interval of the last crossing, if the curve crosses more than once
     share      the part of the drawn curves that cross
-    draws      how many independent draws the bootstrap has: the seeds, or the runs of a point
+    draws      how many seeds, or runs of a point, the bootstrap draws from
     sizes      the least and the greatest number of runs of a point
     """
     at: float

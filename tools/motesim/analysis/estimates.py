@@ -178,7 +178,7 @@ def is_skewed_near_an_end(values: Sequence[float]) -> bool:
 
 
 def is_skewed(values: Sequence[float]) -> bool:
-    """Returns whether values are so skewed that Student's t of few of them is too narrow."""
+    """Returns whether values are so skewed that the interval of few of them by Student's t is too narrow."""
     mean, runs = statistics.fmean(values), len(values)
     if runs < 3 or len(set(values)) == 1:
         return False

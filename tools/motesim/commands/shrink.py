@@ -32,8 +32,8 @@ def main() -> int:
     words.add_argument('--keep', action='append', default=[], metavar='SENTENCE',
                        help='a sentence that has to hold throughout')
     words.add_argument('--fault', action='append', default=[], metavar='FAULT',
-                       help='a fault, such as `lose 0 1 1`: with it the expectation has to be broken, and without it to '
-                            'hold')
+                       help='a fault, such as `lose 0 1 1`: with it the expectation has to be broken, and without it '
+                            'to hold')
     words.add_argument('--steps', action='store_true', help='show each step')
     words.add_argument('--seconds', type=float, default=SECONDS, metavar='N',
                        help='the limit of a run, in seconds (10)')

@@ -59,7 +59,7 @@ def main() -> int:
     part.add_argument('--links', action='store_true', help='show only the table of links')
     part.add_argument('--flow', metavar='WORDS', help='show flows from end to end, such as "print sink"')
     words.add_argument('--by', metavar='N', type=int,
-                       help='show the counts for each interval of N moments; with --flow, of the messages that began in it')
+                       help='show the counts for each interval of N moments; with --flow, of messages that began in it')
     asked = words.parse_args()
     if asked.by is not None and (asked.motes or asked.links):
         words.error('--by is for the whole net: it can\'t be combined with --motes or --links')

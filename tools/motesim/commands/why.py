@@ -27,7 +27,7 @@ def main() -> int:
                        help='show the state of a mote: --state mote 3 at 46, or after a line: --state 3:114')
     words.add_argument('--json', action='store_true', help='write the result in JSON')
     words.add_argument('--short', action='store_true',
-                       help='show only the first and the last line of the chain, and the lines that waited for something')
+                       help='show only the first and the last line of the chain, and lines that waited for something')
     asked, more = words.parse_known_intermixed_args()
     if any(it.startswith('-') for it in more):
         words.error('unrecognized arguments: %s' % ' '.join(more))

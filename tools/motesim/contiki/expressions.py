@@ -88,7 +88,7 @@ def truth_of(made: Made) -> Made:
 
 
 def with_sign(made: Made) -> Made:
-    """An operand of arithmetic that isn't signed."""
+    """An operand with which arithmetic is unsigned on machines whose `int` has 16 bits."""
     if made.level == ATOM and is_constant(made):
         return Made('%dU' % made.low, ATOM, made.low, made.high, 'unsigned')
     return Made('(uint16_t)%s' % made.inside(UNARY), UNARY, made.low, made.high)

@@ -140,8 +140,8 @@ class Program:
                     yield ONE_BRANCH % (self.tokens[at].line, self.tokens[where].line, test), self.tokens[where]
 
     def way_through(self, begin: int) -> tuple[bool, tuple[int, str] | None]:
-        """Returns whether a block can be passed without a wait; and the first `if` of which one branch waits, with
-        the result of its test in the other one."""
+        """Returns whether a block can be passed without a wait; and the first `if` that waits in only one branch, with
+        the result of its test that leads to the other branch."""
         found, at, end = None, begin + 1, self.end_of_block(begin)
         while at < end:
             word = self.words[at]

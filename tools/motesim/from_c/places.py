@@ -31,12 +31,12 @@ class Surroundings(NamedTuple):
     is_top   whether the lines are outside all codes
     is_below whether the line that names the processes is above the lines
     loop     the test of the innermost `while` around the lines, or nothing
-    code     the process whose code it is, or nothing
+    code     the process in whose code the lines are, or nothing
     head     the line (from 1) below which a variable of this code may be declared, or 0
     variables  the variables of this code
-    timers     its event timers that are declared above the lines
+    timers     the event timers of this code that are declared above the lines
     last     the first word of the statement above the lines, or nothing
-    before   that complete statement, without its semicolon
+    before   the complete text of this statement, without its semicolon
     """
     is_head: bool = False
     is_top: bool = False

@@ -5,4 +5,8 @@
     marking      the marks of one solution, within limits
     tables       the marks as text, CSV and TOML
     page         the marks as a page, with a timeline for each first failed sentence
+    pages        the pages of these timelines, which the next marking removes
+    own          the files that a marking wrote, which are not solutions
+    progress     the progress of a marking
+    command      tools/grade
 """

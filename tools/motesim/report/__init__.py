@@ -2,7 +2,8 @@
 
     lines    a line of a trace, a packet, a copy        strict   reads a report line by line, and finds its fault
     columns  all lines and packets as arrays            fast     reads a report in large pieces, into columns
-    report   a report with its motes                    belongs  checks that a report is of a scenario
+    report   a report with its motes                    pieces   reads one of these pieces
+    belongs  checks that a report is of a scenario      patterns the forms of lines as regular expressions
 """
 from motesim.report.columns import KINDS, LOST, MASKS, NONE, Log, Trace
 from motesim.report.lines import FIELDS, MOST_MOMENT, MOST_WORD, Copy, Line, Packet

@@ -13,6 +13,7 @@
     quick_judge.py     which sentences hold for a report: the results of motesim.judge in a fraction of its time
     runner.py          many runs by several processes; by_dask.py by a cluster
     kept.py            the sets that were tried, for --resume
+    progress.py        the progress of a search, on standard error
     found.py           the files and tables of the sets that were found
     study.py           searches with their expected results
 

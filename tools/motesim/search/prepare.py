@@ -58,8 +58,8 @@ def without_process(report: bytes, mote: int, process: str) -> list[bytes]:
 
 
 def difference(base: Base, plain: Plain, program: OneProgram, mote: int, kind: str) -> tuple[str, bytes]:
-    """The difference that the added process makes to the report of a scenario, or nothing; and the report with the
-    process."""
+    """The difference that the added process makes to the report of a scenario, or an empty text; if there is none, also
+    the report with the process."""
     change = Change()
     change.added[mote] = kind, base.scenario_itself.end + 1 if kind == DIES else 0
     answer = program.run(base.text(change).encode())
@@ -77,8 +77,7 @@ def difference(base: Base, plain: Plain, program: OneProgram, mote: int, kind: s
 class Prepared(NamedTuple):
     """The faults for the search; those that can't be made, with the reasons; and those that hide some expectations.
 
-    blind  for each fault, the expectations that the added process breaks by itself, so that the search can't judge
-    them
+    blind  for each fault, the expectations that the added process breaks by itself: the search can't judge them
     """
     faults: list[FaultyPart]
     left_out: list[str]

@@ -100,8 +100,8 @@ class Search:
             self.reduce(outcome, runner)
 
     def reduce(self, outcome: Outcome, runner: Runner) -> None:
-        """Removes faults from a set of the sample as long as it breaks the same expectations, and notes the remaining
-        set."""
+        """For each expectation that a set of the sample breaks, removes faults from the set as long as it still breaks
+        this expectation, and notes the remaining set."""
         for number in range(outcome.broken.bit_length()):
             bit = 1 << number
             faults = outcome.faults

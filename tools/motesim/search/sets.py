@@ -91,7 +91,7 @@ class Known:
 
 
 def draws(known: Known, least: int, most: int, count: int, seed: int) -> Iterator[Set]:
-    """This many sets, drawn at random, of different sizes."""
+    """At most this many sets, drawn at random, each with `least` to `most` faults."""
     chance = random.Random(seed)
     most = min(most, len({fault.slot for fault in known.faults}))
     drawn = tried = 0

@@ -1,8 +1,8 @@
 """The files of the studio: the only files that it may read and write.
 
-It reads scenarios in the folder of the file with which it was started, and the examples. It writes the file with which
-it was started, and new files that the user names in the page. If a file was changed elsewhere after it was read, the
-studio overwrites it only if the user agrees.
+The studio reads scenarios in the folder of the file with which it was started, and the examples. It writes this file,
+and new files that the user names in the page. If a file was changed elsewhere after it was read, the studio overwrites
+it only if the user agrees.
 """
 from __future__ import annotations
 

@@ -120,8 +120,8 @@ class _Misses:
                        self.source.traces.row(At(self.mote, len(self.lines) - 1)))
 
     def refused(self) -> Iterator[Miss]:
-        """Events for the process that were refused or dropped up to the last moment: those with a wanted value
-        first."""
+        """Events for the process that were refused or dropped up to the last moment: a few of them, those with a wanted
+        value preferred to the others, and late ones to early ones."""
         if self.kind != 'print' or len(self.pattern) < 2:
             return
         name, values, found = self.pattern[1], self.values(), []

@@ -123,8 +123,8 @@ class Series:
         return copy.arrival <= self.last[copy.to]
 
     def add_silent(self, silent: list[Copy]) -> None:
-        """Counts copies for motes that had halted. Those that would arrive last are late, as many as the report's last
-        line says."""
+        """Counts copies for motes that had halted. Those that would arrive last are late: as many as the report's last
+        line has, without those that count as late already."""
         late = self.traces.left() - sum(its['late'] for its in self.counts)
         silent.sort(key=lambda it: it.arrival)
         for place, copy in enumerate(silent):
