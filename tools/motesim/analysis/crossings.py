@@ -48,7 +48,7 @@ class Crossing(NamedTuple):
 
     gap        the neighbouring points between which it crosses
     low, high  the interval, which is infinite on a side if too many drawn curves cross beyond that end of the axis;
-               None if each point has one run
+               None if a point has only one run
     last       the interval of the last crossing, if the curve crosses more than once
     share      the part of the drawn curves that cross
     draws      how many seeds, or runs of a point, the bootstrap draws from

@@ -174,7 +174,8 @@ def some_runs(sweep: Sweep) -> Iterator[dict[str, Value]]:
 def known_names(sweep: Sweep) -> Names:
     """The names that sentences may use. Raises the first fault if none of the runs that are tried makes a scenario.
 
-    The names are those of the first net that has all motes that measures name, or of the largest net.
+    The names are those of a net that has all motes that measures name. Raises a fault if none of the tried runs has
+    such a net.
     """
     first: Fault | None = None
     largest: Scenario | None = None

@@ -130,7 +130,7 @@ def _chance(packets: int, lost: int, of: int, all_lost: int) -> float:
 
 
 def kinds_of(values: Sequence[int]) -> dict[tuple[int, ...], str]:
-    """The names of the kinds of a mote's packets that have enough packets, by the places of these packets."""
+    """For each kind of a mote's packets that has enough packets, its name, by the places of its packets."""
     found: dict[tuple[int, ...], str] = {}
     for division in divisions(values):
         groups: dict[tuple[str, int, int], list[int]] = defaultdict(list)
@@ -143,8 +143,8 @@ def kinds_of(values: Sequence[int]) -> dict[tuple[int, ...], str]:
 
 
 def hit(values: Sequence[int], every: int, kinds: dict[tuple[int, ...], str], rare: float) -> Kind | None:
-    """The kind of packet that a loss of this period hits far more than others, with less than this probability by
-    chance."""
+    """The kind of packet that a loss of this period hits far more often than its period implies, if this happens by
+    chance with a probability below `rare`."""
     if every < 2 or len(values) < 2 * LEAST_PACKETS:
         return None
     found = []

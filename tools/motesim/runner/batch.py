@@ -256,7 +256,7 @@ def run_each(work: Callable[[Item], Result], items: Iterable[Item], *, workers: 
     workers  the number of processes; None for as many as there are processors, 0 for this process
     seconds  how long an item may last; then its worker is ended, and another one replaces it
     ordered  whether the results are in the order of the items
-    stop     once it is set, no further item begins
+    stop     once it is set, no further items are read; workers still finish the items that they have
 
     Items are read when workers become free.
     """

@@ -80,7 +80,7 @@ class Going:
                                 start_new_session=True)
 
     def read(self) -> None:
-        """Reads the progress of the search, up to its end."""
+        """Reads the progress of the search up to its end, and then its results."""
         assert self.process.stderr
         for row in self.process.stderr:
             try:
@@ -125,7 +125,8 @@ class Going:
         return (self.folder / str(self.one(index)['file'])).read_text('utf-8')
 
     def shrunk(self, index: object, sentence: str) -> dict[str, str]:
-        """The smallest scenario in which the sentence holds without the faults of a set, and is broken with them."""
+        """A scenario, made as small as possible, in which the sentence holds without the faults of a set, and is broken
+        with them."""
         words = [NAME, sentence, '-o', 'small.toml', '--seconds', str(self.limits.seconds)]
         for effect in self.one(index)['effects']:
             words += ['--fault', ' '.join(map(str, effect))]
@@ -160,7 +161,7 @@ class Searches:
             self.going = None
 
     def stop(self) -> None:
-        """Stops the search."""
+        """Stops and forgets the search."""
         with self.lock:
             self.forget()
 

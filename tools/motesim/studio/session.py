@@ -238,5 +238,5 @@ class Session:
         return as_json({'text': self.searches.of(asked.get('number')).text(asked.get('index'))})
 
     def shrink(self, asked: dict[str, Any]) -> Answered:
-        """The smallest scenario in which the same faults break the same sentence."""
+        """A scenario, made as small as possible, in which the same faults break the same sentence."""
         return as_json(self.searches.of(asked.get('number')).shrunk(asked.get('index'), _text(asked, 'sentence')))

@@ -55,7 +55,7 @@ class Callers:
         return [it for it in self.of.get(number, []) if it.holds is None]
 
     def reason(self, number: int, depth: int = 0) -> str:
-        """The reason for which a statement was not reached, as ` since ..`, or an empty text."""
+        """The reason for which a statement was not reached, as `, since ..`, or an empty text."""
         it = self.program.statement(number)
         tests = {around: [one for one in self.of.get(around.number, []) if one.holds is not None]
                  for around in it.around}
@@ -96,7 +96,8 @@ class Callers:
         return self.sentence(found, depth) if found else ': no statement starts it, and `autostart` doesn\'t name it'
 
     def calls(self, process: int, waits: int, since: int) -> str:
-        """The statements that would have called a process that waits at a statement since a moment."""
+        """The statements that would have called a process, which has waited at the statement `waits` since the moment
+        `since`."""
         it, name = self.program.statement(waits), self.program.processes[process].name
         event, timer = OF_EVENT.search(it.text), OF_TIMER.search(it.text)
         if it.kind == 'acquire':

@@ -125,8 +125,8 @@ class Explainer:
         return '%s %d' % (frame.event, frame.word)
 
     def calls(self, frame: Frame | None) -> Iterator[str]:
-        """The calls that have no line, beginning with the innermost: if a process polls itself, only the last few
-        calls."""
+        """The calls that have no line, beginning with the innermost one; only the last few calls, because a process
+        that polls itself has very many."""
         for _ in range(MOST_CALLS):
             if not frame or frame.how in HAVE_LINES:
                 return
@@ -213,7 +213,7 @@ class Explainer:
 
 
 def wait_of(link: Link, at: int, before: int) -> str:
-    """The reason for the time between a line and its cause, which is at an earlier moment or at the same one."""
+    """The thing for which a line waited after its cause: one of WAITS, or an empty text."""
     if link.how == 'timer':
         return 'full' if at > max(link.since + link.interval, link.since) else 'timer'
     if link.how == 'medium':

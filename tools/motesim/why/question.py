@@ -295,7 +295,8 @@ class Asker:
         return [line for line in self.lines(it, (mote,)) if any(within([line], span) for span in spans)]
 
     def of_kept(self, it: Does, inside: dict[int, list[Found]]) -> Answer:
-        """The line by which a sentence about two events holds: for each mote, the line that fulfils it."""
+        """The line by which a sentence about two events holds. For each mote there is the line with which it fulfils
+        the sentence. The last of these counts if all motes have to fulfil the sentence, otherwise the first."""
         wanted = 1 if it.than else max(it.count.least, 1)
         shown = sorted(its[min(wanted, len(its)) - 1] for its in inside.values() if its)
         if not shown:
@@ -310,8 +311,8 @@ class Asker:
         return sorted(shown, key=lambda one: self.traces.moment(one.where))
 
     def of_each(self, asked: list[Answer]) -> Answer:
-        """The line of a sentence about each of several motes: the first line that breaks it, or otherwise the last of
-        all."""
+        """The line of a sentence about each of several motes: the answer for the first mote that breaks it; if none
+        does, the last of the lines that fulfil it."""
         broken = next((one for one in asked if not does(one)), None)
         if broken:
             return broken
