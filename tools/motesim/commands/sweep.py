@@ -17,7 +17,7 @@ Values are 10,20,40 or 1..30 or 0..100..25 (in steps of 25). Measures are
                                 the first moment at which each mote has printed it
   last: SENTENCE                the moment of the last line of the sentence
   count: SENTENCE               the number of lines of the sentence
-  motes: SENTENCE               the number of motes of the sentence that have such a line
+  motes: SENTENCE               the number of motes of the sentence that fulfil it
   delay: mote 0 sends 1 -> every mote but 0 prints flood 1
                                 the time from the first moment to the second; earlier lines of the second don't count
   delivery: motes 1 to 9 print source -> mote 0 prints sink

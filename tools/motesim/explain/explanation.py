@@ -85,7 +85,8 @@ def offset_of(text: str, program: str) -> int | None:
 
 
 def place_of_scenario(text: str, fault: ScenarioError) -> Place | None:
-    """The place of an error of the scenario itself; for a missing key at its top, a table of similar name, or None."""
+    """The place of an error of the scenario itself. For a key or a table that is missing at the top, this is the place
+    of the one that the author wrote instead, or None."""
     if fault.lacks is None:
         return fault.place(text)
     like = synonyms.like_of_missing(tables_or_none(text), fault)

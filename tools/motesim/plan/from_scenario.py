@@ -1,7 +1,8 @@
 """Makes a plan from a scenario: its numbers become parameters, and its programs, places and losses are in files next
 to the plan.
 
-The plan makes the same net: the same motes by their numbers, programs, losses and lengths of queues.
+The plan makes the same net: the same motes by their numbers, programs, losses and lengths of queues. Programs that no
+mote runs are left out.
 """
 from __future__ import annotations
 

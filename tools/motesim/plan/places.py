@@ -39,8 +39,8 @@ class Crowd:
         self.squares.setdefault(self.square(point), []).append(point)
 
     def near(self, point: Point) -> Iterable[Point]:
-        """The points of the square and of the squares around it: all that are at most a side away, and some farther
-        ones."""
+        """The points in the square of a point, and in the squares around it: all that are at most a side away, and some
+        farther ones."""
         x, y = self.square(point)
         for dx in (-1, 0, 1):
             for dy in (-1, 0, 1):

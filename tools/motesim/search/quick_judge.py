@@ -134,7 +134,7 @@ class Seen:
         return self.of_one[kind, mote]
 
     def count(self, mote: int, kind: str) -> int:
-        """Counts the lines of a mote that have one of the kinds of `COUNTED`."""
+        """Counts the lines of a mote that have this kind, which is one of `COUNTED`."""
         return self.sections[mote].count(' %s ' % kind)
 
     @cached_property

@@ -92,7 +92,7 @@ def like(process: str, scenario: Scenario | None, known: set[str]) -> str:
 
 
 def check_processes(report: Report, scenario: Scenario, marks: tuple[Mark, Mark]) -> None:
-    """Checks that each process of a flow is one of the scenario's."""
+    """Checks that each process of a flow is one of the scenario's, or has lines in the report."""
     for process in {it.process for it in marks if it.process}:
         known = set(names_of(scenario).processes or ())
         if process not in known and not report.trace.is_named(process):
