@@ -39,7 +39,8 @@ def words() -> argparse.Namespace:
     asked.add_argument('--built', action='store_true', help='use the libraries as rt ci has left them, and build none')
     asked.add_argument('--changed', action='store_true',
                        help='leave out mutants that were refused with exactly the same texts')
-    asked.add_argument('--gate', action='store_true', help='those of %s that have changed, and a tenth of all' % GATE)
+    asked.add_argument('--gate', action='store_true',
+                       help='try those mutants in %s that have changed, and a tenth of all' % GATE)
     asked.add_argument('names', nargs='*', metavar='CRATE or CRATE/NAME', help='crates, or mutants (all)')
     return asked.parse_args()
 

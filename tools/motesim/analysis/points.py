@@ -128,7 +128,7 @@ class Shown(NamedTuple):
     not_above_0    how many runs have no place on a logarithmic axis
     lacking        how many runs have no value, for each value of `by` that has such runs; if nets are averaged,
                    how many nets
-    shared         the numbers of runs and of nets of the first point that has several nets, but fewer than runs, or None
+    shared         the numbers of runs and of nets of the first point that has several nets, but fewer than runs
     faults_at, empty_at  the places of the omitted runs
     runs_at        if nets are averaged: how many runs each point has
     warnings       lines about the runs

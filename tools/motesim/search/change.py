@@ -40,6 +40,7 @@ class Change:
     queue       lengths of event queues, by program
     places      other places of motes
     added       motes that fail at a moment or start late: which of the two, and the moment
+    collide     whether packets collide that don't collide in the scenario
     """
     parameters: dict[str, Value] = field(default_factory=dict)
     losses: dict[tuple[int, int], int] = field(default_factory=dict)
@@ -226,7 +227,7 @@ class Base:
         return [*found, Edit(at, at, ''.join(rows))]
 
     def last_line_of_programs(self) -> int:
-        """The line before which a program can be added: that of the header after the table `programs`."""
+        """The line before which a program can be added: the first header after the table `programs`."""
         header = self.lines.places.get(('programs',))
         if header is None or self.lines.rows[header.line - 1].split('#')[0].strip() != '[programs]':
             raise CannotChange('%s: the programs are not in a table [programs], so none can be added' % self.name)

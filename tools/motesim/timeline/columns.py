@@ -31,7 +31,8 @@ MANY, MOTES_AT_ONCE = 300_000, 16
 
 
 def _zigzag(numbers: Sequence[int]) -> list[int]:
-    """Each number as its difference from the expected number: small if the two are near, and never negative."""
+    """Each number as its difference from the expected number, which is one more than the number before it. The result
+    is never negative, and is small if the two numbers are near."""
     steps = map(sub, numbers, chain((-1,), numbers))
     return [2 * step - 2 if step > 0 else 1 - 2 * step for step in steps]
 
