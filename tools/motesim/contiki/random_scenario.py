@@ -45,7 +45,7 @@ def random_scenario(seed: int | str, reached: Counter[str] | None = None) -> byt
 
 
 def _limit_of(seed: str) -> str:
-    """The limit that a scenario reaches, or '': each occurs once in 160 consecutive seeds."""
+    """The limit that a scenario reaches, or ''. Each limit occurs once in 160 consecutive seeds."""
     digits = re.search('[0-9]*$', seed)
     number = int(digits[0]) if digits and digits[0] else 1
     return LIMITS[number // LIMIT_EACH % len(LIMITS)] if number % LIMIT_EACH == 0 else ''

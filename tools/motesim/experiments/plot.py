@@ -163,7 +163,7 @@ def left_to_caption(has_room: bool, picture: Path) -> list[str]:
 
 
 def show(rows: Sequence[Row], wish: Wish, source: Source) -> bool:
-    """Draws a picture or prints a table; returns whether it has the wanted form."""
+    """Draws a picture or prints a table; returns whether the output has the wanted form."""
     shown = shown_of(by_net(rows, wish) if wish.nets else rows, wish)._replace(
         warnings=warnings_of(rows, [*separated_by(wish), *wish.over.split(',')]))
     if not shown.points:
@@ -411,7 +411,7 @@ def status_of(asked: argparse.Namespace) -> int:
     if any(wish.file for wish in wanted):
         packages.hand_on('plot', 'matplotlib', sys.argv)
     read: dict[tuple[str, ...], list[Row]] = {}
-    # (a list, so that each is shown)
+    # (a list, so that all requests are shown, even after one without its picture)
     if all([drawn(wish, asked, read) for wish in wanted]):
         return 0
     print('plot: tables instead of pictures, because %s' % packages.how_to_install('matplotlib'), file=sys.stderr)

@@ -114,8 +114,9 @@ class Program:
         return len(self.words) - 1
 
     def endless_loops(self) -> Iterator[tuple[str, Token]]:
-        """Each loop that may turn without end, with the warning: no statement in it waits, exits or restarts, or only
-        a `wait_until` or `wait_while` for an event does."""
+        """Each loop that may turn without end, with the warning: a `while 1` in which no statement waits, exits or
+        restarts, or only a `wait_until` or `wait_while` for an event does; and a `while` in which nothing waits or may
+        change its test."""
         for at, word in enumerate(self.words):
             if word == 'while' and self.tokens[at + 1].kind == 'number' and self.words[at + 1] != '0':
                 block = self.words[at + 2:self.end_of_block(at + 2)]

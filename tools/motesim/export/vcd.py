@@ -57,7 +57,7 @@ class Dump:
         self.changes.append((time + max(1, step // 2), signal, 0))
 
     def add_mote(self, mote: Mote) -> None:
-        """The signals of a mote: its event queue, the packets that it sends and gets, and its processes."""
+        """Adds the signals of a mote: its event queue, the packets that it sends and gets, and its processes."""
         top = ('mote_%d' % mote.number,)
         queue, halted = self.signal(top, 'queue', 8), self.signal(top, 'halted')
         packets = top + ('packets',)
@@ -86,7 +86,8 @@ class Dump:
             self.add_runs(turn, processes)
 
     def add_runs(self, turn: Turn, processes: dict[str, Process]) -> None:
-        """A process runs from its `start` or `take` up to the next, or to the end of the turn."""
+        """Adds the changes of the processes in a turn. A process runs from its `start` or `take` up to the next such
+        line, or to the end of the turn."""
         current = None
         for place, line in enumerate(turn.lines):
             its = processes.get(line.process or '')

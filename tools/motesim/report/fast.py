@@ -108,7 +108,8 @@ class _Joined:
             self.add_packets(piece)
 
     def add_lines(self, lines: Lines) -> None:
-        """Adds the lines of some spans. Raises Bad if a span of a mote begins before the previous one ends."""
+        """Adds the lines of some spans. Raises Bad if a span begins at an earlier moment than that at which the mote's
+        previous span ends."""
         trace, begin = self.trace, 0
         _rename(lines, trace.names)
         for count, span in zip(lines.counts, self.left):
@@ -120,7 +121,8 @@ class _Joined:
         trace.extend(lines.at, lines.kind, lines.of)
 
     def add_packets(self, packets: Packets) -> None:
-        """Adds a part of the log. Raises Bad if it begins before the last packet."""
+        """Adds a part of the log. Raises Bad if its first packet isn't later in the order than the last one of the
+        previous part."""
         at, sender, number = packets[:3]
         if (at[0], sender[0], number[0]) <= self.last:
             raise Bad('packets in their order')

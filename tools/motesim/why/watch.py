@@ -32,7 +32,8 @@ class Watched(NamedTuple):
 
 
 class Given(NamedTuple):
-    """A variable got a value: after the line `row` of the report, at a moment; `row` is 0 for its first value."""
+    """A variable got a value: after the line `row` of the report, at a moment; `row` is 0 if no line of the mote is
+    before it, as for the first value."""
     mote: int
     at: int
     row: int
