@@ -58,8 +58,8 @@ class ProgramFile:
         self.program = program
         self.counts_work = counts_work
         self.use = use_of(program)
-        # (the timers whose callbacks are named: by the statements that set them, or, for timers that are reset, by the
-        # code that runs once)
+        # (the timers whose callbacks are named: by the statements that set them, or, for timers that are reset or
+        # restarted, by the code that runs once)
         self.called = self.use.set_timers | (self.use.again if program.autostart else set())
         self.names = Names(program)
         self.numbers = {timer: number for number, timer in enumerate(program.timers())}
@@ -95,7 +95,7 @@ class ProgramFile:
         image.receiver = self.names.of(program.receiver) if program.receiver else ''
 
     def _used(self, code: Code, name: str) -> list[str]:
-        """The C name of what a code declares, if it is used."""
+        """A list with the C name of a declaration of a code; an empty list if nothing uses the declaration."""
         return [self.names.inside(code.process, name)] if (code.process, name) in self.use.inside else []
 
     def _callback(self, timer: str) -> str:
@@ -175,7 +175,7 @@ class ProgramFile:
         return comment_lines(comments.above, indent) + lines
 
     def _code_declarations(self, code: Code) -> list[str]:
-        """The variables, timers and threads' places of a process."""
+        """The declarations of a process: its variables, its timers, and the places at which its threads wait."""
         lines: list[str] = []
 
         def declare(kind: str, it: Declaration | Part, value: str = '', comments: Comments | None = None) -> None:
@@ -196,7 +196,7 @@ class ProgramFile:
         return ['', '/* Process %s */' % code.process, *lines, *unused] if lines or unused else []
 
     def _unused(self, code: Code) -> list[str]:
-        """A comment that names what a code declares without using it, with its comments."""
+        """A comment that names the declarations that a code doesn't use, with their own comments."""
         lines = []
         kinds: tuple[tuple[str, list[Declaration] | list[Part]], ...] = (
             ('var', code.variables), ('etimer', code.etimers), ('ctimer', code.ctimers), ('thread', code.threads))

@@ -33,7 +33,7 @@ class Stopped(Exception):
 
 
 class Break:
-    """Handles Ctrl-C during runs: the first is noted, the second ends the tool at once."""
+    """Handles Ctrl-C (and SIGTERM) during runs: the first one is noted, and the second one ends the tool at once."""
 
     def __init__(self, stop: threading.Event | None = None) -> None:
         self.stop = stop or threading.Event()
