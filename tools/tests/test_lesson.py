@@ -1,4 +1,5 @@
 """The lesson's sentences: the solutions meet them in all nets, and programs that don't solve a task earn nothing."""
+import re
 import unittest
 from pathlib import Path
 from tempfile import TemporaryDirectory
@@ -6,7 +7,7 @@ from tempfile import TemporaryDirectory
 from here import TOP
 from motesim.grading.entries import Entry
 from motesim.grading.marking import Marks, Task
-from motesim.grading.nets import nets_of
+from motesim.grading.nets import Net, nets_of
 from motesim.judge.expectations import parts_of
 from motesim.runner import Limits
 from skips import need_program
@@ -47,6 +48,38 @@ code hops {
 EVE = BY_NUMBER % 'if (self < 3) { print 1; } else { print (self - 1); }'
 BY_CLOCK = BY_NUMBER % 'print (now / 3);'
 
+# The page for teachers, which has a plan of nets, and sentences for a lab with a sink.
+PAGE = (TOP / 'docs/use/TEACH.md').read_text('utf-8')
+# A lab: mote 0 asks for readings, motes 1 to 7 run the students' program, and mote 8 runs one of the teacher's.
+LAB = """version = 2
+end = 400
+medium = { range = 10, base = 2, per = 100, collide = false }
+[programs]
+sink = '''
+process sink;
+autostart sink;
+receiver sink;
+code sink { body { send 100; while 1 { yield_until is(packet); if (data != 100) { print data; } } } }
+'''
+sensor = "process sensor; autostart sensor; code sensor { body { pause; } }"
+ours = "process ours; autostart ours; receiver ours; code ours { body { yield_until is(packet); send %d; } }"
+""" + ''.join('[[mote]]\nx = %d\ny = 0\nprogram = "%s"\n' % (8 * at, it)
+              for at, it in enumerate(['sink', *['sensor'] * 7, 'ours']))
+SENSOR = """process sensor;
+autostart sensor;
+receiver sensor;
+code sensor {
+  var value = 0;
+  body {
+    yield_until is(packet);
+    send 100;
+    %s
+  }
+}
+"""
+FORWARDS = SENSOR % 'send self; while 1 { yield_until is(packet); if (from > self) { send data; } }'
+SPEAKS_FOR_ALL = SENSOR % 'while (value < 8) { value = (value + 1); send value; }'
+
 # Each mote prints all values on its first packet, and forwards it once, at a moment at which nothing collides.
 EVERY_VALUE = '''process hops;
 autostart hops;
@@ -72,16 +105,24 @@ class Lesson(unittest.TestCase):
 
     def marks(self, task: int, program: str, *hidden: str) -> Marks:
         """The marks of a program, or of a solution named by its file."""
-        part = parts_of((LESSON / ('task%d.expect.toml' % task)).read_text(), 'task')[0]
         nets = [LESSON / NETS[task], *(LESSON / 'solutions' / it for it in hidden)]
-        its = Task(part, tuple(nets_of(nets, [], None)), Limits())
+        return self.marks_in(nets_of(nets, [], None), (LESSON / ('task%d.expect.toml' % task)).read_text(), program)
+
+    def marks_in(self, nets: list[Net], sentences: str, program: str) -> Marks:
+        """The marks for a file of sentences in some nets."""
+        its = Task(parts_of(sentences, 'task')[0], tuple(nets), Limits())
         path = LESSON / 'solutions' / program
         if not program.endswith('.toml'):
-            path = Path(self.enterContext(TemporaryDirectory())) / 'a.mote'
-            path.write_text(program)
+            path = self.file('a.mote', program)
         found = its.of((1, Entry('a', path)))
         self.assertEqual(found.why, '')
         return found
+
+    def file(self, name: str, text: str) -> Path:
+        """A file with a text, in a folder of its own."""
+        path = Path(self.enterContext(TemporaryDirectory())) / name
+        path.write_text(text)
+        return path
 
     def test_the_solutions_meet_all_sentences(self) -> None:
         for task in NETS:
@@ -130,6 +171,33 @@ class Lesson(unittest.TestCase):
             with self.subTest(task=task, program=program):
                 self.assertEqual(self.marks(task, program).first_failed, None)
                 self.assertEqual(self.marks(task, program, HIDDEN[task]).held, 0)
+
+    def test_in_the_nets_of_the_pages_plan_a_clock_earns_nothing(self) -> None:
+        plan = self.file('wave.plan.toml', PAGE.split("cat >wave.plan.toml <<'END'\n")[1].split('END\n')[0])
+        (plan.parent / 'wave.mote').write_text(EVE)
+        sentences = (LESSON / 'task2.expect.toml').read_text()
+        shown, hidden = (nets_of([plan], ['seed=' + it], None) for it in re.findall(r'--vary\S* seed=(\S+)', PAGE))
+        for nets in shown, nets_of([plan], ['seed=1..30'], None):
+            self.assertEqual(self.marks_in(nets, sentences, BY_NUMBER % 'print (now / 4);').held, 0)
+        for nets in shown, hidden:
+            self.assertEqual(self.marks_in(nets, sentences, 'task2.toml').first_failed, None)
+        for divisor in range(4, 9):
+            for more in range(divisor):
+                with self.subTest(divisor=divisor, more=more):
+                    program = BY_NUMBER % 'print ((now + %d) / %d);' % (more, divisor)
+                    self.assertEqual(self.marks_in(hidden, sentences, program).held, 0)
+
+    def test_each_of_the_pages_sentences_reveals_a_mote_that_speaks_for_others(self) -> None:
+        for value, sentence in (
+                (8, 'every mote but motes 0 and 8 never sends 8 before receiving 8'),
+                (64773, 'mote 0 prints sink 64773 exactly 1 times as often as mote 8 sends 64773')):
+            with self.subTest(sentence):
+                self.assertIn('`%s`' % sentence, PAGE)
+                for reading, program, held in (
+                        (value, FORWARDS, 1), (value, SPEAKS_FOR_ALL, 0), (8, FORWARDS, 1)):
+                    nets = nets_of([self.file('lab.toml', LAB % reading)], [], 'sensor')
+                    found = self.marks_in(nets, 'expect = ["%s"]' % sentence, program)
+                    self.assertEqual((reading, program, found.held), (reading, program, held))
 
 
 if __name__ == '__main__':
