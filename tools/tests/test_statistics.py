@@ -439,8 +439,19 @@ class Rows(unittest.TestCase):
                 shown_of(rows, Wish('sent', 'period'))
             shown = shown_of(rows, Wish('sent', 'period', over='seed,%s' % column))
             self.assertEqual(shown.points[0].values, (1, 2, 3, 4))
-            # (two programs that a parameter selects)
-            shown_of([{**it, 'period': it[column]} for it in rows], Wish('sent', 'period'))
+
+    def test_plans_may_differ_between_points_but_measures_may_not(self) -> None:
+        rows: list[Row] = [{**row(period, 1, 5), 'plan_sha256': 'plan%d' % period} for period in (1, 2)]
+        self.assertEqual(len(shown_of(rows, Wish('sent', 'period')).points), 2)
+        self.assertEqual(warnings_of(rows), [
+            'these are runs of 2 plans, or of one plan with other files next to it (plan_sha256 plan1 in 1, plan2 in '
+            '1): check that only program files differ, and that a parameter selects them'])
+        self.assertEqual(warnings_of(rows, ['plan_sha256']), [])
+        others: list[Row] = [{**row(period, 1, 5), 'measures_sha256': 'set%d' % period} for period in (1, 2)]
+        for wish in Wish('sent', 'period'), Wish('sent', 'ratio', 'period'):
+            with self.assertRaisesRegex(Fault, r'^these are runs of 2 sets of measures \(measures_sha256 set1, set2\)'):
+                shown_of(others, wish)
+        self.assertEqual(len(shown_of(others, Wish('sent', 'period', by='measures_sha256')).points), 2)
 
     def test_runs_that_draw_alike_are_found_in_any_rows(self) -> None:
         rows: list[Row] = [{**row(1, seed, seed), 'chance_seeds': 'seed'} for seed in (1, 100, 258, 300, 772)]
@@ -455,7 +466,12 @@ class Rows(unittest.TestCase):
         rows: list[Row] = [{**row(period, seed, seed), 'note': 'warning: in step' if period + seed < 4 else None}
                            for period in (1, 2) for seed in (1, 2)]
         self.assertEqual(warnings_of(rows), [
-            '3 of 4 runs have a warning in the column note of the results; the first: period = 1, seed = 1'])
+            '3 of 4 runs have a warning in the column note of the results; the first (period = 1, seed = 1): in step'])
+        rows[0]['note'] = 'warning: several motes print the same value as a source: motes 1 and 2 print 7'
+        self.assertEqual(warnings_of(rows), [
+            '1 of 4 runs have a warning in the column note of the results; the first (period = 1, seed = 1): several '
+            'motes print the same value as a source',
+            '2 of 4 runs have a warning in the column note of the results; the first (period = 1, seed = 2): in step'])
 
     def test_runs_of_two_builds_have_a_line_and_can_be_separated(self) -> None:
         rows: list[Row] = [{**row(1, seed, seed), 'program_sha256': 'digest%d' % (seed > 1)} for seed in (1, 2, 3)]
@@ -573,13 +589,33 @@ class Command(unittest.TestCase):
         for name in 'net', 'more':
             (self.folder / (name + '.csv')).write_text('\n'.join(
                 ['plan_sha256,' + lines[0], *('%s,%s' % (name, it) for it in lines[1:])]) + '\n')
-        self.plot('--measure', 'sent', '--against', 'period', '--compare', 'more.csv', *ONE)
+        words = '--measure', 'sent', '--against', 'period'
+        rows = self.plot(*words, '--compare', 'more.csv', *ONE)
+        warning = 'these are runs of 2 plans, or of one plan with other files next to it (plan_sha256 net in '
+        self.assertIn('plot: ' + warning, self.seen)
+        self.assertTrue(any(' '.join(it).startswith(warning) for it in rows), rows)
         text = (self.folder / 'net.csv').read_text()
         (self.folder / 'net.csv').write_text(re.sub('^net(.*,thin,[12],)', r'old\1', text, flags=re.M))
         self.plot('--measure', 'sent', '--against', 'period', '--compare', 'more.csv', *ONE, status=2)
         self.assertIn('these are runs of 2 plans', self.seen)
         self.plot('--measure', 'sent', '--against', 'period', '--where', 'sead=2', status=2)
         self.assertIn('there is no parameter sead; there are: period, density, seed', self.seen)
+
+    def test_sides_and_lines_of_two_sets_of_measures_are_refused(self) -> None:
+        lines = results().splitlines()
+        for name in 'net', 'more':
+            (self.folder / (name + '.csv')).write_text('\n'.join(
+                [lines[0] + ',measures_sha256', *('%s,%s' % (it, name) for it in lines[1:])]) + '\n')
+        words = '--measure', 'sent', '--against', 'period'
+        refused = 'these are runs of 2 sets of measures (measures_sha256 more, net)'
+        self.plot(*words, '--compare', 'more.csv', *ONE, status=2)
+        self.assertIn(refused, self.seen)
+        self.plot(*words, '--compare', 'more.csv', '--by', 'density', '--over', 'seed,measures_sha256')
+        text = (self.folder / 'net.csv').read_text()
+        (self.folder / 'net.csv').write_text(re.sub('(,dense,.*),net$', r'\1,more', text, flags=re.M))
+        for way in ('--by', 'density'), ('--pair', 'density=thin,dense'):
+            self.plot(*words, *way, status=2)
+            self.assertIn(refused, self.seen)
 
     def test_rows_that_are_there_twice_are_named(self) -> None:
         path = self.folder / 'net.csv'

@@ -22,10 +22,12 @@ REJECTED = 'rejected'
 # The column with the digest of a net's places.
 PLACES = 'places_sha256'
 # The columns with the digests of a run's plan (with the files that it reads) and of its measures.
-MADE_BY = {'plan_sha256': 'plans, or of one plan with changed files next to it', 'measures_sha256': 'sets of measures'}
+PLAN, MEASURES = 'plan_sha256', 'measures_sha256'
 # The column with the digest of motesim, by which runs can be separated too.
 PROGRAM = 'program_sha256'
-SEPARATES = (*MADE_BY, PROGRAM)
+# What a digest distinguishes, in messages.
+SEPARATES = {PLAN: 'plans, or of one plan with other files next to it', MEASURES: 'sets of measures',
+             PROGRAM: 'builds of motesim'}
 # The columns of a row that is the mean of a net: the numbers of its runs, of those with values and of those without,
 # and the net's name. (No parameter has such a name.)
 RUNS, WITH, WITHOUT, NET = '(runs)', '(with a value)', '(without a value)', '(net)'
@@ -228,21 +230,35 @@ def is_repeat(name: str, over: str) -> bool:
     return name in over.split(',') if over else is_seed(name)
 
 
-def check_made(rows: Sequence[Row], names: Sequence[str], wish: Wish) -> None:
-    """Refuses to mix runs of several plans or sets of measures that have the same values of these parameters."""
-    for column, what in MADE_BY.items():
-        if column == wish.by:
-            continue
-        digests: dict[tuple[Cell, ...], list[Cell]] = {}
-        for row in rows:
-            if row.get(column) is not None:
-                digests.setdefault(tuple(row[name] for name in names), []).append(row[column])
-        mixed = next((sorted(set(its), key=order) for its in digests.values() if len(set(its)) > 1), None)
-        if mixed and column not in wish.over.split(','):
-            repeats = [it for it in parameters_of(rows) if is_repeat(it, wish.over)]
-            ways = [] if wish.by else ['--by %s separates them' % column]
-            ways += [SELECTS % (column, text_of(mixed[0])), '--over %s mixes them' % ','.join([*repeats, column])]
-            raise Fault('these are runs of %d %s: %s' % (len(mixed), what, ', '.join(ways)))
+def separated_by(wish: Wish) -> list[str]:
+    """The digests by which a request separates runs."""
+    return [it for it in SEPARATES if it in (wish.by, wish.pair.partition('=')[0])]
+
+
+def check_plans(rows: Sequence[Row], names: Sequence[str], wish: Wish) -> None:
+    """Refuses to mix runs of several plans that have the same values of these parameters."""
+    digests: dict[tuple[Cell, ...], set[Cell]] = {}
+    for row in rows:
+        digests.setdefault(tuple(row[name] for name in names), set()).add(row.get(PLAN))
+    for its in digests.values():
+        _refuse_several(PLAN, its, rows, wish)
+
+
+def check_measures(rows: Sequence[Row], wish: Wish) -> None:
+    """Refuses to show runs of several sets of measures together: one name may mean two measures."""
+    _refuse_several(MEASURES, {row.get(MEASURES) for row in rows}, rows, wish)
+
+
+def _refuse_several(column: str, digests: set[Cell], rows: Sequence[Row], wish: Wish) -> None:
+    """Refuses runs with several of these digests, unless the request separates or mixes them."""
+    found = sorted(digests - {None}, key=order)
+    if len(found) < 2 or column in (*separated_by(wish), *wish.over.split(',')):
+        return
+    repeats = [it for it in parameters_of(rows) if is_repeat(it, wish.over)]
+    ways = [] if wish.by or wish.pair or wish.compare else ['--by %s separates them' % column]
+    ways += [SELECTS % (column, text_of(found[0])), '--over %s mixes them' % ','.join([*repeats, column])]
+    raise Fault('these are runs of %d %s (%s %s): %s' % (
+        len(found), SEPARATES[column], column, ', '.join(map(text_of, found[:MOST_VALUES])), ', '.join(ways)))
 
 
 def check_pairs(rows: Sequence[Row], wish: Wish, kept: Sequence[str]) -> None:
@@ -293,7 +309,8 @@ def shown_of(rows: Sequence[Row], wish: Wish) -> Shown:
     repeats = repeats_of(varying, wish.over)
     check_mixture(good, [it for it in over if it not in repeats], repeats, wish.by,
                   'each point' if wish.against else 'a line')
-    check_made(good, [it for it in varying if it not in repeats], wish)
+    check_plans(good, [it for it in varying if it not in repeats], wish)
+    check_measures(good, wish)
     groups: dict[Place, list[tuple[float, tuple[Cell, ...]]]] = {}
     lacking: Counter[Cell] = Counter()
     empty_at: Counter[Place] = Counter()
@@ -353,7 +370,8 @@ def _of_two_measures(rows: Sequence[Row], good: Sequence[Row], varying: Sequence
     over = repeats_of(varying, wish.over)
     kept = [name for name in varying if name not in over]
     along = [name for name in kept if name != wish.by]
-    check_made(good, kept, wish)
+    check_plans(good, kept, wish)
+    check_measures(good, wish)
     if len(along) > 1 and wish.show != 'points':
         check_mixture(good, along, over, wish.by, 'one line')
     groups: dict[tuple[Cell, ...], list[tuple[float, float, tuple[Cell, ...]]]] = {}

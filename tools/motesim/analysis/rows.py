@@ -1,13 +1,15 @@
 """The rows of a sweep before they become points: leaves out repeated rows, and computes the means of nets."""
 from __future__ import annotations
 
+import re
 import statistics
 from collections import Counter
 from collections.abc import Sequence
 
-from motesim.analysis.points import MOST_VALUES, NET, PLACES, PROGRAM, RUNS, SELECTS, SEPARATES, WITH, WITHOUT, Wish
+from motesim.analysis.points import MOST_VALUES, NET, PLACES, PLAN, PROGRAM, RUNS, SELECTS, SEPARATES, WITH, WITHOUT
+from motesim.analysis.points import Wish
 from motesim.analysis.points import measures_of, name_of_net, names_of_nets, number_of, parameters_of, repeats_of
-from motesim.experiments.draws import WARNING, lines_of, without_alike
+from motesim.experiments.draws import lines_of, warnings_in
 from motesim.experiments.measures import Cell
 from motesim.experiments.results import Row, text_of
 from motesim.faults import Fault
@@ -15,6 +17,10 @@ from motesim.faults import Fault
 Key = tuple[Cell, ...]
 # The digests that show whether two rows are of one run.
 DIGESTS = 'scenario_sha256', 'report_sha256'
+# The end of the part of a warning that says what it is about.
+END_OF_HEAD = re.compile('[:;]')
+# (the digest of a plan also covers its program files, and no column shows whether only they differ)
+CHECK = 'check that only program files differ, and that a parameter selects them'
 
 
 def shown_key(names: Sequence[str], key: Key) -> str:
@@ -86,26 +92,39 @@ def by_net(rows: Sequence[Row], wish: Wish) -> list[Row]:
 
 def warnings_of(rows: Sequence[Row], apart: Sequence[str] = (), has_lines: bool = True) -> list[str]:
     """Lines about runs that draw the same random numbers, about runs with a warning in their notes, and about runs of
-    several builds of motesim.
+    several plans or several builds of motesim.
 
     apart      the columns by which runs are separated on purpose
     has_lines  whether `--by` can separate runs
     """
     good = [row for row in rows if not row.get('fault')]
-    found = lines_of(good)
-    noted = [row for row in good if WARNING in without_alike(row.get('note'))]
-    if noted:
-        names = [name for name in parameters_of(rows) if len({row[name] for row in good}) > 1]
-        found.append('%d of %d runs have a warning in the column note of the results%s' % (
-            len(noted), len(good), '; the first: ' + shown_key(names, tuple(noted[0][it] for it in names))
-            if names else ''))
-    programs = Counter(text_of(row[PROGRAM]) for row in good if row.get(PROGRAM) is not None)
-    if len(programs) > 1 and PROGRAM not in apart:
-        its = ['%s in %d' % it for it in programs.most_common(MOST_VALUES)] + ['..'] * (len(programs) > MOST_VALUES)
-        ways = ['--by %s separates them' % PROGRAM] * has_lines + [SELECTS % (PROGRAM, next(iter(programs)))]
-        found.append('these are runs of %d builds of motesim (%s %s): %s' % (
-            len(programs), PROGRAM, ', '.join(its), ', '.join(ways)))
-    return found
+    return [*lines_of(good), *_of_notes(good), *(line for column in (PLAN, PROGRAM) if column not in apart
+                                                 for line in _of_several(column, good, has_lines))]
+
+
+def _of_notes(rows: Sequence[Row]) -> list[str]:
+    """For each kind of warning in the notes of runs: a line with the number of these runs, and the first of them."""
+    counts: Counter[str] = Counter()
+    firsts: dict[str, tuple[Row, str]] = {}
+    for row in rows:
+        for kind, text in warnings_in(row.get('note')).items():
+            counts[kind] += 1
+            firsts.setdefault(kind, (row, END_OF_HEAD.split(text)[0]))
+    names = [name for name in (parameters_of(rows) if rows else ()) if len({row[name] for row in rows}) > 1]
+    return ['%d of %d runs have a warning in the column note of the results; the first%s: %s' % (
+        counts[kind], len(rows), ' (%s)' % shown_key(names, tuple(row[it] for it in names)) if names else '', head)
+        for kind, (row, head) in firsts.items()]
+
+
+def _of_several(column: str, rows: Sequence[Row], has_lines: bool) -> list[str]:
+    """The line about runs with several digests in this column."""
+    counts = Counter(text_of(row[column]) for row in rows if row.get(column) is not None)
+    if len(counts) < 2:
+        return []
+    its = ['%s in %d' % it for it in counts.most_common(MOST_VALUES)] + ['..'] * (len(counts) > MOST_VALUES)
+    ways = ['--by %s separates them' % column] * has_lines + [SELECTS % (column, next(iter(counts)))]
+    return ['these are runs of %d %s (%s %s): %s' % (
+        len(counts), SEPARATES[column], column, ', '.join(its), CHECK if column == PLAN else ', '.join(ways))]
 
 
 def mean_of(rows: Sequence[Row], measure: str) -> float | None:

@@ -15,8 +15,9 @@ from motesim.analysis.estimates import AUTO, MEANS
 from motesim.analysis.estimates import quartiles as quartiles
 from motesim.analysis.origin import origin_of, origin_path
 from motesim.analysis.paired import Difference, Paired, differences, pairs_of
-from motesim.analysis.points import MEDIAN, SEPARATES, SHOWS, Wish, check_made, check_pairs, is_repeat, measures_of
-from motesim.analysis.points import names_of_nets, order, parameters_of, shared_nets, shown_of
+from motesim.analysis.points import MEDIAN, SEPARATES, SHOWS, Wish, check_measures, check_pairs, check_plans
+from motesim.analysis.points import is_repeat, measures_of, names_of_nets, order, parameters_of, separated_by
+from motesim.analysis.points import shared_nets, shown_of
 from motesim.analysis.rows import by_net, once, warnings_of
 from motesim.experiments import packages
 from motesim.experiments.asked import values_of
@@ -199,8 +200,10 @@ def compare(sides: Sides, wish: Wish, source: Source) -> bool:
         if name not in kept:
             raise Fault('there is no parameter %s on both sides; there are: %s' % (name, ', '.join(kept)))
     check_pairs([*rows, *others], wish, kept)
+    fixed = [it for it in kept if not is_repeat(it, wish.over)]
     for side in rows, others:
-        check_made([row for row in side if not row['fault']], [it for it in kept if not is_repeat(it, wish.over)], wish)
+        check_plans([row for row in side if not row['fault']], fixed, wish)
+    check_measures([row for row in [*rows, *others] if not row['fault']], wish)
     nets = names_of_nets([*rows, *others], wish.over) if wish.nets else None
     groups: list[tuple[Cell, Paired]] = []
     for by in sorted({row[wish.by] for row in [*rows, *others]}, key=order) if wish.by else [None]:
@@ -307,11 +310,6 @@ def chosen(rows: Sequence[Row], where: Sequence[str]) -> list[Row]:
                 row[name] for row in rows)))
         found = [row for row in found if text_of(row[name]) in values]
     return found
-
-
-def separated_by(wish: Wish) -> list[str]:
-    """The digests by which a request separates runs."""
-    return [it for it in SEPARATES if it in (wish.by, wish.pair.partition('=')[0])]
 
 
 def runs_of(path: Path, where: Sequence[str], apart: Sequence[str] = ()) -> list[Row]:
