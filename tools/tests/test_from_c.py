@@ -288,6 +288,9 @@ class FileScope(unittest.TestCase):
                 ('static uint8_t x;', 'print x;', 11, 'var x = 0;'), ('var x = 7;', 'print x;', 11, 'var x = 7;'),
                 ('static int x = 7, y;', 'print (x + y);', 11, 'var x = 7; var y = 0;'),
                 ('#define PERIOD 40', 'set u period;', 11, 'var period = 40;'),
+                ('#define PERIOD (CLOCK_SECOND * 5)', 'set u period;', 11, 'var period = 50;'),
+                ('#define PERIOD 3*CLOCK_SECOND/2 + 1 // ticks', 'set u period;', 11, 'var period = 16;'),
+                ('#define PERIOD (-1)', 'set u period;', 11, 'var period = 65535;'),
                 ('static uint8_t x = 7;', 'yield;', 4, 'var x = 7;')):
             with self.subTest(typed):
                 source = self.SOURCE % (typed, use)
@@ -309,6 +312,28 @@ class FileScope(unittest.TestCase):
         assert found and found.above
         self.assertEqual((found.line, found.above[1]), ('set timeout my_timeout;', 'var my_timeout = 20;'))
         self.assertIsNone(find_fault(found.applied(source)))
+
+    def test_no_value_of_a_constant_is_invented(self) -> None:
+        for value, said in (
+                ('(CLOCK_SECOND * RATE)', 'choose a value n: `var period = n;`'), ('(1 << 4)', 'choose a value n'),
+                ('0.5', 'choose a value n'), ('(1 / 0)', 'choose a value n'),
+                ('(CLOCK_SECOND * 7000)', 'set to 65535 moments at most'), ('70000', 'set to 65535 moments at most')):
+            with self.subTest(value):
+                source = self.SOURCE % ('#define PERIOD ' + value, 'set u period;')
+                fault = find_fault(source)
+                assert fault
+                found = advice(source, fault)
+                assert found
+                self.assertIn(said, found.hint)
+                self.assertEqual((found.line, found.above), (None, None))
+
+    def test_a_second_is_a_choice_in_a_constant_too(self) -> None:
+        source = self.SOURCE % ('#define PERIOD (CLOCK_SECOND * 5)', 'set u period;')
+        fault = find_fault(source)
+        assert fault
+        found = advice(source, fault)
+        assert found
+        self.assertIn('Decide how many moments a second has', found.hint)
 
     def test_a_constant_named_like_a_timer_has_another_name(self) -> None:
         source = self.SOURCE % ('#define U 12', 'set u 5;')
@@ -459,6 +484,32 @@ class Calls(unittest.TestCase):
                               'is `yield_until` here', hint.replace(';`', '`'))
                 for nonsense in 'Names have small letters', 'var etimer_set', 'No variable':
                     self.assertNotIn(nonsense, hint)
+
+    def test_no_reason_hides_one_that_says_what_else_to_do(self) -> None:
+        seed, step = 'At the start of `body`: `dice = ((self * 257) + 1);', '`tries = (tries + 1);` at the end of its'
+        second, choice = 'Decide how many moments', '`PERIOD` isn\'t declared: `var period = 20;`, with a value of your'
+        for lines, line, said in (
+                ('for(tries = 0; tries < DONE; tries++) {\nprint 1;\n}', 'tries = 0; while (tries < done) {', [step]),
+                ('for(tries = 0; tries < 0x10 && done == 0; tries++) {\nprint 1;\n}',
+                 'tries = 0; while ((tries < 16) && (done == 0)) {', [step]),
+                ('tries = DONE + random_rand() % 4;',
+                 'dice = ((dice * 25173) + 13849); tries = (done + ((dice / 256) % 4));', [seed]),
+                ('etimer_set(&t, CLOCK_SECOND * 4 + random_rand() % 40);',
+                 'dice = ((dice * 25173) + 13849); set t ((10 * 4) + ((dice / 256) % 40));', [second, seed]),
+                ('etimer_set(&t, PERIOD + CLOCK_SECOND * 4 + random_rand() % 40);',
+                 'dice = ((dice * 25173) + 13849); set t ((period + (10 * 4)) + ((dice / 256) % 40));',
+                 [choice, second, seed]),
+                ('while (tries < 3) { if(DONE) { break; } tries++; }',
+                 'while (tries < 3) { if done { tries = 3; } tries = (tries + 1); }', ['the rest of the block still']),
+                ('if (tries < 3) { tries++; tries = 0xA; return tries; }',
+                 'if (tries < 3) { tries = (tries + 1); tries = 10; exit; }', ['An `exit` passes no value']),
+                ('while (tries < DONE) { for(tries = 0; tries < 3; tries++) {\nprint 1;\n} }',
+                 'while (tries < done) { tries = 0; while (tries < 3) {', ['`DONE` is written `done`', step])):
+            with self.subTest(lines):
+                found, _, hint = self.corrected('1', lines)
+                self.assertEqual(found, line)
+                for it in said:
+                    self.assertIn(it, hint)
 
     def test_protothreads_and_semaphores_that_are_not_declared(self) -> None:
         for call, line, declared in (

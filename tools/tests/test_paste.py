@@ -127,6 +127,10 @@ class Pasted(unittest.TestCase):
         self.assertEqual([it.text for it in tokens_of(its)], [it.text for it in tokens_of(REPAIRED)])
         callback = re.sub(r'\s+', ' ', next(it for it in said if 'static void' in it))
         self.assertIn('the statements are `print from; print from; print data;`', callback)
+        timer = re.sub(r'\s+', ' ', next(it for it in said if 'etimer_set' in it))
+        self.assertIn('mix the seed, so that motes don\'t draw in step', timer)
+        self.assertIn('dice = ((self * 257) + 1);', timer)
+        self.assertIn('with 10 it is the line below', timer)
         self.assertIn('Hint: No connection is opened', next(it for it in said if 'struct broadcast_callbacks' in it))
         self.assertIn('Write, as lines 14 to 19: receiver example_broadcas;', callback)
 

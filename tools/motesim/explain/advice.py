@@ -5,6 +5,7 @@ from typing import NamedTuple
 
 from motesim.explain import forms, hints, names
 from motesim.from_c.correction import correction
+from motesim.from_c.expressions import SMALL_LETTERS
 from motesim.from_c.structure import ONE_LINE
 from motesim.notation.faults import ProgramError, tokens_of
 
@@ -78,7 +79,8 @@ def advice(source: str, fault: ProgramError) -> Advice | None:
     hint = hints.of_program(source, fault) or names.of_name(source, fault) or forms.of_statement(source, fault)
     small = forms.of_capitals(source, fault)
     if found and found.line and small and small[1] in found.line and found.reasons != (ONE_LINE,):
-        return Advice(small[0], found.line, found.first, found.last, found.above)
+        others = [it for it in found.reasons if not it.startswith(SMALL_LETTERS)]
+        return Advice(' '.join([small[0], *others]), found.line, found.first, found.last, found.above)
     if found is None:
         return Advice(hint + names.otherwise(source, fault)) if hint else _declared(source, fault)
     reasons = ' '.join(found.reasons) or hint or OF_PARENTHESES

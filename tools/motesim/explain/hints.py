@@ -8,6 +8,7 @@ from __future__ import annotations
 
 import re
 
+from motesim.from_c.declarations import NO_CONSTANTS
 from motesim.from_c.expressions import TOO_LARGE
 from motesim.explain import quotes
 from motesim.explain.synonyms import CHANCE, at, like_of_missing, nearest
@@ -29,7 +30,7 @@ WISHES = {
     'break': 'There is no `break`: let the test of the `while` become false.',
     'int': 'A variable has 16 bits and no type: `var x = 0;`, at the head of its `code`.',
     'let': 'A variable is declared at the head of its `code`: `var x = 0;`.',
-    'const': 'There are no constants: use a variable that is never assigned, `var period = 40;`.',
+    'const': NO_CONSTANTS + ', `var period = 40;`.',
     'function': 'There are no functions: a `thread` is run by `spawn`, and shares the variables of its process.',
     'fn': 'There are no functions: a `thread` is run by `spawn`, and shares the variables of its process.',
     'def': 'There are no functions: a `thread` is run by `spawn`, and shares the variables of its process.',
@@ -56,7 +57,7 @@ WISHES = {
     'sender': 'The sender of a packet is `from`.',
     'value': 'The value of a packet or an event is `data`.',
 }
-WISHES.update({word: WISHES['random'] for word in ('rand', 'rnd')})
+WISHES.update({word: WISHES['random'] for word in ('rand', 'rnd', 'random_rand')})
 # Python's messages on texts that aren't TOML, and the most likely intentions.
 NO_TOML = {
     "']'": 'A table is named in brackets, `[medium]`; each mote and each loss has one in two, `[[mote]]`.',

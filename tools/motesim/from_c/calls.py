@@ -250,10 +250,13 @@ class Calls(Lines):
         line = {'variable': 'var %s = %s;' % (name, value), 'timer': 'etimer %s;' % name, 'event': 'event %s;' % name,
                 'semaphore': 'semaphore %s = %s;' % (name, self.scope.counts.get(name, '0')),
                 'thread': 'thread %s { }' % name}
-        where = {'event': ' above the `process` line, or `is(packet)` if a packet is meant',
+        where = {'variable': ', with a value of your choice',
+                 'event': ' above the `process` line, or `is(packet)` if a packet is meant',
                  'semaphore': ' above the `process` line, with its initial count',
                  'thread': ' at the head of the `code`, with its statements between the braces'}
-        self.writer.reasons.insert(1, '`%s` isn\'t declared: `%s`%s.' % (word, line[kind], where.get(kind, '')))
+        reason = '`%s` isn\'t declared: `%s`%s.' % (word, line[kind], where.get(kind, ''))
+        self.writer.reasons.insert(1, reason)
+        self.writer.needed.append(reason)
         (self.events if kind in ('event', 'semaphore') else self.declares).append(line[kind])
         self.scope.kinds[name] = kind
 

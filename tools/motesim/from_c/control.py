@@ -1,7 +1,7 @@
 """The control flow of C, as the notation has it: blocks, tests and loops."""
 from __future__ import annotations
 
-from motesim.from_c.expressions import ONE_TOO_MANY, QUALIFIERS, TYPES, NoCounterpart
+from motesim.from_c.expressions import ONE_TOO_MANY, QUALIFIERS, TYPES, NoCounterpart, Node
 from motesim.from_c.lines import Lines
 from motesim.from_c.places import conjuncts, ends_loop, last_statement
 from motesim.from_c.scope import allowed
@@ -16,6 +16,13 @@ NO_BREAK = 'There is no `break`: let the test of the `while` become false.'
 
 class Control(Lines):
     """Reads blocks, tests and loops."""
+
+    def why_with_rest(self, reason: str, rest: str) -> None:
+        """Notes a reason and, if a block continues below these lines, what has to be written further down."""
+        if self.is_cut and rest:
+            self.writer.insist(reason + rest + '.')
+        else:
+            self.why(reason + '.')
 
     def closing(self) -> str:
         """A brace that closes a block from above these lines, with an `else` behind the brace."""
@@ -49,8 +56,8 @@ class Control(Lines):
         if self.token.text != 'if':
             return 'else ' + self.body()
         inner = self.statement()
-        self.why('There is no `else if`: open a block, `else {`, and put the `if` into it%s.' % (
-            '; one more `}` closes it' if self.is_cut else ''))
+        self.why_with_rest('There is no `else if`: open a block, `else {`, and put the `if` into it',
+                           '; one more `}` closes it')
         return 'else { %s' % inner if self.is_cut else 'else { %s }' % inner
 
     def body(self) -> str:
@@ -117,15 +124,15 @@ class Control(Lines):
         before = last_statement([it.text for it in self.tokens[:self.at]]) or self.place.before
         if before in ends:
             self.at += 1
-            self.why('There is no `break`: `%s;` already makes the test of the `while` false, so leave it out. '
-                     'The rest of the block still runs once.' % before)
+            self.writer.insist('There is no `break`: `%s;` already makes the test of the `while` false, so leave it '
+                               'out. The rest of the block still runs once.' % before)
             return self.end('').removesuffix(';')
         # (a flag rather than a count, which may be needed behind the loop)
         assigned = next((it for it in ends if it.endswith(' = 1')), ends[0] if len(ends) == 1 else '')
         if not assigned:
             raise NoCounterpart(NO_BREAK + self.of_flag(before))
         self.at += 1
-        self.why('%s Here, `%s;` does it; the rest of the block still runs once.' % (NO_BREAK, assigned))
+        self.writer.insist('%s Here, `%s;` does it; the rest of the block still runs once.' % (NO_BREAK, assigned))
         return self.end(assigned)
 
     def of_flag(self, before: str) -> str:
@@ -174,8 +181,8 @@ class Control(Lines):
             step = self.step_of_loop()
             self.need(')')
         body = self.body()
-        self.why('There is no `for`: a `while` with the first step above it%s.' % (
-            ', and `%s` at the end of its block' % step if step and self.is_cut else ''))
+        self.why_with_rest('There is no `for`: a `while` with the first step above it',
+                           ', and `%s` at the end of its block' % step if step else '')
         if step and not self.is_cut:
             body = '%s %s }' % (body.removesuffix('}').rstrip(), step)
         return ('%s while %s %s' % (first, test, body)).strip()
@@ -215,7 +222,8 @@ class Control(Lines):
 
     def of_return(self) -> str:
         self.at += 1
-        if self.token.text not in (';', '}', ''):
-            self.expression()
+        value = Node('number') if self.token.text in (';', '}', '') else self.expression()
         self.why('There is no `return`: `exit;` ends the process or the thread.')
+        if value.kind != 'number':
+            self.writer.insist('An `exit` passes no value: assign it to a variable of the process first.')
         return self.end('exit')

@@ -16,7 +16,6 @@ from motesim.notation.faults import ProgramError, find_fault, tokens_of
 
 MOST_LINES = 4
 OF_COMMENT = 'A comment begins with `//` and ends with its line, so each line of a long one needs its own `//`.'
-MOST_REASONS = 2
 # No correction is tried in a longer text, or for longer lines.
 LONGEST_TEXT, LONGEST_LINES = 200_000, 2_000
 
@@ -168,7 +167,7 @@ def correction(text: str, fault: ProgramError) -> Correction | None:
                 if begun <= fault.token.line <= last and not (is_only_named and last > fault.token.line):
                     advice = advice or str(said)
                 continue
-            made = Correction(first, last, written, tuple(reader.writer.reasons[:MOST_REASONS]))
+            made = Correction(first, last, written, reader.writer.shown())
             for above in _insertions(text, reader):
                 made = made._replace(above=above)
                 found.append((0 if _same(source, written) else _rank(text, made), made))

@@ -3,9 +3,12 @@ from __future__ import annotations
 
 import re
 
-from motesim.from_c.expressions import NO_ARRAYS, NO_FIELDS, QUALIFIERS, TYPES, NoCounterpart, number_of
+from motesim.from_c.expressions import (
+    MOST, NO_ARRAYS, NO_FIELDS, QUALIFIERS, TICKS, TOO_LARGE, TYPES, Expressions, NoCounterpart, number_of, value_of,
+)
 from motesim.from_c.lines import Lines
 from motesim.from_c.scope import allowed
+from motesim.from_c.tokens import tokens_of
 
 # The order of declarations, in a `code` and above it.
 ORDER = ('event', 'semaphore', 'process', 'autostart', 'receiver', 'var', 'etimer', 'ctimer', 'thread')
@@ -20,6 +23,9 @@ NO_CONNECTION = 'No connection is opened: `send x;` sends, and a packet is the e
 ABOVE = {'semaphore': 'A semaphore is declared above the `process` line, with its count.',
          'event': 'An event is declared by `event`, above the `process` line.'}
 OF_STRUCTURE = 'A protothread needs no structure: `thread NAME { .. }` declares it, `spawn NAME;` runs it.'
+# A name with its value for the preprocessor; without a value, or with parameters, it is another kind of line.
+DEFINED = re.compile(r'#\s*define\s+([A-Za-z_]\w*)\s+([^\s/"].*)')
+NO_CONSTANTS = 'There are no constants: use a variable that is never assigned'
 MOST_MEMBERS = 8
 NO_PLACE = 'Variables are declared at the head of `code`, before its timers, threads and `body`: `var %s = 0;`.'
 
@@ -40,17 +46,33 @@ class Declarations(Lines):
 
     def directive(self, line: str) -> str:
         """A line for the preprocessor."""
-        defined = re.fullmatch(r'#\s*define\s+([A-Za-z_]\w*)\s+\(?\s*(-?\w+)\s*\)?\s*', line)
+        defined = DEFINED.fullmatch(line)
         if not defined:
             self.why('Leave this line out: there is no preprocessor, and no file has to be included.')
             return ''
-        value = number_of(defined[2])
-        if value is None:
-            raise NoCounterpart('There are no constants: use a variable that is never assigned, `var period = 40;`.')
-        self.why('There are no constants: use a variable that is never assigned.')
         name = defined[1].lower()
-        is_free = self.scope.kinds.get(name, 'variable') == 'variable'
-        return self.declared(name if is_free else 'my_' + name, str(value % 65_536))
+        name = name if self.scope.kinds.get(name, 'variable') == 'variable' else 'my_' + name
+        value = self.constant(defined[2])
+        if value is None:
+            raise NoCounterpart('%s. Leave this line out, and choose a value n: `var %s = n;`, at the head of the '
+                                '`code`.' % (NO_CONSTANTS, allowed(name)))
+        self.why(NO_CONSTANTS + '.')
+        return self.declared(name, str(value % (MOST + 1)))
+
+    def constant(self, text: str) -> int | None:
+        """The value of an expression of numbers, or None if it has none."""
+        reader = Expressions([it for it in tokens_of(text) if it.kind != 'comment'], self.scope)
+        try:
+            value = value_of(reader.expression())
+        except NoCounterpart:
+            return None
+        if reader.token.kind != 'end' or value is None:
+            return None
+        if abs(value) > MOST:
+            raise NoCounterpart(TOO_LARGE)
+        if 'CLOCK_SECOND' in text:
+            self.writer.insist(TICKS)
+        return value
 
     def declared(self, name: str, value: str) -> str:
         if self.place.is_top:

@@ -6,6 +6,8 @@ to do instead.
 """
 from __future__ import annotations
 
+import operator
+from collections.abc import Callable
 from dataclasses import dataclass, field
 from fractions import Fraction
 
@@ -40,7 +42,10 @@ READ_ONLY = ('data', 'from', 'now', 'self')
 EVENTS = {'process_event_%s' % it: it for it in ('init', 'poll', 'exit', 'continue', 'msg', 'com', 'exited', 'timer')}
 EVENTS.update({'process_event_none': 'continue', 'tcpip_event': 'packet', 'packet_received': 'packet'})
 OWN_EVENTS = ('init', 'poll', 'exit', 'continue', 'msg', 'com', 'packet', 'exited', 'timer')
+SUMS: dict[str, Callable[[int, int], int]] = {
+    '+': operator.add, '-': operator.sub, '*': operator.mul, '/': lambda left, right: int(Fraction(left, right))}
 MOST = 65_535
+MOST_REASONS = 2
 ADDRESSES = ('linkaddr_node_addr', 'rimeaddr_node_addr')
 
 NO_BITS = ('There are no operators on bits: `(x % 256)` is the low byte, `(x / 256)` the high one, and flags are '
@@ -70,6 +75,7 @@ MOMENTS_OF_SECOND = 10
 TICKS = ('There is no `CLOCK_SECOND`: a timer is set in moments. Decide how many moments a second has; with %d it is '
          'the line '
          'below.' % MOMENTS_OF_SECOND)
+SMALL_LETTERS = 'Names have small letters'
 NO_END = 'A `)` is missing.'
 ONE_TOO_MANY = 'One `)` is too many.'
 
@@ -102,6 +108,20 @@ def number_of(text: str) -> int | None:
         return int(plain.translate(str.maketrans('oi', '01')))
     except ValueError:
         return None
+
+
+def value_of(node: Node) -> int | None:
+    """The value of an expression of numbers, `CLOCK_SECOND` and + - * /; None if it has something else."""
+    if node.kind == 'number':
+        return number_of(node.text)
+    if node == Node('name', 'CLOCK_SECOND'):
+        return MOMENTS_OF_SECOND
+    values = [value_of(it) for it in node.parts]
+    if node.kind == 'unary' and node.text in '+-' and values[0] is not None:
+        return values[0] if node.text == '+' else -values[0]
+    if node.kind != 'binary' or node.text not in SUMS or values[0] is None or values[1] is None:
+        return None
+    return SUMS[node.text](values[0], values[1]) if values[1] or node.text != '/' else None
 
 
 class Expressions:
@@ -242,6 +262,8 @@ class Writer:
     # The test that a timer as a value means: `fired` in a wait, otherwise `expired`.
     of_timer: str = 'expired'
     reasons: list[str] = field(default_factory=list)
+    # Those of the reasons that also say what else has to be changed or chosen: they are always shown.
+    needed: list[str] = field(default_factory=list)
     # True if a random number is used; then the generator makes a step before the statement.
     draws: bool = False
     # The names in a call of Contiki that aren't declared: each with its kind and its form in the notation.
@@ -250,6 +272,15 @@ class Writer:
     def why(self, reason: str) -> None:
         if reason not in self.reasons:
             self.reasons.append(reason)
+
+    def insist(self, reason: str) -> None:
+        """Notes a reason that is always shown."""
+        self.why(reason)
+        self.needed.append(reason)
+
+    def shown(self) -> tuple[str, ...]:
+        """The first reasons, and all that are always shown."""
+        return tuple(it for at, it in enumerate(self.reasons) if at < MOST_REASONS or it in self.needed)
 
     def text(self, node: Node) -> str:
         """An expression."""
@@ -303,7 +334,7 @@ class Writer:
                      'The number of the mote is `self`.' if VALUES[lower] == 'self' else 'The moment is `now`.')
             return VALUES[lower]
         if lower == 'clock_second' and word not in self.scope.kinds:
-            self.why(TICKS)
+            self.insist(TICKS)
             return str(MOMENTS_OF_SECOND)
         kind = self.scope.kinds.get(word)
         if word in READ_ONLY or kind == 'variable':
@@ -323,7 +354,7 @@ class Writer:
         if self.unknown is not None and self.scope.kinds.get(found) != 'variable':
             return self.new_name(word, 'variable')
         if found != word:
-            self.why('Names have small letters: `%s`.' % found if found == lower else
+            self.why(SMALL_LETTERS + ': `%s`.' % found if found == lower else
                      'The name is `%s` here.' % found if found == allowed(word) else 'Did you mean `%s`?' % found)
         return found
 
@@ -368,7 +399,7 @@ class Writer:
             self.why(reason)
             return word
         if lower in ('random_rand', 'rand', 'random', 'rnd'):
-            self.why(NO_CHANCE)
+            self.insist(NO_CHANCE)
             self.draws = True
             return DRAWN
         test = node.text if node.text in TESTS else CALLS.get(lower, '')
