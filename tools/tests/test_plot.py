@@ -126,6 +126,7 @@ class PlotTest(unittest.TestCase):
              'no run has period = 5; there are: 1, 2, 3, 10'),
             (('--measure', 'sent', '--against', 'density', '--compare', 'net.csv'), '--compare needs another file'),
             (('--measure', 'sent', '--against', 'density', '--where', 'period=7'), 'period has: 1, 2, 3, 10'),
+            (('--measure', 'sent', '--against', 'density', '--where', 'period=1,7'), 'these values: period=7; '),
             (('--measure', 'sent', '--against', 'density', '--where', 'period=3', '--where', 'seed=4'),
              'no runs with these values together: period=3, seed=4'),
             (('--measure', 'sent', '--against', 'period', '-o', 'a.gif'), 'SVG, PDF or PNG'),

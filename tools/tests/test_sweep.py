@@ -173,7 +173,9 @@ class MeasuresTest(unittest.TestCase):
 
     def test_the_measure_that_was_meant_is_named(self) -> None:
         for words, seen in ('rato', 'did you mean ratio?'), ('colided of mote 1', 'did you mean collided?'), (
-                'flow raeched: print a', 'a flow has no raeched; there are: .*did you mean reached?'):
+                'flow raeched: print a', 'a flow has no raeched; there are: .*did you mean reached?'), (
+                'moment: at least 90 % of motes print a', 'print a. is about a number of motes, and has no moment: '), (
+                'moment: no mote halts', 'it says what must not happen'):
             with self.assertRaisesRegex(MeasureFault, seen.replace('?', r'\?')):
                 read_measure(words, self.names)
 
@@ -294,6 +296,8 @@ class SweepTest(Bed):
             self.assertIn('period = 257 mote k draws the same numbers as mote k + 1 with period = 0', str(found[257]))
         # (the note goes with the row that it is about)
         (self.folder / 'a.mote').write_text(source + '// more\n')
+        path = self.folder / 'up.csv'
+        path.write_text(''.join(it for it in path.read_text().splitlines(True) if not it.startswith('0,')))
         self.sweep('--vary', 'period=257', '--measure', 'sent', '-o', 'up.csv', '--renew')
         self.assertEqual([row['note'] for row in read_results(self.folder / 'up.csv')[1]], [None])
 
@@ -323,6 +327,23 @@ class SweepTest(Bed):
         other = self.sweep(*self.words, '--measure', 'sent')
         self.assertEqual(other.returncode, 2)
         self.assertIn('other columns than this sweep (it lacks sent): ', other.stderr)
+
+    def test_rows_that_a_command_does_not_run_again_are_not_removed(self) -> None:
+        words = '--measure', 'prints', '--measure', 'python: mine.py:wrong'
+        self.sweep('--vary', 'period=1..3', '--vary', 'motes=2,3', *words)
+        before = self.rows()
+        # (each row lacks a measure)
+        self.assertIn('3 runs, 3 of them now', self.sweep('--vary', 'period=1..3', '--vary', 'motes=2', *words,
+                                                          '--retry').stdout)
+        self.assertEqual(len(self.rows()), 6)
+        (self.folder / 'mine.py').write_text(MINE + '# more\n')
+        done = self.sweep('--vary', 'period=1..3', '--vary', 'motes=2', *words, '--renew')
+        self.assertEqual((done.returncode, done.stderr), (2, (
+            'sweep: net.csv has 3 rows of other values than this command, from before a change of the measures, and '
+            '--renew would remove them: vary all values of the file, or name another file with -o\n')))
+        self.assertEqual(sorted(map(str, self.rows())), sorted(map(str, before)))
+        done = self.sweep('--vary', 'period=1..3', '--vary', 'motes=2,3', *words, '--renew')
+        self.assertIn('6 runs, 6 of them now', done.stdout)
 
     def test_pictures_values_and_comments_of_the_plan_do_not_make_other_rows(self) -> None:
         words = '\n[sweep]\nvary = { period = "%s" }\nmeasure = ["prints"]\n[[plot]]\nfile = "a.svg"\n' \

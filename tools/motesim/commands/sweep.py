@@ -55,7 +55,8 @@ def main() -> int:
                        help='the limit of a report, in bytes (200,000,000)')
     words.add_argument('--dask', metavar='ADDRESS', help='send the runs to the Dask scheduler at this address')
     words.add_argument('--renew', action='store_true',
-                       help='repeat the rows from before a change of the plan, motesim or the measures')
+                       help='repeat the rows from before a change of the plan, motesim or the measures; refused if '
+                            'the file has such rows of other values than the command')
     words.add_argument('--retry', action='store_true', help='repeat runs with an error or without a measure')
     words.add_argument('--plot', action='store_true', help="draw what the plan's `plot` describes")
     asked = words.parse_args()

@@ -181,10 +181,12 @@ def _count_rows(judge: Judge, it: Copies | Packets) -> int:
 
 def _plain(sentence: Sentence, words: str) -> Does:
     """Reads a sentence that has a moment: it says that motes have lines of a form."""
-    kinds = 'each', 'together', 'some'
     if not isinstance(sentence, Does) or sentence.deed.way != 'any' or sentence.than or sentence.relation:
         raise MeasureFault('%r has no moment, unlike `mote 3 prints flood 1` and `every mote sends`' % words)
-    if sentence.motes.kind not in kinds or sentence.count.compare in ('at most', 'fewer than'):
+    if sentence.motes.kind == 'count':
+        raise MeasureFault('%r is about a number of motes, and has no moment: write `every mote`, `some mote` or the '
+                           'numbers of motes; a measure `motes: every mote ..` counts motes' % words)
+    if sentence.motes.kind == 'no' or sentence.count.compare in ('at most', 'fewer than'):
         raise MeasureFault('%r has no moment: it says what must not happen' % words)
     return sentence
 

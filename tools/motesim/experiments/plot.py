@@ -304,12 +304,18 @@ def chosen(rows: Sequence[Row], where: Sequence[str]) -> list[Row]:
             raise Fault('--where needs NAME=VALUE, not %r' % words)
         if rows and name not in rows[0]:
             raise Fault('there is no parameter %s; there are: %s' % (name, ', '.join(parameters_of(rows))))
-        values = {text_of_value(it) for it in values_of(value)} if value else {''}
-        if not any(text_of(row[name]) in values for row in rows):
-            raise Fault('no runs of a sweep with these values: %s; %s has: %s' % (words, name, some_of(
-                row[name] for row in rows)))
+        values, having = _texts_of(value), {text_of(row[name]) for row in rows}
+        for part in value.split(','):
+            if not having & _texts_of(part):
+                raise Fault('no runs of a sweep with these values: %s=%s; %s has: %s' % (name, part, name, some_of(
+                    row[name] for row in rows)))
         found = [row for row in found if text_of(row[name]) in values]
     return found
+
+
+def _texts_of(words: str) -> set[str]:
+    """The selected values, as texts; no words are an empty value."""
+    return {text_of_value(it) for it in values_of(words)} if words else {''}
 
 
 def runs_of(path: Path, where: Sequence[str], apart: Sequence[str] = ()) -> list[Row]:

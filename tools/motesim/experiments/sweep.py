@@ -90,29 +90,36 @@ class Sweeper:
             ('the measures', row['measures_sha256'] != self.made['measures_sha256'])) if is_changed]
 
     def keep(self, is_renewed: bool, retries: bool) -> None:
-        """Reads the rows of the file. Rows of another plan or program are an error, or are dropped."""
-        count = unchanged = 0
+        """Reads the rows of the file. Rows of another plan or program are an error, or are dropped if this sweep runs
+        them again."""
+        count = unchanged = lost = 0
         others: Counter[str] = Counter()
         spots, places = array('Q'), array('q')
         for spot, row in self.file.rows():
             count += 1
-            changes = self.changed(row)
+            changes, place = self.changed(row), self.place_of(row)
             others.update(changes)
             if changes:
+                lost += place is None
                 continue
             unchanged += 1
             # (a run for which the machine was too busy has no result)
-            if str(row['fault'] or '').startswith(TOO_BUSY) or retries and (row['fault'] or lacks_measure(row)):
+            if place is not None and (str(row['fault'] or '').startswith(TOO_BUSY) or retries and (
+                    row['fault'] or lacks_measure(row))):
                 continue
-            place = self.place_of(row)
             self.drawn.add_row(row)
             for name, values in self.found.items():
                 values[text_of(row[name])] = None
             spots.append(spot)
             places.append(OTHER if place is None else place)
+        what = ', and of '.join(others)
         if others and not is_renewed:
             raise Fault('%s has %d rows from before a change of %s. --renew runs them again, and -o names another '
-                        'file' % (self.path, count - unchanged, ', and of '.join(others)))
+                        'file' % (self.path, count - unchanged, what))
+        if lost:
+            raise Fault('%s has %d rows of other values than this command, from before a change of %s, and --renew '
+                        'would remove them: vary all values of the file, or name another file with -o' % (
+                            self.path, lost, what))
         if len(spots) < count:
             spots = self.file.keep(spots)
         for spot, place in zip(spots, places):
