@@ -232,6 +232,10 @@ class Sentences(unittest.TestCase):
             self.assertEqual(sentence[fault.place:].split(' ')[0], word)
             self.assertTrue(any(it.startswith(wanted) or wanted in it for it in fault.wanted), fault.wanted)
 
+    def test_allowed_words_that_begin_with_a_comma_have_quotes(self) -> None:
+        with self.assertRaisesRegex(SentenceFault, 'Allowed here: ", one hop nearer to mote"'):
+            read_sentence('every mote prints flood a mote that it hears', self.names)
+
     def test_counting_finds_what_the_lines_show(self) -> None:
         """Sentences that only count, judged by the columns alone and by the lines."""
         class ByLines(Judge):

@@ -343,6 +343,23 @@ class FileScope(unittest.TestCase):
         assert found
         self.assertEqual((found.above or (0, ''))[1], 'var my_u = 12;')
 
+    def test_a_declaration_below_one_that_belongs_further_down_moves_up(self) -> None:
+        for above, late, declared in (
+                ('ctimer c { }', 'static struct etimer et;', 'etimer et;'),
+                ('ctimer c { }', 'etimer et;', 'etimer et;'),
+                ('etimer et;', 'static int x = 7, y;', 'var x = 7; var y = 0;'),
+                ('thread f { }', 'var x = 7;', 'var x = 7;')):
+            with self.subTest(late):
+                source = ('process a;\nautostart a;\ncode a {\n  var n = 0;\n  %s\n  %s\n  body {\n    yield;\n'
+                          '  }\n}\n' % (above, late))
+                fault = find_fault(source)
+                assert fault
+                found, shown = correction(source, fault), advice(source, fault)
+                assert found and shown
+                self.assertEqual((found.first, found.line, found.above), (6, '', (4, declared)))
+                self.assertIn('declared further up in the `code`: `%s`' % declared, shown.hint)
+                self.assertIsNone(find_fault(found.applied(source)))
+
     def test_a_timer_among_statements_moves_to_the_head(self) -> None:
         for typed, use, below, declared in (
                 ('static struct etimer et;', 'set et 5;', 4, 'etimer et;'),

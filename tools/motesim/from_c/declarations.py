@@ -75,20 +75,25 @@ class Declarations(Lines):
         return value
 
     def declared(self, name: str, value: str) -> str:
-        if self.place.is_top:
+        if self.place.is_top or self.is_late('var'):
             return self.in_code('Variables', 'var %s = %s;' % (self.new_name(name), value))
         if not self.place.is_head:
             return self.declared_above(name, value)
         return 'var %s = %s;' % (self.new_name(name), value)
 
-    def is_moved(self) -> bool:
+    def is_late(self, word: str) -> bool:
+        """Returns whether a declaration with this word is in a code below one that belongs further down."""
+        return self.place.is_head and any(it not in ORDER[:ORDER.index(word) + 1] for it in self.place.lower)
+
+    def is_moved(self, word: str) -> bool:
         """Returns whether a timer that is declared here belongs to the head of a code."""
-        return self.place.is_top or not self.place.is_head and self.place.head > 0
+        return self.place.is_top or not self.place.is_head and self.place.head > 0 or self.is_late(word)
 
     def in_code(self, names: str, declared: str) -> str:
         """A declaration above the codes or among statements, which moves to the head of a code."""
         self.declares.append(declared)
         belongs = names + (' belong to one process, at the head of its `code`: ' if self.place.is_top else
+                           ' are declared further up in the `code`: ' if self.place.is_head else
                            ' are declared at the head of `code`: ')
         self.writer.reasons = [belongs + '`%s`.' % ' '.join(self.declares),
                                *(it for it in self.writer.reasons if not it.startswith(belongs))]
@@ -241,14 +246,14 @@ class Declarations(Lines):
         self.end('')
         self.why('A callback timer has a block, which runs when the timer is due: `ctimer %s { .. }`.' % name)
         declared = 'ctimer %s { %s}' % (name, 'poll %s; ' % self.place.code if self.place.code else '')
-        return self.in_code('Timers', declared) if self.is_moved() else declared
+        return self.in_code('Timers', declared) if self.is_moved('ctimer') else declared
 
     def of_names(self, word: str, form: str) -> str:
         """Names with commas between them, each declared by a line of its own."""
         found = []
         while True:
             name = self.new_name(self.token.text)
-            declared, is_moved = '%s %s;' % (word, form % name), word == 'etimer' and self.is_moved()
+            declared, is_moved = '%s %s;' % (word, form % name), word == 'etimer' and self.is_moved(word)
             if name in self.place.timers if is_moved else self.place.is_below and self.scope.kinds.get(name) == word:
                 self.why('`%s` is declared already.' % name)
             else:
@@ -266,7 +271,7 @@ class Declarations(Lines):
         if words[0] in ('etimer', 'event') and words[2] == ',' and self.accept(words[0]):
             self.why('Each name is declared on its own.')
             return self.of_names(words[0], '%s')
-        if words[0] == 'etimer' and self.is_moved() and self.accept('etimer'):
+        if words[0] == 'etimer' and self.is_moved('etimer') and self.accept('etimer'):
             return self.of_names('etimer', '%s')
         if words[0] == 'ctimer' and words[2] == ';' and self.accept('ctimer'):
             return self.of_callback()

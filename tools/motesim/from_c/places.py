@@ -35,6 +35,7 @@ class Surroundings(NamedTuple):
     head     the line (from 1) below which a variable of this code may be declared, or 0
     variables  the variables of this code
     timers     the event timers of this code that are declared above the lines
+    lower    the words of its declarations above the lines, below which no variable may be declared
     last     the first word of the statement above the lines, or nothing
     before   the complete text of this statement, without its semicolon
     """
@@ -48,6 +49,7 @@ class Surroundings(NamedTuple):
     last: str = ''
     before: str = ''
     is_below: bool = False
+    lower: frozenset[str] = frozenset()
 
 
 def place_below(above: list[str]) -> Surroundings:
@@ -77,7 +79,7 @@ def place_below(above: list[str]) -> Surroundings:
     names = frozenset(words[at + 1] for at in declared if at + 1 < len(words))
     timers = frozenset(name for word, name in zip(words[codes[-1]:], words[codes[-1] + 1:]) if word == 'etimer')
     return Surroundings(len(opened) == 1, False, loop, words[codes[-1] + 1], head, names, timers, _last(words),
-                        last_statement(words), True)
+                        last_statement(words), True, frozenset(BEHIND_VARIABLES.intersection(words[codes[-1]:])))
 
 
 def head_for(text: str, declared: str, code: str = '') -> int:

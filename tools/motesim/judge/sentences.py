@@ -104,7 +104,8 @@ class SentenceFault(Fault):
 
     def __init__(self, sentence: str, place: int, wanted: list[str], hint: str = '', like: str | None = None):
         self.sentence, self.place, self.wanted, self.hint = sentence, place, wanted, hint
-        may = textwrap.wrap('Allowed here: ' + ', '.join(wanted), WIDTH, break_on_hyphens=False)
+        shown = ['"%s"' % it if it.startswith(',') else it for it in wanted]
+        may = textwrap.wrap('Allowed here: ' + ', '.join(shown), WIDTH, break_on_hyphens=False)
         like = like or other_form(sentence, place, wanted) or meant(sentence[place:], wanted)
         lines = [sentence, ' ' * place + '^', *may]
         lines += ['Did you mean: %s' % like] if like else []
