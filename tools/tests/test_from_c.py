@@ -313,6 +313,17 @@ class FileScope(unittest.TestCase):
         self.assertEqual((found.line, found.above[1]), ('set timeout my_timeout;', 'var my_timeout = 20;'))
         self.assertIsNone(find_fault(found.applied(source)))
 
+    def test_a_constant_that_another_process_has_keeps_its_value(self) -> None:
+        source = self.SOURCE % ('', 'etimer_set(&u, PERIOD * n);')
+        source = source.replace('code a {', 'code a {\n  var period = 50;')
+        fault = find_fault(source)
+        assert fault
+        found, shown = correction(source, fault), advice(source, fault)
+        assert found and found.above and shown
+        self.assertEqual((found.line, found.above[1]), ('set u (period * n);', 'var period = 50;'))
+        self.assertIn('`PERIOD` isn\'t declared: `var period = 50;`, as in another process.', shown.hint)
+        self.assertIsNone(find_fault(found.applied(source)))
+
     def test_no_value_of_a_constant_is_invented(self) -> None:
         for value, said in (
                 ('(CLOCK_SECOND * RATE)', 'choose a value n: `var period = n;`'), ('(1 << 4)', 'choose a value n'),

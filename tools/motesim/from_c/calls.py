@@ -245,12 +245,14 @@ class Calls(Lines):
 
     def declare(self, word: str, kind: str, name: str, value: str) -> None:
         """Declares a name that a call uses without a declaration, and reports this after the first reason."""
-        if self.scope.kinds.get(name) == kind:
+        is_foreign = name in self.writer.foreign
+        if self.scope.kinds.get(name) == kind and not is_foreign:
             return
-        line = {'variable': 'var %s = %s;' % (name, value), 'timer': 'etimer %s;' % name, 'event': 'event %s;' % name,
+        line = {'variable': 'var %s = %s;' % (name, self.scope.values.get(name, value)),
+                'timer': 'etimer %s;' % name, 'event': 'event %s;' % name,
                 'semaphore': 'semaphore %s = %s;' % (name, self.scope.counts.get(name, '0')),
                 'thread': 'thread %s { }' % name}
-        where = {'variable': ', with a value of your choice',
+        where = {'variable': ', as in another process' if is_foreign else ', with a value of your choice',
                  'event': ' above the `process` line, or `is(packet)` if a packet is meant',
                  'semaphore': ' above the `process` line, with its initial count',
                  'thread': ' at the head of the `code`, with its statements between the braces'}

@@ -268,6 +268,8 @@ class Writer:
     draws: bool = False
     # The names in a call of Contiki that aren't declared: each with its kind and its form in the notation.
     unknown: dict[str, tuple[str, str]] | None = None
+    # The variables of other processes.
+    foreign: frozenset[str] = frozenset()
 
     def why(self, reason: str) -> None:
         if reason not in self.reasons:
@@ -337,7 +339,7 @@ class Writer:
             self.insist(TICKS)
             return str(MOMENTS_OF_SECOND)
         kind = self.scope.kinds.get(word)
-        if word in READ_ONLY or kind == 'variable':
+        if word in READ_ONLY or kind == 'variable' and word not in self.foreign:
             return word
         if kind == 'timer':
             self.why('A timer is not a value: `fired(%s)` is true in the call with its event, and `expired(%s)` from '
@@ -351,7 +353,7 @@ class Writer:
             self.why('An event is not a value: `is(%s)` is true in a call with it.' % word)
             return 'is(%s)' % word
         found = self.scope.meant(word, 'variable')
-        if self.unknown is not None and self.scope.kinds.get(found) != 'variable':
+        if self.unknown is not None and (self.scope.kinds.get(found) != 'variable' or found in self.foreign):
             return self.new_name(word, 'variable')
         if found != word:
             self.why(SMALL_LETTERS + ': `%s`.' % found if found == lower else
@@ -362,7 +364,7 @@ class Writer:
         """The form in which a name in a call of Contiki that isn't declared can be declared."""
         assert self.unknown is not None
         name = allowed(word)
-        name = name if name not in self.scope.kinds else allowed('my_' + name)
+        name = name if name not in self.scope.kinds or name in self.foreign else allowed('my_' + name)
         self.unknown[word] = kind, name
         return name
 

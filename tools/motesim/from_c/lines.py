@@ -15,6 +15,8 @@ class Lines(Expressions):
         super().__init__([it for it in tokens_of(text) if it.kind != 'comment'], scope)
         self.comments = [it.text for it in tokens_of(text) if it.kind == 'comment']
         self.place, self.writer = place, Writer(scope)
+        if place.head:
+            self.writer.foreign = frozenset(scope.of_kind('variable')) - place.variables
         # Two facts: a block continues below these lines; a header without its brace opens a block.
         self.is_cut = self.opens = False
         self.nested = 0

@@ -14,6 +14,7 @@ DECLARES = {'event': 'event', 'semaphore': 'semaphore', 'process': 'process', 'v
 NAME = re.compile('[a-z][a-z0-9_]*')
 CODE = re.compile(r'^[ \t]*(?:code[ \t]+(\w+)|PROCESS_THREAD\s*\(\s*(\w+))', re.M)
 SEMAPHORE = re.compile(r'\bPT_SEM_INIT\s*\(\s*&?\s*(\w+)\s*,\s*([0-9]{1,5})\s*\)')
+VARIABLE = re.compile(r'^[ \t]*var\s+(\w+)\s*=\s*([0-9]+)\s*;', re.M)
 MACRO = re.compile(r'^[ \t]*PROCESS(?:_NAME)?[ \t]*\([ \t]*(\w+)', re.M)
 LONGEST = 16
 
@@ -51,6 +52,7 @@ class Scope:
     processes  all processes: those with a code, in the order of the codes, and then those that are only named, by a
                line of the notation or by Contiki's `PROCESS`
     counts     the initial counts of the semaphores of Contiki
+    values     the initial values of the variables
     """
     kinds: dict[str, str] = field(default_factory=dict)
     codes: tuple[str, ...] = ()
@@ -58,6 +60,7 @@ class Scope:
     named: tuple[str, ...] = ()
     processes: tuple[str, ...] = ()
     counts: dict[str, str] = field(default_factory=dict)
+    values: dict[str, str] = field(default_factory=dict)
 
     @classmethod
     def of(cls, text: str) -> Scope:
@@ -79,7 +82,7 @@ class Scope:
         for name in macros:
             kinds.setdefault(name, 'process')
         return cls(kinds, codes, 'receiver' in words, named, tuple(dict.fromkeys([*codes, *named, *macros])),
-                   {allowed(name): count for name, count in SEMAPHORE.findall(text)})
+                   {allowed(name): count for name, count in SEMAPHORE.findall(text)}, dict(VARIABLE.findall(text)))
 
     def of_kind(self, kind: str) -> list[str]:
         """The names of a kind."""
