@@ -5,8 +5,10 @@ import unittest
 from here import TOOLS  # noqa: F401
 from motesim.explain.explanation import explanation
 from motesim.notation.faults import tokens_of
+from motesim.runner.run import answer
 from motesim.scenario import Scenario
 from motesim.scenario.faults import find_fault
+from skips import need_program
 
 PASTED = r"""/*
  * Copyright (c) 2007, Swedish Institute of Computer Science.
@@ -89,6 +91,40 @@ x = 0
 y = 0
 program = "p"
 """
+# Mote 0 sends 7 every 40 moments, and gets 9 from mote 1 every 14 moments.
+TALK = """version = 1
+end = 205
+[medium]
+range = 10
+base = 1
+per = 100
+[programs]
+p = '''
+process p;
+autostart p;
+receiver p;
+code p {
+  etimer t;
+  body { while 1 { set t 40; %s send 7; } }
+}
+'''
+other = '''
+process o;
+autostart o;
+code o {
+  etimer t;
+  body { while 1 { set t 14; yield_until fired(t); send 9; } }
+}
+'''
+[[mote]]
+x = 0
+y = 0
+program = "p"
+[[mote]]
+x = 1
+y = 0
+program = "other"
+"""
 WRITE = re.compile(r'(?:Write, as|and leave|Leave) lines? (\d+)(?: to (\d+))?(?::| out)')
 INSERT = re.compile(r'(?:and insert|Insert) below line (\d+):')
 
@@ -133,6 +169,17 @@ class Pasted(unittest.TestCase):
         self.assertIn('with 10 it is the line below', timer)
         self.assertIn('Hint: No connection is opened', next(it for it in said if 'struct broadcast_callbacks' in it))
         self.assertIn('Write, as lines 14 to 19: receiver example_broadcas;', callback)
+
+    def test_a_packet_does_not_lead_to_the_send_behind_the_wait(self) -> None:
+        need_program(self)
+        callback = re.sub(r'\s+', ' ', next(it for it in self.messages()[1] if 'static void' in it))
+        wait = re.search(r'write the wait as `(.*?)`', callback)
+        assert wait
+        form = wait[1].replace('..', 'print data;')
+        lines = answer((TALK % form).encode()).report.decode().split('\n')
+        self.assertEqual([it for it in lines if re.fullmatch(r'\d+ send \d+ 7', it)],
+                         ['%d send %d 7' % (40 * at, at - 1) for at in range(1, 6)])
+        self.assertEqual(sum(it.endswith('print p 9') for it in lines), 14)
 
 
 if __name__ == '__main__':
