@@ -31,9 +31,9 @@ OF_LEDS = 'A mote has no LEDs: a `print` shows the moment in the report.'
 OPENS = ('broadcast_open', 'abc_open', 'unicast_open', 'runicast_open', 'nullnet_set_input_callback',
          'simple_udp_register')
 CLOSES = re.compile(r'(broadcast|abc|unicast|runicast|mesh|collect)_close\b')
-OF_STATEMENTS = ('Here, the statements are `%s`. If the process also waits for a timer, a packet must not end this wait: '
-                 'write the wait as `yield_until (is(packet) || fired(t)); while is(packet) { .. yield_until (is(packet) '
-                 '|| fired(t)); }`, with these statements instead of the dots.')
+OF_STATEMENTS = ('Here, the statements are `%s`. If the process also waits for a timer, a packet must not end this '
+                 'wait: write the wait as `yield_until (is(packet) || fired(t)); while is(packet) { .. yield_until '
+                 '(is(packet) || fired(t)); }`, with these statements instead of the dots.')
 OF_HANDLER = 'The handler is a block of the `code`, `%s { .. }`, below its timers and threads and above its `body`.'
 WAIT = ('A process waits by an event timer: `set t 5; yield_until fired(t);`, with `etimer t;` at the head of its '
         '`code`.')
