@@ -24,8 +24,9 @@ pub record AreWith (share : Share) (taker : TakerView) (copies : List RadioCopy)
   pub gathered : IsPermutation (gathered_by taker) (taken_by taker ++ waiting)
   pub both : IsPermutation copies (packets items ++ waiting)
 
--- Suppose that the workers are ready before a moment. Then the copies of the net's agenda after all turns before this
--- moment are those that the workers hold and those in the inboxes, each exactly once.
+-- Suppose that the net runs forward, and that the workers are ready before a moment above 0. Then the copies of the
+-- net's agenda after all turns before this moment are those that the workers hold and those in the inboxes, each
+-- exactly once.
 abbrev pub AgendaIsHeld : Type 0
 AgendaIsHeld = (model : NetModel) → RunsForward (system_of model) → (owners : List ℕ) (end : ℕ) (group : WorkerGroup)
     → IsAt model owners (suc end) group

@@ -18,7 +18,7 @@ use worker_window::Share;
 /// worker's work in a thread of its own. The workers are returned in their order.
 ///
 /// # Errors
-/// The errors of [`fork_join`], except `Stopped`; also `Memory` if an allocation fails.
+/// The errors of [`fork_join`]; also `Memory` if an allocation fails. The error is never `Stopped`.
 pub fn run_threads<R, W>(
     rt: &R,
     alloc: Global,

@@ -13,9 +13,9 @@ abbrev pub AllIsTaken : Type 0
 AllIsTaken = (windows : ℕ) (sent : ℕ → List RadioCopy) (taken : List Carried) → HasPrefix (pushes windows sent) taken
     → windows ≤ marks_in taken → taken ≡ pushes windows sent
 
--- Suppose that no copy of this window or a later one passes a test, and that the marks of all windows before this one
--- were taken. Then the copies that pass the test are the same among the copies taken and among the copies sent before
--- the window.
+-- Suppose that no copy that is sent in this window or a later one passes a test, that the items taken from a sender are
+-- a prefix of those that it pushed, and that the marks of all windows before this one were taken. Then the copies that
+-- pass the test are the same among the copies taken and among the copies sent before the window.
 abbrev pub EarlyIsUnseen : Type 0
 EarlyIsUnseen = (sees : RadioCopy → Bool) (windows window : ℕ) (sent : ℕ → List RadioCopy) (taken : List Carried)
     → window ≤ windows → HasPrefix (pushes windows sent) taken → window ≤ marks_in taken

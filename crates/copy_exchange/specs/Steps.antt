@@ -55,6 +55,7 @@ pub record TellsOf (d : TakerState) (p : SenderState) : Type 0 where
   pub begun : HasPrefix p.pushed (part p.number d.taken)
   pub plain : d.marked ≡ false → Packets p.pushed
 
+-- the taker of each inbox gathered the worker's sender on it, if there is one
 pub record GathersRow (old new : List TakerView) (senders : List (Option SenderView)) : Type 0 where
   pub takers : length new ≡ length old
   pub taker : (v : ℕ) (t : TakerView) → v < length old

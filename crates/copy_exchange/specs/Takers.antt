@@ -11,7 +11,7 @@ use Rattle.copy_inbox.specs.Items.{copies_of, carried_copy, part}
 use Rattle.copy_inbox.specs.Gathered.{is_gathered, Apart, TookFronts, Whole, Later, NoOthers}
 use Rattle.copy_inbox.specs.Handles.{TakerView}
 
--- for each mote, the two lists have the same copies, in the same order
+-- from each mote, the two lists have the same copies, in the same order
 abbrev pub SameOfEach : List RadioCopy → List RadioCopy → Type 0
 SameOfEach xs ys = (s : ℕ) → filter (is_from_sender s) xs ≡ filter (is_from_sender s) ys
 
@@ -28,7 +28,7 @@ copies_gathered (g ∷ gs) = copies_gathered gs ++ copies_in g.pushed
 abbrev pub taken_by : TakerView → List RadioCopy
 taken_by t = copies_of t.state.taken
 
--- the copies that other workers delivered to the worker
+-- the copies that the gathered senders delivered to the worker
 abbrev pub gathered_by : TakerView → List RadioCopy
 gathered_by t = copies_gathered t.state.gathered
 

@@ -2,13 +2,15 @@
 
 ghost use Rattle.copy_exchange.specs.Laws.{AllIsTaken, EarlyIsUnseen};
 
-/// If all marks of a sender have been taken, all items that it pushed have been taken.
+/// Suppose that a sender pushed, for one window after another, its copies and then a mark, and that the items taken
+/// from it are a prefix of these items. If all its marks have been taken, all items that it pushed have been taken.
 pub fn all_is_taken()
     ensures all_is_taken { AllIsTaken }
 {}
 
-/// Copies that are taken early don't change a window. Once the items taken from a sender include the mark of each
-/// window before this one, the window sees exactly the copies that the sender sent before this window.
+/// Copies that are taken early don't change a window. Suppose that the window sees no copy that is sent in it or later,
+/// and that the items taken from a sender include the mark of each window before this one. Then, of the copies taken
+/// from the sender, the window sees exactly those that it sees of the copies sent before this window.
 pub fn early_is_unseen()
     ensures early_is_unseen { EarlyIsUnseen }
 {}

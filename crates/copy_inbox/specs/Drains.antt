@@ -11,6 +11,6 @@ pub record Drains (old new : TakerState) (n : ℕ) : Type 0 where
   pub begun : TookFronts new.gathered new.taken
   pub made : OfMade new.made new.taken
   -- suppose that exactly n items were known, and that no item of a sender that isn't gathered could be before one of
-  -- them; then all items of the gathered senders are now taken
+  -- them; then all items of the gathered senders are now taken, and no item of another sender was taken
   pub whole : IsAllKnown old n → Whole new.gathered new.taken
   pub others : IsAllKnown old n → NoOthers old.gathered old.taken new.taken

@@ -32,7 +32,7 @@ pub record SenderView : Type 0 where
   pub inbox : InboxId
   pub state : SenderState
 
--- ---- the effect of each call on a taker
+-- ---- the effect of each call on a taker, and of a push on a sender
 abbrev pub after_sender : TakerView → TakerView
 after_sender t = record {
   inbox = t.inbox;
@@ -71,12 +71,12 @@ AllGathered d = (s : ℕ) → s < d.made → is_gathered d.gathered s ≡ true
 abbrev pub PacketsLeft : TakerState → Type 0
 PacketsLeft d = Each (λ (g : Gathered). Packets (untaken_of d.taken g)) d.gathered
 
--- the inbox has no marks, or all marks were taken
+-- the inbox has no marks, or all marks of the gathered senders were taken
 abbrev pub NoMarkLeft : TakerState → Type 0
 NoMarkLeft d = (d.marked ≡ false) ⊎ PacketsLeft d
 
 -- the remaining items are packets with these copies: together with the items taken before, they are all items that the
--- gathered senders pushed, and there are no others
+-- gathered senders pushed; and no item is from a sender that wasn't made
 abbrev pub Empties : TakerState → List RadioCopy → Type 0
 Empties d copies = (rest : List Item) × ArePackets rest copies × Whole d.gathered (d.taken ++ rest)
     × OfMade d.made (d.taken ++ rest)
@@ -109,6 +109,7 @@ pub record IsTakerIn (d : TakerState) (v : View) (counts : List Count) (known : 
 abbrev pub IsTaker : View → List Count → ℕ → Type 0
 IsTaker v counts known = IsTakerIn (taker_state_in v) v counts known
 
+-- a sender, and the number of items that it pushed
 pub record IsSender (v : View) (count : ℕ) : Type 0 where
   pub is : v ≡ Sending (sender_state_in v)
   pub counted : count ≡ length (sender_state_in v).pushed

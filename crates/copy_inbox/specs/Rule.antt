@@ -27,7 +27,7 @@ PassFits taker pass_of d pushed pass (Sending p) =
 PassFits taker pass_of d pushed pass Spent = Unit {0}
 
 -- a gathered sender was made, its pass is spent, and the taker knows all items that it pushed; in the queue, no item
--- of a sender that was made later is before one of its items
+-- of a sender that was made after it was gathered is before one of its items
 pub record Joined (made : ℕ) (pass_of : ℕ → Option ℕ) (pushed : ℕ → List Carried) (items : List Item)
     (g : Gathered) : Type 0 where
   pub was_made : g.number < made
@@ -71,6 +71,7 @@ SeenBy v items = (views : List View) × (pass : ℕ) × InboxRule items views ×
 abbrev pub WasEmpty : TakerState → Type 0
 WasEmpty d = SeenBy (Taking d) []
 
+-- the item was the oldest in the queue, and is now the last that the taker took
 abbrev pub Took : View → Item → View → Type 0
 Took v x w = (w ≡ with_taken v x) × ((rest : List Item) × SeenBy v (x ∷ rest))
 

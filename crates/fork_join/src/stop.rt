@@ -1,6 +1,6 @@
 //! The stop flag. A worker that fails sets it, and so does a start that fails, so that workers that wait for one
-//! another stop. A worker stops only after it has seen that the flag is set: after the join, the tokens of a ledger
-//! prove this.
+//! another stop. A worker stops only after it has seen that the flag is set. After the join, the tokens of a ledger
+//! prove that no worker stopped unless a worker or a start had failed.
 
 ghost use Rattle.std.specs.Prelude.{◌≡◌, ◌+◌, ◌%◌, ◌<◌, true, false, IsTrue};
 ghost use Rattle.fork_join.specs.Tokens.{stop_tokens};

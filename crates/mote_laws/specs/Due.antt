@@ -68,7 +68,7 @@ pub record ServesTimers (moment : ℕ) (arrivals : List Arrival) (n : Node) : Ty
   pub each : (timer : ℕ) (owner : Proc) → IsDueFor moment at_turn.timers timer owner
       → HasTelling moment (turn_of moment arrivals n).lines (One owner) (system_number Timer) timer
 
--- a turn at which a timer is due serves its timers, unless the mote halts in this turn
+-- a turn at which a timer is due serves its timers, unless the mote has halted by the end of the turn
 abbrev pub TurnsServeTimers : Type 0
 TurnsServeTimers =
     (program : Tree) (number queue : ℕ) (collides : Bool) (given : List TurnInput) (lines : List Line) (n : Node)

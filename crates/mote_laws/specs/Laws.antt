@@ -19,7 +19,7 @@ TurnKeeps =
     (lines : List Line) (moment : ℕ) (arrivals : List Arrival) (n : Node) → GoesWith lines n.mote
     → let t = turn_of moment arrivals n in GoesWith (lines ++ t.lines) t.node.mote
 
--- before its first turn a mote has no lines
+-- an empty list of lines agrees with a mote before its first turn
 abbrev pub NewGoesWithNoLines : Type 0
 NewGoesWithNoLines = (program : Tree) (number queue : ℕ) → GoesWith [] (new_node program number queue).mote
 

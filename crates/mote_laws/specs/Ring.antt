@@ -33,7 +33,7 @@ pub data AreHeard : List Arrival → List What → Type 0 where
   IsLost : {a : Arrival} {later : List Arrival} {ws : List What} → AreHeard later ws
       → AreHeard (a ∷ later) (what.Lost a.sender a.number ∷ ws)
 
--- a turn hears exactly the arriving packets, unless they collide or the mote halts in the turn
+-- a turn hears exactly the arriving packets, unless they collide or the mote has halted by the end of the turn
 abbrev pub TurnsHear : Type 0
 TurnsHear =
     (moment : ℕ) (arrivals : List Arrival) (n : Node) → let t = turn_of moment arrivals n in

@@ -15,7 +15,7 @@ pub fn motes_hand_on()
 
 /// The lines of a mote agree with its state, turn after turn.
 pub fn each_turn_keeps_order()
-    // A mote that was not booted has no lines.
+    // An empty list of lines agrees with a mote before its first turn.
     ensures new { NewGoesWithNoLines }
     // After each turn, the lines so far still agree with the mote.
     ensures turn { TurnKeeps }
@@ -35,7 +35,8 @@ pub fn each_turn_bears_its_moment()
 /// after those that were delivered. A `post` or `full` line looks the same if a program itself posts `packet` to the
 /// receiver.
 pub fn each_packet_is_handed_on()
-    // Each packet that arrives is received (`recv`) or lost (`lost`), unless the packets of the turn collide.
+    // Each packet that arrives is received (`recv`) or lost (`lost`), unless the packets of the turn collide or the
+    // mote has halted by the end of the turn.
     ensures heard { TurnsHear }
     // If they collide, the lines of the turn begin with one `collide` line for each of them, in order, and none is
     // received.
@@ -43,16 +44,17 @@ pub fn each_packet_is_handed_on()
     // A packet is appended to the ring if the ring holds fewer than 8, is lost only if it holds 8, and leaves the ring
     // from the front. No `deaf` line is written for another reason.
     ensures ring { RingGoesWithLines }
-    // After a turn the ring is empty, unless the mote halted in the turn.
+    // After a turn the ring is empty, unless the mote has halted.
     ensures emptied { TurnsEmptyRing }
-    // Unless the mote halts, each packet that was received gets one line of its own, in the same turn and in order.
-    // The packet is posted to the receiver (`post`), refused because the queue is full (`full`), or heard by nobody
-    // because there is no receiver (`deaf`).
+    // After each turn, unless the mote has halted, each packet that was received so far has a line of its own, in the
+    // order of the packets. The packet is posted to the receiver (`post`), refused because the queue is full (`full`),
+    // or heard by nobody because there is no receiver (`deaf`).
     ensures packets { PacketsAreAccountedFor }
 {}
 
-/// No timer is forgotten, whatever turns a mote takes. Nothing is claimed about halted motes. A timer whose event was
-/// refused by a full queue, or that was set too late in the turn, is served at the next moment.
+/// No timer is forgotten, whatever turns a mote takes. The clauses `serves`, `forgets_none` and `wakes_in_time` claim
+/// nothing about a mote that has halted by the end of the turn. A timer whose event was refused by a full queue, or
+/// that was set too late in the turn, is served at the next moment.
 pub fn no_timer_is_forgotten()
     // Each timer on the list has an owner.
     ensures owners { TurnsKeepOwners }

@@ -62,8 +62,8 @@ pub struct TurnOut {
     pub wake: Option<u64>,
 }
 
-/// A mote of a net. Its turns are at rising moments, always with the same program. The kernel is behind a pointer, so
-/// it costs little to move a mote.
+/// A mote of a net. Its turns are at rising moments; callers pass the same program to each of them. The kernel is
+/// behind a pointer, so it costs little to move a mote.
 pub struct Mote {
     alloc: Global,
     kernel: Box<Kernel>,
@@ -177,8 +177,8 @@ impl Mote {
         }
     }
 
-    /// Takes a turn at this moment with the packets that arrive, in the order of sender and number. The first turn
-    /// boots the mote.
+    /// Takes a turn at this moment with the packets that arrive, in the order of `arrivals`. The first turn boots the
+    /// mote.
     ///
     /// # Errors
     /// In this order: `Failed` if an earlier turn ran out of memory (the mote has failed for good); `Past` if the

@@ -92,7 +92,7 @@ fn poll_etimer(kernel: &mut Kernel, moment: u64)
     }
 }
 
-/// Runs the kernel again and again, until a run leaves nothing to do or the mote halts.
+/// Runs the kernel again and again, at most `RUNS` times, until a run leaves nothing to do or the mote halts.
 fn run_all(
     kernel: &mut Kernel,
     program: &Program,

@@ -3,8 +3,8 @@ use Rattle.std.specs.Prelude.{◌≡◌, ℕ, ◌+◌, ◌<◌, ◌≤◌, nat_l
 use Rattle.program_tree.specs.Code.{Code, Tree}
 
 -- Each variable of a process has its first value, and each callback timer and each thread has its block. Each timer of
--- the process is in the program's list of timers as a timer of this process. It is a callback timer there if it is
--- after the event timers.
+-- the process is in the program's list of timers as a timer of this process. It is a callback timer there exactly if
+-- it is after the event timers.
 pub record IsCompleteIn (t : Tree) (c : Code) : Type 0 where
   pub starts : length c.starts ≡ length c.variables
   pub callbacks : length c.callbacks ≡ length c.ctimers
@@ -16,7 +16,8 @@ pub record IsCompleteIn (t : Tree) (c : Code) : Type 0 where
         is_callback = nat_le (c.first_timer + length c.etimers) i;
       })
 
--- Each semaphore has its first count. Each process has its code, and the code has the number of the process.
+-- Each semaphore has its first count. Each process has its code, and the code has the number of the process and is
+-- complete.
 pub record IsComplete (t : Tree) : Type 0 where
   pub counts : length t.counts ≡ length t.semaphores
   pub codes : length t.codes ≡ length t.processes

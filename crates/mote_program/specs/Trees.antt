@@ -132,6 +132,7 @@ pub record TreesThatDeclare : Type 0 where
   pub declared : IsDeclared names_what_is_there
   pub complete : IsComplete names_what_is_there
 
+-- in each of these trees, a name isn't declared
 pub record TreesThatDoNot : Type 0 where
   pub variables : IsDeclared no_such_variable → ⊥
   pub into : IsDeclared tells_no_such_variable → ⊥
@@ -146,6 +147,7 @@ pub record TreesThatDoNot : Type 0 where
   pub autostart : IsDeclared starts_no_such_process → ⊥
   pub receiver : IsDeclared no_such_receiver → ⊥
 
+-- in each of these trees, a declaration isn't complete
 pub record TreesThatLack : Type 0 where
   pub counts : IsComplete semaphore_without_count → ⊥
   pub codes : IsComplete process_without_code → ⊥

@@ -115,7 +115,7 @@ pub(crate) fn print(alloc: Global, mut tokens: &[Token]) -> Result<String, Alloc
     Ok(text)
 }
 
-/// Returns the canonical text of a program. Reading this text returns the same program.
+/// Returns the canonical text of a program. The tree of this text is the program's tree.
 ///
 /// Tokens are separated by one space. There is no space before `;`, `,` or `)`, none after `(` or `!`, and none
 /// between `is`, `fired`, `expired`, `gone`, `running` or `count` and its `(`. Each `;`, `{` and `}` ends a line,

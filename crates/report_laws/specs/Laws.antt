@@ -24,7 +24,8 @@ TextsDeclare = (text : List ℕ) (net : NetModel) → TellsNet text net → Prog
 abbrev pub NamesOfTextsDiffer : Type 0
 NamesOfTextsDiffer = (text : List ℕ) (net : NetModel) → TellsNet text net → NetNamesDiffer net
 
--- each line of a run names only processes and events that have a name
+-- if the programs of a net declare all names that they use (`ProgramsDeclare`), each line of a run names only processes
+-- and events that have a name
 abbrev pub RunsNameOnly : Type 0
 RunsNameOnly = (net : NetModel) → ProgramsDeclare net → (r : ReportModel) → IsReportOf net r
     → AreNamed net.motes r.traces
@@ -34,7 +35,8 @@ pub record IsRunOf (net : NetModel) (r : ReportModel) : Type 0 where
   pub report : IsReportOf net r
   pub numbers : Is64Report r
 
--- two nets with the same motes, whose ends, media and collisions may differ
+-- two nets with the same motes, whose ends, media and collisions may differ; the programs declare all names that they
+-- use, and the names in each program differ
 pub record AreComparable (m model : NetModel) : Type 0 where
   pub motes : model.motes ≡ m.motes
   pub declare : ProgramsDeclare m
@@ -52,16 +54,17 @@ abbrev pub NoRunBeginsAnother : Type 0
 NoRunBeginsAnother = (m model : NetModel) → AreComparable m model → (a b : ReportModel) → IsRunOf m a → IsRunOf model b
     → (more : List ℕ) → report_text model b ≡ report_text m a ++ more → more ≡ []
 
--- The same law for the nets of two scenarios' texts, if the nets have the same motes. The only other premise of the
--- law is about the numbers in the reports.
+-- the nets of two scenarios' texts, which have the same motes
 pub record AreScenarios (x y : List ℕ) (m model : NetModel) : Type 0 where
   pub first : TellsNet x m
   pub second : TellsNet y model
   pub motes : model.motes ≡ m.motes
 
+-- the nets of two scenarios' texts are comparable if they have the same motes
 abbrev pub ScenariosAreComparable : Type 0
 ScenariosAreComparable = (x y : List ℕ) (m model : NetModel) → AreScenarios x y m model → AreComparable m model
 
+-- runs of such nets that write the same text are equal
 abbrev pub SameBytesOfScenarios : Type 0
 SameBytesOfScenarios = (x y : List ℕ) (m model : NetModel) → AreScenarios x y m model
     → (a b : ReportModel) → IsRunOf m a → IsRunOf model b → report_text m a ≡ report_text model b → a ≡ b

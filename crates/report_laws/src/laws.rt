@@ -7,8 +7,8 @@ use mote_program::name_laws::what_a_text_names_is_declared;
 use trace_printer::laws::{no_text_begins_another, text_determines_report};
 
 /// The programs of the net of each scenario's text declare all names that they use, and each declaration is complete.
-/// In each program, no two processes have the same name, no two events have the same name, and no name is the word of
-/// a process or an event of the system.
+/// In each program, no two processes have the same name, and no two events do. No process has the name of a process of
+/// the system, or the name `all`, and no event has the word of an event of the system.
 pub fn texts_declare()
     ensures declare { TextsDeclare }
     ensures differ { NamesOfTextsDiffer }
@@ -16,17 +16,17 @@ pub fn texts_declare()
     what_a_text_names_is_declared();
 }
 
-/// Suppose that the programs of a net declare all names that they use. Then each line in the report of a run of the
-/// net names only processes and events that the mote's program declares, and those of the system. This holds for every
-/// way to make the run.
+/// Suppose that the programs of a net declare all names that they use, and that each declaration is complete. Then each
+/// line in the report of a run of the net names only processes and events that the mote's program declares, and those
+/// of the system. This holds for every way to make the run.
 pub fn runs_name_only()
     ensures runs_name_only { RunsNameOnly }
 {}
 
 /// Equal bytes mean equal runs. Let two nets have the same motes, let their programs declare all names that they use,
-/// and let the names in each program differ. The ends and the media of the nets may differ. If the numbers in two
-/// reports of their runs fit in 64 bits, the texts are equal only if the traces, the logs and the numbers of copies
-/// left are equal. Neither text is a proper prefix of the other.
+/// with complete declarations, and let the names in each program differ. The ends, the media and the collisions of the
+/// nets may differ. If the numbers in two reports of their runs fit in 64 bits, the texts are equal only if the traces,
+/// the logs and the numbers of copies left are equal. Neither text is a proper prefix of the other.
 pub fn comparing_bytes_is_comparing_runs()
     ensures same { ComparingBytesIsComparingRuns }
     ensures no_run_begins_another { NoRunBeginsAnother }

@@ -63,7 +63,7 @@ abbrev pub RunsSome : (old new : Streams) → (status : ℕ) → Type 0
 RunsSome old new status = (words : List (List ℕ)) × Commands words old new status
 
 -- the process returns the status of the command with some arguments; or it couldn't get its arguments, and then it
--- reads nothing and writes nothing to the output
+-- reads nothing, writes nothing to the output, and returns a status that isn't 0
 abbrev pub ReturnsSome : (old new : Streams) → (status : ℕ) → Type 0
 ReturnsSome old new status =
     RunsSome old new status ⊎ ((status ≢ 0) × (new.input ≡ old.input) × (new.output ≡ old.output))

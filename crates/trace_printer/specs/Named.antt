@@ -25,7 +25,7 @@ abbrev pub IsTime64 : Option ℕ → Type 0
 IsTime64 (Some at) = Is64 at
 IsTime64 None = Unit {0}
 
--- a word without a space or a line feed
+-- a word whose bytes are above 32, so that it has no space and no line feed
 abbrev pub IsWord : List ℕ → Type 0
 IsWord word = Each (λ b. 32 < b) word
 
@@ -44,7 +44,8 @@ HasTarget t All = Unit {0}
 abbrev pub HasEvent : Tree → ℕ → Type 0
 HasEvent t e = ((s : SystemEvent) × (e ≡ system_number s)) ⊎ ((0x8b ≤ e) × (e < 0x8b + length t.events))
 
--- no two receivers of a program's events have the same word, and no two of its events have the same word
+-- The receivers and the events of a program, with those of the system, have words (`IsWord`); no two receivers have the
+-- same word, and no two events have the same word.
 pub record NamesDiffer (t : Tree) : Type 0 where
   pub target_is_word : (a : Target) → HasTarget t a → IsWord (target_word t a)
   pub event_is_word : (e : ℕ) → HasEvent t e → IsWord (event_word t e)
@@ -86,7 +87,7 @@ Is64Fate f = Is64 f.to × IsTime64 f.at
 abbrev pub Is64Packet : Packet → Type 0
 Is64Packet p = Is64 p.sent.at × Is64 p.sent.sender × Is64 p.sent.number × Is64 p.sent.value × Each Is64Fate p.fates
 
--- there is one trace for each mote, and its lines name only processes and events of the mote's program
+-- there is one trace for each mote, and its lines name only processes and events of the mote's program or of the system
 abbrev pub AreNamed : List MoteSetup → List (List Line) → Type 0
 AreNamed [] [] = Unit {0}
 AreNamed [] (t ∷ ts) = ⊥

@@ -23,7 +23,7 @@ use std::sync::Wait;
 use std::thread::Threads;
 use trace_lines::Line;
 
-/// The number of lines that all workers together format in one round. Their text is a few mebibytes long.
+/// The largest number of lines that all workers together format in one round. Their text is a few mebibytes long.
 const ROUND: usize = 65_536;
 
 /// The smallest number of lines for which workers are started.

@@ -2,9 +2,9 @@
 ghost use Rattle.trace_printer.specs.Laws.{NoTextBeginsAnother, TextDeterminesReport};
 ghost use Rattle.trace_printer.specs.NamedCases.{OneProcessDiffers, TextsMeetWithoutNames};
 
-/// Equal texts mean equal reports. Suppose that each process and each event in two reports of a net has a name, and
-/// that the names in each program differ. If the texts of the reports are equal, then the traces, the logs and the
-/// numbers of copies left are equal.
+/// Equal texts mean equal reports. Suppose that each process and each event in two reports of a net has a name, that
+/// the numbers in the reports fit in 64 bits, and that the names in each program differ. If the texts of the reports
+/// are equal, then the traces, the logs and the numbers of copies left are equal.
 pub fn text_determines_report()
     ensures text_determines_report { TextDeterminesReport }
 {}

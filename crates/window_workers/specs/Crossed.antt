@@ -18,8 +18,8 @@ Pair = InboxId × TakerView
 abbrev pub logged_packets : ReportModel → List Sent
 logged_packets r = map (λ packet. packet.sent) r.log
 
--- The senders on this worker's inbox pushed exactly those copies of these packets that go from a mote of another
--- worker to a mote of this worker, each once; and the copies that arrive no later than the end were taken.
+-- The gathered senders on this worker's inbox pushed exactly those copies of these packets that go from a mote of
+-- another worker to a mote of this worker, each once; and the copies that arrive no later than the end were taken.
 pub record CrossedTo (model : NetModel) (owners : List ℕ) (log : List Sent) (worker : ℕ)
     (taker : TakerView) : Type 0 where
   pub gathered : AreThoseTo (copies model.radio) owners worker log (gathered_by taker)

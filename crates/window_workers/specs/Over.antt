@@ -66,7 +66,7 @@ pub record IsLogOf (model : NetModel) (sends : List Sent) (log : List Packet) : 
 abbrev pub trace_at : List Ended → (worker mote : ℕ) → Ended → Vec Line Global → Vec Line Global
 trace_at ended worker mote d e = slice_index_or (slice_index_or ended worker d).traces.items mote e
 
--- one mote's trace was taken from one worker, and no other trace was taken
+-- one mote's trace was taken from one worker, and no trace of another mote was taken
 pub record TakesOneTrace (worker mote : ℕ) (old new : List Ended) (trace : Vec Line Global) : Type 0 where
   pub taken : (d : Ended) (e : Vec Line Global) → trace ≡ trace_at old worker mote d e
   pub count : length new ≡ length old

@@ -34,7 +34,7 @@ fn plus(one: u64, other: u64) -> Result<u64, AllocError>
     one.checked_add(other).ok_or(AllocError)
 }
 
-/// Returns the number of copies that were still on their way to the workers' motes.
+/// Returns the number of copies that were still on their way to the workers' motes, without those in the inboxes.
 fn left_to_come(ended: &[Ended]) -> Result<u64, AllocError>
     ensures sum { IfOk result (λ left. left ≡ sum_by (λ one. one.left) ended.now) }
 {

@@ -179,7 +179,7 @@ where
     ensures inboxes { IfOk result (λ r. (map (λ pair. pair.0) r.1.items ≡ map (λ pair. pair.0) pairs.items)
         × Each (λ pair. IsSettled pair.0 pair.1) r.1.items
         × (sync ≡ Marks → Each (λ pair. known_of pair.1.state.gathered pair.1.state.taken ≡ 0) r.1.items)) }
-    // The copies from one worker to another went through the inboxes, each exactly once, and no other items did.
+    // The copies from one worker to another went through the inboxes, each exactly once, and no other copies did.
     ensures crossed { IfOk result (λ r. AllCrossed (net_of net.now) cut.now.of.items (report_of r.0) r.1.items) }
     // An error of the partition is returned exactly if the partition has one.
     ensures fault { let fault = cut_fault (length (net_of net.now).motes) (length pairs.items) cut.now.of.items in

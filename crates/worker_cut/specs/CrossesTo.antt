@@ -5,7 +5,7 @@ use Rattle.radio_packet.specs.declared.sent.Sent.{Sent}
 use Rattle.radio_packet.specs.declared.copy.RadioCopy.{RadioCopy}
 use Rattle.worker_cut.specs.Crossed.{is_own}
 
--- the copy is from a mote of another worker, for a mote of this worker
+-- the copy isn't from a mote of this worker, but is for one
 abbrev pub crosses_to : (owners : List ℕ) → (worker : ℕ) → RadioCopy → Bool
 crosses_to owners worker copy = not (is_own owners worker copy.sender) && is_own owners worker copy.to
 

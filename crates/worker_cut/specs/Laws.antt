@@ -20,7 +20,8 @@ GatheredCopies system owners motes worker gathered =
 abbrev pub HasTaken : (gathered taken : List RadioCopy) → Type 0
 HasTaken gathered taken = (sender : ℕ) → filter (is_from_sender sender) taken ≡ filter (is_from_sender sender) gathered
 
--- at each moment of the window, the mote gets, from each sender, the copies that the mote's worker has seen
+-- at each moment of the window, the mote gets, from each sender, the copies for it that its worker has seen; there are
+-- no copies at other moments
 abbrev pub IsFromSources : {S L : Type 0} → System S L → (own : ℕ → Bool) → (from bound : ℕ)
     → (motes : (number : ℕ) → LoneMote S L) → (taken : List RadioCopy) → (number : ℕ)
     → (given : List RadioCopy) → Type 0

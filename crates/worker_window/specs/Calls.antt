@@ -10,7 +10,7 @@ use Rattle.window_laws.specs.Windows.{is_at}
 use Rattle.worker_window.specs.MoteWindow.{is_rising}
 use Rattle.net_agenda.specs.Buckets.{Buckets, HoldsItems}
 
--- an element for each mote, by number
+-- an element for each mote number, up to the end of the list
 abbrev pub CalledMotes : Type 0
 CalledMotes = List (Option (Vec RadioCopy Global))
 

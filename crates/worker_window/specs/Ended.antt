@@ -12,8 +12,8 @@ use Rattle.worker_cut.specs.Crossed.{is_own, copies_seen}
 use Rattle.worker_window.specs.Log.{packets_in, HaveFates}
 use Rattle.worker_window.specs.Share.{Motes, is_to_come}
 
--- the traces and the packets of the worker's motes, and the number of copies that are still on their way to these
--- motes
+-- the traces and the packets of the worker's motes, and, of the copies that the worker has seen, the number of those
+-- that are still on their way to these motes
 pub record TellsAtEnd (model : NetModel) (owners : List ℕ) (worker from : ℕ) (motes : Motes) (taken : List RadioCopy)
     (ended : Ended) : Type 0 where
   pub traces_kept : length ended.traces.items ≡ length model.motes

@@ -7,7 +7,7 @@ use Rattle.mote_node.specs.Wake.{wake_of}
 use Rattle.worker_window.specs.MoteWindow.{LoneNode, Window, WindowRun, EndsAs, HasTurn, IsNext}
 use Rattle.worker_window.specs.MoteWindow.{node_number, window_after_turn}
 
--- a window has one end
+-- a window has at most one end
 abbrev pub EndIsOne : Type 0
 EndIsOne = (window : Window) (a b : LoneNode) → EndsAs window a → EndsAs window b → b ≡ a
 

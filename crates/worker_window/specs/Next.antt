@@ -9,15 +9,15 @@ use Rattle.worker_cut.specs.Crossed.{is_own, copies_seen}
 use Rattle.worker_window.specs.declared.share.Share.{Share}
 use Rattle.worker_window.specs.Share.{Motes, IsWholeShare, is_to_come}
 
--- the copies from this sender that are still on their way to the worker's motes
+-- the copies from this sender that the worker has seen and that are still on their way to its motes
 abbrev pub copies_to_come : NetModel → (owners : List ℕ) → (worker from : ℕ) → Motes → (taken : List RadioCopy)
     → (sender : ℕ) → List RadioCopy
 copies_to_come model owners worker from motes taken sender =
     let own = is_own owners worker in filter (is_to_come own from)
     (copies_seen (system_of model) own motes taken sender)
 
--- `next` is the moment of the first pending event of a share at the moment `from`: it isn't before `from`; the share
--- is also valid at each later moment up to `next`; and no copy arrives before `next`.
+-- No event of a share at the moment `from` is pending before `next`, which isn't before `from`: the share is also valid
+-- at each later moment up to `next`, and no copy arrives before `next`. Without a `next`, no event is pending.
 pub record IsNextFrom (model : NetModel) (owners : List ℕ) (worker from : ℕ) (motes : Motes) (taken : List RadioCopy)
     (share : Share) (next : Option ℕ) : Type 0 where
   pub wakes : NoneBefore from next

@@ -43,7 +43,7 @@ wake_from from None = None
 wake_from from (Some wake) = if nat_lt wake from then None else Some wake
 
 -- the agenda has the next wake of each of the worker's motes, unless it is before the moment; and, for each sender,
--- all copies for these motes that arrive at the moment or later, in the order of sending
+-- all copies that the worker has seen and that arrive at these motes at the moment or later, in the order of sending
 pub record HasToCome (model : NetModel) (own : ℕ → Bool) (from : ℕ) (motes : Motes) (taken : List RadioCopy)
     (buckets : Buckets) : Type 0 where
   pub items : List Item

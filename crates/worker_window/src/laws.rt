@@ -2,12 +2,14 @@
 
 ghost use Rattle.worker_window.specs.Laws.{EarlierStaysInFront, EndIsOne, EndsWithItsWake, NoTurnIsPast};
 
-/// The run of a window has only one end, for every order of the motes' turns.
+/// The run of a mote's window has at most one end. The run is the mote's own, so the order of the turns of several
+/// motes doesn't matter.
 pub fn one_window_run()
     ensures end_is_one { EndIsOne }
 {}
 
-/// The run of a window doesn't depend on the lines and packets from before the window.
+/// Lines and packets from before a window stay in front of those that the window's run appends. Otherwise, the run
+/// doesn't depend on them.
 pub fn earlier_stays_in_front()
     ensures earlier_stays_in_front { EarlierStaysInFront }
 {}

@@ -117,8 +117,8 @@ impl<G: Gate> Future for MoteWindow<'_, G> {
     /// the mote's earlier result, if no event of the mote is in the window.
     ///
     /// # Errors
-    /// The error of the turn; the mote is then dropped. `Failed` at a later poll, and if an event is in the window of
-    /// a mote that had failed before.
+    /// The error of the turn; the mote is then dropped. `Failed` at a later poll. For a mote that had failed before and
+    /// has an event in the window, `Failed`, or `Memory` if an allocation failed.
     fn poll(&mut self, cx: &mut Context<'_>) -> Poll<Self::Output>
         ensures value { IfReady result (MayAnswer self.old.own) }
         ensures again { OnPending result ⊤ }

@@ -50,7 +50,7 @@ impl Drop for Share {
 }
 
 /// The results of a worker at the end: the traces of its motes, by number; the packets that they sent, in order for
-/// each mote; and the number of copies that are still on their way to them.
+/// each mote; and the number of copies that are still on their way to them, without those in the worker's inbox.
 #[derive(Drop)]
 pub struct Ended {
     pub traces: Vec<Vec<Line>>,
