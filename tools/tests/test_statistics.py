@@ -440,6 +440,14 @@ class Rows(unittest.TestCase):
             shown = shown_of(rows, Wish('sent', 'period', over='seed,%s' % column))
             self.assertEqual(shown.points[0].values, (1, 2, 3, 4))
 
+    def test_files_that_a_seed_selects_are_of_one_plan(self) -> None:
+        rows: list[Row] = [{**row(1, seed, seed), 'plan_sha256': 'digest%d' % seed,
+                            'plan_files': 'plan aa; net_%d.csv b%d' % (seed, seed)} for seed in (1, 2)]
+        self.assertEqual(shown_of(rows, Wish('sent', 'period')).points[0].values, (1, 2))
+        rows[1]['plan_files'] = 'plan ab; net_2.csv b2'
+        with self.assertRaisesRegex(Fault, '^these are runs of 2 plans'):
+            shown_of(rows, Wish('sent', 'period'))
+
     def test_plans_may_differ_between_points_but_measures_may_not(self) -> None:
         rows: list[Row] = [{**row(period, 1, 5), 'plan_sha256': 'plan%d' % period} for period in (1, 2)]
         self.assertEqual(len(shown_of(rows, Wish('sent', 'period')).points), 2)
@@ -447,6 +455,14 @@ class Rows(unittest.TestCase):
             'these are runs of 2 plans, or of one plan with other files next to it (plan_sha256 plan1 in 1, plan2 in '
             '1): check that only program files differ, and that a parameter selects them'])
         self.assertEqual(warnings_of(rows, ['plan_sha256']), [])
+        # (a parameter selects one of two files, and then one file changes)
+        for period, it in enumerate(rows, 1):
+            it['plan_files'] = 'plan aa; my %d.mote b%d' % (period, period)
+        self.assertEqual(warnings_of(rows), [])
+        self.assertEqual(len(shown_of(rows, Wish('sent', 'period', over='seed'))[0]), 2)
+        rows[1]['plan_files'] = 'plan aa; my 1.mote b2'
+        self.assertEqual([it.rpartition(': ')[2] for it in warnings_of(rows)],
+                         ['not all of them have the same contents of my 1.mote'])
         others: list[Row] = [{**row(period, 1, 5), 'measures_sha256': 'set%d' % period} for period in (1, 2)]
         for wish in Wish('sent', 'period'), Wish('sent', 'ratio', 'period'):
             with self.assertRaisesRegex(Fault, r'^these are runs of 2 sets of measures \(measures_sha256 set1, set2\)'):
@@ -600,6 +616,27 @@ class Command(unittest.TestCase):
         self.assertIn('these are runs of 2 plans', self.seen)
         self.plot('--measure', 'sent', '--against', 'period', '--where', 'sead=2', status=2)
         self.assertIn('there is no parameter sead; there are: period, density, seed', self.seen)
+
+    def with_measures(self, name: str, texts: str, more: str = '') -> None:
+        """Writes results whose rows have the texts of their measures, and maybe one more measure."""
+        lines = [it.replace(',,', ',%s,' % ('7,' * bool(more))) for it in results().splitlines()[1:]]
+        head = HEAD[:-1].replace(',fault', ',%s,fault' % more if more else ',fault')
+        (self.folder / name).write_text('%s,measures,measures_sha256\n' % head + ''.join(
+            '%s,%s,%s\n' % (it, texts, name) for it in lines))
+
+    def test_a_measure_that_both_files_have_is_compared(self) -> None:
+        words = '--measure', 'sent', '--against', 'period', '--compare', 'more.csv', *ONE
+        self.with_measures('net.csv', 'sent; ratio')
+        self.with_measures('more.csv', 'sent; ratio; collided', 'collided')
+        rows = [' '.join(it) for it in self.plot(*words)]
+        self.assertIn('only more has collided: left out of the comparison', rows)
+        for texts, is_refused in (('sent = late; ratio', True), ('sent; ratio = late', False),
+                                  ('sent = python: m.py:f; ratio; m.py has the SHA-256 aa', True)):
+            self.with_measures('more.csv', texts)
+            self.plot(*words, status=2 if is_refused else 0)
+            self.assertEqual('runs of 2 sets of measures' in self.seen, is_refused)
+        self.with_measures('net.csv', 'sent = python: m.py:f; ratio; m.py has the SHA-256 ab')
+        self.plot(*words, status=2)
 
     def test_sides_and_lines_of_two_sets_of_measures_are_refused(self) -> None:
         lines = results().splitlines()

@@ -27,7 +27,7 @@ from motesim.experiments.measures import Bench, Cell, MeasureFault, imports_of, 
 from motesim.experiments.one_run import Job, Result, digest, run_job
 from motesim.plan.plan import Plan
 from motesim.report import Report
-from motesim.experiments.results import CsvFile, SqliteFile, cell, read_results
+from motesim.experiments.results import CsvFile, SqliteFile, cell, line_of, read_results
 from motesim.runner.run import Run
 from motesim.scenario import Scenario
 from motesim.judge.sentences import names_of
@@ -247,6 +247,23 @@ class SweepTest(Bed):
         self.assertTrue(all(len(row[name]) == 16 for row in rows for name in row if name.endswith('sha256')))
         self.assertEqual(len({row['scenario_sha256'] for row in rows}), 6)
         self.assertEqual({row['measures'] for row in rows}, {'end = last: every mote prints a; prints'})
+
+    def test_the_rows_name_the_files_of_their_plan_and_an_older_file_of_results_continues(self) -> None:
+        for name in 'net.csv', 'net.sqlite':
+            self.assertEqual(self.sweep('--measure', 'sent', '-o', name).returncode, 0)
+        row = self.rows()[0]
+        self.assertRegex(row['plan_files'], r'^plan [0-9a-f]{16}; a\.mote %s$' % digest(
+            (self.folder / 'a.mote').read_bytes()))
+        with contextlib.closing(sqlite3.connect(self.folder / 'net.sqlite')) as base:
+            base.execute('alter table runs drop column plan_files')
+            base.commit()
+        del row['plan_files']
+        (self.folder / 'net.csv').write_text(line_of(row) + line_of(row.values()))
+        for name in 'net.csv', 'net.sqlite':
+            done = self.sweep('--measure', 'sent', '--vary', 'period=1,2', '-o', name)
+            self.assertEqual((done.returncode, done.stderr), (0, ''))
+            columns, found = read_results(self.folder / name)
+            self.assertEqual((columns, len(found)), (list(row), 3))
 
     def test_the_digests_of_all_files_of_a_measure_are_in_the_rows(self) -> None:
         (self.folder / 'm.py').write_text('import mine, math\ndef f(run):\n    return mine.lines(run)\n')

@@ -7,8 +7,8 @@ from typing import NamedTuple
 
 from motesim.analysis.estimates import AUTO, NAMES, Estimate, Measured, mean_of, measured, median_with_quartiles
 from motesim.explain.synonyms import known
-from motesim.experiments.measures import Cell, is_count
-from motesim.experiments.results import Row, text_of
+from motesim.experiments.measures import Cell, file_of, is_count, name_of
+from motesim.experiments.results import PLAN_FILES, Row, text_of
 from motesim.faults import Fault
 
 MEDIAN = 'median'
@@ -23,6 +23,8 @@ REJECTED = 'rejected'
 PLACES = 'places_sha256'
 # The columns with the digests of a run's plan (with the files that it reads) and of its measures.
 PLAN, MEASURES = 'plan_sha256', 'measures_sha256'
+# The column with the texts of a run's measures, and the words in it that give the digest of a user's file.
+TEXTS, OF_FILE = 'measures', ' has the SHA-256 '
 # The column with the digest of motesim, by which runs can be separated too.
 PROGRAM = 'program_sha256'
 # What a digest distinguishes, in messages.
@@ -235,8 +237,25 @@ def separated_by(wish: Wish) -> list[str]:
     return [it for it in SEPARATES if it in (wish.by, wish.pair.partition('=')[0])]
 
 
+def changed_files(rows: Sequence[Row]) -> list[str] | None:
+    """The files, or `plan`, that some of these runs have with different contents; None if a row doesn't say so.
+
+    If there are none, the runs are of one plan, and their parameters select the files that they need.
+    """
+    digests: dict[str, set[str]] = {}
+    for row in rows:
+        if not row.get(PLAN_FILES):
+            return None
+        for words in text_of(row[PLAN_FILES]).split('; '):
+            name, _, digest = words.rpartition(' ')
+            digests.setdefault(name, set()).add(digest)
+    return [name for name, its in digests.items() if len(its) > 1]
+
+
 def check_plans(rows: Sequence[Row], names: Sequence[str], wish: Wish) -> None:
     """Refuses to mix runs of several plans that have the same values of these parameters."""
+    if changed_files(rows) == []:
+        return
     digests: dict[tuple[Cell, ...], set[Cell]] = {}
     for row in rows:
         digests.setdefault(tuple(row[name] for name in names), set()).add(row.get(PLAN))
@@ -244,8 +263,21 @@ def check_plans(rows: Sequence[Row], names: Sequence[str], wish: Wish) -> None:
         _refuse_several(PLAN, its, rows, wish)
 
 
+def definition_of(row: Row, name: str) -> str | None:
+    """The text of a measure, with the digests of the users' files if it is in one; None if the row doesn't say it."""
+    parts = text_of(row.get(TEXTS)).split('; ')
+    files = [it for it in parts if OF_FILE in it]
+    words = next((it for it in parts if it not in files and name_of(it) == name), None)
+    return words if words is None or not file_of(words) else '; '.join([words, *files])
+
+
 def check_measures(rows: Sequence[Row], wish: Wish) -> None:
-    """Refuses to show runs of several sets of measures together: one name may mean two measures."""
+    """Refuses to show runs of several sets of measures together, because one name may mean two measures, unless the
+    shown measures are the same in all of them."""
+    shown = [it for it in (wish.measure, wish.against) if it not in ('', REJECTED, *parameters_of(rows))]
+    definitions = [{definition_of(row, it) for row in rows} for it in shown]
+    if all(len(its) == 1 and None not in its for its in definitions):
+        return
     _refuse_several(MEASURES, {row.get(MEASURES) for row in rows}, rows, wish)
 
 

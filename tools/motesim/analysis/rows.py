@@ -8,7 +8,7 @@ from collections.abc import Sequence
 
 from motesim.analysis.points import MOST_VALUES, NET, PLACES, PLAN, PROGRAM, RUNS, SELECTS, SEPARATES, WITH, WITHOUT
 from motesim.analysis.points import Wish
-from motesim.analysis.points import measures_of, name_of_net, names_of_nets, number_of, parameters_of, repeats_of
+from motesim.analysis.points import changed_files, measures_of, name_of_net, names_of_nets, number_of, parameters_of, repeats_of
 from motesim.experiments.draws import lines_of, warnings_in
 from motesim.experiments.measures import Cell
 from motesim.experiments.results import Row, text_of
@@ -19,8 +19,9 @@ Key = tuple[Cell, ...]
 DIGESTS = 'scenario_sha256', 'report_sha256'
 # The end of the part of a warning that says what it is about.
 END_OF_HEAD = re.compile('[:;]')
-# (the digest of a plan also covers its program files, and no column shows whether only they differ)
+# (the digest of a plan also covers its files; rows of older sweeps don't show whether only their selection differs)
 CHECK = 'check that only program files differ, and that a parameter selects them'
+CHANGED = 'not all of them have the same contents of %s'
 
 
 def shown_key(names: Sequence[str], key: Key) -> str:
@@ -119,12 +120,14 @@ def _of_notes(rows: Sequence[Row]) -> list[str]:
 def _of_several(column: str, rows: Sequence[Row], has_lines: bool) -> list[str]:
     """The line about runs with several digests in this column."""
     counts = Counter(text_of(row[column]) for row in rows if row.get(column) is not None)
-    if len(counts) < 2:
+    changed = changed_files(rows) if column == PLAN else None
+    if len(counts) < 2 or changed == []:
         return []
     its = ['%s in %d' % it for it in counts.most_common(MOST_VALUES)] + ['..'] * (len(counts) > MOST_VALUES)
     ways = ['--by %s separates them' % column] * has_lines + [SELECTS % (column, next(iter(counts)))]
     return ['these are runs of %d %s (%s %s): %s' % (
-        len(counts), SEPARATES[column], column, ', '.join(its), CHECK if column == PLAN else ', '.join(ways))]
+        len(counts), SEPARATES[column], column, ', '.join(its),
+        CHANGED % ' and '.join(changed) if changed else CHECK if column == PLAN else ', '.join(ways))]
 
 
 def mean_of(rows: Sequence[Row], measure: str) -> float | None:

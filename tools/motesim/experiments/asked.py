@@ -14,6 +14,7 @@ from motesim.experiments.measures import file_of, imports_of, mote_of, processes
 from motesim.explain.synonyms import known
 from motesim.notation.keywords import SYSTEM
 from motesim.plan.plan import Plan
+from motesim.experiments.results import PLAN_FILES
 from motesim.plan.tables import Value, optional, text_of_value, value_of_text
 from motesim.runner.run import read_file
 from motesim.scenario import Scenario
@@ -29,7 +30,7 @@ RANGE = re.compile(r'(-?[0-9]{1,9})\.\.(-?[0-9]{1,9})(?:\.\.([0-9]{1,9}))?')
 SWEEP = {'vary': optional(dict, {}), 'measure': optional(list, []), 'seconds': optional(int, SECONDS, 1, MOST_SECONDS)}
 # The columns besides parameters and measures: errors, and the files and digests from which a row was made.
 MADE = ('fault', 'note', 'plan', 'plan_sha256', 'scenario_sha256', 'places_sha256', 'rejected', 'report_sha256',
-        'program', 'program_sha256', 'kit', 'measures', 'measures_sha256', CHANCE, 'parameters')
+        'program', 'program_sha256', 'kit', 'measures', 'measures_sha256', CHANCE, PLAN_FILES, 'parameters')
 
 
 def values_of(words: str) -> list[Value]:

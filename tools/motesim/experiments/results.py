@@ -26,6 +26,8 @@ Row = dict[str, Cell]
 # The column of notes on runs, and a function from a row to its note.
 NOTE = 'note'
 NoteOf = Callable[[Row], str]
+# The column with a digest of the plan and one of each file that a run needs. Older files of results don't have it.
+PLAN_FILES = 'plan_files'
 SQLITE = ('.sqlite', '.sqlite3', '.db')
 NUMBER = re.compile(r'0|-?[1-9][0-9]*')
 # The number of bits of a spot of CSV for the length of a row, and the number of bytes that are read at a time.
@@ -324,6 +326,10 @@ def is_sqlite(path: Path) -> bool:
 def open_results(path: Path, columns: Sequence[str]) -> CsvFile | SqliteFile:
     """The file to which rows are added. If it exists already, it must have these columns."""
     file: CsvFile | SqliteFile = SqliteFile(path, columns) if is_sqlite(path) else CsvFile(path, columns)
+    if file.found == [it for it in columns if it != PLAN_FILES]:
+        # (a file of an older sweep: rows are added to it in its own form)
+        file.columns = file.found
+        return file
     if file.found != list(columns):
         more, less = [[it for it in one if it not in other] for one, other in (
             (file.found, columns), (columns, file.found))]

@@ -18,7 +18,7 @@ from motesim.experiments.one_run import DIGITS, TOO_BUSY, Job, Result, Work, dig
 from motesim.output import beside
 from motesim.plan.plan import UNUSED, Plan
 from motesim.plan.tables import Value, text_of_value, value_of_text
-from motesim.experiments.results import CsvFile, Row, SqliteFile, open_results, text_of
+from motesim.experiments.results import PLAN_FILES, CsvFile, Row, SqliteFile, open_results, text_of
 from motesim.runner.programs import TOP, optimized_path
 from motesim.experiments.asked import Sweep, chance_seeds, columns_of, known_names, some_runs, sources_of, sweep_of
 from motesim.experiments.asked import unused
@@ -76,6 +76,10 @@ class Sweeper:
 
     def plan_digest(self, given: Mapping[str, Value]) -> str:
         return self.plan.digest(given)[:DIGITS]
+
+    def plan_files(self, given: Mapping[str, Value]) -> str:
+        """The digest of the plan and those of the files that a run needs, each after a name."""
+        return '; '.join('%s %s' % (name, it[:DIGITS]) for name, it in self.plan.digests(given).items())
 
     def changed(self, row: Row) -> list[str]:
         """The names of the parts that have changed since a row was made."""
@@ -192,7 +196,8 @@ class Sweeper:
         return {**parameters, **result.measures, **self.made, 'plan_sha256': self.plan_digest(given),
                 'scenario_sha256': result.scenario, 'places_sha256': result.places or None,
                 'rejected': result.rejected, 'report_sha256': result.report, 'fault': result.fault or None,
-                'note': result.note or None, CHANCE: ' '.join(self.chance_seeds(given)) or None}
+                'note': result.note or None, CHANCE: ' '.join(self.chance_seeds(given)) or None,
+                PLAN_FILES: self.plan_files(given)}
 
     def run(self, processes: int, address: str | None) -> int:
         """Makes the missing runs; returns their number."""

@@ -40,12 +40,19 @@ class Files:
         """The SHA-256 of a plan's text and of these files with their names; a missing file counts as empty."""
         made = hashlib.sha256(text.encode())
         for name in names:
-            try:
-                data = self.read(name)
-            except (Fault, ValueError):
-                data = b''
+            data = self._data(name)
             made.update(b'\0%s\0%d\0' % (name.encode(), len(data)) + data)
         return made.hexdigest()
+
+    def digest_of(self, name: str) -> str:
+        """The SHA-256 of one file; a missing file counts as empty."""
+        return hashlib.sha256(self._data(name)).hexdigest()
+
+    def _data(self, name: str) -> bytes:
+        try:
+            return self.read(name)
+        except (Fault, ValueError):
+            return b''
 
 
 class Row:
