@@ -180,6 +180,14 @@ class MeasuresTest(unittest.TestCase):
                 read_measure(words, self.names)
 
 
+    def test_a_function_of_two_arguments_gets_the_parameters_of_the_run(self) -> None:
+        sources = {'m.py': 'def both(run, its):\n    return its.pop("period") * run.scenario.motes\n'
+                           'def old(run, cost=5, *more):\n    return cost + len(more)\n'}
+        it = Bench(bench().run, {'period': 4})
+        for _ in range(2):
+            self.assertEqual(read_measure('python: m.py:both', self.names, sources).of(it), 12)
+        self.assertEqual(read_measure('python: m.py:old', self.names, sources).of(it), 5)
+
     def test_a_file_imports_files_next_to_it(self) -> None:
         sources = {'sub/m.py': 'import one, math\ndef f(run):\n    from two import wrong\n    '
                                'return wrong(one.two.TWO)\n',
@@ -264,6 +272,12 @@ class SweepTest(Bed):
             self.assertEqual((done.returncode, done.stderr), (0, ''))
             columns, found = read_results(self.folder / name)
             self.assertEqual((columns, len(found)), (list(row), 3))
+
+    def test_a_measure_reads_the_parameters_of_its_run(self) -> None:
+        (self.folder / 'm.py').write_text('def f(run, parameters):\n    return "%r" % parameters\n')
+        self.assertEqual(self.sweep('--measure', 'python: m.py:f', '--vary', 'period=1,2').returncode, 0)
+        self.assertEqual([row['f'] for row in self.rows()],
+                         ["{'period': %d, 'motes': 3, 'name': 'a'}" % it for it in (1, 2)])
 
     def test_the_digests_of_all_files_of_a_measure_are_in_the_rows(self) -> None:
         (self.folder / 'm.py').write_text('import mine, math\ndef f(run):\n    return mine.lines(run)\n')

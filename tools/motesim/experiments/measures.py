@@ -7,6 +7,7 @@ from __future__ import annotations
 
 import ast
 import builtins
+import inspect
 import math
 import re
 import traceback
@@ -26,6 +27,7 @@ from motesim.summary.flows import NAMES as FLOW_NAMES
 from motesim.summary.flows import FlowFault, flow_rows, read_flow, shared, shared_in_flow
 from motesim.summary.shares import share
 from motesim.judge.judge import Event, Judge
+from motesim.plan.tables import Value
 from motesim.runner.run import Run
 from motesim.scenario import Scenario
 from motesim.judge.sentences import Copies, Does, Names, Packets, Refused, Sentence, read_sentence
@@ -54,10 +56,10 @@ class MeasureFault(Fault):
 
 
 class Bench:
-    """A run on which measures are taken."""
+    """A run on which measures are taken, and the values of the plan's parameters in this run."""
 
-    def __init__(self, run: Run) -> None:
-        self.run = run
+    def __init__(self, run: Run, parameters: Mapping[str, Value] = {}) -> None:
+        self.run, self.parameters = run, parameters
 
     @cached_property
     def judge(self) -> Judge:
@@ -281,6 +283,16 @@ def _module_of(file: str, sources: Mapping[str, str], loaded: dict[str, ModuleTy
     return loaded[file]
 
 
+def _needs_two(function: Callable[..., object]) -> bool:
+    """Returns whether a user's function can't be called with the run alone: it also asks for the parameters."""
+    try:
+        its = list(inspect.signature(function).parameters.values())
+    except (TypeError, ValueError):
+        return False
+    return sum(it.kind in (it.POSITIONAL_ONLY, it.POSITIONAL_OR_KEYWORD) and it.default is it.empty
+               for it in its) > 1
+
+
 def _of_python(file: str, function: str, sources: Mapping[str, str]) -> Callable[[Bench], Cell]:
     if file not in sources:
         raise MeasureFault('there is no file %s' % file)
@@ -290,11 +302,13 @@ def _of_python(file: str, function: str, sources: Mapping[str, str]) -> Callable
         raise MeasureFault('%s: %s' % (file, _said(fault, file, sources))) from None
     if not callable(space.get(function)):
         raise MeasureFault('%s has no function %s' % (file, function))
-    work: Callable[[Run], object] = space[function]
+    work: Callable[..., object] = space[function]
+    has_parameters = _needs_two(work)
 
     def of(bench: Bench) -> Cell:
         try:
-            return _checked(work(bench.run), function)
+            # (each call has a copy, so that no function changes the values for another one)
+            return _checked(work(bench.run, *[dict(bench.parameters)] * has_parameters), function)
         except (MeasureFault, MemoryError, TimeoutError):
             raise
         except Exception as fault:

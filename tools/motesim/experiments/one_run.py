@@ -198,7 +198,7 @@ def run_job(job: Job) -> Result:
         report = digest(got.report)
         known, read = Scenario.parse(text), Report.parse(got.report)
         places = digest(repr([(it.x, it.y) for it in known.places]).encode())
-        measures, note = measured(work, Bench(Run(work.plan, read, known)), known)
+        measures, note = measured(work, Bench(Run(work.plan, read, known), plan.with_given(dict(job.given))), known)
         found = warned(read, known, work.seconds, job.is_first)
         note = '; '.join(filter(None, [note, *map(one_line, found)]))
     except BaseException as failure:
