@@ -24,6 +24,7 @@ position owners worker from = record { owners = owners; worker = worker; from = 
 abbrev pub position_of : WindowPosition → Position
 position_of s = position s.owners.now s.worker s.from
 
+-- the copy is expected by a worker in this position
 abbrev pub IsExpectedAt : Position → RadioCopy → Type 0
 IsExpectedAt p copy = IsExpected p.owners p.worker p.from copy
 

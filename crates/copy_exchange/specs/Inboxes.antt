@@ -20,5 +20,6 @@ pub record IsSettled (inbox : InboxId) (t : TakerView) : Type 0 where
   pub all : AllGathered t.state
   pub no_mark : PacketsLeft t.state
 
+-- each inbox, with its taker, is settled
 abbrev pub Settled : List InboxId → List TakerView → Type 0
 Settled inboxes takers = AllZip IsSettled inboxes takers

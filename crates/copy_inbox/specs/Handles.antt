@@ -106,6 +106,7 @@ pub record IsTakerIn (d : TakerState) (v : View) (counts : List Count) (known : 
   pub of_made : OfMade d.made d.taken
   pub numbers : Each (λ (g : Gathered). g.number < d.made) d.gathered
 
+-- a taker with these counts and this number of known items
 abbrev pub IsTaker : View → List Count → ℕ → Type 0
 IsTaker v counts known = IsTakerIn (taker_state_in v) v counts known
 

@@ -75,5 +75,6 @@ WasEmpty d = SeenBy (Taking d) []
 abbrev pub Took : View → Item → View → Type 0
 Took v x w = (w ≡ with_taken v x) × ((rest : List Item) × SeenBy v (x ∷ rest))
 
+-- the item is now the last that the sender pushed
 abbrev pub Pushed : View → Item → View → Type 0
 Pushed v x w = w ≡ with_pushed v x

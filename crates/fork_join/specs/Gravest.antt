@@ -10,6 +10,7 @@ graver Memory other = Memory
 graver Thread other = Thread
 graver Stopped other = other
 
+-- the reported reason after one more worker gave up
 abbrev pub gravest : (so_far : Option WorkerError) → (other : WorkerError) → WorkerError
 gravest None other = other
 gravest (Some first) other = graver first other

@@ -99,6 +99,7 @@ pub record AccountsForPackets (receiver : Option ℕ) (lines : List Line) (m : K
   pub each : TellEach receiver handed tellings
   pub among : AreAmong tellings lines
 
+-- after any turns of a mote, each packet that it received is accounted for
 abbrev pub PacketsAreAccountedFor : Type 0
 PacketsAreAccountedFor =
     (program : Tree) (number queue : ℕ) (collides : Bool) (given : List TurnInput) (lines : List Line) (last : Node)

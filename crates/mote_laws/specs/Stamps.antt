@@ -21,6 +21,7 @@ pub record IsStamped (moment : ℕ) (n : Node) (t : TurnGiven) : Type 0 where
   pub counted : t.node.mote.state.sent ≡ n.mote.state.sent + length t.sends
   pub mote : t.node.mote.state.mote ≡ n.mote.state.mote
 
+-- each turn of a node is stamped in this way
 abbrev pub TurnsStamp : Type 0
 TurnsStamp = (moment : ℕ) (arrivals : List Arrival) (n : Node) → IsStamped moment n (turn_of moment arrivals n)
 
@@ -41,6 +42,7 @@ PacketsCountUp =
 abbrev pub NeverGoBack : List Line → Type 0
 NeverGoBack lines = IsNonDecreasingBy (λ l. l.at) lines
 
+-- the moments of the lines of turns, one after another, never go back
 abbrev pub TurnsNeverGoBack : Type 0
 TurnsNeverGoBack = (n last : Node) (given : List TurnInput) (lines : List Line) → Turns n given lines last
     → NeverGoBack lines

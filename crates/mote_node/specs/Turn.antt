@@ -18,6 +18,7 @@ use Rattle.mote_node.specs.Arrivals.{hear_all, is_collision, with_collisions}
 unfoldable pub boot_due : (moment : ℕ) → Underway → Underway
 boot_due moment u = if u.mote.booted then u else underway_after (boot_given moment u.mote u.lines u.sends)
 
+-- there is an expiration, and it isn't after this moment
 abbrev pub is_some_due : (moment : ℕ) → (expiration : Option ℕ) → Bool
 is_some_due moment None = false
 is_some_due moment (Some expiration) = nat_le expiration moment
@@ -35,6 +36,7 @@ unfoldable pub work_of : (moment : ℕ) → List Arrival → Underway → Underw
 work_of moment arrivals u =
     let heard = hear_all moment arrivals u in runs_of most_runs moment (with_mote heard (poll_due moment heard.mote))
 
+-- the turn of a mote: the boot, if it is due, and then the work, unless the mote has halted before or in the boot
 unfoldable pub mote_turn : (moment : ℕ) → List Arrival → Underway → Underway
 mote_turn moment arrivals u = let booted = boot_due moment u in turn_goes_on booted (work_of moment arrivals booted)
 
@@ -56,6 +58,7 @@ pub record TurnGiven : Type 0 where
 abbrev pub node_after : Node → (moment : ℕ) → KernelModel → Node
 node_after n moment m = record n { mote = m; last = Some moment }
 
+-- the outcome of a turn of the node that ends in this state
 abbrev pub turned_to : Node → (moment : ℕ) → Underway → TurnGiven
 turned_to n moment u = record {
   node = node_after n moment u.mote;

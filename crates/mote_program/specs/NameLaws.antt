@@ -8,9 +8,11 @@ use Rattle.mote_program.specs.Complete.{IsComplete}
 use Rattle.mote_program.specs.Declarations.{IsDeclared}
 use Rattle.mote_program.specs.Named.{named_by_block}
 
+-- the names in the tree of any text are declared
 abbrev pub NamesAreDeclared : Type 0
 NamesAreDeclared = (text : List ℕ) (tree : Tree) → IsTreeOf text tree → IsDeclared tree
 
+-- the declarations in the tree of any text are complete
 abbrev pub DeclarationsAreComplete : Type 0
 DeclarationsAreComplete = (text : List ℕ) (tree : Tree) → IsTreeOf text tree → IsComplete tree
 

@@ -43,6 +43,7 @@ app_with cuts syncs =
     (choice_rule (codes "cut") (codes "block") cuts)) (choice_rule (codes "sync") (codes "joins") syncs))
     (new_rule (codes "FILE"))
 
+-- the command of `motesim`, with the names of the partitions and of the kinds of synchronisation
 abbrev pub IsMotesim : App → Type 0
 IsMotesim app = (cuts syncs : Choices) × (app ≡ app_with cuts syncs)
     × (map (λ s. s.now) cuts.now ≡ codes "block" ∷ codes "stripe" ∷ [])

@@ -21,6 +21,7 @@ tree_of_processes processes = record {
   timers = [];
 }
 
+-- the names in a program with one process, `a`, differ
 abbrev pub OneProcessDiffers : Type 0
 OneProcessDiffers = NamesDiffer (tree_of_processes (codes "a" ∷ []))
 

@@ -36,6 +36,7 @@ TellsWhatItKept share ended = (model : NetModel) (owners : List ℕ) (worker fro
 abbrev pub log_lines_of : List Ended → List LogLine
 log_lines_of ended = flat_map (λ one. one.log.items) ended
 
+-- the packets of all workers without their fates, one worker after another
 abbrev pub logs_of : List Ended → List Sent
 logs_of ended = flat_map (λ one. packets_in one.log.items) ended
 

@@ -29,6 +29,8 @@ IsFromSources system own from bound motes taken number given = (moment sender : 
     → filter (is_from_sender sender) (filter (is_at moment) given)
     ≡ filter (is_at moment) (filter (is_within number from bound) (copies_seen system own motes taken sender))
 
+-- Suppose that a worker has taken, from each mote, the copies that crossed to it. Then the copies that one of its
+-- motes gets from the sources above are those that the law of windows requires.
 abbrev pub WindowCopiesAreWhole : {S L : Type 0} → System S L → Type 0
 WindowCopiesAreWhole {S} {L} system =
     (owners : List ℕ) (motes : (number : ℕ) → LoneMote S L) (gathered taken : List RadioCopy)
@@ -38,6 +40,8 @@ WindowCopiesAreWhole {S} {L} system =
     → (given : List RadioCopy) → IsFromSources system (is_own owners worker) from bound motes taken number given
     → IsGiven system from bound motes number given
 
+-- Suppose that a net runs forward and that its motes ran through windows from moment 0. Then a worker that gathered
+-- the copies from each mote has gathered exactly the copies of the packets in the log that cross to it, each once.
 abbrev pub CrossedOnce : {S L : Type 0} → System S L → Type 0
 CrossedOnce {S} {L} system = RunsForward system → (owners : List ℕ) (from : ℕ) (motes : (number : ℕ) → LoneMote S L)
     → Windows system 0 from (first_mote system) motes

@@ -39,6 +39,7 @@ pub record Course : Type 0 where
   pub lines : List Line
   pub sends : List Sent
 
+-- the course of the window of an `OwnWindow`, also if the mote has failed
 unfoldable pub course_in : OwnWindow → Course
 course_in w = record {
   program = tree_of w.program.now;

@@ -41,6 +41,7 @@ pub record IsFirstTurn (old new : Option Window) : Type 0 where
   pub left : IfSome old (HasTurn moment)
   pub turned : TurnsTo moment old new
 
+-- a poll ran exactly the first turn of the window's run; the window wasn't dropped before or in the poll
 abbrev pub TakesTurn : (old new : Option OwnWindow) → Type 0
 TakesTurn (Some old) (Some new) = IsFirstTurn (window_in old) (window_in new)
 TakesTurn _ _ = ⊥
@@ -71,6 +72,7 @@ pub record IsFinishedWith (window : Option Window) (out : WindowOut) : Type 0 wh
   pub over : IfSome window IsOver
   pub made : IfSome window (λ w. shown w.program out ≡ Some w.mote)
 
+-- no turn was left before the poll, and this is the window's result; the window wasn't dropped before the poll
 abbrev pub RestsAs : Option OwnWindow → WindowOut → Type 0
 RestsAs None out = ⊥
 RestsAs (Some own) out = IsFinishedWith (window_in own) out
