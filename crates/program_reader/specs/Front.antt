@@ -19,7 +19,7 @@ pub record BeginsWithToken (text : List ℕ) (token : Option Token) (len : ℕ) 
   pub fits : FitsBefore (drop len text) piece
   pub is : token ≡ token_at piece
 
--- the text begins with neither a blank, nor a word, nor a comment
+-- the text isn't empty, and begins with neither a blank, nor a word, nor a comment
 pub record BeginsOther (text : List ℕ) : Type 0 where
   pub some : 0 < length text
   pub no_blank : is_blank (slice_index text 0) ≡ false

@@ -38,7 +38,7 @@ with_names s n = record s { names = n }
 abbrev pub with_starting : Scope → List Name → Scope
 with_starting s xs = record s { starting = xs }
 
--- if the result is an error, it is the first error, whatever symbols follow these
+-- if the result is an error of the tokens, it is the first error, whatever symbols follow these
 abbrev pub FailsIn : {T : Type 0} → Scope → Pending → List Token → Result T ReadFailure → Type 0
 FailsIn s y old result = (f : Fault) → result ≡ Err (refusal.Fault f) → (more : Pending)
     → tell s (y ++ more) old ≡ fault f.kind f.left
@@ -99,6 +99,7 @@ abbrev pub DeclaresNames : Class → Symbol → (List Name → List Mark → Lis
     → Type 0
 DeclaresNames c y marks s s' old rest = (items : List Name) × HasDeclared c itself y marks items s s' old rest
 
+-- all events or event timers are read
 abbrev pub ReadsNames : Class → Symbol → Symbol → (List Name → List Mark → List Mark) → Scope → Scope → List Token
     → List Token → Type 0
 ReadsNames c y z marks s s' old new = (items : List Name) × Declares c itself y z marks items s s' old new
@@ -109,6 +110,7 @@ abbrev pub HasValues : Class → Symbol → (List Valued → List Mark → List 
 HasValues c y marks values s s' old rest =
     (items : List Valued) × (values ≡ values_of items) × HasDeclared c (λ v. v.0) y marks items s s' old rest
 
+-- all semaphores or variables are read, with their first values
 abbrev pub ReadsValues : Class → Symbol → Symbol → (List Valued → List Mark → List Mark) → List ℕ → Scope → Scope
     → List Token → List Token → Type 0
 ReadsValues c y z marks values s s' old new =

@@ -1,4 +1,4 @@
--- The names in scope between codes, and the names among them that are kept.
+-- Scopes without the names of a code, and scopes with the same timers.
 use Rattle.std.specs.Prelude.{◌≡◌, []}
 use Rattle.program_reader.specs.declared.scope.Scope.{Scope}
 
@@ -9,6 +9,7 @@ pub record HasNoOwnNames (s : Scope) : Type 0 where
   pub ctimers : s.ctimers ≡ []
   pub threads : s.threads ≡ []
 
+-- both scopes have the same timers of a code
 pub record KeepsTimers (old new : Scope) : Type 0 where
   pub etimers : new.etimers ≡ old.etimers
   pub ctimers : new.ctimers ≡ old.ctimers

@@ -1,5 +1,5 @@
--- The remaining text, as a list of symbols, and the effect of each token on this list. Only the proofs use it: the
--- grammar and its errors are defined without it. Each symbol derives at least one token.
+-- The remaining text, as a list of symbols, and the effect of each token on this list. Only the proofs and contracts
+-- inside this crate use it: the grammar and its errors are defined without it. Each symbol derives at least one token.
 use Rattle.std.specs.Prelude.{ℕ, suc, ◌+◌, List, [], ◌∷◌, ◌++◌, length, Bool, if◌then◌else◌, Option, Some, None}
 use Rattle.std.specs.Str.{bytes_eq}
 use Rattle.program_tree.specs.Faults.{Scope, scope_after, breaks}
@@ -19,6 +19,7 @@ use Rattle.program_tree.specs.declared.error.ReadErrorKind.TheVariants.{BadToken
 use Rattle.program_tree.specs.declared.error.ReadErrorKind.TheVariants.{NumberTooLarge, WaitInSimpleBlock, TooDeep}
 use Rattle.program_tree.specs.declared.error.ReadErrorKind.TheVariants.{TooMany, NoProcess, BadTarget}
 
+-- a part of a text that is still to be read
 pub data Symbol : Type 0 where
   semicolon : Symbol
   equals : Symbol
@@ -55,7 +56,8 @@ pub data Symbol : Type 0 where
   from_events : Symbol
   from_semaphores : Symbol
   first_process : Symbol
-  -- the rest of the process line, from the place after a name or from a name on, with the processes named so far
+  -- the rest of a program, from the place after a name of the process line or from a further name on, with the
+  -- processes named so far
   from_comma : Name → List Name → Symbol
   more_process : Name → List Name → Symbol
   -- the rest of a program, from `autostart` or `receiver` on
@@ -65,6 +67,7 @@ pub data Symbol : Type 0 where
   -- further names of `autostart`, and the semicolon
   more_starting : Symbol
 
+-- the symbols that are still to be read, in order
 abbrev pub Pending : Type 0
 Pending = List Symbol
 
@@ -72,6 +75,8 @@ Pending = List Symbol
 pub data Step : Type 0 where
   unfit : Step
   take : Mark → Pending → Step
+
+-- The step at a token, for each kind of symbol; the symbols `f` are pending after this symbol.
 
 abbrev pub cast_step : Pending → Token → Step
 cast_step f (token.Name x) = take (named x (uses an_event x)) f
@@ -258,11 +263,13 @@ pub data Verdict : Type 0 where
   whole : Verdict
   fault : ReadErrorKind → (left : ℕ) → Verdict
 
+-- the error of a text that ends before this symbol
 abbrev pub end_kind : Symbol → ReadErrorKind
 end_kind from_events = NoProcess
 end_kind from_semaphores = NoProcess
 end_kind s = Unexpected
 
+-- the verdict at the end of a text
 abbrev pub at_end : Pending → Verdict
 at_end [] = whole
 at_end (s ∷ f) = fault (end_kind s) 0
@@ -276,9 +283,11 @@ first_broken_of broken (k ∷ ks) = if broken k then Some k else first_broken_of
 abbrev pub rules_on_marks : List ReadErrorKind
 rules_on_marks = UnknownName ∷ NameTwice ∷ NumberTooLarge ∷ WaitInSimpleBlock ∷ TooDeep ∷ TooMany ∷ BadTarget ∷ []
 
+-- the first rule that this mark breaks
 abbrev pub first_broken : Scope → Mark → Option ReadErrorKind
 first_broken s m = first_broken_of (λ k. breaks k s m) rules_on_marks
 
+-- this error at the next token or, if there is none, the other verdict
 abbrev pub fault_or : Option ReadErrorKind → (left : ℕ) → Verdict → Verdict
 fault_or None left other = other
 fault_or (Some k) left other = fault k left

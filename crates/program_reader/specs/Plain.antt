@@ -22,7 +22,8 @@ abbrev pub IsNoAction : Beginning → Type 0
 IsNoAction (action f) = ⊥
 IsNoAction b = Unit {0}
 
--- the first token of a statement without a block, or a token that begins no statement
+-- the first token of a statement without a block; or a token that begins no statement, except `}`; or the end of the
+-- text
 abbrev pub BeginsPlain : Option Token → Type 0
 BeginsPlain (Some token.CloseBrace) = ⊥
 BeginsPlain (Some (token.Keyword k)) = IsPlain (beginning k)

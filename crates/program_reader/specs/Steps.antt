@@ -72,6 +72,7 @@ abbrev pub look : NamesInScope → Class → Name → Option ℕ
 look n a_timer x = option_map (λ i. n.first_timer + i) (place_in_names n.timers x)
 look n c x = place_in_names (names_of n c) x
 
+-- a thread is expected, and the name is that of the thread that is being read
 abbrev pub is_own_thread : Option Name → Class → Name → Bool
 is_own_thread own a_thread x = is_own_name own x
 is_own_thread own c x = false
@@ -97,6 +98,7 @@ IsFound n own c x (found.Here i) = Finds n own c x i
 abbrev pub IsFront : List Name → List Name → Type 0
 IsFront xs ys = (more : List Name) × (ys ≡ xs ++ more)
 
+-- the names in scope stay in scope with their numbers, and more may be declared
 pub record Extends (n n' : NamesInScope) : Type 0 where
   pub front : (c : Class) → IsFront (names_of n c) (names_of n' c)
   pub first_timer : n'.first_timer ≡ n.first_timer
@@ -121,6 +123,7 @@ pub record ReadsSign (y : Symbol) (t : Token) (old new : List Token) : Type 0 wh
   pub spelled : old ≡ t ∷ new
   pub goes_on : (s : Scope) (f : Pending) → tell s (y ∷ f) old ≡ tell s f new
 
+-- if the result is an error of the tokens, it is the first error, in each scope and whatever follows the sign
 abbrev pub FailsSign : {T : Type 0} → Symbol → List Token → Result T ReadFailure → Type 0
 FailsSign y old result = (f : Fault) → result ≡ Err (refusal.Fault f) → (s : Scope) (more : Pending)
     → tell s (y ∷ more) old ≡ fault f.kind f.left
@@ -131,7 +134,7 @@ pub record Reads (s s' : Scope) (y : Symbol) (marks : NamesInScope → List Mark
   pub spelled : (n : NamesInScope) → Extends s.names n → (ms : List Mark) → tokens ms ≡ new → old ≡ tokens (marks n ms)
   pub goes_on : (f : Pending) → tell s (y ∷ f) old ≡ tell s' f new
 
--- if the result is an error, it is the first error, whatever follows the symbol
+-- if the result is an error of the tokens, it is the first error, whatever follows the symbol
 abbrev pub Fails : {T : Type 0} → Scope → Symbol → List Token → Result T ReadFailure → Type 0
 Fails s y old result = (f : Fault) → result ≡ Err (refusal.Fault f) → (more : Pending)
     → tell s (y ∷ more) old ≡ fault f.kind f.left
@@ -156,11 +159,13 @@ pending_of c branches f = expression c ∷ block c ∷ items_else c ∷ f
 pending_of c loops f = expression c ∷ block c ∷ items c ∷ f
 pending_of c goes_on f = f
 
+-- a keyword with this role begins a statement
 abbrev pub IsStatement : Beginning → Type 0
 IsStatement no_statement = ⊥
 IsStatement goes_on = ⊥
 IsStatement b = Unit {0}
 
+-- a keyword with this role begins neither an `if` nor a `while`
 abbrev pub IsPlain : Beginning → Type 0
 IsPlain branches = ⊥
 IsPlain loops = ⊥

@@ -21,7 +21,8 @@ use std::alloc::Global;
 ///
 /// # Errors
 ///
-/// The reported error, with the line of its token; or `Memory`, with line 0, if an allocation failed.
+/// The reported error, with the line of its token or of the end of the text; or `Memory`, with line 0, if an allocation
+/// failed.
 pub fn read(alloc: Global, text: &str) -> Result<Program, ReadError>
     ensures ok { IfOk result (λ p. IsTreeOf text.now (tree_of p)) }
     ensures matches { (e : ReadError) → result ≡ Err e → (e.kind ≡ ReadErrorKind.Memory → ⊥)

@@ -8,6 +8,7 @@ use Rattle.program_tree.specs.declared.keyword.Keyword.TheVariants as word
 use Rattle.program_tree.specs.declared.tree.Operator.{Operator}
 use Rattle.program_tree.specs.declared.tree.Operator.TheVariants as operator
 
+-- the spelling of a keyword
 abbrev pub keyword_word : Keyword → List ℕ
 keyword_word word.Event = codes "event"
 keyword_word word.Semaphore = codes "semaphore"
@@ -68,6 +69,7 @@ keyword_word word.Count = codes "count"
 keyword_word word.Radio = codes "radio"
 keyword_word word.All = codes "all"
 
+-- the spelling of an operator
 abbrev pub operator_sign : Operator → List ℕ
 operator_sign operator.Add = codes "+"
 operator_sign operator.Subtract = codes "-"
@@ -115,7 +117,7 @@ tells word.Running = true
 tells word.Count = true
 tells k = false
 
--- Each of these definitions has two arguments: a token, and the tokens after it.
+-- Each of the next two definitions has two arguments: a token, and the tokens after it.
 
 -- the token ends its line
 abbrev pub ends_line : Token → List Token → Bool
@@ -158,5 +160,6 @@ text_from braces [] = []
 text_from braces (t ∷ rest) =
     spelling t ++ (gap (braces_behind braces t) t rest ++ text_from (braces_behind braces t) rest)
 
+-- the text of tokens, with no brace open before them
 abbrev pub canonical_text : List Token → List ℕ
 canonical_text ts = text_from 0 ts

@@ -10,6 +10,7 @@ abbrev pub entry_of : Body ℕ → (place after : ℕ) → ℕ
 entry_of end place after = after
 entry_of (next s b) place after = place
 
+-- the entry of the `else` block of an `if`, or `after` if there is none
 abbrev pub other_entry_of : Otherwise ℕ → (place after : ℕ) → ℕ
 other_entry_of nothing place after = after
 other_entry_of (otherwise b) place after = entry_of b place after
@@ -19,8 +20,8 @@ abbrev pub LeadFrom : (all : List (List (Statement ℕ))) → (place : ℕ) → 
 LeadFrom all place [] = Unit {0}
 LeadFrom all place (i ∷ is) = Leads (rest_in all) i (rest_in all place) × LeadFrom all (place + 1) is
 
--- `new` is `old` with instructions added. The added instructions have the local property if their rests are at their
--- places in the list of all rests, and if the rest at `after` is the rest that follows them.
+-- `new` is `old` with `count` instructions added. The added instructions have the local property if their rests are at
+-- their places in the list of all rests, and if the rest at `after` is the rest that follows them.
 pub record AddsStatements (added : (rest : List (Statement ℕ)) → List (List (Statement ℕ))) (count after : ℕ)
     (old new : List Instruction) : Type 0 where
   pub more : List Instruction
@@ -30,6 +31,8 @@ pub record AddsStatements (added : (rest : List (Statement ℕ)) → List (List 
       → all ≡ left ++ added rest ++ right → length left ≡ length old
       → rest_in all after ≡ rest → LeadFrom all (length old) more
 
+-- the instructions of a block, of a statement, or of the `else` block of an `if` are added; after them, a thread
+-- continues at `after`
 abbrev pub Emits : Body ℕ → (after : ℕ) → (old new : List Instruction) → Type 0
 Emits b after old new = AddsStatements (λ rest. rests b rest) (size b) after old new
 

@@ -1,9 +1,10 @@
--- The numbers of events, as in `process.h`.
+-- The numbers and the words of the events that every kernel knows.
 use Rattle.std.specs.Prelude.{ℕ, List, codes}
 use Rattle.program_tree.specs.declared.event.SystemEvent.{SystemEvent}
 use Rattle.program_tree.specs.declared.event.SystemEvent.TheVariants.{Init, Poll, Exit, Continue, Msg, Exited, Timer}
 use Rattle.program_tree.specs.declared.event.SystemEvent.TheVariants.{Com, Packet}
 
+-- the number of the event, as in `process.h`; the packet, which `process.h` doesn't have, has the next number
 abbrev pub system_number : SystemEvent → ℕ
 system_number Init = 0x81
 system_number Poll = 0x82

@@ -22,15 +22,18 @@ pub record Scope : Type 0 where
   pub starting : List Name
   pub statements : ℕ
 
+-- the scope before the first mark of a text
 abbrev pub nothing_yet : Scope
 nothing_yet = record { names = no_names; starting = []; statements = 0 }
 
+-- the scope after a token with this role
 abbrev pub with_role : Scope → Role → Scope
 with_role s (new c x) = record s { names = with_new s.names c x }
 with_role s (starts x) = record s { starting = s.starting ++ x ∷ [] }
 with_role s leaves = record s { names = outside s.names }
 with_role s r = s
 
+-- the scope after a token with which this part begins
 abbrev pub with_begun : Scope → Begun → Scope
 with_begun s none_begins = s
 with_begun s b = record s { statements = s.statements + 1 }
@@ -39,10 +42,12 @@ with_begun s b = record s { statements = s.statements + 1 }
 abbrev pub scope_after : Scope → Mark → Scope
 scope_after s m = with_begun (with_role s m.role) m.begins
 
+-- the scope after further marks
 abbrev pub scope_from : Scope → List Mark → Scope
 scope_from s [] = s
 scope_from s (m ∷ ms) = scope_from (scope_after s m) ms
 
+-- the scope after the first marks of a text
 abbrev pub scope_of : List Mark → Scope
 scope_of ms = scope_from nothing_yet ms
 
@@ -59,6 +64,7 @@ is_full n a_thread = nat_le 7 (length n.threads)
 abbrev pub is_other : NamesInScope → Class → Name → Bool
 is_other n c x = is_in_scope n x && not (is_a n c x)
 
+-- the name is that of the thread whose block it is in
 abbrev pub is_own_name : Option Name → Name → Bool
 is_own_name None x = false
 is_own_name (Some own) x = bytes_eq own x
@@ -85,6 +91,7 @@ begun_breaks TooMany s statement = nat_le 4096 s.statements
 begun_breaks TooMany s wait = nat_le 4096 s.statements
 begun_breaks k s b = false
 
+-- the token of the mark, or the statement that begins at it, breaks this rule
 abbrev pub breaks : ReadErrorKind → Scope → Mark → Bool
 breaks k s m = role_breaks k s m.role || begun_breaks k s m.begins
 

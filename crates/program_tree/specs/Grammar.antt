@@ -61,7 +61,7 @@ pub data Role : Type 0 where
 pub data Begun : Type 0 where
   none_begins : Begun
   statement : Begun
-  -- a statement that waits, in a simple block
+  -- a statement that isn't allowed in simple blocks, in a simple block
   wait : Begun
 
 -- a token of a text, with its role there and with the part of the program that begins at it
@@ -70,9 +70,11 @@ pub record Mark : Type 0 where
   pub role : Role
   pub begins : Begun
 
+-- the tokens of the marks
 abbrev pub tokens : List Mark → List Token
 tokens ms = map (λ m. m.token) ms
 
+-- marks at which no statement begins: of a sign, a keyword, a name, a sign that opens a level, and a number
 abbrev pub sign : Token → Mark
 sign t = record { token = t; role = plain; begins = none_begins }
 
@@ -101,6 +103,7 @@ begins_with c k = record {
 
 -- The marks of each part in its context, and then the marks `after` the part.
 
+-- the role of a name that refers to something of this class
 abbrev pub used : Context → Class → Name → Role
 used c a_thread x = spawns c.thread x
 used c k x = uses k x
@@ -250,6 +253,7 @@ abbrev pub handler_marks : Keyword → Option (Body Name) → (after : List Mark
 handler_marks k None after = after
 handler_marks k (Some b) after = key k ∷ block_marks at_simple b after
 
+-- the last brace of a code
 abbrev pub leaving : Mark
 leaving = record { token = token.CloseBrace; role = leaves; begins = none_begins }
 

@@ -20,6 +20,7 @@ pub record NamesInScope : Type 0 where
   pub timers : List Name
   pub threads : List Name
 
+-- no name is in scope, and the program has no timer yet
 abbrev pub no_names : NamesInScope
 no_names = record {
   events = [];
@@ -31,6 +32,7 @@ no_names = record {
   threads = [];
 }
 
+-- the names of a class
 abbrev pub names_of : NamesInScope → Class → List Name
 names_of n an_event = n.events
 names_of n a_semaphore = n.semaphores
@@ -52,12 +54,15 @@ with_new n a_thread x = record n { threads = n.threads ++ x ∷ [] }
 abbrev pub outside : NamesInScope → NamesInScope
 outside n = record n { variables = []; first_timer = n.first_timer + length n.timers; timers = []; threads = [] }
 
+-- the name is on this list
 abbrev pub is_among : List Name → Name → Bool
 is_among names x = is_some (place_in_names names x)
 
+-- the name is in scope, and belongs to this class
 abbrev pub is_a : NamesInScope → Class → Name → Bool
 is_a n c x = is_among (names_of n c) x
 
+-- the name is in scope
 abbrev pub is_in_scope : NamesInScope → Name → Bool
 is_in_scope n x = is_a n an_event x || is_a n a_semaphore x || is_a n a_process x || is_a n a_variable x
     || is_a n a_timer x || is_a n a_thread x

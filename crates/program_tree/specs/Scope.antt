@@ -13,6 +13,7 @@ use Rattle.program_tree.specs.Tree.{Otherwise, nothing, otherwise}
 abbrev pub Within : Type 0
 Within = Class → ℕ → Bool
 
+-- each number in an event, an expression, a statement or a block has a meaning
 abbrev pub cast_fits : Within → BroadcastEvent ℕ → Bool
 cast_fits w (event.declared i) = w an_event i
 cast_fits w e = true

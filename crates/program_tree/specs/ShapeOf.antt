@@ -21,6 +21,7 @@ names_of_code n c = record n {
   threads = c.threads;
 }
 
+-- a block with each number replaced by its name
 abbrev pub block_with : NamesInScope → Body ℕ → Body Name
 block_with n b = body_map (name_in n) b
 
@@ -36,9 +37,11 @@ code_with n c = record {
   body = block_with n c.body;
 }
 
+-- the shape of a code, given the names of the whole program
 abbrev pub code_shape : NamesInScope → Code → CodeShape
 code_shape n c = code_with (names_of_code n c) c
 
+-- the processes with the shapes of their codes
 abbrev pub codes_of_tree : Tree → List (Name × CodeShape)
 codes_of_tree t = zip t.processes (map (code_shape (names_of_tree t)) t.codes)
 
@@ -57,6 +60,7 @@ no_code = (
   },
 )
 
+-- the shape of a program
 abbrev pub shape_of : Tree → ProgramShape
 shape_of t = record {
   events = t.events;

@@ -46,6 +46,7 @@ signs =
 abbrev pub sign_at : List ℕ → Option (List ℕ × Token)
 sign_at text = find (λ sign. starts_with nat_eq text sign.0) signs
 
+-- the text begins with `//`
 abbrev pub begins_comment : List ℕ → Bool
 begins_comment text = starts_with nat_eq text (codes "//")
 
@@ -54,6 +55,7 @@ abbrev pub line_ends_here : List ℕ → Bool
 line_ends_here [] = true
 line_ends_here (b ∷ bs) = is_feed b
 
+-- a piece of a text
 pub data Piece : Type 0 where
   Blank : (byte : ℕ) → Piece
   -- the bytes after `//`
@@ -63,6 +65,7 @@ pub data Piece : Type 0 where
   -- a byte that begins no other kind of piece
   Other : (byte : ℕ) → Piece
 
+-- the bytes of a piece
 abbrev pub bytes_of : Piece → List ℕ
 bytes_of (Blank byte) = byte ∷ []
 bytes_of (Comment bytes) = codes "//" ++ bytes
@@ -92,10 +95,12 @@ abbrev pub text_of : List Piece → List ℕ
 text_of [] = []
 text_of (piece ∷ pieces) = bytes_of piece ++ text_of pieces
 
+-- each piece is of its kind and as long as possible, given the text of the pieces after it
 abbrev pub AllFit : List Piece → Type 0
 AllFit [] = Unit {0}
 AllFit (piece ∷ pieces) = FitsBefore (text_of pieces) piece × AllFit pieces
 
+-- the tokens of the pieces, in order
 abbrev pub tokens_of : List Piece → List Token
 tokens_of pieces = filter_map token_at pieces
 

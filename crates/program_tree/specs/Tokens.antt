@@ -3,6 +3,7 @@ use Rattle.std.specs.Prelude.{ℕ, List}
 use Rattle.program_tree.specs.declared.keyword.Keyword.{Keyword as KeywordRead}
 use Rattle.program_tree.specs.declared.tree.Operator.{Operator}
 
+-- a token of a text
 pub data Token : Type 0 where
   Keyword : KeywordRead → Token
   Semicolon : Token

@@ -13,6 +13,7 @@ pub data Class : Type 0 where
   a_timer : Class
   a_thread : Class
 
+-- an expression
 pub data Expression (Name : Type 0) : Type 0 where
   number : (value : ℕ) → Expression Name
   variable : Name → Expression Name

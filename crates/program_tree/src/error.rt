@@ -12,20 +12,21 @@ pub enum ReadErrorKind {
     /// A token that can't follow the tokens before it in any program, whatever the names and numbers. At the end of a
     /// text, this error means that no program ends there, and that no program has `process` there.
     Unexpected = 2,
-    /// A name that isn't declared yet.
+    /// A name that isn't in scope: it isn't declared yet, or only in the `code` of an earlier process.
     UnknownName = 3,
-    /// A name that is already declared, or that `autostart` already lists.
+    /// The declaration of a name that is already in scope, or a name that `autostart` already lists.
     NameTwice = 4,
     /// A number above 65,535.
     NumberTooLarge = 5,
-    /// A statement that waits, in `onpoll`, `onexit` or the block of a callback timer.
+    /// A statement that can wait, begin a block again or leave it, in `onpoll`, `onexit` or the block of a callback
+    /// timer.
     WaitInSimpleBlock = 6,
     /// A brace, `!` or `(` that opens the 33rd level.
     TooDeep = 7,
     /// The 65th process, semaphore or timer of a program, the 118th event, the 65th variable or the 8th thread of a
     /// process, or the first token of the 4,097th statement.
     TooMany = 8,
-    /// A text that ends before `process`.
+    /// A text that ends at a place at which `process` is allowed.
     NoProcess = 9,
     /// A name of another class than the expected class, such as a process's name for a variable; or a `spawn` that
     /// names the thread in whose block it is.
@@ -45,8 +46,8 @@ impl ReadErrorKind {
     }
 }
 
-/// The reason why a text isn't a program, and the line of the token that breaks the rule. The first line is 1; if an
-/// allocation failed, the line is 0.
+/// The reason why a text isn't a program, and the line of the token that breaks the rule, or of the end of the text.
+/// The first line is 1; if an allocation failed, the line is 0.
 #[derive(Clone, Copy, Debug, PartialEq, Eq)]
 pub struct ReadError {
     pub kind: ReadErrorKind,

@@ -1,7 +1,7 @@
 //! The instructions of flat code.
 use crate::tree::{Action, Expr};
 
-/// The place after the last statement of a block. No block has this many statements.
+/// The place after the last statement of a block. No statement has this place.
 pub(crate) const END: u16 = u16::MAX;
 
 /// A statement in flat code, with the places at which a thread continues after it. A place is the number of a

@@ -68,7 +68,8 @@ impl ProcessText {
         &self.starts
     }
 
-    /// The body. Its blocks are nested at most 32 deep, like those of each block of a process.
+    /// The body. Like each block of a process, it has at most 4,096 statements, and its blocks are nested at most 32
+    /// deep.
     pub fn body(&self) -> &FlatBlock
         ensures value { tree_in result.now ≡ (code_of self.now).body }
         ensures within { IsWithinLimits (tree_in result.now) }

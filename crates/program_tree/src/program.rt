@@ -63,7 +63,7 @@ impl Drop for Program {
     }
 }
 
-/// Implemented by hand, without the code of the processes. `mote_program::print_program` returns the whole text.
+/// Implemented by hand: it shows only the names of the processes. `mote_program::print_program` returns the whole text.
 impl Debug for Program {
     fn fmt<W: fmt::Write>(&self, f: &mut Formatter<W>) -> fmt::Result {
         f.debug_struct("Program")

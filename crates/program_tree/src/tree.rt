@@ -32,9 +32,9 @@ pub enum Expr {
     Variable(u8),
     /// The word of the event.
     Word,
-    /// The mote that sent the event.
+    /// The number of the mote that sent the event; 0, except for a packet from the radio.
     Sender,
-    /// The current moment.
+    /// The current moment, modulo 65,536.
     Moment,
     /// The number of the mote on which the program runs.
     Mote,

@@ -24,15 +24,18 @@ abbrev pub below_last : (n : ℕ) → List Call → ℕ
 below_last n [] = n
 below_last n (c ∷ cs) = below_last (before_number c.thread) cs
 
+-- the innermost thread, or the part if no thread is spawned, can spawn this thread
 abbrev pub CanSpawn : List Call → (thread : ℕ) → Type 0
 CanSpawn [] t = Unit {0}
 CanSpawn (c ∷ cs) t = t < below_last (before_number c.thread) cs
 
--- the block of the innermost thread spawns no other threads
+-- the block of the innermost thread spawns only threads that the innermost thread can spawn; the block of a part may
+-- spawn any thread
 abbrev pub SpawnsSo : List Call → Body ℕ → Type 0
 SpawnsSo [] b = Unit {0}
 SpawnsSo (c ∷ cs) b = block_fits (earlier_threads (below_last (before_number c.thread) cs)) b ≡ true
 
+-- the innermost thread, if any thread is spawned
 abbrev pub IsLast : List Call → Option Call → Type 0
 IsLast cs None = cs ≡ []
 IsLast cs (Some c) = (before : List Call) × (cs ≡ before ++ c ∷ [])

@@ -60,13 +60,14 @@ IsHeld code whole (within t p rest) = IsHeld code (thread_block code t) p
 abbrev pub IsSound : Code → Remainder → Type 0
 IsSound code r = r.mark ≡ Pausing → IsHeld code (whole_of code r.part) r.place
 
--- A step that gives up control leaves the thread at rest and held at its place. The next call continues from there.
+-- A step that gives up control leaves the thread at rest and held at its place. The next call continues from there. Any
+-- step leaves the thread sound.
 pub record GivesUpAtAWait (code : Code) (a : Advanced) : Type 0 where
   pub gives_up : (answer : PtState) → a.step ≡ Done answer → state_number answer < 2
       → (a.remainder.mark ≡ AtRest) × IsHeld code (whole_of code a.remainder.part) a.remainder.place
   pub stays_sound : IsSound code a.remainder
 
--- a thread that was fresh at first gives up control only at waits
+-- a sound thread, such as a fresh one, gives up control only at waits, and stays sound
 abbrev pub ControlIsGivenUpAtWaits : Type 0
 ControlIsGivenUpAtWaits =
     (code : Code) (event : Event) (looks : Looks) (r : Remainder) (variables : List ℕ) (units : ℕ)

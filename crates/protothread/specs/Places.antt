@@ -19,6 +19,7 @@ abbrev pub body_or_end : Option (Body ℕ) → Body ℕ
 body_or_end None = end
 body_or_end (Some b) = b
 
+-- the block of a part, and the block of a thread of the process
 abbrev pub part_body : Code → Part → Body ℕ
 part_body code part.Body = code.body
 part_body code part.OnPoll = body_or_end code.on_poll
@@ -56,6 +57,7 @@ abbrev pub yielding : (spawns : ℕ) → PtState
 yielding zero = Yielded
 yielding (suc n) = Waiting
 
+-- the block of the innermost thread, and the spawned threads
 abbrev pub body_of_thread : Code → Thread → Body ℕ
 body_of_thread code t = innermost code (part_body code t.part) t.calls
 

@@ -54,7 +54,7 @@ abbrev pub DeedCanSpawn : List Call → StatementEffect → Type 0
 DeedCanSpawn cs (Spawns t) = CanSpawn cs t
 DeedCanSpawn cs d = Unit {0}
 
--- this flat code is that of the thread's innermost thread, which spawns only threads before itself
+-- this flat code is that of the thread's innermost thread, which spawns only threads that it can spawn
 pub record IsFoundIn (code : Code) (t : Thread) (flat : List Instruction) : Type 0 where
   pub flat_of : IsFlat (body_of_thread code t) flat
   pub earlier : SpawnsSo t.calls (body_of_thread code t)
@@ -105,6 +105,7 @@ pub record StopsAtOnce (answer : Step) (old new : Thread) (units left : ℕ) : T
         units = left;
       }
 
+-- the return of a call to the thread's position: it succeeds, or the call stops with this answer
 abbrev pub Resumes : Option Step → (old new : Thread) → (units left : ℕ) → Type 0
 Resumes None old new units left = GoesOnFrom old new units left
 Resumes (Some answer) old new units left = StopsAtOnce answer old new units left

@@ -42,10 +42,12 @@ pub data Completion : Type 0 where
   exits : (now : Sight) → (later : List Sight) → (variables : List ℕ) → Completion
   in_state : (variables : List ℕ) → Completion
 
+-- the statements were executed
 abbrev pub IsDone : Completion → Type 0
 IsDone (done now later vars) = Unit {0}
 IsDone out = ⊥
 
+-- the thread left the statements because it restarts
 abbrev pub Restarts : Completion → Type 0
 Restarts (restarts now later vars) = Unit {0}
 Restarts out = ⊥
@@ -64,6 +66,7 @@ resumed into (next ∷ later) vars = done next later (with_answer into vars next
 abbrev pub deed : Code → Action ℕ → Sight → (variables : List ℕ) → StatementEffect
 deed code a now vars = deed_of code.number false vars now.event now.looks a
 
+-- the value of an expression in a sight
 abbrev pub meaning : Expression ℕ → Sight → (variables : List ℕ) → ℕ
 meaning e now vars = value vars now.event now.looks e
 

@@ -25,11 +25,13 @@ abbrev pub spawner_place : (thread : ℕ) → Place → (rest : List (Statement 
 spawner_place thread ended rest = before false rest
 spawner_place thread p rest = within thread p rest
 
+-- the position after each spawned thread that is at its end has returned to its spawner
 abbrev pub settled : Place → Place
 settled (within t p rest) = spawner_place t (settled p) rest
 settled p = p
 
--- the part that the thread runs; whether it is at rest, under way, or run away; and its position
+-- the part that the thread runs; whether it is at rest, under way, after the post of a `pause`, or run away; and its
+-- position
 pub record Remainder : Type 0 where
   pub part : Part
   pub mark : Mark
@@ -40,6 +42,7 @@ abbrev pub statements_of : Option (Body ℕ) → List (Statement ℕ)
 statements_of None = []
 statements_of (Some b) = listed b
 
+-- the statements of a thread of the process
 abbrev pub thread_block : Code → (thread : ℕ) → List (Statement ℕ)
 thread_block code thread = statements_of (slice_get code.thread_bodies thread)
 

@@ -1,4 +1,5 @@
--- Runs of a thread. The thread is advanced once for each sight, with enough units of work, until it answers 2 or 3.
+-- Runs of a thread. The thread is advanced once for each sight, with enough units of work, until it answers 2 or 3 or
+-- no sight is left.
 use Rattle.std.specs.Prelude.{ℕ, ◌≡◌, ◌<◌, ◌↔◌, List, [], ◌∷◌}
 use Rattle.program_tree.specs.Code.{Code}
 use Rattle.protothread.specs.declared.answer.PtState.{PtState}
@@ -24,6 +25,7 @@ Steps code now r vars answer next changed =
       units = left;
     })
 
+-- a thread with this remainder and these variables has this run
 pub data Runs (code : Code) : Remainder → (variables : List ℕ) → (now : Sight) → (later : List Sight) → List Happening
     → Completion → Type 0 where
   -- An operation. The thread gets the answer before it is advanced again, and keeps it only in a variable after

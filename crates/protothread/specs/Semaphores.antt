@@ -1,6 +1,7 @@
 -- The count of a semaphore after its uses.
 use Rattle.std.specs.Prelude.{ℕ, ◌≡◌, ◌+◌, ◌-◌, ◌%◌, ◌^◌, ◌<◌, List, [], ◌∷◌}
 
+-- a use of a semaphore
 pub data Use : Type 0 where
   takes : Use
   signals : Use
@@ -12,6 +13,7 @@ Counts start [] count = start ≡ count
 Counts start (takes ∷ us) count = (0 < start) × Counts (start - 1) us count
 Counts start (signals ∷ us) count = Counts ((start + 1) % 2 ^ 16) us count
 
+-- the number of uses of each of the two kinds
 abbrev pub taken : List Use → ℕ
 taken [] = 0
 taken (takes ∷ us) = 1 + taken us

@@ -98,6 +98,7 @@ performed code whole vars s rest (Spawns t) = goes_on vars (within t (before fal
 performed code whole vars s rest Restarts = answers Waiting (before false whole)
 performed code whole vars s rest Exits = answers Exited (before false whole)
 
+-- the effect of the statement `s` on the thread whose block is `whole`; the rest is after this statement
 abbrev pub statement_reached : Code → (whole : List (Statement ℕ)) → (is_yielded : Bool) → (variables : List ℕ)
     → Event → Looks → (s : Statement ℕ) → (rest : List (Statement ℕ)) → Reached
 statement_reached code whole yielded vars event looks (does a) rest =
@@ -200,10 +201,12 @@ abbrev pub marked_answered : Mark → Mark
 marked_answered (UnderWay into) = UnderWay None
 marked_answered m = m
 
+-- the variable that waits for an answer, if there is one, gets it
 abbrev pub variables_answered : Mark → (variables : List ℕ) → (answer : ℕ) → List ℕ
 variables_answered (UnderWay (Some i)) vars answer = slice_set vars i answer
 variables_answered m vars answer = vars
 
+-- the thread gets this answer
 abbrev pub answered_of : Remainder → (variables : List ℕ) → (answer : ℕ) → Answered
 answered_of r vars answer =
     record { remainder = record r { mark = marked_answered r.mark }; variables = variables_answered r.mark vars answer }

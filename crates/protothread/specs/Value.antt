@@ -21,7 +21,7 @@ truth b = if b then 1 else 0
 abbrev pub holds : ℕ → Bool
 holds n = not (n == 0)
 
--- sums, differences and products wrap at 16 bits, and the result of a division by 0 is 0
+-- sums, differences and products wrap at 16 bits; the quotient and the remainder of a division by 0 are 0
 abbrev pub applied : Operator → ℕ → ℕ → ℕ
 applied Add a b = (a + b) % 2 ^ 16
 applied Subtract a b = (a + (2 ^ 16 - b)) % 2 ^ 16

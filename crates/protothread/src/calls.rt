@@ -5,8 +5,8 @@ ghost use Rattle.protothread.specs.Calls.{CanSpawn, IsLast};
 use arrayvec::ArrayVec;
 use std::marker::Model;
 
-/// The greatest depth of nested spawned threads. A part may spawn any of the process's 7 threads, and a thread may
-/// spawn only threads with a lower number than its own.
+/// The room for nested spawned threads. A part may spawn a thread with any number, and a thread may spawn only threads
+/// with numbers below 7 and below its own. So at most 8 threads are nested, and at most 7 if the process has only 7.
 const DEPTH: usize = 8;
 
 /// A spawned thread, and the place from which its spawner continues after the spawn.

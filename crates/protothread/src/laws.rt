@@ -22,7 +22,8 @@ pub fn operations_cost_work()
 {}
 
 /// A step answers 0 or 1 only if the thread, or the innermost thread that it spawned, waits or has restarted. The next
-/// call continues from that place.
+/// call continues from that place. This is true of a sound thread: a fresh thread is sound, and each step keeps it
+/// sound.
 pub fn control_is_given_up_at_waits()
     ensures control_is_given_up_at_waits { ControlIsGivenUpAtWaits }
 {}

@@ -17,7 +17,7 @@ pub enum Op {
     Kill(Proc),
     /// Sets a timer to this interval.
     Set(u16, u16),
-    /// Sets a timer again with its interval, from the moment at which it expired.
+    /// Sets a timer again with its interval, from its expiration, which may be past or still to come.
     Reset(u16),
     /// Sets a timer again with its interval, from now.
     RestartTimer(u16),

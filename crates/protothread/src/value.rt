@@ -81,8 +81,8 @@ fn plain_or_word(operand: &Expr, vars: &Vars, event: &Event) -> Option<u16>
     }
 }
 
-/// The value of an expression, if it has at most one operator and needs only the variables and the event. The function
-/// is inlined, so that the tests and assignments of most statements cost little.
+/// The value of an expression, if it has one of the frequent forms. They have at most one operator and need only the
+/// variables and the event. The function is inlined, so that the tests and assignments of most statements cost little.
 #[inline(always)]
 fn short_value(expression: &Expr, vars: &Vars, event: &Event) -> Option<u16>
     ensures value { (looks : Looks) → IfSome result
