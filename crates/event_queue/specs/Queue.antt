@@ -10,6 +10,7 @@ pub record Queue : Type 0 where
   pub accepted : ℕ
   pub capacity : ℕ
 
+-- no event waits, and none was ever accepted
 abbrev pub empty_queue : ℕ → Queue
 empty_queue n = record { events = []; accepted = 0; capacity = n }
 

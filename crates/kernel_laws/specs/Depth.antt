@@ -33,6 +33,7 @@ BootsAreAnyDepth =
     → boot_given moment m lines sends
     ≡ unless_halted m lines sends (given (boot_of (calls_of depth) (begun m moment lines sends)))
 
+-- the same is true of a kernel run
 abbrev pub RunsAreAnyDepth : Type 0
 RunsAreAnyDepth =
     (depth moment : ℕ) (m : KernelModel) (lines : List Line) (sends : List Sent) → most_units < depth

@@ -26,12 +26,13 @@ use Rattle.kernel_laws.specs.Own.{FitsTarget}
 use Rattle.kernel_laws.specs.Poll.{PollWaits, CanBePolled, polls_before}
 use Rattle.kernel_laws.specs.Polled.{TellsPost}
 
--- the timer is on the timer list, it has expired by this moment, and this process is its owner
+-- the timer is on the timer list, it is due at this moment, and this process is its owner
 pub record IsDueFor (moment : ℕ) (l : TimerLists) (timer : ℕ) (owner : Proc) : Type 0 where
   pub listed : is_member timer l.listed ≡ true
   pub due : is_due moment (timer_at l.timers timer) ≡ true
   pub owned : (timer_at l.timers timer).owner ≡ Some owner
 
+-- no timer is due at this moment
 abbrev pub NoneIsDue : (moment : ℕ) → TimerLists → Type 0
 NoneIsDue moment l = (timer : ℕ) (owner : Proc) → IsDueFor moment l timer owner → ⊥
 
@@ -43,8 +44,8 @@ HaveOwners l = (timer : ℕ) → is_member timer l.listed ≡ true → IsSome (t
 abbrev pub ForgetsNone : (moment : ℕ) → KernelState → Type 0
 ForgetsNone moment s = NoneIsDue moment s.timers ⊎ PollWaits Etimer s
 
--- a property of a kernel between its runs: etimer and the radio process can be polled and never leave, and no process
--- is in a call
+-- a property of a kernel between its runs: etimer and the radio process are listed and can be polled, and no waiting
+-- event can make them leave; the process list and the states are in step; and no process is called or being exited
 pub record IsAtRest (s : KernelState) : Type 0 where
   pub sound : SystemStays s
   pub step : IsInStep s
@@ -61,21 +62,23 @@ pub record HasTelling (moment : ℕ) (lines : List Line) (target : Target) (numb
   pub after : List Line
   pub split : lines ≡ before ++ record { at = moment; what = telling } ∷ after
 
--- A call forgets no timer: if none was forgotten before it, none is forgotten after it, whatever the call does.
+-- A call forgets no timer: if none was forgotten before it, none is forgotten after it, unless the mote halts, if
+-- etimer can be polled before the call and the event isn't EXIT for a system process.
 abbrev pub CallsForgetNone : Type 0
 CallsForgetNone =
     (depth : ℕ) (s t : KernelState) (p : Proc) (e : Event) → FitsTarget (One p) e.number → CanBePolled Etimer s
     → ForgetsNone s.moment s → (calls_of depth).call s p e ≡ Goes tt t
     → ForgetsNone t.moment t
 
--- a mote that was booted is at rest, and no timer is forgotten
+-- after its boot, a mote that has not halted is at rest, and no timer is forgotten
 abbrev pub BootForgetsNone : Type 0
 BootForgetsNone =
     (program : Tree) (mote queue moment : ℕ) (lines : List Line) (sends : List Sent)
     → let m = (boot_given moment (unbooted program mote queue) lines sends).mote in
     m.halted ≡ false → IsAtRest m.state × ForgetsNone moment m.state
 
--- if a mote is at rest and no timer is forgotten, the same is true after a kernel run
+-- if a mote is at rest and no timer is forgotten at the moment of a kernel run, the same is true after the run, unless
+-- the mote halts
 abbrev pub RunForgetsNone : Type 0
 RunForgetsNone =
     (moment : ℕ) (m : KernelModel) (lines : List Line) (sends : List Sent) → IsAtRest m.state
@@ -99,14 +102,14 @@ pub record TellsDue (moment : ℕ) (u : KernelState) (lines after : List Line) :
   pub each : (timer : ℕ) (owner : Proc) → IsDueFor moment u.timers timer owner
       → HasTelling moment added (One owner) (system_number Timer) timer
 
--- the polls of a run that begins in this state reach etimer, and each timer that is due then has its line, unless the
--- mote halts
+-- the polls of a run that begins in this state reach the turn of etimer, and each timer that is due then has its line
 pub record PollsEtimer (moment : ℕ) (s : KernelState) (lines after : List Line) : Type 0 where
   pub at_turn : KernelState
   pub comes : polls_before Etimer (calls_of (most_units + 1)) s ≡ Goes tt at_turn
   pub tells : TellsDue moment at_turn lines after
 
--- a kernel run in which a poll of etimer waits polls etimer, and each timer that is due then gets its line
+-- if a mote is at rest and a poll of etimer waits, a kernel run polls etimer, and each timer that is due then gets its
+-- line, unless the mote halts
 abbrev pub RunTellsDue : Type 0
 RunTellsDue =
     (moment : ℕ) (m : KernelModel) (lines : List Line) (sends : List Sent) → m.halted ≡ false → IsAtRest m.state

@@ -28,7 +28,8 @@ pub record IsBlank (s : KernelState) : Type 0 where
   pub idle : is_busy s Etimer ≡ false
   pub there : has_process s Etimer ≡ true
 
--- the lines are a run of the delivery machine to the mote's state, and no walk is in progress
+-- the lines are a run of the delivery machine to the mote's state, no walk is in progress, and the system processes
+-- stay on the list
 pub record GoesAsBooted (lines : List Line) (s : KernelState) : Type 0 where
   pub matches : view.GoesWithView (seen_lines lines) (view_of s)
   pub sound : SystemStays s

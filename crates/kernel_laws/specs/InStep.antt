@@ -25,6 +25,7 @@ AreInStep Off exiting listed = exiting ≡ listed
 AreInStep Running exiting listed = (exiting ≡ false) × (listed ≡ true)
 AreInStep Called exiting listed = (exiting ≡ false) × (listed ≡ true)
 
+-- each process is in step, and both tables have the same length
 pub record IsInStep (s : KernelState) : Type 0 where
   pub tables : length s.exiting ≡ length s.states
   pub each : (k : ℕ) → AreInStep (state_at_place s k) (exiting_at s k) (listed_in s.members k)

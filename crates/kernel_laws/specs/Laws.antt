@@ -24,12 +24,15 @@ KernelsHandOn = (program : Tree) (mote queue moment : ℕ) (calls : List KernelC
 -- Lines that agree with a mote are in order, and after each call of the mote's kernel the lines still agree with the
 -- mote.
 
+-- lines that agree with a mote are in order
 abbrev pub GoingIsInOrder : Type 0
 GoingIsInOrder = (lines : List Line) (m : KernelModel) → GoesWith lines m → IsInOrder lines
 
+-- the empty list of lines agrees with a mote that was not booted
 abbrev pub NoLinesGoFirst : Type 0
 NoLinesGoFirst = (program : Tree) (mote queue : ℕ) → GoesWith [] (unbooted program mote queue)
 
+-- a boot of a mote that was not booted keeps the agreement, and a run of a mote that was booted does
 abbrev pub BootAddsItsLines : Type 0
 BootAddsItsLines =
     (lines : List Line) (m : KernelModel) (moment : ℕ) (before : List Line) (sends : List Sent) → m.booted ≡ false
@@ -40,6 +43,8 @@ RunAddsItsLines =
     (lines : List Line) (m : KernelModel) (moment : ℕ) (before : List Line) (sends : List Sent) → m.booted ≡ true
     → GoesWith lines m → AppendsLines lines before (run_given moment m before sends)
 
+-- the request of a poll keeps the agreement, and so do a packet for the ring and, unless the mote has halted, a line
+-- about an arriving packet
 abbrev pub PollKeeps : Type 0
 PollKeeps = (lines : List Line) (m : KernelModel) (p : Proc) → GoesWith lines m → GoesWith lines (with_poll m p)
 
@@ -58,7 +63,8 @@ abbrev pub OnlyTheRunningAreCalled : Type 0
 OnlyTheRunningAreCalled = (depth : ℕ) (s : KernelState) (p : Proc) (e : Event) → is_running s p ≡ false
     → (calls_of (depth + 1)).call s p e ≡ Goes tt s
 
--- whatever a call does, the process list and the states stay in step, and the same processes are busy after it
+-- whatever a call does, the process list and the states stay in step, and the same processes are busy after it, unless
+-- the mote halts
 abbrev pub CallsKeepStep : Type 0
 CallsKeepStep = (depth : ℕ) (s t : KernelState) (p : Proc) (e : Event) → IsInStep s
     → (calls_of depth).call s p e ≡ Goes tt t
@@ -79,6 +85,7 @@ CallsStamp =
     (depth : ℕ) (s : KernelState) (p : Proc) (e : Event) → let t = state_after ((calls_of depth).call s p e) in
     Stamped s.moment s t × (t.moment ≡ s.moment)
 
+-- each line and packet of a boot or a kernel run is stamped with its moment
 abbrev pub BootStamps : Type 0
 BootStamps = (moment : ℕ) (m : KernelModel) (lines : List Line) (sends : List Sent)
     → GivesStamped moment m lines sends (boot_given moment m lines sends)

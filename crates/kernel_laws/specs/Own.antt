@@ -7,6 +7,7 @@ use Rattle.program_tree.specs.declared.event.Target.TheVariants.{One, All}
 use Rattle.program_tree.specs.declared.event.SystemEvent.TheVariants.{Exit}
 use Rattle.program_tree.specs.Events.{system_number}
 
+-- a process of the program
 abbrev pub IsOwnProcess : Proc → Type 0
 IsOwnProcess (Own p) = Unit {0}
 IsOwnProcess Etimer = ⊥

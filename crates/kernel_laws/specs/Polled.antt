@@ -35,6 +35,7 @@ pub data TellEach (receiver : Option ℕ) : List Arrival → List What → Type 
   TellsNext : {a : Arrival} {later : List Arrival} {w : What} {ws : List What}
       → TellsPacket receiver a w → TellEach receiver later ws → TellEach receiver (a ∷ later) (w ∷ ws)
 
+-- the lines about these events at this moment
 abbrev pub lines_at : (moment : ℕ) → List What → List Line
 lines_at moment ws = map (λ w. record { at = moment; what = w }) ws
 
@@ -45,7 +46,8 @@ pub record EmptiesRing (s t : KernelState) : Type 0 where
   pub each : TellEach s.program.receiver s.ring tellings
   pub wrote : t.lines ≡ s.lines ++ lines_at s.moment tellings
 
--- each packet that was accepted into the ring is posted to the receiver once, in order, or nobody hears it
+-- at a poll of the radio process each packet in the ring gets its line, in order, and the ring is empty afterwards,
+-- unless the mote halts
 abbrev pub PacketsAreHanded : Type 0
 PacketsAreHanded = (s t : KernelState) (e : Event) → is_system_event Poll e ≡ true → radio_of s e ≡ Goes tt t
     → EmptiesRing s t
@@ -58,7 +60,8 @@ pub record TellsOfPost (s t : KernelState) (target : Target) (number word : ℕ)
   pub after : List Line
   pub wrote : t.lines ≡ s.lines ++ (before ++ record { at = s.moment; what = telling } ∷ after)
 
--- the event of a timer that is due is posted to the timer's owner; the queue may be full
+-- at a poll of etimer the event of a timer that is due is posted to the timer's owner, unless the mote halts; the
+-- queue may be full
 abbrev pub DueTimersArePosted : Type 0
 DueTimersArePosted =
     (s t : KernelState) (e : Event) (timer : ℕ) (owner : Proc) → is_system_event Poll e ≡ true

@@ -75,6 +75,7 @@ abbrev pub printed : Proc → Sight → Happening → List Line
 printed p now (operates (op.Print v)) = record { at = now.looks.moment; what = what.Print p v } ∷ []
 printed p now h = []
 
+-- the lines of all these actions, each in its own sight
 abbrev pub prints : Proc → List Sight → List Happening → List Line
 prints p [] did = []
 prints p (now ∷ later) [] = []
@@ -87,6 +88,7 @@ pub record IsSameCall (now then : Sight) : Type 0 where
   pub moment : then.looks.moment ≡ now.looks.moment
   pub answer : then.answer < 2
 
+-- after this action in the sight `now`, the next sight may be `then`
 abbrev pub IsShownThen : Happening → Sight → Sight → Type 0
 IsShownThen (operates o) now then = IsSameCall now then
 IsShownThen (gives_up a) now then = Unit {0}

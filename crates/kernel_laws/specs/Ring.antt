@@ -62,6 +62,7 @@ pub record RingHalts (s t : KernelState) : Type 0 where
   pub hears_none : All (λ l. IsNote l.what → ⊥) added
   pub program : t.program ≡ s.program
 
+-- the ring and the lines from a state to the outcome of a step
 abbrev pub RingLeads : {A : Type 0} → KernelState → Outcome A → Type 0
 RingLeads s (Ends t) = RingHalts s t
 RingLeads s (Goes a t) = RingGoes s t
@@ -81,6 +82,7 @@ pub record GivesPackets (m : KernelModel) (lines : List Line) (g : Given) : Type
   pub holds : g.mote.halted ≡ false → g.mote.state.ring ≡ left
   pub program : g.mote.state.program ≡ m.state.program
 
+-- the same is true of a boot and of a kernel run
 abbrev pub BootTellsPackets : Type 0
 BootTellsPackets = (moment : ℕ) (m : KernelModel) (lines : List Line) (sends : List Sent)
     → GivesPackets m lines (boot_given moment m lines sends)
@@ -89,7 +91,8 @@ abbrev pub RunTellsPackets : Type 0
 RunTellsPackets = (moment : ℕ) (m : KernelModel) (lines : List Line) (sends : List Sent)
     → GivesPackets m lines (run_given moment m lines sends)
 
--- A kernel run leaves the ring empty if the ring was empty before, or if a poll of the radio process waited.
+-- A kernel run of a mote at rest leaves the ring empty if the ring was empty before, or if a poll of the radio process
+-- waited, unless the mote halts.
 abbrev pub RunEmptiesRing : Type 0
 RunEmptiesRing =
     (moment : ℕ) (m : KernelModel) (lines : List Line) (sends : List Sent) → IsAtRest m.state → (m.state.ring ≡ [])

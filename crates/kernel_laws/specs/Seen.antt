@@ -19,6 +19,7 @@ abbrev pub seen_target : Target → handed.Target
 seen_target (One p) = ToOne (place_of p)
 seen_target All = ToAll
 
+-- a line about a process or an event, with the process as its place; each other line is `Other`
 abbrev pub seen_what : What → handed.Line
 seen_what (what.Start p) = handed.Start (place_of p)
 seen_what (what.Leave p) = handed.Leave (place_of p)
@@ -40,6 +41,7 @@ seen_member m = record { process = place_of m.process; number = m.incarnation }
 abbrev pub seen_posted : Posted → Waiting
 seen_posted x = record { serial = x.serial; target = seen_target x.target }
 
+-- the process list, the queue and the counts
 abbrev pub view_of : KernelState → View
 view_of s = record {
   list = map seen_member s.members;

@@ -32,6 +32,7 @@ pub data Next : Type 0 where
   InCall : (answer : ℕ) → Event → (moment : ℕ) → Next
   AtCall : Next
 
+-- the next sight can have this event and this moment; and it can have this answer
 abbrev pub CanCome : Next → Event → (moment : ℕ) → Type 0
 CanCome (AtStart m) event moment = (event ≡ own_event Init 0) × (moment ≡ m)
 CanCome (InCall answer e m) event moment = (event ≡ e) × (moment ≡ m)

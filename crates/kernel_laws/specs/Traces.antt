@@ -21,9 +21,11 @@ pub record Traced : Type 0 where
   pub mote : KernelModel
   pub lines : List Line
 
+-- the mote after a boot or a run, whose lines are appended
 abbrev pub with_given : Traced → Given → Traced
 with_given t g = record { mote = g.mote; lines = t.lines ++ g.lines }
 
+-- the mote and its lines after a call, and after several; a halted mote gets no line about an arriving packet
 abbrev pub traced_after_call : Traced → KernelCall → Traced
 traced_after_call t (RunAt moment) = with_given t (run_given moment t.mote [] [])
 traced_after_call t (PollOf p) = record t { mote = with_poll t.mote p }

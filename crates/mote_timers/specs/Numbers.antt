@@ -2,7 +2,7 @@
 use Rattle.std.specs.Prelude.{ℕ, ◌<◌, ◌==◌, nat_eq, Bool, not, if◌then◌else◌, List, ◌∷◌, All, filter}
 use Rattle.std.specs.List.{list_any, IsDistinct}
 
--- the numbers, from front to back, and the limit; each number is below the limit
+-- the numbers, from front to back, and the limit; `AreNumbers` states that each number is below the limit
 pub record Numbers : Type 0 where
   pub members : List ℕ
   pub limit : ℕ
@@ -12,6 +12,7 @@ pub record AreNumbers (ks : List ℕ) (limit : ℕ) : Type 0 where
   pub once : IsDistinct nat_eq ks
   pub within : All (λ k. k < limit) ks
 
+-- the list of these numbers, with this limit
 abbrev pub numbers : List ℕ → ℕ → Numbers
 numbers ks n = record { members = ks; limit = n }
 

@@ -10,5 +10,6 @@ place_of Ctimer = 1
 place_of Radio = 2
 place_of (Own p) = p + 3
 
+-- whether both are the same process
 abbrev pub is_same : Proc → Proc → Bool
 is_same p q = place_of p == place_of q

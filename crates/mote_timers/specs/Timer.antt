@@ -1,4 +1,4 @@
--- Timers, and the effect of each call on them.
+-- A timer: the moments at which it is due, and its owner.
 use Rattle.std.specs.Prelude.{ℕ, ◌+◌, nat_le, Bool, false, None}
 use Rattle.std.specs.Option.{option_map_or}
 use Rattle.program_tree.specs.declared.event.Proc.{Proc}
@@ -13,6 +13,7 @@ unset = record { start = 0; interval = 0; owner = None }
 abbrev pub expiration : Timer → ℕ
 expiration t = t.start + t.interval
 
+-- whether the timer is due at the moment `now`: its expiration is at this moment or earlier
 abbrev pub is_due : ℕ → Timer → Bool
 is_due now t = nat_le (expiration t) now
 

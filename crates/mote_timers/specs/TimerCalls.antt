@@ -18,6 +18,7 @@ pub data TimerCall : Type 0 where
   Fire : (id : ℕ) → TimerCall
   Purge : (owner : Proc) → TimerCall
 
+-- the timers after a call; `Fire` has the same effect as `Stop`
 unfoldable pub timers_after_call : TimerLists → TimerCall → TimerLists
 timers_after_call s (Set id owner interval now) = set_timer s id owner interval now
 timers_after_call s (Reset id owner) = reset_timer s id owner
@@ -26,6 +27,7 @@ timers_after_call s (Stop id) = stop_timer s id
 timers_after_call s (Fire id) = stop_timer s id
 timers_after_call s (Purge owner) = purge_timers s owner
 
+-- the timers after these calls, one after another
 abbrev pub timers_after_calls : TimerLists → List TimerCall → TimerLists
 timers_after_calls s [] = s
 timers_after_calls s (call ∷ calls) = timers_after_calls (timers_after_call s call) calls
@@ -49,7 +51,7 @@ abbrev pub NoneTakesOff : TimerLists → ℕ → List TimerCall → Type 0
 NoneTakesOff s id [] = Unit {0}
 NoneTakesOff s id (call ∷ calls) = (TakesOff s id call → ⊥) × NoneTakesOff (timers_after_call s call) id calls
 
--- none of the calls sets the timer
+-- none of the calls sets the timer, or sets it again
 abbrev pub NoneStarts : ℕ → List TimerCall → Type 0
 NoneStarts id [] = Unit {0}
 NoneStarts id (call ∷ calls) = (Starts id call → ⊥) × NoneStarts id calls
@@ -58,7 +60,7 @@ NoneStarts id (call ∷ calls) = (Starts id call → ⊥) × NoneStarts id calls
 abbrev pub IsDue : TimerLists → ℕ → ℕ → Type 0
 IsDue s id moment = IsTrue (is_member id s.listed) × (expiration (timer_at s.timers id) ≤ moment)
 
--- after any calls, each timer is on the list at most once
+-- new timers, after any calls: each timer is on the list at most once
 abbrev pub ListedOnce : Type 0
 ListedOnce = (n : ℕ) (calls : List TimerCall) → IsDistinct nat_eq (timers_after_calls (new_timers n) calls).listed
 
@@ -75,7 +77,8 @@ DueFromExpiration =
     → let t : TimerLists = timers_after_calls (set_timer s id owner interval now) calls in
     (moment : ℕ) → IsDue t id moment ↔ (expiration (timer_at t.timers id) ≤ moment)
 
--- if no later call set the timer again either, its expiration is the start plus the interval with which it was set
+-- if there is such a timer, and no later call set it again either, it is due from the moment at which it was set plus
+-- the interval with which it was set on, and not before
 abbrev pub DueFromSet : Type 0
 DueFromSet =
     (s : TimerLists) (id : ℕ) (owner : Proc) (interval now : ℕ) (calls : List TimerCall)

@@ -16,6 +16,7 @@ pub record TimerLists : Type 0 where
 abbrev pub timer_at : List Timer → ℕ → Timer
 timer_at ts id = slice_index_or ts id unset
 
+-- this many timers that were never set, and an empty list
 unfoldable pub new_timers : ℕ → TimerLists
 new_timers n = record { timers = replicate n unset; listed = [] }
 
@@ -23,10 +24,11 @@ new_timers n = record { timers = replicate n unset; listed = [] }
 abbrev pub with_timer : TimerLists → ℕ → Timer → TimerLists
 with_timer s id t = record { timers = slice_set s.timers id t; listed = with_member id s.listed }
 
+-- the timer starts now, with this interval and this owner, and is on the list
 unfoldable pub set_timer : TimerLists → ℕ → Proc → ℕ → ℕ → TimerLists
 set_timer s id owner interval now = with_timer s id (record { start = now; interval = interval; owner = Some owner })
 
--- the timer starts at its expiration, or at the latest start if that is earlier
+-- the timer starts at its expiration, but at 2 to the power of 62 at the latest; it gets this owner, and is on the list
 unfoldable pub reset_timer : TimerLists → ℕ → Proc → TimerLists
 reset_timer s id owner = with_timer s id
     (record { start = min (expiration t) (2 ^ 62); interval = t.interval; owner = Some owner })
@@ -34,6 +36,7 @@ reset_timer s id owner = with_timer s id
     t : Timer
     t = timer_at s.timers id
 
+-- the timer starts now, with the interval that it has; it gets this owner, and is on the list
 unfoldable pub restart_timer : TimerLists → ℕ → Proc → ℕ → TimerLists
 restart_timer s id owner now =
     with_timer s id (record { start = now; interval = (timer_at s.timers id).interval; owner = Some owner })

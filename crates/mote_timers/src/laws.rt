@@ -3,7 +3,7 @@
 ghost use Rattle.mote_timers.specs.TimerCalls.{ListedOnce, CallsKeepTimers, DueFromExpiration, DueFromSet};
 ghost use Rattle.mote_timers.specs.TimerCalls.{DueFromNextExpiration};
 
-/// After any calls, each timer is on the timer list at most once, so a walk along the list ends.
+/// After any calls on new timers, each timer is on the timer list at most once, so a walk along the list ends.
 pub fn listed_once()
     ensures listed_once { ListedOnce }
 {}
@@ -14,7 +14,8 @@ pub fn timers_stay()
 {}
 
 /// If a timer was set, and later not fired, stopped or purged, it is due from its start plus its interval on, and not
-/// before. If no later call set it again either, it still has the start and the interval with which it was set.
+/// before. If there is such a timer, and no later call set it again either, this moment is the one at which it was set
+/// plus the interval with which it was set.
 pub fn due_from_expiration()
     ensures last_set { DueFromExpiration }
     ensures set_once { DueFromSet }

@@ -12,8 +12,8 @@ abbrev pub starts_of : Calls → List Proc → KernelState → Went
 starts_of calls [] s = Goes tt s
 starts_of calls (p ∷ ps) s = start_of calls s p >>= λ _ s1. starts_of calls ps s1
 
--- the system processes are started, and then the processes that the program names; the result is the number of units
--- left
+-- the system processes are started, and then the processes that the program names; the result is the work that is left
+-- (`left_of`)
 unfoldable pub boot_of : Calls → KernelState → Outcome ℕ
 boot_of calls s =
     starts_of calls (Etimer ∷ Ctimer ∷ Radio ∷ map Own s.program.autostart) s >>= λ _ s1. Goes (left_of s1) s1

@@ -14,6 +14,7 @@ use Rattle.process_kernel.specs.Reaction.{react_of}
 use Rattle.process_kernel.specs.Exit.{exit_of}
 use Rattle.process_kernel.specs.Operation.{run_of}
 
+-- the answer is EXITED or ENDED
 abbrev pub has_ended : PtState → Bool
 has_ended Waiting = false
 has_ended Yielded = false

@@ -16,6 +16,7 @@ use Rattle.process_kernel.specs.Processes.{is_on_list}
 abbrev pub own_event : SystemEvent → ℕ → Event
 own_event event word = record { number = system_number event; word = word; sender = 0 }
 
+-- the event has the number of this system event
 abbrev pub is_system_event : SystemEvent → Event → Bool
 is_system_event event e = e.number == system_number event
 

@@ -27,6 +27,7 @@ abbrev pub walk_broadcast : Calls → Posted → List Member → KernelState →
 walk_broadcast calls x [] s = Goes tt s
 walk_broadcast calls x (m ∷ ms) s = visit_of calls s x m >>= λ _ s1. walk_broadcast calls x ms s1
 
+-- an event is delivered to one process, or to each incarnation on the process list
 abbrev pub deliver_to : Target → Calls → KernelState → Posted → Went
 deliver_to (One p) calls s x = give_of calls s x p (is_listed s p)
 deliver_to All calls s x = walk_broadcast calls x s.members s

@@ -40,10 +40,11 @@ walks_of (suc k) s = walk_timers (walks_of k) s.timers.listed s
 unfoldable pub pass_of : KernelState → Went
 pass_of s = walks_of (length s.timers.listed) s
 
--- the timers of a process that left are removed from the list, but keep their owner
+-- the timers of a process of the program that exits are removed from the list, but keep their owner
 unfoldable pub purge_of : KernelState → (process : ℕ) → KernelState
 purge_of s p = if nat_lt p 256 then record s { timers = purge_timers s.timers (Own p) } else s
 
+-- the reaction of etimer: at POLL its pass, and at EXITED the removal of the timers of the process that exits
 unfoldable pub etimer_of : KernelState → Event → Went
 etimer_of s e =
     if is_system_event Poll e then pass_of s

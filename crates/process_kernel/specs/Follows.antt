@@ -10,8 +10,8 @@ use Rattle.process_kernel.specs.Call.{calls_of}
 use Rattle.process_kernel.specs.Views.{kernel_state_of, StepMatches, Spends, Grows}
 
 -- A step follows a rule. Its result and the state after it are the outcome of the rule, with calls that may nest
--- deeper than there are units of work. Each start is paid for by a unit. Everything that was written before is still
--- there.
+-- deeper than there are units of work; if memory runs out, nothing is claimed of them. If the step succeeds, each start
+-- is paid for by a unit. Everything that was written before is still there.
 pub record Follows {A : Type 0} (program : Program) (old : Machine) (result : Result A Stop) (new : Machine)
     (rule : Calls → KernelState → Outcome A) : Type 0 where
   pub exact : (k : ℕ) → old.fuel < k

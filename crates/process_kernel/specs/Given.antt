@@ -17,6 +17,7 @@ pub record Given : Type 0 where
   pub lines : List Line
   pub sends : List Sent
 
+-- the outcome of a boot or a run that ended in this way
 abbrev pub given : Outcome ℕ → Given
 given (Ends s) = record {
   ran = ran.Halted;

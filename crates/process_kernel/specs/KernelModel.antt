@@ -17,6 +17,7 @@ pub record KernelModel : Type 0 where
   pub booted : Bool
   pub halted : Bool
 
+-- the state with no units of work and no output
 abbrev pub at_rest : KernelState → KernelState
 at_rest s = record s { units = 0; lines = []; sends = [] }
 
@@ -53,6 +54,7 @@ unbooted t mote queue = record {
 unfoldable pub with_packet : KernelModel → Arrival → KernelModel
 with_packet m a = record m { state = record m.state { ring = m.state.ring ++ a ∷ [] } }
 
+-- a poll of the process is requested, if it is running or called
 unfoldable pub with_poll : KernelModel → Proc → KernelModel
 with_poll m p = record m { state = poll_of m.state p }
 

@@ -9,6 +9,6 @@ use Rattle.process_kernel.specs.Writes.{write_of}
 use Rattle.process_kernel.specs.Calls.{Calls}
 use Rattle.process_kernel.specs.Exit.{exit_of}
 
--- a process that is not busy is exited on behalf of the current process
+-- a process that is not busy is exited on behalf of the current process; for a busy process, only a line is written
 unfoldable pub kill_of : Calls → KernelState → Proc → (current : ℕ) → Went
 kill_of calls s p current = if is_busy s p then write_of s (what.Busy p) else exit_of calls s p (Own current)

@@ -6,6 +6,7 @@ use Rattle.process_kernel.specs.declared.process.ProcessState.{ProcessState}
 use Rattle.process_kernel.specs.Processes.{is_alive}
 use Rattle.process_kernel.specs.State.{KernelState}
 
+-- nobody owns the timer
 abbrev pub is_unowned : Timer → Bool
 is_unowned t = elim t.owner [ Some p ↦ false | None ↦ true ]
 

@@ -20,6 +20,7 @@ use Rattle.process_kernel.specs.Calls.{Calls, Answer}
 use Rattle.process_kernel.specs.Start.{start_of}
 use Rattle.process_kernel.specs.Kill.{kill_of}
 
+-- the count of a semaphore less one, or 0; and the count plus one, modulo 65,536
 unfoldable pub take_of : KernelState → ℕ → KernelState
 take_of s k = record s { semaphores = slice_set s.semaphores k (slice_index s.semaphores k - 1) }
 
@@ -55,6 +56,7 @@ answered_with (Some variables) s r p answer =
     Goes a.remainder (record s { variables = slice_set s.variables p a.variables })
 answered_with None s r p answer = Goes r s
 
+-- a thread of this process gets the result of its post: 1 if the queue was full, and otherwise 0
 unfoldable pub answer_of : KernelState → Remainder → (process : ℕ) → Bool → Outcome Remainder
 answer_of s r p full = answered_with (slice_get s.variables p) s r p (if full then 1 else 0)
 

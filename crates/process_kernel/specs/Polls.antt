@@ -14,6 +14,7 @@ poll_turn_of calls s m =
     then calls.call (with_needs_poll s m.process false) m.process (own_event Poll 0)
     else Goes tt s
 
+-- the turns of these incarnations, one after another
 abbrev pub walk_polls : Calls → List Member → KernelState → Went
 walk_polls calls [] s = Goes tt s
 walk_polls calls (m ∷ ms) s = poll_turn_of calls s m >>= λ _ s1. walk_polls calls ms s1

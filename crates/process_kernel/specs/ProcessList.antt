@@ -13,7 +13,7 @@ use Rattle.process_kernel.specs.State.{KernelState, Went}
 use Rattle.process_kernel.specs.Processes.{with_state, with_exiting}
 use Rattle.process_kernel.specs.Writes.{write_of}
 
--- the remainder of the body of a process
+-- the body of the process gets this remainder
 unfoldable pub put_remainder : KernelState → (process : ℕ) → Remainder → KernelState
 put_remainder s p r = record s { remainders = slice_set s.remainders p r }
 
@@ -27,6 +27,7 @@ fresh_at (c ∷ cs) (r ∷ rs) (suc p) = r ∷ fresh_at cs rs p
 abbrev pub with_fresh_body : KernelState → (process : ℕ) → KernelState
 with_fresh_body s p = record s { remainders = fresh_at s.program.codes s.remainders p }
 
+-- the body of a process of the program is fresh
 abbrev pub with_fresh_process : KernelState → Proc → KernelState
 with_fresh_process s (Own p) = with_fresh_body s p
 with_fresh_process s Etimer = s
@@ -45,6 +46,7 @@ enlist_of s p =
 unfoldable pub exiting_of : KernelState → Proc → KernelState
 exiting_of s p = with_exiting (with_state s p Off) p true
 
+-- no incarnation of the process is on the list
 unfoldable pub unlisted_of : KernelState → Proc → KernelState
 unlisted_of s p = record s { members = filter (λ m. not (is_same m.process p)) s.members }
 

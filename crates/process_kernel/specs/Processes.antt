@@ -56,6 +56,8 @@ is_on_list s m = holds_member s.members m
 abbrev pub is_listed : KernelState → Proc → Bool
 is_listed s p = is_found_in s.members p
 
+-- a process has this state, is being exited or not, and needs a poll or not; a process that the mote doesn't have is
+-- ignored
 unfoldable pub with_state : KernelState → Proc → ProcessState → KernelState
 with_state s p x = record s { states = slice_set s.states (place_of p) x }
 

@@ -22,7 +22,8 @@ unfoldable pub kernel_in : Tree → Kernel → Option KernelModel
 kernel_in program k = if k.failed then None else Some (kernel_model_of program k.machine k.booted k.halted)
 
 -- A boot or a run has the outcome of the definition, or runs out of memory; in that case there is no mote from then
--- on.
+-- on, and everything that was written before is still there. If the kernel had failed before, it fails again, and
+-- nothing changes.
 abbrev pub MatchesOutcome : (KernelModel → List Line → List Sent → Given) → Option KernelModel → Out
     → Result Ran KernelError
     → Option KernelModel → Out → Type 0

@@ -27,5 +27,6 @@ empty_ring receiver [] s = Goes tt s
 empty_ring receiver (a ∷ later) s =
     hand_to receiver (record s { ring = later }) a >>= λ _ s1. empty_ring receiver later s1
 
+-- the reaction of the radio process: at POLL, it empties the ring
 unfoldable pub radio_of : KernelState → Event → Went
 radio_of s e = if is_system_event Poll e then empty_ring s.program.receiver s.ring s else Goes tt s

@@ -41,6 +41,7 @@ own_of calls s p e =
       | Some code ↦ handler_of calls s code p e >>= λ _ s1. resume_of calls s1 code p e
     ]
 
+-- the reaction of any process; the system processes always yield
 unfoldable pub react_of : Calls → KernelState → Proc → Event → Outcome PtState
 react_of calls s (Own p) e = own_of calls s p e
 react_of calls s Etimer e = etimer_of s e >>= λ _ s1. Goes Yielded s1

@@ -31,8 +31,8 @@ abbrev pub deliver_front : Calls → List Posted → KernelState → Went
 deliver_front calls [] s = Goes tt s
 deliver_front calls (x ∷ xs) s = deliver_of calls (record s { queue = without_front s.queue }) x
 
--- a kernel run: the polls if a poll is requested, and then one event if there is one; the result is the number of
--- units left
+-- a kernel run: the polls if a poll is requested, and then one event if there is one; the result is the work that is
+-- left
 unfoldable pub kernel_of : Calls → KernelState → Outcome ℕ
 kernel_of calls s =
     polls_due_of calls s >>= λ _ s1. deliver_front calls s1.queue.events s1 >>= λ _ s2. Goes (left_of s2) s2

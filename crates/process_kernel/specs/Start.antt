@@ -9,7 +9,8 @@ use Rattle.process_kernel.specs.Writes.{write_of}
 use Rattle.process_kernel.specs.ProcessList.{enlist_of}
 use Rattle.process_kernel.specs.Calls.{Calls, own_event}
 
--- a process that the mote has and that is not on the list is put at the front of the list, and is called with INIT
+-- a process that the mote has and that is not on the list is put at the front of the list, and is called with INIT;
+-- for a busy process, only a line is written
 unfoldable pub start_of : Calls → KernelState → Proc → Went
 start_of calls s p =
     if is_busy s p then write_of s (what.Busy p)

@@ -16,6 +16,7 @@ pub record Stepped : Type 0 where
   pub remainder : Remainder
   pub state : KernelState
 
+-- the step, and the state after it: the process has the new variables, and the units of work are those that are left
 abbrev pub stepped : KernelState → (process : ℕ) → Advanced → Stepped
 stepped s p a = record {
   step = a.step;

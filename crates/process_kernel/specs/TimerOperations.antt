@@ -28,6 +28,8 @@ timer_is_set s timer =
     (record s { callbacks = if is_callback s.program timer then with_member timer s.callbacks else s.callbacks })
     Etimer
 
+-- a timer is set, set again from its expiration, set again from now, or stopped; a timer that the mote doesn't have is
+-- ignored
 unfoldable pub set_of : KernelState → (timer interval current : ℕ) → KernelState
 set_of s timer interval current =
     if has_timer s timer then timer_is_set (record s

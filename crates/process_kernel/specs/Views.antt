@@ -41,6 +41,7 @@ remainders_of (c ∷ cs) (t ∷ ts) = remainder_of_body c t ∷ remainders_of cs
 abbrev pub first_list_of : Machine → List Member
 first_list_of m = if m.is_numbered then m.members.items else m.first_list.items
 
+-- the state of a kernel with this program
 abbrev pub kernel_state_of : Tree → Machine → KernelState
 kernel_state_of program m = record {
   program = program;

@@ -4,6 +4,7 @@ use Rattle.trace_lines.specs.declared.line.What.{What}
 use Rattle.trace_lines.specs.declared.line.What.TheVariants.{Halt}
 use Rattle.process_kernel.specs.State.{KernelState, Went, Ends, Goes}
 
+-- a line at the current moment is added
 abbrev pub with_line : KernelState → What → KernelState
 with_line s what = record s { lines = s.lines ++ record { at = s.moment; what = what } ∷ [] }
 

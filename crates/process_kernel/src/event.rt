@@ -16,7 +16,7 @@ pub fn system_event(event: SystemEvent, word: u16) -> Event
     }
 }
 
-/// Returns `true` if an event is this event of the kernel itself.
+/// Returns `true` if an event has the number of this event, no matter who posted it.
 pub fn is_event(which: SystemEvent, event: &Event) -> bool
     ensures value { result ≡ has_number_of which event.now }
 {

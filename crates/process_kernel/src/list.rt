@@ -99,7 +99,8 @@ impl Machine {
     ///
     /// # Errors
     ///
-    /// Out of memory for a fresh body. A fresh body is allocated only while the earlier one is taken out.
+    /// Out of memory for a fresh body. A fresh body is allocated only if no body is in the table: at the first call
+    /// since the start of the process, or while its body is taken out.
     #[inline(always)]
     pub fn take_thread(&mut self, process: u8) -> Result<Box<Thread>, AllocError>
         ensures exact { (t : Tree) (code : Code) → slice_get t.codes process ≡ Some code

@@ -22,7 +22,7 @@ pub const MOST_PROCESSES: usize = 67;
 pub enum Stop {
     /// The mote has halted.
     Halted,
-    /// Out of memory for a line or a packet.
+    /// Out of memory: an allocation failed, such as that of a line, a packet or a thread.
     Memory,
 }
 

@@ -100,7 +100,7 @@ impl Machine {
     }
 
     /// Starts a process. If it isn't on the process list, it is put at the front of the list and called with INIT
-    /// (`process_start` of `process.c`).
+    /// (`process_start` of `process.c`). If it is busy, only a line is written.
     ///
     /// # Errors
     /// `Halted` if the mote halts meanwhile; `Memory` if an allocation fails.
@@ -121,7 +121,8 @@ impl Machine {
         }
     }
 
-    /// Kills a process that isn't busy: it is exited on behalf of the current process.
+    /// Kills a process that isn't busy: it is exited on behalf of the current process. If it is busy, only a line is
+    /// written.
     #[cycle(kernel)]
     #[tactic(auto, unfolding(crate::specs::Kill::kill_of))]
     fn kill(&mut self, program: &Program, process: Proc, current: u8) -> Result<(), Stop>

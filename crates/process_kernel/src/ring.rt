@@ -55,7 +55,7 @@ impl Ring {
     }
 
     /// Removes the oldest packet, if there is one. The only packet of a ring is removed from the back, so a ring that
-    /// is emptied each time always uses its first slots.
+    /// holds at most one packet at a time always uses the same slot.
     pub fn take(&mut self) -> Option<Arrival>
         ensures value { result ≡ slice_get self.old.items 0 }
         ensures after { self.new ≡ buffer (drop 1 self.old.items) self.old.capacity }

@@ -171,7 +171,7 @@ impl Machine {
         Ok(())
     }
 
-    /// After a process has left, removes its timers from the timer list.
+    /// When a process of the program exits, removes its timers from the timer list. They keep their owner.
     #[tactic(auto, unfolding(crate::specs::Etimer::purge_of))]
     fn purge(&mut self, process: u16)
         ensures exact { (t : Tree) → kernel_state_of t self.new ≡ purge_of (kernel_state_of t self.old) process }

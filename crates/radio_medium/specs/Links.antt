@@ -31,10 +31,12 @@ radio_from places reach losses = record {
 abbrev pub EveryByPair : Type 0
 EveryByPair = HashMap (ℕ × ℕ) ℕ (BuildHasherDefault FoldHasher)
 
+-- the number `every` of this sender and this receiver in the table, if there is one
 abbrev pub every_at : EveryByPair → (s r : ℕ) → Option ℕ
 every_at every s r = get (λ x y. (x.0 == y.0) && (x.1 == y.1)) every (s, r)
 
--- a table of all losses, with the pairs of sender and receiver as keys; or an error, because one loss is bad
+-- a table of all losses, with the pairs of sender and receiver as keys; or an error, because one loss is bad or a pair
+-- has two losses; if an allocation failed, nothing is claimed
 abbrev pub GathersLosses : (motes : ℕ) → List Loss → Result EveryByPair MediumError → Type 0
 GathersLosses motes losses (Ok every) =
     (has_bad_loss motes losses ≡ false) × ((s r : ℕ) → every_at every s r ≡ every_of losses s r)
@@ -42,7 +44,8 @@ GathersLosses motes losses (Err Memory) = Unit {0}
 GathersLosses motes losses (Err BadLoss) = has_bad_loss motes losses ≡ true
 GathersLosses motes losses (Err _) = ⊥
 
--- one more loss: it is good, and its pair had no loss
+-- one more loss: it is good, and its pair had no loss; or an error, because it is bad or its pair had a loss; if an
+-- allocation failed, nothing is claimed
 abbrev pub AddsLoss : (motes : ℕ) → Loss → (old new : EveryByPair) → Result (Unit {0}) MediumError → Type 0
 AddsLoss motes loss old new (Ok _) =
     (is_good motes loss ≡ true)

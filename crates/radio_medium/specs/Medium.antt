@@ -1,5 +1,5 @@
 -- The radio medium: the motes that hear a mote, the delay of a packet, and the copies that are lost. They depend only
--- on places and losses.
+-- on the record `Radio` and the number of the packet.
 use Rattle.std.specs.Prelude.{ℕ, ◌+◌, ◌*◌, ◌/◌, ◌%◌, ◌≤◌, ◌==◌, nat_le, nat_lt, min, pos, ◌-ℤ◌, unsigned_abs, Bool}
 use Rattle.std.specs.Prelude.{false, not, ◌&&◌, ◌||◌, if◌then◌else◌, Option, Some, None, unwrap_or, option_map, List}
 use Rattle.std.specs.Prelude.{[], ◌∷◌, length, map, filter, find, slice_index_or, All}
@@ -41,9 +41,11 @@ square_distance a b = square (unsigned_abs (a.x -ℤ b.x)) + square (unsigned_ab
 abbrev pub motes : Radio → List ℕ
 motes radio = range_with_len 0 (length radio.places)
 
+-- there is a mote with this number
 abbrev pub is_mote : Radio → ℕ → Bool
 is_mote radio k = nat_lt k (length radio.places)
 
+-- the place of the mote with this number
 abbrev pub place_at : Radio → ℕ → Place
 place_at radio k = slice_index_or radio.places k (record { x = pos 0; y = pos 0 })
 
@@ -69,6 +71,7 @@ delays radio = flat_map (λ s. map (delay radio s) (receivers radio s)) (motes r
 unfoldable pub lookahead : Radio → (end : ℕ) → ℕ
 lookahead radio end = unwrap_or (reduce min (delays radio)) (end + 1)
 
+-- the loss is for packets from mote s to mote r
 abbrev pub is_for_pair : (s r : ℕ) → Loss → Bool
 is_for_pair s r loss = (loss.sender == s) && (loss.to == r)
 
@@ -115,6 +118,7 @@ abbrev pub has_pair_twice : List Loss → Bool
 has_pair_twice [] = false
 has_pair_twice (loss ∷ losses) = list_any (is_for_pair loss.sender loss.to) losses || has_pair_twice losses
 
+-- a loss isn't good, or two losses are for one pair of motes
 unfoldable pub has_bad_loss : (motes : ℕ) → List Loss → Bool
 has_bad_loss motes losses = list_any (λ loss. not (is_good motes loss)) losses || has_pair_twice losses
 

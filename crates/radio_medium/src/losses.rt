@@ -22,7 +22,8 @@ pub struct Loss {
 /// group is lost.
 pub(crate) type EveryByPair = HashMap<(u32, u32), u32>;
 
-/// A table of all losses, with the pairs of sender and receiver as keys. A bad loss is an error.
+/// A table of all losses, with the pairs of sender and receiver as keys. A bad loss is an error, and so is a second
+/// loss for the same pair.
 pub(crate) fn gather_losses(
     alloc: Global,
     motes: usize,
