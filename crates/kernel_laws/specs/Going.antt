@@ -28,8 +28,8 @@ pub record IsBlank (s : KernelState) : Type 0 where
   pub idle : is_busy s Etimer ≡ false
   pub there : has_process s Etimer ≡ true
 
--- the lines are a run of the delivery machine to the mote's state, no walk is in progress, and the system processes
--- stay on the list
+-- the lines are a run of the delivery machine to the mote's state, no walk is in progress, etimer is on the list,
+-- and no waiting event can make a system process leave
 pub record GoesAsBooted (lines : List Line) (s : KernelState) : Type 0 where
   pub matches : view.GoesWithView (seen_lines lines) (view_of s)
   pub sound : SystemStays s
