@@ -253,6 +253,25 @@ class HalfWritten(unittest.TestCase):
         self.assertIn('is `autostart a, b;` here, but no process is named `b`: this program has `a`', shown)
 
 
+CALLBACK = """PROCESS(a, "A");
+AUTOSTART_PROCESSES(&a);
+%sstatic int n;
+static void beat(void *ptr)
+{
+  n++;
+  printf("%%d\\n", n);
+  ctimer_reset(&c);
+}
+PROCESS_THREAD(a, ev, data)
+{
+%s  PROCESS_BEGIN();
+  ctimer_set(&c, 5, beat, NULL);
+  PROCESS_YIELD();
+  PROCESS_END();
+}
+"""
+
+
 class Timers(unittest.TestCase):
     SOURCE = 'process a;\nautostart a;\ncode a {\n  body {\n    %s\n    yield;\n  }\n}\n'
 
@@ -273,6 +292,41 @@ class Timers(unittest.TestCase):
         found = advice(source, fault)
         assert found
         self.assertIn('`ctimer t { .. }`', found.hint)
+
+    def test_a_call_that_sets_a_callback_timer_names_its_callback(self) -> None:
+        for call in 'ctimer_set(&c, 5, beat, NULL);', 'ctimer_set(&c, CLOCK_SECOND, &beat, NULL);':
+            source = (self.SOURCE % call).replace('  body', '  ctimer c { }\n  body')
+            fault = find_fault(source)
+            assert fault
+            found = advice(source, fault)
+            assert found
+            self.assertIn('it runs its block, `ctimer c { .. }` at the head of the `code`, which needs the statements '
+                          'of `beat`', found.hint)
+
+    def test_the_block_of_a_callback_timer_has_the_statements_of_its_function(self) -> None:
+        top, head = 'static struct ctimer c;\n', '  static struct ctimer c;\n'
+        for above, inner in ((top, ''), ('', head), (top, head)):
+            with self.subTest(above, inner=inner):
+                text = CALLBACK % (above, inner)
+                for _ in range(20):
+                    fault = find_fault(text)
+                    found = correction(text, fault) if fault else None
+                    if found is None:
+                        break
+                    text = found.applied(text)
+                self.assertEqual(words(text), words(
+                    'process a; autostart a; code a { var n = 0; ctimer c { n = (n + 1); print n; reset c; } '
+                    'body { set c 5; yield; } }'))
+
+    def test_a_function_of_a_callback_timer_without_counterpart_stays(self) -> None:
+        text = (CALLBACK % ('static struct ctimer c;\n', '')).replace('n++;', 'queue[n] = 1;')
+        for _ in range(20):
+            fault = find_fault(text)
+            found = correction(text, fault) if fault else None
+            if found is None or found.line is None:
+                break
+            text = found.applied(text)
+        self.assertIn('static void beat', text)
 
 
 class FileScope(unittest.TestCase):

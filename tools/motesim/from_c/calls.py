@@ -34,6 +34,8 @@ OF_THREAD = ('A protothread is a thread of the process that spawns it: `thread %
              '`code`, below its timers.')
 NO_PROCESS = ('`%s` is `%s;` here, but no process is named `%s`: this program has `%s`. Another one has to be named in '
               'the `process` line, and needs a `code`.')
+OF_CALLBACK = ('The timer calls no function: it runs its block, `ctimer %s { .. }` at the head of the `code`, which needs '
+               'the statements of `%s`.')
 BROADCAST = 'A packet is one number, and goes to all motes that hear it: `send x;`. There is no buffer to fill first.'
 
 
@@ -224,6 +226,7 @@ class Calls(Lines):
             named = self.writer.of_kind(part, found[1])
             if found[1] == 'timer':
                 self.declare_timer(named, call.text)
+                self.name_callback(named, call)
             elif self.writer.unknown is not None and self.scope.kinds.get(named) != found[1]:
                 return self.writer.new_name(named, found[1])
             return named
@@ -261,6 +264,12 @@ class Calls(Lines):
         self.writer.needed.append(reason)
         (self.events if kind in ('event', 'semaphore') else self.declares).append(line[kind])
         self.scope.kinds[name] = kind
+
+    def name_callback(self, timer: str, call: Node) -> None:
+        """Says where the statements of the function belong that a callback timer calls."""
+        if call.text.lower() == 'ctimer_set' and len(call.parts) > 2:
+            function = call.parts[2].parts[0] if call.parts[2].kind == 'unary' else call.parts[2]
+            self.writer.insist(OF_CALLBACK % (timer, function.text))
 
     def declare_timer(self, name: str, call: str) -> None:
         """Declares a timer that a call sets or restarts, if nothing has its name."""

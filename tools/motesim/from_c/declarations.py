@@ -14,6 +14,8 @@ from motesim.from_c.tokens import tokens_of
 ORDER = ('event', 'semaphore', 'process', 'autostart', 'receiver', 'var', 'etimer', 'ctimer', 'thread')
 CALLBACK = ('There are no functions. A callback timer runs its own block, `ctimer c { .. }`, at the head of `code`; '
             'put other steps into a `thread`, which `spawn` runs.')
+OF_BLOCK = ('There are no functions: callback timer `%s` runs its own block, at the head of the `code`. This block has '
+            'the statements of the function: `ctimer %s { %s}`.')
 # A function with such a parameter is called for each packet.
 CONNECTION = re.compile(r'\w+_conn|rimeaddr_t|linkaddr_t|uip_ipaddr_t')
 OF_PACKETS = ('No function is called when a packet arrives: a packet is the event `packet`. Above the first `code`, '
@@ -165,8 +167,10 @@ class Declarations(Lines):
 
     def of_function(self) -> str:
         """A function: a thread, without parameters."""
-        name = allowed(self.token.text)
+        name, timer = allowed(self.token.text), self.scope.callbacks.timer_of(self.token.text)
         self.at += 1
+        if timer:
+            return self.of_timer(timer)
         if any(CONNECTION.fullmatch(it.text) for it in self.tokens[self.at:]):
             return self.of_receiver()
         self.why('There are no functions: a `thread` serves as one, without parameters, and `spawn %s;` runs it. A '
@@ -175,6 +179,26 @@ class Declarations(Lines):
         if not self.place.is_head or not self.accept('{') or self.token.kind != 'end':
             raise NoCounterpart(CALLBACK)
         return 'thread %s {' % name
+
+    def of_timer(self, timer: str) -> str:
+        """A function that a callback timer calls: the block of the timer."""
+        words = [it.text for it in self.tokens]
+        its, block = self.new_name(timer), self.block_of(timer)
+        if words[-1] != '}' or words.count('{') != words.count('}') or not block:
+            raise NoCounterpart(CALLBACK)
+        self.at = len(words)
+        self.why(OF_BLOCK % (its, its, block))
+        if its not in self.scope.callbacks.blocks:
+            self.declares.append('ctimer %s { %s}' % (its, block))
+        return ''
+
+    def block_of(self, timer: str) -> str:
+        """The statements of the function that a callback timer calls, or nothing if no counterpart is known."""
+        callbacks = self.scope.callbacks
+        try:
+            return self.translated(callbacks.bodies[callbacks.functions[timer]]) + ' '
+        except (KeyError, NoCounterpart):
+            return ''
 
     def parameters(self, of_thread: bool) -> None:
         """Leaves out parameters. Those of a thread become variables of its process, if variables can be declared
@@ -241,11 +265,15 @@ class Declarations(Lines):
 
     def of_callback(self) -> str:
         """A callback timer without its block."""
-        name = self.new_name(self.token.text)
+        name, block = self.new_name(self.token.text), self.block_of(self.token.text)
         self.at += 1
         self.end('')
+        if name in self.scope.callbacks.blocks:
+            self.why('`%s` is declared already.' % name)
+            return ''
         self.why('A callback timer has a block, which runs when the timer is due: `ctimer %s { .. }`.' % name)
-        declared = 'ctimer %s { %s}' % (name, 'poll %s; ' % self.place.code if self.place.code else '')
+        block = block or ('poll %s; ' % self.place.code if self.place.code else '')
+        declared = 'ctimer %s { %s}' % (name, block)
         return self.in_code('Timers', declared) if self.is_moved('ctimer') else declared
 
     def of_names(self, word: str, form: str) -> str:

@@ -77,6 +77,10 @@ class Lines(Expressions):
                      'A name has at most 16 characters.')
         return found
 
+    def translated(self, statements: str) -> str:
+        """Statements of C in the notation."""
+        raise NotImplementedError
+
     def statement(self) -> str:
         """A statement."""
         raise NotImplementedError

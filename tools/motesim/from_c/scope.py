@@ -6,6 +6,7 @@ import re
 from collections.abc import Iterable
 from dataclasses import dataclass, field
 
+from motesim.from_c.callbacks import Callbacks, callbacks_of
 from motesim.notation.faults import tokens_of
 from motesim.notation.keywords import RESERVED
 
@@ -53,6 +54,7 @@ class Scope:
                line of the notation or by Contiki's `PROCESS`
     counts     the initial counts of the semaphores of Contiki
     values     the initial values of the variables
+    callbacks  the callback timers
     """
     kinds: dict[str, str] = field(default_factory=dict)
     codes: tuple[str, ...] = ()
@@ -61,6 +63,7 @@ class Scope:
     processes: tuple[str, ...] = ()
     counts: dict[str, str] = field(default_factory=dict)
     values: dict[str, str] = field(default_factory=dict)
+    callbacks: Callbacks = Callbacks()
 
     @classmethod
     def of(cls, text: str) -> Scope:
@@ -82,7 +85,8 @@ class Scope:
         for name in macros:
             kinds.setdefault(name, 'process')
         return cls(kinds, codes, 'receiver' in words, named, tuple(dict.fromkeys([*codes, *named, *macros])),
-                   {allowed(name): count for name, count in SEMAPHORE.findall(text)}, dict(VARIABLE.findall(text)))
+                   {allowed(name): count for name, count in SEMAPHORE.findall(text)}, dict(VARIABLE.findall(text)),
+                   callbacks_of(text))
 
     def of_kind(self, kind: str) -> list[str]:
         """The names of a kind."""

@@ -94,6 +94,10 @@ class Statements(Declarations, Calls, Control):
             text = ('%s // %s' % (text, comment.strip('/* ').strip())).strip()
         return text
 
+    def translated(self, statements: str) -> str:
+        """Statements of C in the notation."""
+        return Statements(statements, self.scope).written()
+
     def statement(self) -> str:
         """A statement, with a step of the generator before it if it needs a random number."""
         word, outside, begun = self.token.text, self.writer.draws, self.begun
@@ -253,7 +257,7 @@ class Statements(Declarations, Calls, Control):
         self.why(OF_PACKETS)
         try:
             inner = ' '.join(words[words.index('{') + 1:-1])
-            self.why(OF_STATEMENTS % Statements(inner, self.scope).written())
+            self.why(OF_STATEMENTS % self.translated(inner))
         except NoCounterpart:
             pass
         return '' if self.scope.receiver else 'receiver %s;' % self.of_process((*self.scope.codes, 'p')[0])
