@@ -10,6 +10,17 @@ from __future__ import annotations
 BODY, HEAD, TOP = 'body', 'head', 'top'
 
 RIGHT: list[tuple[str, str, str]] = [
+    # Steps in expressions, and commas between statements.
+    (BODY, 'i++, n--;', 'i = (i + 1); n = (n - 1);'),
+    (BODY, 'x = 1, y = 2;', 'x = 1; y = 2;'),
+    (BODY, 'x = n++;', 'x = n; n = (n + 1);'),
+    (BODY, 'x = --n;', 'n = (n - 1); x = n;'),
+    (BODY, 'while (n--) {\nprint n;\n}', 'while n { n = (n - 1);\nprint n;\n}'),
+    (BODY, 'while (n-- > 3) { print n; }', 'while (n > 3) { n = (n - 1); print n; }'),
+    (BODY, 'while (--n) { print n; }', 'n = (n - 1); while n { print n; n = (n - 1); }'),
+    (BODY, 'if (--n) { print n; }', 'n = (n - 1); if n { print n; }'),
+    (BODY, 'for (i = 0, n = 5; i < n; i++, n--) { print i; }',
+     'i = 0; n = 5; while (i < n) { print i; i = (i + 1); n = (n - 1); }'),
     # Parentheses: too few.
     (BODY, 'x = x + 1;', 'x = (x + 1);'),
     (BODY, 'x = (x + 1) * 2;', 'x = ((x + 1) * 2);'),
@@ -223,6 +234,9 @@ RIGHT: list[tuple[str, str, str]] = [
 ]
 
 SAID: list[tuple[str, str, str]] = [
+    (BODY, 'if (n--) { print n; }', 'There is no `--`: the step is a statement of its own, `n = (n - 1);`.'),
+    (BODY, 'yield_until (n-- == 0);', 'There is no `--`: the step is a statement of its own'),
+    (BODY, 'while (n-- || x) { print n; }', 'There is no `--`: the step is a statement of its own'),
     (BODY, 'switch (x) { case 1: print 1; }', 'switch'),
     (BODY, 'break;', 'test of the `while`'),
     (BODY, 'continue;', '`else`'),

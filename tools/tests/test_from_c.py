@@ -567,6 +567,21 @@ class Calls(unittest.TestCase):
                 for nonsense in 'Names have small letters', 'var etimer_set', 'No variable':
                     self.assertNotIn(nonsense, hint)
 
+    def test_a_loop_with_a_limit_or_a_variable_that_is_not_declared(self) -> None:
+        for lines, line, declared in (
+                ('for (tries = 0; tries < LIMIT; tries++) { print 1; }',
+                 'tries = 0; while (tries < limit) { print 1; tries = (tries + 1); }', 'var limit = 10;'),
+                ('for (tries = 0; tries < LIMIT; tries++) {\nprint 1;\n}', 'tries = 0; while (tries < limit) {',
+                 'var limit = 10;'),
+                ('for (k = 0; k < 3; k++) { print k; }', 'k = 0; while (k < 3) { print k; k = (k + 1); }',
+                 'var k = 0;'),
+                ('for (int k = 0; k < most; k++) { print k; }', 'k = 0; while (k < most) { print k; k = (k + 1); }',
+                 'var k = 0; var most = 10;')):
+            with self.subTest(lines):
+                found, above, hint = self.corrected('1', lines)
+                self.assertEqual((found, above), (line, declared))
+                self.assertEqual('with a value of your choice' in hint, '10' in declared)
+
     def test_no_reason_hides_one_that_says_what_else_to_do(self) -> None:
         seed, step = 'At the start of `body`: `dice = ((self * 257) + 1);', '`tries = (tries + 1);` at the end of its'
         second, choice = 'Decide how many moments', '`PERIOD` isn\'t declared: `var period = 20;`, with a value of your'

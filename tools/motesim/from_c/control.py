@@ -11,6 +11,11 @@ from motesim.notation.faults import STATEMENTS
 NO_SWITCH = ('There is no `switch`: each `case` is a test of its own, `if (%s == %s) { .. } else { if (%s == %s) { .. '
              '} }`.')
 ELSE_IFS = ('elif', 'elseif', 'elsif')
+OWN_STEP = 'There is no `%s`: the step is a statement of its own, `%s`.'
+# Statements whose test is evaluated more than once, or in which a step has no place.
+WITHOUT_STEPS = ('yield_until', 'wait_until', 'wait_while')
+# The value of a limit that isn't declared.
+LIMIT = '10'
 NO_BREAK = 'There is no `break`: let the test of the `while` become false.'
 
 
@@ -152,6 +157,8 @@ class Control(Lines):
             self.why('A loop without a block would run forever: `wait_while` lets other events in while it waits.')
             return 'wait_while %s;' % test
         test, outside = self.condition(), self.place
+        if word == 'while' and (self.before or self.after):
+            return self.counting_loop(test)
         self.place = outside._replace(loop=test, is_head=False) if word == 'while' else outside
         text = '%s %s %s' % (word, test, self.body())
         self.place = outside
@@ -160,6 +167,35 @@ class Control(Lines):
         if word == 'if' and self.token.text == 'else' and not self.is_cut:
             text += ' ' + self.other()
         return text
+
+    def counting_loop(self, test: str) -> str:
+        """A `while` whose test has `++` or `--`: behind the name, the step is at the start of the block; in front of it,
+        above the loop and at the end of the block."""
+        first, last = self.steps(self.after), self.steps(self.before)
+        if ' || ' in test:
+            self.refuse_steps()
+        self.before, self.after = [], []
+        body = self.body()
+        if first:
+            self.why('The step is at the start of the block, so `%s` isn\'t done when the test is false.' % first)
+            body = body.replace('{', '{ ' + first, 1)
+        if last:
+            self.why_with_rest('The step is above the loop and at the end of its block',
+                               ': write `%s` there' % last)
+            body = body if self.is_cut else '%s %s }' % (body.removesuffix('}').rstrip(), last)
+        return ('%s while %s %s' % (last, test, body)).strip()
+
+    def refuse_steps(self) -> None:
+        name, sign = [*self.before, *self.after][0]
+        raise NoCounterpart(OWN_STEP % (sign, self.steps([(name, sign)])))
+
+    def with_steps(self, word: str, text: str) -> str:
+        """A statement with the steps of `++` and `--` in its expressions."""
+        if not (self.before or self.after):
+            return text
+        if word in ('for', 'do') or text.startswith(WITHOUT_STEPS) or text.startswith('if ') and self.after:
+            self.refuse_steps()
+        return ' '.join(filter(None, (self.steps(self.before), text, self.steps(self.after))))
 
     def is_empty_loop(self) -> bool:
         """Returns whether a semicolon ends the loop after its test."""
@@ -174,15 +210,21 @@ class Control(Lines):
         """A `for`, as a `while`; if its block continues below these lines, its last step is below them, too."""
         self.at += 2
         first = '' if self.accept(';') else self.first_of_loop()
+        self.writer.unknown = {} if self.place.head else None
         test = '1' if self.token.text == ';' else self.writer.text(self.expression())
+        undeclared, self.writer.unknown = self.writer.unknown or {}, None
         self.need(';')
         step = ''
         if not self.accept(')'):
             step = self.step_of_loop()
+            while self.accept(','):
+                step += ' ' + self.step_of_loop()
             self.need(')')
         body = self.body()
         self.why_with_rest('There is no `for`: a `while` with the first step above it',
                            ', and `%s` at the end of its block' % step if step else '')
+        for word, (kind, name) in undeclared.items():
+            self.declare(word, kind, name, LIMIT)
         if step and not self.is_cut:
             body = '%s %s }' % (body.removesuffix('}').rstrip(), step)
         return ('%s while %s %s' % (first, test, body)).strip()
@@ -191,10 +233,10 @@ class Control(Lines):
         """The first step of a `for`, which may declare its variable."""
         if self.token.text in TYPES | QUALIFIERS:
             self.skip_types()
-            name = allowed(self.token.text)
-            if self.place.head and name not in self.place.variables:
-                self.declares.append('var %s = 0;' % name)
-                self.scope.kinds[name] = 'variable'
+        name = allowed(self.token.text)
+        if self.place.head and self.scope.meant(name, 'variable') not in self.place.variables:
+            self.declares.append('var %s = 0;' % name)
+            self.scope.kinds[name] = 'variable'
         return self.assignment()
 
     def step_of_loop(self) -> str:

@@ -130,6 +130,9 @@ class Expressions:
     def __init__(self, tokens: list[Token], scope: Scope):
         self.tokens, self.scope, self.at = tokens, scope, 0
         self.depth = 0
+        # The variables with `++` or `--` in an expression, each with its sign: in front of the name, or behind it.
+        self.before: list[tuple[str, str]] = []
+        self.after: list[tuple[str, str]] = []
 
     @property
     def token(self) -> Token:
@@ -209,6 +212,10 @@ class Expressions:
             while not self.accept(')'):
                 self.at += 1
             return self.unary()
+        step = self.accept('++', '--')
+        if step:
+            self.before.append((self.token.text, step))
+            return self.primary()
         sign = self.accept('!', '-', '+', '~', '*', '&', 'not')
         if sign:
             return Node('unary', '!' if sign == 'not' else sign, (self.unary(),))
@@ -233,6 +240,8 @@ class Expressions:
                     self.token.text not in WORDS):
                 self.why('The name behind `%s` is in parentheses: `%s(%s)`.' % (node.text, node.text, self.token.text))
                 node = Node('call', node.text, (self.primary(),))
+            elif node.kind == 'name' and self.token.text in ('++', '--'):
+                self.after.append((node.text, self.accept('++', '--')))
             elif self.accept('['):
                 node = Node('index', '', (node, self.expression()))
                 self.need(']')

@@ -35,6 +35,9 @@ class Lines(Expressions):
         """A statement with its semicolon."""
         while self.accept(')'):
             self.why(ONE_TOO_MANY)
+        if ' = ' in statement and self.accept(','):
+            self.why('No comma joins statements: each ends with `;`.')
+            return '%s; %s' % (statement, self.statement())
         if not self.accept(';'):
             if self.token.kind not in ('end',) and self.token.text != '}':
                 raise NoCounterpart
@@ -51,6 +54,14 @@ class Lines(Expressions):
         found = self.variable(name)
         self.why('There is no `%s`.' % sign)
         return '%s = (%s %s 1)' % (found, found, sign[0])
+
+    def steps(self, found: list[tuple[str, str]]) -> str:
+        """The statements for `++` and `--` in an expression."""
+        return ' '.join('%s;' % self.stepped(name, sign) for name, sign in found)
+
+    def declare(self, word: str, kind: str, name: str, value: str) -> None:
+        """Declares a name that is used without a declaration."""
+        raise NotImplementedError
 
     def variable(self, name: str) -> str:
         """A variable that is assigned."""

@@ -101,12 +101,14 @@ class Statements(Declarations, Calls, Control):
     def statement(self) -> str:
         """A statement, with a step of the generator before it if it needs a random number."""
         word, outside, begun = self.token.text, self.writer.draws, self.begun
-        self.writer.draws, self.begun = False, self.token.line
+        around = self.before, self.after
+        self.writer.draws, self.begun, self.before, self.after = False, self.token.line, [], []
         self.nested += 1
         if self.nested > MOST_LEVELS:
             raise NoCounterpart
-        text = self.one_statement()
+        text = self.with_steps(word, self.one_statement())
         self.nested -= 1
+        self.before, self.after = around
         if self.writer.draws:
             if word in ('while', 'for', 'do') or not self.place.head:
                 raise NoCounterpart(NO_CHANCE)
