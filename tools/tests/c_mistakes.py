@@ -10,6 +10,13 @@ from __future__ import annotations
 BODY, HEAD, TOP = 'body', 'head', 'top'
 
 RIGHT: list[tuple[str, str, str]] = [
+    # Sensors, and connections over several hops.
+    (BODY, 'SENSORS_ACTIVATE(button_sensor);', ''),
+    (BODY, 'x = sht11_sensor.value(SHT11_SENSOR_TEMP);', 'x = (20 + (now % 10));'),
+    (BODY, 'printf("%d\\n", light_sensor.value(0));', 'print (20 + (now % 10));'),
+    (BODY, 'collect_open(&tc, 130, COLLECT_ROUTER, &callbacks);', ''),
+    (BODY, 'send x;\nrunicast_send(&r, &to, 4);', 'send x;'),
+    (BODY, 'send x;\ncollect_send(&tc, 15);', 'send x;'),
     # Steps in expressions, and commas between statements.
     (BODY, 'i++, n--;', 'i = (i + 1); n = (n - 1);'),
     (BODY, 'x = 1, y = 2;', 'x = 1; y = 2;'),
@@ -234,6 +241,13 @@ RIGHT: list[tuple[str, str, str]] = [
 ]
 
 SAID: list[tuple[str, str, str]] = [
+    (BODY, 'collect_send(&tc, 15);', 'collects values along a tree'),
+    (BODY, 'mesh_send(&mesh, &addr);', 'There is no routing'),
+    (BODY, 'runicast_send(&r, &to, 4);', 'No packet is acknowledged or sent again by itself'),
+    (BODY, 'if (!runicast_is_transmitting(&r)) { send 1; }', 'No packet is acknowledged or sent again by itself'),
+    (BODY, 'collect_set_sink(&tc, 1);', '`if (self == 0) { .. }`'),
+    (BODY, 'PROCESS_WAIT_EVENT_UNTIL(ev == sensors_event && data == &button_sensor);', 'takes the place of a button'),
+    (BODY, 'button_sensor.configure(1);', 'A mote has no sensors'),
     (BODY, 'if (n--) { print n; }', 'There is no `--`: the step is a statement of its own, `n = (n - 1);`.'),
     (BODY, 'yield_until (n-- == 0);', 'There is no `--`: the step is a statement of its own'),
     (BODY, 'while (n-- || x) { print n; }', 'There is no `--`: the step is a statement of its own'),

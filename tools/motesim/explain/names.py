@@ -3,6 +3,7 @@ from __future__ import annotations
 
 from typing import NamedTuple
 
+from motesim.from_c.absent import is_sensor
 from motesim.from_c.control import ELSE_IFS
 from motesim.from_c.correction import Correction
 from motesim.from_c.expressions import QUALIFIERS, TYPES
@@ -104,10 +105,11 @@ def otherwise(text: str, fault: ProgramError) -> str:
     """The advice to declare a name as a variable, if another hint guesses that it is misspelt; or an empty text."""
     tokens = tokens_of(text)
     called = [it.text for it in tokens[tokens.index(fault.token) + 1:][:1]] == ['('] if fault.token in tokens else True
-    if fault.kind != 3 or called or _wanted(fault.may) != 'variable' or fault.token.text in NO_VARIABLES:
+    name = fault.token.text
+    if fault.kind != 3 or called or _wanted(fault.may) != 'variable' or name in NO_VARIABLES or is_sensor(name):
         return ''
     return ' If you want a variable of this name, declare it at the head of `code %s`: `%s`.' % (
-        _code_at(tokens, fault.token), HEAD['variable'] % fault.token.text)
+        _code_at(tokens, fault.token), HEAD['variable'] % name)
 
 
 def _lacking_code(text: str) -> tuple[str, Correction]:

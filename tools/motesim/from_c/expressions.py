@@ -11,6 +11,7 @@ from collections.abc import Callable
 from dataclasses import dataclass, field
 from fractions import Fraction
 
+from motesim.from_c.absent import NO_SENSORS, OF_READING, READING, RUNICAST, is_sensor
 from motesim.from_c.scope import Scope, allowed
 from motesim.from_c.tokens import END, Token
 from motesim.notation.faults import MOST_LEVELS
@@ -236,6 +237,8 @@ class Expressions:
         while True:
             if node.kind == 'name' and self.accept('('):
                 node = Node('call', node.text, tuple(self.arguments()))
+            elif node.kind == 'member' and self.accept('('):
+                node = Node('call', node.text, (*node.parts, *self.arguments()))
             elif node.kind == 'name' and node.text in TESTS and self.token.kind == 'name' and (
                     self.token.text not in WORDS):
                 self.why('The name behind `%s` is in parentheses: `%s(%s)`.' % (node.text, node.text, self.token.text))
@@ -384,6 +387,8 @@ class Writer:
         lower = node.text.lower()
         if lower in EVENTS:
             return EVENTS[lower]
+        if lower == 'sensors_event' and node.text not in self.scope.kinds:
+            return self.refuse(NO_SENSORS)
         if node.text in OWN_EVENTS:
             return node.text
         found = self.scope.meant(node.text, 'event')
@@ -413,6 +418,11 @@ class Writer:
             self.insist(NO_CHANCE)
             self.draws = True
             return DRAWN
+        if parts and is_sensor(parts[0].text):
+            self.insist(OF_READING)
+            return READING
+        if lower == 'runicast_is_transmitting':
+            return self.refuse(RUNICAST)
         test = node.text if node.text in TESTS else CALLS.get(lower, '')
         if not test or len(parts) != 1:
             return self.refuse(NO_CALLS)

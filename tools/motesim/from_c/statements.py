@@ -7,6 +7,7 @@ from __future__ import annotations
 
 import re
 
+from motesim.from_c.absent import NO_ACTIVATION, NO_SENSORS, NO_SINK, SENDS, SENSORS, SENT_ALREADY, is_sensor
 from motesim.from_c.calls import BROADCAST, CALLS, Calls
 from motesim.from_c.control import Control
 from motesim.from_c.declarations import ABOVE, OF_PACKETS, Declarations
@@ -18,9 +19,6 @@ from motesim.from_c.scope import allowed, nearest
 from motesim.notation.faults import MOST_LEVELS, STATEMENTS
 
 PRINTS = ('printf', 'print', 'println', 'puts', 'putchar', 'log_info', 'log_dbg', 'log_warn', 'log_err')
-SENDS = ('send_packet', 'sendpacket', 'radio_send', 'send_value')
-UNICAST = ('A packet goes to all motes that hear it; its value may say for whom it is: `send ((dest * 256) + x);`, '
-           'and the receiver tests `((data / 256) == self)`.')
 # A packet that names its receiver has 8 bits for the receiver, and 8 for the value.
 LARGEST_PART = 255
 TOO_LARGE_PART = ('A packet goes to all motes that hear it, and has 16 bits. If the upper 8 say for whom it is, its '
@@ -28,9 +26,9 @@ TOO_LARGE_PART = ('A packet goes to all motes that hear it, and has 16 bits. If 
                   'or two packets.')
 LEDS = {'leds_on': '1', 'leds_off': '0', 'leds_toggle': '1'}
 OF_LEDS = 'A mote has no LEDs: a `print` shows the moment in the report.'
-OPENS = ('broadcast_open', 'abc_open', 'unicast_open', 'runicast_open', 'nullnet_set_input_callback',
-         'simple_udp_register')
-CLOSES = re.compile(r'(broadcast|abc|unicast|runicast|mesh|collect)_close\b')
+OPENS = ('broadcast_open', 'abc_open', 'unicast_open', 'runicast_open', 'mesh_open', 'collect_open', 'netflood_open',
+         'trickle_open', 'nullnet_set_input_callback', 'simple_udp_register')
+CLOSES = re.compile(r'(broadcast|abc|unicast|runicast|mesh|collect|netflood|trickle)_close\b')
 OF_STATEMENTS = ('Here, the statements are `%s`. If the process also waits for a timer, a packet must not end this '
                  'wait: write the wait as `yield_until (is(packet) || fired(t)); while is(packet) { .. yield_until '
                  '(is(packet) || fired(t)); }`, with these statements instead of the dots.')
@@ -39,7 +37,7 @@ WAIT = ('A process waits by an event timer: `set t 5; yield_until fired(t);`, wi
         '`code`.')
 # Words without a counterpart, each with the advice what to do instead.
 ADVICE = {
-    'unicast_send': UNICAST, 'runicast_send': UNICAST, 'simple_udp_sendto': UNICAST, 'mesh_send': UNICAST,
+    **SENDS, 'collect_set_sink': NO_SINK,
     'broadcast_send': BROADCAST, 'abc_send': BROADCAST, 'packetbuf_copyfrom': BROADCAST, 'netstack_network': BROADCAST,
     'nullnet_buf': BROADCAST, 'sleep': WAIT, 'delay': WAIT, 'clock_delay': WAIT, 'clock_wait': WAIT, 'usleep': WAIT,
     'default': 'There is no `switch`: put the statements of `default` into the last `else { .. }`.',
@@ -188,6 +186,16 @@ class Statements(Declarations, Calls, Control):
             self.expression()
             self.why('A thread is run by `spawn`.')
             return self.end('spawn ' + word)
+        if lower in SENSORS and behind == '(':
+            self.expression()
+            self.why(NO_ACTIVATION)
+            return self.end('').removesuffix(';')
+        if is_sensor(word) and behind in ('.', '->'):
+            raise NoCounterpart(NO_SENSORS)
+        if lower in SENDS and behind == '(' and self.place.last == 'send':
+            self.expression()
+            self.writer.insist(SENT_ALREADY + SENDS[lower])
+            return self.end('').removesuffix(';')
         if lower in ADVICE and not (word in self.scope.kinds and behind == '='):
             raise NoCounterpart(ADVICE[lower])
         if lower in ('process_pollhandler', 'process_exithandler') and behind == '(':
