@@ -16,7 +16,10 @@ from motesim.judge.sentences import Names, motes_named, names_of, read_sentence
 from motesim.report.report import Report
 from motesim.runner.run import answer, program_path
 from motesim.scenario.scenario import Scenario
+from motesim.search.command import chosen
+from motesim.search.faults import FaultyPart
 from motesim.search.following import follow
+from motesim.search.found import Found
 from motesim.search.net import loss_steps, mote_steps, net_of, number_steps, parts, program_steps
 from motesim.search.one_program import Limits, OneProgram
 from motesim.search.shrink import Shrinking, case_of
@@ -265,7 +268,16 @@ class Shrinks(unittest.TestCase):
         with folder_with() as folder:
             status, said, _ = search(folder, '--faults', 'motes', '--shrink')
             self.assertEqual(status, 1)
-            self.assertIn('small_1.toml breaks: mote 1 prints flood 7\n  2 motes, 1 loss, 1 program', said)
+            self.assertRegex(said, r'small_1.toml breaks: mote 1 prints flood 7\n  made from: mote 0 is silent[^\n]*\n'
+                                   '  2 motes, 1 loss, 1 program')
+
+    def test_it_says_which_set_it_makes_small(self) -> None:
+        part = FaultyPart('motes', 'mote 0 is silent', (), ())
+        single, other, pair = Found([part], ['s']), Found([part], ['s']), Found([part, part], ['s'])
+        for sets, said in (([single], 'made from: mote 0 is silent'),
+                           ([single, pair], 'made from: mote 0 is silent (the smallest set)'),
+                           ([single, other, pair], 'made from: mote 0 is silent (the first of 2 sets of this size)')):
+            self.assertEqual(chosen(single, sets), said)
 
 
 if __name__ == '__main__':

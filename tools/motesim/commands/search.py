@@ -72,7 +72,7 @@ def arguments() -> argparse.ArgumentParser:
                        help='write all results in JSON to this file; - is standard output')
     words.add_argument('--all', action='store_true', help='show all sets, not only ten for each expectation')
     words.add_argument('--shrink', action='store_true',
-                       help='make the first counter-example of each broken expectation as small as possible')
+                       help='make the smallest counter-example of each broken expectation as small as possible')
     words.add_argument('--progress', action='store_true', help='report progress in lines of JSON, on standard error')
     words.add_argument('--studies', nargs='+', metavar='FILE',
                        help='check that the searches in these files have the results that the files state')

@@ -139,11 +139,12 @@ def show(words: argparse.Namespace, asking: Asking, search: Search, folder: Path
 
 
 def shrink_each(asking: Asking, found: list[Found], folder: Path, is_quiet: bool) -> None:
-    """Makes the first counter-example of each expectation as small as possible: without the faults the expectation
-    holds, but with them it doesn't."""
+    """Makes the smallest counter-example of each expectation (the first of several) as small as possible: without the
+    faults the expectation holds, but with them it doesn't."""
     program = OneProgram(str(asking.path), asking.limits)
     for number, sentence in enumerate(asking.texts, 1):
-        first = next((it for it in found if sentence in it.sentences), None)
+        sets = [it for it in found if sentence in it.sentences]
+        first = min(sets, key=lambda it: len(it.faults), default=None)
         if first is None:
             continue
         given = {str(it.effect[1]): it.effect[2] for it in first.faults if it.kind == 'parameters'}
@@ -155,10 +156,19 @@ def shrink_each(asking: Asking, found: list[Found], folder: Path, is_quiet: bool
         path = folder / ('small_%d.toml' % number)
         write_result(shrinking, Path(asking.base.name).name, path)
         if not is_quiet:
-            print('%s breaks: %s\n  %s' % (path, shrinking.case.sentence, sizes(shrinking.text)))
+            print('%s breaks: %s\n  %s\n  %s' % (path, shrinking.case.sentence, chosen(first, sets),
+                                                sizes(shrinking.text)))
         if not shrinking.is_whole:
             break
     program.close()
+
+
+def chosen(first: Found, sets: list[Found]) -> str:
+    """The set of faults that was made small, in words; and the number of sets that are as small, if there are others.
+    """
+    count = sum(len(it.faults) == len(first.faults) for it in sets)
+    which = 'the first of %s of this size' % counted(count, 'set', 'sets') if count > 1 else 'the smallest set'
+    return 'made from: %s%s' % (first.words, ' (%s)' % which if len(sets) > 1 else '')
 
 
 def last_line(search: Search, found: list[Found], folder: Path, base: Base) -> str:
