@@ -718,6 +718,18 @@ class Forms(Folder):
         self.grade('--why', 'x', status=2)
         self.assertRegex(self.seen, r'^grade: class has no solution x: .*: anna.toml, (\S+, ){19}\.\.\n$')
 
+    def test_why_of_a_name_that_several_entries_have(self) -> None:
+        self.hand_in('ok.mote', PROGRAM % 3)
+        self.hand_in('ok.toml', net(PROGRAM % 3))
+        words = '--net', 'task.toml', '--why'
+        self.grade(*words, 'ok', status=2)
+        self.assertEqual(self.seen, 'grade: class has several solutions ok: --why needs the whole name of one: ok.mote, '
+                                    'ok.toml\n')
+        self.assertIn('holds', self.grade(*words, 'ok.mote'))
+        self.hand_in('ok', '')
+        self.assertIn('its name ends neither', self.grade(*words, 'ok'))
+        self.assertEqual(self.seen, 'grade: --why ok shows the entry ok; other entries are ok.mote, ok.toml\n')
+
     def test_anonymous_numbers_change_with_each_marking(self) -> None:
         for number in range(8):
             self.hand_in('s%d.toml' % number, net(PROGRAM % 3))

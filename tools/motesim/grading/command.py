@@ -2,6 +2,7 @@
 from __future__ import annotations
 
 import argparse
+import shlex
 import sys
 import time
 from collections.abc import Sequence
@@ -121,15 +122,28 @@ def key_of(entries: Sequence[Entry], folder: Path) -> str:
 
 def entry_of(name: str, entries: Sequence[Entry], folder: Path) -> Entry:
     """The solution that a name means, with or without its ending. Raises a `Fault` that lists the solutions if there
-    is none, for instance because the file was renamed."""
-    found = next((it for it in entries if name in (it.name, it.name.rpartition('.')[0])), None)
+    is none, for instance because the file was renamed, or if several differ only in their endings."""
+    found = next((it for it in entries if it.name == name), None)
     if found:
         return found
+    without = [it for it in entries if it.name.rpartition('.')[0] == name]
+    if len(without) > 1:
+        raise Fault('%s has several solutions %s: --why needs the whole name of one: %s' % (
+            folder, name, ', '.join(it.name for it in without)))
+    if without:
+        return without[0]
     names = [it.name for it in entries]
     like = nearest(name, [*names, *(it.rpartition('.')[0] for it in names)])
     more = [] if len(names) <= MOST_NAMES else ['..']
     raise Fault('%s has no solution %s%s: --why needs the name of one of its files: %s' % (
         folder, name, ' (did you mean %s?)' % like if like else '', ', '.join([*names[:MOST_NAMES], *more])))
+
+
+def namesakes(entry: Entry, entries: Sequence[Entry]) -> list[str]:
+    """A line about the solutions that have the name of an entry without an ending, with an ending."""
+    others = [it.name for it in entries if it.name.rpartition('.')[0] == entry.name]
+    return ['--why %s shows the entry %s; other entries are %s' % (
+        shlex.quote(entry.name), entry.name, ', '.join(others))] if others else []
 
 
 def remarks(asked: argparse.Namespace, nets: Sequence[Net]) -> list[str]:
@@ -156,7 +170,10 @@ def status_of(asked: argparse.Namespace) -> int:
     task = task_of(asked, pictures)
     entries = entries_of(asked.folder)
     if asked.why is not None:
-        entries = [entry_of(asked.why, entries, asked.folder)]
+        entry = entry_of(asked.why, entries, asked.folder)
+        for line in namesakes(entry, entries):
+            print('grade: %s' % line, file=sys.stderr)
+        entries = [entry]
     elif asked.anonymous:
         entries = anonymous(entries)
         if asked.key:
