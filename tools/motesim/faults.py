@@ -1,7 +1,8 @@
 """Errors that are reported in one line, and the exit status of each command.
 
 A command's module has `@command('compare')` above its `main`, which returns the status. For an error in the input or
-in a file, or if memory is short, a command prints one line on standard error, and its status is 2.
+in a file, or if memory is short, a command prints one line on standard error, and its status is 2. If the reader of
+its output closes the pipe, it ends without a message, with status 141.
 """
 from __future__ import annotations
 
@@ -16,6 +17,8 @@ from typing import NoReturn
 from motesim.terminal import plain_stream
 
 FAILED, INTERRUPTED = 2, 130
+# The status of a command whose reader has closed the pipe, as that of a command that SIGPIPE ends.
+CLOSED = 141
 # If this environment variable is set, an error of a tool itself is shown with its traceback.
 SHOW = 'MOTESIM_TRACEBACK'
 
@@ -63,8 +66,9 @@ def status_of(tool: str, work: Callable[[], int]) -> int:
     except MemoryError:
         message = 'out of memory'
     except BrokenPipeError:
-        message = 'standard output was closed before all of it was written'
+        # (the reader of a pipe, such as `head`, has what it wants)
         drop_output()
+        return CLOSED
     except OSError as fault:
         message = in_words(fault)
         if fault.filename is None:

@@ -10,6 +10,7 @@ The archive has the files that git knows. To add folders and files of your own, 
 name them: tools/pack examples/mylab worksheet.pdf. Those from outside of this tree are at the top of the archive. A
 file isn't packed if a word of its name, or of its folder's, begins with `solution`, `hidden`, `answer` or `marks`,
 even if you name it; nor are key.csv and docs/use/TEACH.md. With --for-teachers all these files are packed too.
+Files and folders whose names begin with a dot are never packed, and neither are copies that an editor made, NAME~.
 tools/pack lists the files that it adds to the repository's own files, and those that it leaves out.
 
 The archive has the binary that the environment variable MOTESIM names, or without it the proved `motesim` of these
@@ -45,6 +46,8 @@ PARTS = ('CHANGES.md', 'CITATION.cff', 'LICENSE', 'docs/use', 'examples', 'tools
 # The page for teachers; the folders of the tools and pages; and files that tools and editors make for their own use.
 PAGE_FOR_TEACHERS, OURS = 'docs/use/TEACH.md', ('docs', 'tools')
 RUBBISH = re.compile(r'(.*/)?(\.|__pycache__/|[^/]*~(/|\Z))', re.S)
+# The part of a path up to the first name that begins with a dot.
+HIDDEN = re.compile(r'(?:[^/.][^/]*/)*\.[^/]*')
 # A link of a page, with its words and its target. (The words may be on two lines.)
 LINK = re.compile(r'(?<!!)\[([^\]\n]*(?:\n[^\]\n]*)?)\]\(([^)#\s]*)(?:#[^)\s]*)?\)')
 
@@ -151,6 +154,9 @@ def sorted_files(parts: Iterable[str], named: Iterable[Path] = (), top: Path = T
     for name, file in {**its, **own}.items():
         # (the file to which a link leads counts, too)
         paths = [name, '/'.join(file.resolve().parts[-2:])] if file.is_symlink() else [name]
+        hidden = HIDDEN.match(name)
+        if hidden:
+            found.left_out[hidden[0]] = 'its name begins with a dot'
         if RUBBISH.match(name):
             continue
         if name in known and name in own and not own[name].samefile(top / name):

@@ -209,6 +209,15 @@ class Pack(unittest.TestCase):
         found = pack.sorted_files(parts, [top / 'examples/lab/hidden.toml'], top)
         self.assertEqual((found.added, 'examples/lab/hidden.toml' in found.left_out), ([], True))
 
+    def test_names_that_begin_with_a_dot_are_left_out_and_listed(self) -> None:
+        top = self.tree('docs/use/QUICK.md', 'docs/use/.draft.md lab/start.toml lab/.net.toml lab/.git/config lab/.git/a/b '
+                        'lab/.x/y lab/start.toml~ lab/a.b/c.toml')
+        found = pack.sorted_files(['docs/use'], [top / 'lab'], top, has_all=True)
+        self.assertEqual(sorted(found.packed), ['docs/use/QUICK.md', 'lab/a.b/c.toml', 'lab/start.toml'])
+        self.assertEqual(sorted(it for it in found.notes() if it.startswith('Left')), [
+            'Left out: %s (its name begins with a dot)' % it
+            for it in ('docs/use/.draft.md', 'lab/.git', 'lab/.net.toml', 'lab/.x')])
+
     def test_solutions_in_a_folder_of_one_s_own_are_packed_only_on_request(self) -> None:
         top = self.tree('docs/use/TEACH.md tools/motesim/answers.py', '')
         its = 'start.toml', 'task1_solution.toml', 'net-hidden.toml', 'answers/anna.toml', 'marks.csv', 'key.csv', 'bookmarks.md'
