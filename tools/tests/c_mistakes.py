@@ -246,7 +246,7 @@ SAID: list[tuple[str, str, str]] = [
     (BODY, 'runicast_send(&r, &to, 4);', 'No packet is acknowledged or sent again by itself'),
     (BODY, 'if (!runicast_is_transmitting(&r)) { send 1; }', 'No packet is acknowledged or sent again by itself'),
     (BODY, 'collect_set_sink(&tc, 1);', '`if (self == 0) { .. }`'),
-    (BODY, 'PROCESS_WAIT_EVENT_UNTIL(ev == sensors_event && data == &button_sensor);', 'takes the place of a button'),
+    (BODY, 'PROCESS_WAIT_EVENT_UNTIL(ev == sensors_event && data == &button_sensor);', 'a timer instead of a button'),
     (BODY, 'button_sensor.configure(1);', 'A mote has no sensors'),
     (BODY, 'if (n--) { print n; }', 'There is no `--`: the step is a statement of its own, `n = (n - 1);`.'),
     (BODY, 'yield_until (n-- == 0);', 'There is no `--`: the step is a statement of its own'),

@@ -24,7 +24,7 @@ from here import TOOLS
 from motesim.grading.command import remarks, status_of
 from motesim.grading.entries import Entry, anonymous, data_of, entries_of
 from motesim.grading.marking import Mark, Marks, Task, page_name
-from motesim.grading.nets import nets_of, program_of
+from motesim.grading.nets import cut_off, nets_of, program_of
 from motesim.grading.page import page_of
 from motesim.grading.pages import HEAD
 from motesim.grading.progress import Progress
@@ -313,6 +313,18 @@ class Nets(Folder):
         for name in 'end', 'range', 'base', 'per', 'collide', 'queue', 'places', 'losses':
             self.assertEqual(getattr(before, name), getattr(after, name))
         self.assertEqual(after.programs, {**before.programs, 'sender': 'process other;'})
+
+    def test_motes_that_are_cut_off_are_told_once(self) -> None:
+        self.hand_in('ben.toml', net(PROGRAM % 3))
+        moved = net(PROGRAM % 9, motes=4).replace('x = 30', 'x = 41')
+        (self.top / 'hidden.toml').write_text(moved)
+        self.grade('--net', 'task.toml', '--hidden', 'hidden.toml')
+        self.assertEqual(self.seen, 'grade: in these nets no packet of the other motes reaches some motes: '
+                                    'hidden.toml (mote 3)\n')
+        lost = ''.join('[[loss]]\nfrom = %d\nto = %d\nevery = 1\n' % it for it in ((1, 2), (2, 1)))
+        for text, motes in ((net(PROGRAM % 9, motes=4), []), (moved, [3]), (moved + lost, [2, 3]),
+                            (net(PROGRAM % 9, motes=4) + lost, [2, 3]), (net(PROGRAM % 9, motes=1), [])):
+            self.assertEqual(cut_off(Scenario.parse(text)), motes)
 
     def test_faults_of_the_teacher_end_it(self) -> None:
         for words, seen in ((('--net', 'no.toml'), 'no.toml: No such file'),
@@ -723,8 +735,8 @@ class Forms(Folder):
         self.hand_in('ok.toml', net(PROGRAM % 3))
         words = '--net', 'task.toml', '--why'
         self.grade(*words, 'ok', status=2)
-        self.assertEqual(self.seen, 'grade: class has several solutions ok: --why needs the whole name of one: ok.mote, '
-                                    'ok.toml\n')
+        self.assertEqual(self.seen, 'grade: class has several solutions ok: --why needs the whole name of one: '
+                                    'ok.mote, ok.toml\n')
         self.assertIn('holds', self.grade(*words, 'ok.mote'))
         self.hand_in('ok', '')
         self.assertIn('its name ends neither', self.grade(*words, 'ok'))

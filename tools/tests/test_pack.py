@@ -210,8 +210,8 @@ class Pack(unittest.TestCase):
         self.assertEqual((found.added, 'examples/lab/hidden.toml' in found.left_out), ([], True))
 
     def test_names_that_begin_with_a_dot_are_left_out_and_listed(self) -> None:
-        top = self.tree('docs/use/QUICK.md', 'docs/use/.draft.md lab/start.toml lab/.net.toml lab/.git/config lab/.git/a/b '
-                        'lab/.x/y lab/start.toml~ lab/a.b/c.toml')
+        top = self.tree('docs/use/QUICK.md', 'docs/use/.draft.md lab/start.toml lab/.net.toml lab/.git/config '
+                        'lab/.git/a/b lab/.x/y lab/start.toml~ lab/a.b/c.toml')
         found = pack.sorted_files(['docs/use'], [top / 'lab'], top, has_all=True)
         self.assertEqual(sorted(found.packed), ['docs/use/QUICK.md', 'lab/a.b/c.toml', 'lab/start.toml'])
         self.assertEqual(sorted(it for it in found.notes() if it.startswith('Left')), [

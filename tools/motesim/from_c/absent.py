@@ -3,14 +3,14 @@ from __future__ import annotations
 
 # A value of a sensor, which changes with the moment.
 READING = '(20 + (now % 10))'
-NO_SENSORS = ('A mote has no sensors and no buttons. A program computes its values, such as `%s`, and a timer takes the '
-              'place of a button: `set t 50; yield_until fired(t);`.' % READING)
+NO_SENSORS = ('A mote has no sensors and no buttons. A program computes its values, such as `%s`, and waits for a '
+              'timer instead of a button: `set t 50; yield_until fired(t);`.' % READING)
 NO_ACTIVATION = 'A mote has no sensors, so nothing is activated: leave this line out.'
 OF_READING = 'A mote has no sensors: choose a value, such as `%s`, which changes with the moment.' % READING
 UNICAST = ('A packet goes to all motes that hear it; its value may say for whom it is: `send ((dest * 256) + x);`, '
            'and the receiver tests `((data / 256) == self)`.')
-RUNICAST = UNICAST + (' No packet is acknowledged or sent again by itself: the receiver answers by a `send`, and the '
-                      'sender waits for the answer, `set t 20; yield_until (is(packet) || fired(t));`, and sends again '
+RUNICAST = UNICAST + (' No packet is acknowledged or sent again by itself: the receiver sends an answer, and the '
+                      'sender waits for it, `set t 20; yield_until (is(packet) || fired(t));`, and sends again '
                       'if `fired(t)`.')
 MULTIHOP = ('There is no routing: a packet reaches the motes in range, `send x;`, and their programs pass it on. '
             'examples/collection_tree.toml collects values along a tree; examples/flooding.toml floods a net.')

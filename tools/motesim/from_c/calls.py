@@ -34,8 +34,8 @@ OF_THREAD = ('A protothread is a thread of the process that spawns it: `thread %
              '`code`, below its timers.')
 NO_PROCESS = ('`%s` is `%s;` here, but no process is named `%s`: this program has `%s`. Another one has to be named in '
               'the `process` line, and needs a `code`.')
-OF_CALLBACK = ('The timer calls no function: it runs its block, `ctimer %s { .. }` at the head of the `code`, which needs '
-               'the statements of `%s`.')
+OF_CALLBACK = ('The timer calls no function: it runs its block, `ctimer %s { .. }` at the head of the `code`, which '
+               'needs the statements of `%s`.')
 BROADCAST = 'A packet is one number, and goes to all motes that hear it: `send x;`. There is no buffer to fill first.'
 
 
@@ -266,7 +266,7 @@ class Calls(Lines):
         self.scope.kinds[name] = kind
 
     def name_callback(self, timer: str, call: Node) -> None:
-        """Says where the statements of the function belong that a callback timer calls."""
+        """Notes the block for the statements of the function that a callback timer calls."""
         if call.text.lower() == 'ctimer_set' and len(call.parts) > 2:
             function = call.parts[2].parts[0] if call.parts[2].kind == 'unary' else call.parts[2]
             self.writer.insist(OF_CALLBACK % (timer, function.text))

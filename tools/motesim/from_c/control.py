@@ -169,8 +169,8 @@ class Control(Lines):
         return text
 
     def counting_loop(self, test: str) -> str:
-        """A `while` whose test has `++` or `--`: behind the name, the step is at the start of the block; in front of it,
-        above the loop and at the end of the block."""
+        """A `while` whose test has `++` or `--`: behind the name, the step is at the start of the block; in front of
+        it, above the loop and at the end of the block."""
         first, last = self.steps(self.after), self.steps(self.before)
         if ' || ' in test:
             self.refuse_steps()

@@ -25,6 +25,8 @@ from motesim.toml import MARK, NoToml, read_toml
 MOST_NETS = 1_000
 # The options with values of parameters and with files: for the shown nets, and for the hidden nets.
 OPTIONS = ('--vary', '--net'), ('--vary-hidden', '--hidden')
+# The most motes of a net in a remark.
+MOST_MOTES = 8
 # The most names of programs in a message, and the greatest length of each.
 MOST_NAMES, LONGEST_NAME = 5, 40
 NOT_UTF8 = 'the file is not UTF-8 text: save it as UTF-8'
@@ -130,6 +132,33 @@ def hidden_and_shown(nets: Sequence[Net]) -> list[str]:
     """The names of the hidden nets that equal a shown one but for the program of the solutions."""
     shown = {it.with_program('') for it in nets if not it.is_hidden}
     return [it.name for it in nets if it.is_hidden and it.with_program('') in shown]
+
+
+def cut_off(scenario: Scenario) -> list[int]:
+    """The motes outside of the largest part of a net whose motes reach each other over links that don't lose
+    everything; of parts of the same size, the one with the smallest number counts."""
+    left, parts = set(range(scenario.motes)), list[set[int]]()
+    while left:
+        part, open_motes = set[int](), [min(left)]
+        while open_motes:
+            mote = open_motes.pop()
+            if mote not in part:
+                part.add(mote)
+                open_motes += [it for it in scenario.hearers(mote)
+                               if scenario.losses.get((mote, it)) != 1 or scenario.losses.get((it, mote)) != 1]
+        parts.append(part)
+        left -= part
+    return sorted(set(range(scenario.motes)) - max(parts, key=len, default=set()))
+
+
+def nets_with_cut_off(nets: Sequence[Net]) -> list[str]:
+    """The names of the nets in which motes are cut off, each with these motes."""
+    found = []
+    for net in nets:
+        motes = cut_off(net.scenario)
+        shown = ', '.join(map(str, motes[:MOST_MOTES])) + (', ..' if len(motes) > MOST_MOTES else '')
+        found += ['%s (mote%s %s)' % (net.name, 's' * (len(motes) > 1), shown)] if motes else []
+    return found
 
 
 def program_of(data: bytes, name: str, wanted: str) -> str:
