@@ -2,15 +2,20 @@
 
 `motesim` simulates a scenario. In the first run its first request is refused, in the second run its second, and so on,
 until a run makes fewer requests. The start of a thread is a request too, for its stack. Each run has to end in one of
-three ways: with the whole report and status 0; with `motesim: out of memory`, status 1 and a beginning of the report,
-unless a start was refused; or, with workers, with `motesim: run fault 5`, status 1 and no report. If a request of a
-worker's thread is refused inside the executor, the run ends with `run fault 5`, and otherwise with `out of memory`; at
-least one run has to end in the second way. If a report has so many lines that threads format it, a refused start of
-one of them leads to the whole report.
+three ways:
+
+- with the whole report and status 0;
+- with `motesim: out of memory`, status 1 and a beginning of the report, unless a start was refused;
+- with workers only: with `motesim: run fault 5`, status 1 and no report.
+
+If a request of a worker's thread is refused inside the executor, the run ends with `run fault 5`, and otherwise with
+`out of memory`; at least one run has to end with `out of memory`. If a report has so many lines that threads format
+it, a refused start of one of them leads to the whole report.
 
 The words after FILE are the arguments of motesim, as in `-- --workers 2 --sync marks`. Without FILE, small scenarios
 are tried, on one thread and with two and three workers of both kinds: packets that meet and are heard, a full ring, a
-full queue, a refused timer, and a scenario with a fault; and two motes with many lines, by two workers of both kinds.
+full queue, a refused timer, and a scenario with a fault. Two motes with many lines are tried with two workers of both
+kinds.
 A test of crates/part_tests, as `rt ci` builds it, is tried in the same way. It calls kernels and motes after they have
 run out of memory. It has to pass, or to end with its own error if it has no kernel or mote to call.
 

@@ -631,8 +631,9 @@ class Calls(unittest.TestCase):
 
     def test_a_chain_of_else_if(self) -> None:
         chain = 'if (tries == 1) {\nprint 1;\n} else if (tries == 2) {\nprint 2;\n%s} else {\nprint 4;\n}'
-        for more, said in (('', ''), ('} else if (tries == 3) {\nprint 3;\n', 'The chain has 2 such `else if`: each '
-                                     'is written so, and 2 more `}` follow its last block.')):
+        for more, said in (('', ''), ('} else if (tries == 3) {\nprint 3;\n', 'The chain has 2 such `else if`: write '
+                                     'each of them in this way, and add 2 more `}` after the last block of the '
+                                     'chain.')):
             text = RETRY % ('1', chain % more)
             fault = find_fault(text)
             assert fault

@@ -151,7 +151,7 @@ class Estimates(unittest.TestCase):
                 [0.97, 0.98, 0.99, 1.0], False), ([1.0, 1.0, 0.0, 1.0] * 4, False):
             rows: list[Row] = [{**row(1, seed, value), 'ratio': value} for seed, value in enumerate(values)]
             shown = shown_of(rows, Wish('ratio', 'period', show='mean'))
-            line = '1 mean near 0 or 1 of fewer than 30 skewed runs'
+            line = '1 mean of fewer than 30 skewed runs is near 0 or 1'
             self.assertEqual(any(line in it for it in remarks(shown, Wish('ratio', 'period', show='mean'))), is_said)
 
     def test_wilsons_score_of_none_and_of_all_runs_ends_exactly_at_0_and_1(self) -> None:
@@ -363,7 +363,7 @@ class Pairs(unittest.TestCase):
         gaps = differences(found, 0.95, 'auto')
         self.assertEqual([(it.against, it.difference.runs, it.left_out) for it in gaps], [(1, 1, 2)])
         self.assertEqual(of_pairs(found, gaps, 'period'), [
-            'left out: 5 pairs of runs; only those in which both sides have a value are compared: in 1 the run of A '
+            'left out: 5 pairs of runs, because only pairs with a value on both sides are compared: in 1 the run of A '
             'has no value of sent; in 1 the run of B has no value of sent; in 1 the run of B has a fault; in 1 there '
             'is no run of B; in 1 there is no run of A', 'no pair is left at period 2'])
         with self.assertRaisesRegex(Fault, 'no pair of runs has a value of sent on both sides: in 1 the run of A has '
@@ -386,7 +386,7 @@ class Pairs(unittest.TestCase):
             found = pairs_of([one], [other], 'sent', ['period', 'seed'], 'period')
             self.assertEqual(found.of_two_nets, count)
             shown = of_pairs(found, differences(found, 0.95, 'auto'), 'period')
-            self.assertEqual(any('compares two nets' in it for it in shown), count == 1)
+            self.assertEqual(any('compares two different nets' in it for it in shown), count == 1)
 
     def test_the_difference_of_two_shares_of_runs_is_by_newcombe(self) -> None:
         # (the counts of 1 and 1, 1 and 0, 0 and 1, 0 and 0, and the interval, as in Newcombe's paper)
@@ -948,7 +948,7 @@ class Command(unittest.TestCase):
         (self.folder / 'more.csv').write_text(text)
         self.plot('--measure', 'sent', '--against', 'period', '--compare', 'more.csv', *ONE, '-o', 'a.svg')
         picture = ' '.join((self.folder / 'a.svg').read_text().split())
-        self.assertIn('left out: 1 pair of runs; only those in which both sides have a value are compared', picture)
+        self.assertIn('left out: 1 pair of runs, because only pairs with a value on both sides are compared', picture)
         self.assertIn('period,pairs,left out,', (self.folder / 'a.table.csv').read_text())
 
     def test_each_run_is_at_its_own_place_on_two_measures(self) -> None:
@@ -1091,7 +1091,8 @@ class Command(unittest.TestCase):
         rows = self.plot(*words)
         self.assertEqual(rows[2:6], [['dense', '-', '0.000'], ['thin', '11.000', '0.200'], ['thin', '12.000', '0.400'],
                                      ['thin', '13.000', '0.600']])
-        out = 'no value of sent in 5 of 5 runs (density dense), 2 of 5 runs (density thin)'
+        out = 'no value of sent in 5 of 5 runs (density dense), 2 of 5 runs (density thin): each of these curves ' \
+              'ends below 1 by this share'
         self.assertIn(out, ' '.join(rows[-1]))
         interpreter_with(self, 'matplotlib')
         self.plot(*words, '-o', 'a.svg')
@@ -1158,10 +1159,10 @@ class Command(unittest.TestCase):
         rows = self.plot(*words[:3], 'motes', *words[4:])
         # (in net 1 the means are 113.5 and 217, in net 2 they are 124 and 228)
         self.assertEqual(rows[2][:7], ['9', '2', '3', '9', '118.750', '222.500', '103.750'])
-        self.assertIn('left out: 9 pairs of runs; only those in which both sides have a value are compared', ' '.join(
+        self.assertIn('left out: 9 pairs of runs, because only pairs with a value on both sides are compared', ' '.join(
             rows[3]))
-        missing = 'nets with missing pairs, each the mean of the others: motes 9: net_seed 1 (2 of 4), net_seed 2 (1 ' \
-                  'of 4), net_seed 3 (none of 4)'
+        missing = 'nets with missing pairs (the value of each is the mean of its other pairs): motes 9: net_seed 1 ' \
+                  '(2 of 4), net_seed 2 (1 of 4), net_seed 3 (none of 4)'
         self.assertEqual(' '.join(rows[4]), missing)
         interpreter_with(self, 'matplotlib')
         self.plot(*words[:3], 'motes', *words[4:], '-o', 'a.svg')
@@ -1179,8 +1180,8 @@ class Command(unittest.TestCase):
         self.assertEqual(rows[1][:4], ['period', 'nets', 'runs', 'left'])
         self.assertEqual([row[:4] for row in rows[2:4]], [['1', '3', '8', '4'], ['2', '2', '8', '4']])
         self.assertEqual(' '.join(rows[4]), out)
-        missing = 'nets with missing runs, each the mean of the others: period 1: net_seed 1 (3 of 4), net_seed 2 (1 ' \
-                  'of 4); period 2: net_seed 3 (none of 4)'
+        missing = 'nets with missing runs (the value of each is the mean of its other runs): period 1: net_seed 1 ' \
+                  '(3 of 4), net_seed 2 (1 of 4); period 2: net_seed 3 (none of 4)'
         self.assertEqual(' '.join(rows[5]), missing)
         self.assertIn(out, [' '.join(row) for row in self.plot(*words)])
         interpreter_with(self, 'matplotlib')

@@ -624,7 +624,7 @@ code p {
         found = diverged(source(), other, At(1, 7))
         assert found is not None
         self.assertEqual((found.last.where, found.hop.where), (At(0, 12), At(1, 4)))
-        self.assertEqual(found.words, 'the medium lost it, as it loses all packets from 0 to 1')
+        self.assertEqual(found.words, 'the medium lost it, because it loses all packets from 0 to 1')
         self.assertIsNone(diverged(source(), source(), At(1, 7)))
 
 
@@ -757,7 +757,7 @@ class Runs(unittest.TestCase):
         return [it.words for _, its in misses(asker, missing) for it in its]
 
     def test_near_misses_of_the_examples(self) -> None:
-        self.assertIn('packet 1 of mote 0, with the value 2, was sent at 80: the medium lost it, as it loses one '
+        self.assertIn('packet 1 of mote 0, with the value 2, was sent at 80: the medium lost it, because it loses one '
                       'packet in 2 from 0 to 1', self.near('flooding.toml', 'mote 1 prints flood 2 by 85'))
         self.assertIn('packet 0 of mote 2, with the value 12, was sent at 0: it collided at 2 with packet 0 of mote 0',
                       self.near('small_network.toml', 'mote 1 receives 12'))
@@ -820,7 +820,7 @@ class Runs(unittest.TestCase):
             shown = self.why(str(path), 'mote 1 prints flood 1 by 45', '--other', 'examples/flooding.toml')
         self.assertEqual(shown.returncode, 1)
         self.assertIn('examples/flooding.toml has the line: mote 1, line 41: 43 print flood 1', shown.stdout)
-        self.assertIn('lossy.toml: the medium lost it, as it loses all packets from 0 to 1', shown.stdout)
+        self.assertIn('lossy.toml: the medium lost it, because it loses all packets from 0 to 1', shown.stdout)
 
     def test_numbers_of_events_and_packets_do_not_part_two_runs(self) -> None:
         """Mote 1 gets a packet more in the first run, and sends one more: later events and packets have other numbers."""
@@ -837,7 +837,7 @@ class Runs(unittest.TestCase):
                 path.write_text(text + more)
             both, lost = (self.why(str(paths[0]), 'mote 0 prints p 9', '--other', str(it)).stdout for it in paths[1:])
         self.assertIn('without.toml has all of this chain too.', both)
-        self.assertIn('lost.toml: the medium lost it, as it loses all packets from 1 to 0', lost)
+        self.assertIn('lost.toml: the medium lost it, because it loses all packets from 1 to 0', lost)
         self.assertRegex(lost, r'mote 1: 20 send 1 9 \(line [0-9]+ in .*\)\nThen they diverge:')
 
     def test_what_the_command_refuses(self) -> None:

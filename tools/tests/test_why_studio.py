@@ -113,7 +113,7 @@ class Page(unittest.TestCase):
         self.wait('why', 'Critical path: 46 moments: 40 waiting for timers; 6 on the way, over 2 hops.')
         self.assertEqual(self.browser.run('[motesim.chosen().mote, motesim.chosen().line]')[0], 6)
         self.write('why-asked', 'mote 1 prints flood 2 by 85')
-        self.wait('why', 'the medium lost it, as it loses one packet in 2 from 0 to 1')
+        self.wait('why', 'the medium lost it, because it loses one packet in 2 from 0 to 1')
         self.browser.run("[...document.querySelectorAll('#why-chain button')][0].click()")
         self.assertEqual(self.browser.run('motesim.chosen().mote'), 1)
 

@@ -91,8 +91,8 @@ least_from least (first ∷ rest) = least_from (lower_mote least (goes_to first)
 abbrev pub least_mote : List PendingEvent → Option ℕ
 least_mote all = least_from None all
 
--- the mote of the last event if `falls` is true in the bucket, as it then is in descending order; otherwise, the least
--- mote number in it
+-- if `falls` is true, the bucket is in descending order, and this is the mote of its last event; otherwise, this is the
+-- least mote number in the bucket
 abbrev pub first_bucket_mote : Bucket → Option ℕ
 first_bucket_mote bucket =
     let all = bucket.coming.items in

@@ -76,8 +76,8 @@ impl Agenda {
         Ok(())
     }
 
-    /// Adds a packet that is on its way. Then adds the packets of `later`, up to the first packet that arrives at
-    /// another moment. Returns the number of packets of `later` that were added.
+    /// Adds a packet that is on its way. Then adds the packets of `later` up to, and not including, the first packet
+    /// that arrives at another moment. Returns the number of packets of `later` that were added.
     fn put_same_copies(
         &mut self,
         copy: &RadioCopy,
@@ -110,9 +110,9 @@ impl Agenda {
         Ok(())
     }
 
-    /// Adds the copy that has this fate. Then adds the copies that have the fates in `later`, up to the first copy
-    /// that arrives at another moment, and skips lost copies. If the copy with this fate is lost, adds nothing.
-    /// Returns the number of fates of `later` that were handled.
+    /// Adds the copy that has this fate. Then adds the copies that have the fates in `later` up to, and not including,
+    /// the first copy that arrives at another moment; lost copies are skipped. If the copy with this fate is lost, adds
+    /// nothing. Returns the number of fates of `later` that were handled.
     fn put_same_fates(
         &mut self,
         sent: &Sent,

@@ -13,9 +13,9 @@ const SHORT: usize = 64;
 /// Pages to which no line is written cost nothing. A trace that grows keeps its pages, so its lines aren't copied.
 const LONG: usize = 4_096;
 
-/// Makes room for more lines if there isn't enough. A short trace gets room for four times its lines, because its
-/// lines are copied. A trace that is no longer short gets the whole room of a long trace at once. A long trace grows
-/// like any other list.
+/// Makes room for more lines if there isn't enough. The lines of a short trace are copied each time it grows, so it
+/// gets room for four times its lines and grows rarely. A trace that is no longer short gets the whole room of a long
+/// trace at once. A long trace grows like any other list.
 fn make_room(trace: &mut Vec<Line>, more: usize) -> Result<(), AllocError>
     ensures same { trace.new.items ≡ trace.old.items }
 {

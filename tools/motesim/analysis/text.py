@@ -99,8 +99,8 @@ def of_missing(nets: Sequence[Net], by: str, against: str, what: str, most: int 
         places.setdefault(of_place(it.place, by, against), []).append(of_net(it))
     names = '; '.join(('%s: ' % place if place else '') + ', '.join(its) for place, its in places.items())
     more = len(nets) - len(nets[:most])
-    return ['nets with missing %s, each the mean of the others: %s%s' % (
-        what, names, '; and %d more, which the picture\'s .origin.csv names' % more if more else '')]
+    return ['nets with missing %s (the value of each is the mean of its other %s): %s%s' % (
+        what, what, names, '; and %d more, which the picture\'s .origin.csv names' % more if more else '')]
 
 
 def _steps(curve: Curve) -> list[tuple[int, float | None]]:
@@ -179,8 +179,9 @@ def left_out(shown: Shown, wish: Wish, most: int | None = None) -> list[str]:
         curves = [it for it in shown.curves() if len(it.values) < it.runs]
         counts = ['%d of %d %s' % (it.runs - len(it.values), it.runs, counted(wish)) for it in curves]
         names = [' (%s %s)' % (wish.by, text_of(it.by)) if wish.by else '' for it in curves]
-        lines.append('no value of %s in %s: a curve lacks this share at its end' % (
-            wish.measure, ', '.join(map(''.join, zip(counts, names)))))
+        lines.append('no value of %s in %s: %s ends below 1 by this share' % (
+            wish.measure, ', '.join(map(''.join, zip(counts, names))),
+            'the curve' if len(curves) == 1 else 'each of these curves'))
     elif shown.empty:
         lines.append('left out: %s without a value of %s%s' % (
             some(shown.empty, 'run'), ' or '.join(shown.lacked) or wish.measure, _at(shown.empty_at, wish, most)))
@@ -226,9 +227,9 @@ def of_skewed(shown: Shown, wish: Wish) -> list[str]:
     kind = wish.kind_of(wish.measure, [value for point in shown.points for value in point.values])
     its = [it for it in shown.points if it.estimate.method in NARROW and it.estimate.runs < ENOUGH_RUNS and
            is_skewed_near_an_end(it.values)] if kind == 'share' else []
-    return ['%d mean%s near 0 or 1 of fewer than %d skewed runs: such an interval contains the true mean less often '
-            'than it says; make more runs, or use --interval bootstrap-t' % (
-                len(its), 's' if len(its) > 1 else '', ENOUGH_RUNS)] if its else []
+    return ['%d mean%s of fewer than %d skewed runs %s near 0 or 1: the interval of such a mean contains the true mean '
+            'less often than its confidence says; make more runs, or use --interval bootstrap-t' % (
+                len(its), 's' if len(its) > 1 else '', ENOUGH_RUNS, 'are' if len(its) > 1 else 'is')] if its else []
 
 
 def of_bars(shown: Shown, wish: Wish) -> list[str]:
@@ -261,8 +262,8 @@ def of_intervals(estimates: Sequence[Estimate], is_drawn: bool = False) -> list[
     bounded = sum(it.method == BOUNDED for it in estimates)
     if bounded:
         lines.append('an end of %s by bootstrap-t is that of Wilson\'s score, because too many draws have nearly '
-                     'equal runs. It is computed for a range of %d times the greatest distance of a run from 0 or 1: '
-                     'a run beyond this range isn\'t accounted for' % (some(bounded, 'interval'), RANGE))
+                     'equal runs. For this end the tool assumes that no run is further from 0 (or from 1, if the mean '
+                     'is nearer to 1) than %d times the furthest of these runs' % (some(bounded, 'interval'), RANGE))
     too_alike = sum(it.method == 'too alike' for it in estimates)
     if too_alike:
         lines.append('no interval for %s by bootstrap-t: too many of its draws have equal runs, and so no standard '
@@ -312,7 +313,7 @@ def crossings_of(shown: Shown, wish: Wish) -> dict[Cell, Crossing | None]:
 
 
 def parts_at_most(shown: Shown, wish: Wish) -> dict[Cell, tuple[int, int]]:
-    """For each curve of a `cdf` how many runs have at most the threshold, and how many runs it has."""
+    """For each curve of a `cdf`, the number of its runs with at most the threshold, and the number of all its runs."""
     threshold = threshold_of(wish)
     if threshold is None or wish.show != 'cdf':
         return {}
@@ -359,7 +360,7 @@ def of_crossing(found: Crossing | None, wish: Wish) -> str:
 def _ends(low: float, high: float) -> tuple[str, str]:
     """The ends of the interval of a crossing."""
     return ('before the first point' if math.isinf(low) else number_text(low),
-            'behind the last point' if math.isinf(high) else number_text(high))
+            'after the last point' if math.isinf(high) else number_text(high))
 
 
 def _range(found: Crossing) -> str:
@@ -396,7 +397,7 @@ def of_pairs(paired: Paired, found: Sequence[Difference], against: str, most: in
     """Which pairs are left out and why, and whether both sides had the same nets."""
     lines = []
     if paired.left_out:
-        lines.append('left out: %s of runs; only those in which both sides have a value are compared: %s' % (
+        lines.append('left out: %s of runs, because only pairs with a value on both sides are compared: %s' % (
             some(sum(paired.left_out.values()), 'pair'), '; '.join(reasons(paired.left_out))))
     lines += of_missing(paired.nets(), '', against, 'pairs', most)
     empty = [place for place in dict.fromkeys(place for place, _ in paired.left_out)
@@ -406,10 +407,11 @@ def of_pairs(paired: Paired, found: Sequence[Difference], against: str, most: in
     skewed = [text_of(it.against) for it in found if it.is_skewed and it.difference.runs < ENOUGH_RUNS
               and it.difference.method in ('t', 'within pairs')]
     if skewed:
-        lines.append('%s of fewer than %d skewed pairs, at %s %s: such an interval contains the true mean less often '
-                     'than it says; make more runs, or use --interval bootstrap-t' % (
+        lines.append('%s of fewer than %d skewed pairs, at %s %s: the interval of such a difference contains the true '
+                     'mean less often than its confidence says; make more runs, or use --interval bootstrap-t' % (
                          some(len(skewed), 'mean difference'), ENOUGH_RUNS, against, ', '.join(skewed)))
     if paired.of_two_nets:
-        lines.append('in %d of %d pairs the motes have other places on one side than on the other: such a pair '
-                     'compares two nets, and doesn\'t remove their effect' % (paired.of_two_nets, len(paired.pairs)))
+        lines.append('in %d of %d pairs the motes have different places on the two sides: such a pair compares two '
+                     'different nets, so it doesn\'t remove the effect of the net' % (
+                         paired.of_two_nets, len(paired.pairs)))
     return lines

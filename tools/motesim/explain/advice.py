@@ -9,9 +9,8 @@ from motesim.from_c.expressions import SMALL_LETTERS
 from motesim.from_c.structure import ONE_LINE
 from motesim.notation.faults import ProgramError, tokens_of
 
-OF_PARENTHESES = ('Only an operation of two values has parentheses, as `(a + b)`, and each has its own; `if`, `while` '
-                  'and '
-                  'other statements need none.')
+OF_PARENTHESES = ('Only an operation on two values has parentheses, as in `(a + b)`, and each such operation has its '
+                  'own pair; `if`, `while` and other statements need none.')
 
 # The number of the fault that a name is declared twice.
 NAME_TWICE = 4
@@ -34,7 +33,9 @@ class Advice(NamedTuple):
     above: tuple[int, str] | None = None
 
     def shown(self, source: str, offset: int | None) -> list[str]:
-        """The lines below the hint, numbered as in the scenario if that has the program's lines from an offset on."""
+        """The lines below the hint. If `offset` is given, the scenario has the program's lines after this number of
+        other lines, and the numbers are those of the scenario's lines; otherwise they are those of the program's.
+        """
         if self.line is None:
             return ['Insert %s:' % _inserted(self.above, offset), _indented(source, *self.above)] if self.above else []
         which = _which(self.first, self.last, offset)
@@ -111,12 +112,12 @@ def _of_chain(source: str, fault: ProgramError) -> str:
             if not depth:
                 break
         at += 1
-    return (' The chain has %d such `else if`: each is written so, and %d more `}` follow its last block.' % (
-        count, count)) if count > 1 else ''
+    return (' The chain has %d such `else if`: write each of them in this way, and add %d more `}` after the last '
+            'block of the chain.' % (count, count)) if count > 1 else ''
 
 
 def _is_assigned(source: str, fault: ProgramError) -> bool:
-    """Returns whether a fault is a variable that isn't declared, before its `=`."""
+    """Returns whether the fault is an undeclared variable directly before a `=`."""
     tokens = tokens_of(source)
     at = next((at for at, it in enumerate(tokens) if it == fault.token), len(tokens))
     is_before = [it.text for it in tokens[at + 1:at + 2]] == ['=']

@@ -72,8 +72,8 @@ NO_TOML = {
     TOO_DEEP: 'A scenario needs no bracket in more than two others. Is a `]` or a `}` missing?',
     '': 'Texts are in quotes; a program of several lines is between three quotes: p = """ .. """.',
 }
-OF_PARAMETERS = ('A thread has no parameters, `thread t { .. }`: it uses the variables of its process, as `var n = 0;` '
-                 'at the head of its `code`.')
+OF_PARAMETERS = ('A thread has no parameters, `thread t { .. }`: it uses the variables of its process, such as '
+                 '`var n = 0;` at the head of the process\'s `code`.')
 OF_ARGUMENTS = 'A `spawn` passes nothing, `spawn t;`: set a variable of the process before it, which the thread reads.'
 OF_PROGRAM = ('In a scenario this text is under `[programs]`, between three quotes: `p = """ .. """`. Or a plan names '
               'the file of the program, and tools/scenario makes a scenario from the plan.')

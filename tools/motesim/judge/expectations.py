@@ -28,10 +28,11 @@ WHOLE = 'the report is the expected one'
 KEYS = {'expect': list, 'required': list, 'report': str, 'change': list, 'about': str, 'replace': dict}
 # For each key, the kind of its value, and its form.
 WRITTEN = {
-    'expect': 'an array of sentences, as `expect = ["mote 0 sends twice"]`', 'report': 'a text',
-    'required': 'an array of sentences, as `required = ["every mote prints"]`',
-    'change': 'an array of tables: each begins with a line `[[change]]`', 'about': 'a text, as `about = "a late end"`',
-    'replace': 'a table, as `replace = { "end = 9" = "end = 99" }`',
+    'expect': 'an array of sentences, such as `expect = ["mote 0 sends twice"]`', 'report': 'a text',
+    'required': 'an array of sentences, such as `required = ["every mote prints"]`',
+    'change': 'an array of tables: each begins with a line `[[change]]`',
+    'about': 'a text, such as `about = "a late end"`',
+    'replace': 'a table, such as `replace = { "end = 9" = "end = 99" }`',
 }
 
 

@@ -628,7 +628,7 @@ class _Reader:
         return Relation(kind, moments, motes, deed, words)
 
     def event(self, same: Deed) -> tuple[Motes | None, Deed]:
-        """An event: of the mote itself, as `receiving 1` or `it receives 1`, or of others, as `mote 2 prints a 1`."""
+        """An event: of the mote itself, as in `receiving 1` or `it receives 1`, or of others, as in `mote 2 prints 1`."""
         at, self.is_event, self.is_one = self.at, True, True
         if self.accept('it'):
             motes = None

@@ -74,7 +74,7 @@ def fate_of(source: Source, row: int, words: list[str], to: int) -> Fate:
     if copy == 'lost':
         every = source.scenario.losses.get((sender, to), 0)
         rule = 'all packets' if every == 1 else 'one packet in %d' % every
-        return Fate('lost', 'the medium lost it, as it loses %s from %d to %d' % (rule, sender, to), int(words[0]),
+        return Fate('lost', 'the medium lost it, because it loses %s from %d to %d' % (rule, sender, to), int(words[0]),
                     None, row)
     return of_arrival(source, sender, number, to, int(copy), row)
 
