@@ -137,6 +137,9 @@ SENTENCES: list[tuple[str, str | None, int | None]] = [
     ('all motes but 3 send', 'mote 2 has 0 such lines; wanted: at least 1', None),
     ('each of motes 0 to 1 sends', None, None),
     ('all motes together send exactly 5', None, None),
+    # (the line at 0 is the first one, though it is below that of mote 1, at 13)
+    ('motes 1 and 2 together print just a 1 in any order',
+     'the motes together print a value that is not left in the list', 9),
 ]
 REFUSED = [
     ('any mote sends', 'Hint: write `every mote` or `some mote`.'),

@@ -57,6 +57,13 @@ class Notes(unittest.TestCase):
         self.assertIn(Line('mote 1: it prints 1 value: 8 at 7', 28), note.lines)
         self.assertEqual(note.mote, 1)
 
+    def test_a_page_on_missing_values_of_several_motes_opens_on_the_whole_run(self) -> None:
+        note = self.note('motes 0 and 1 together print just h 9, 8, 5 in any order')
+        self.assertEqual(note, Note('motes 0 and 1 together print just h 9, 8, 5 in any order',
+                                    'the motes together never print 9, 5'))
+        note = self.note('mote 1 prints just h 8, 9 in any order')
+        self.assertEqual((note.why, note.mote), ('mote 1 never prints 9. The nearest:', 1))
+
     def test_a_page_on_an_order_opens_at_the_first_mote_that_misses_it(self) -> None:
         run = read_run(str(TOP / 'examples/lesson/start.toml'))
         assert run.scenario

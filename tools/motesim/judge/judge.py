@@ -279,7 +279,7 @@ class Judge:
             return self.related(it, events, motes)
         for span in self.spans(it.window, motes):
             inside = [event for event in events if _within(event.line.at, span)]
-            if it.deed.way in ('finally', 'just'):
+            if it.deed.way != 'any':
                 # (lines of several motes are in the order of moment, then mote)
                 inside.sort(key=lambda event: event.line.at)
             if it.deed.way == 'finally':

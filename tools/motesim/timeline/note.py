@@ -26,7 +26,7 @@ class Line(NamedTuple):
 
 class Note(NamedTuple):
     """A sentence that doesn't hold, the reason, and the lines about it. The page opens at the first line that has a
-    row, or at the last line of a mote up to the moment `at`."""
+    row, or at the last line of a mote up to the moment `at`; without both, on the whole run."""
     title: str
     why: str
     lines: tuple[Line, ...] = ()
@@ -52,6 +52,9 @@ def note_of(run: Run, sentence: str, broken: Broken | None, more: tuple[str, ...
     if isinstance(found, Asked):
         row = source.traces.row(found.where)
         return Note(sentence, found.remark or broken.why, (Line(_text(source, row), row),))
+    if found.sentence.deed.way == 'set' and len(found.motes) > 1:
+        # (any of the motes may print the missing values, at any moment, so no line is near them)
+        return Note(sentence, found.remark)
     lines = _near(asker, found)
     return Note(sentence, '%s. The nearest:' % found.remark if lines else found.remark, lines,
                 last_of(found.span, source), found.motes[0])

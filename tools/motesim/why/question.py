@@ -385,10 +385,10 @@ class Asker:
                 ) -> Asked | Missing:
         """The line of a sentence with a list of values: the first line that differs, or the last one.
 
-        The values of several motes together are in the order of the report.
+        The values of several motes together are in the order of moment, then mote.
         """
         left = self.judge.listed(it.deed, motes[0])
-        for found in sorted(inside, key=lambda found: found.where):
+        for found in sorted(inside, key=lambda found: (found.at, found.where)):
             value = self.value(found)
             allowed = left if it.deed.way == 'set' else left[:1]
             place = next((at for at, values in enumerate(allowed) if value in values), None)
@@ -398,6 +398,7 @@ class Asker:
                                                          ', and the list is over'))
             del left[place]
         if left:
-            return Missing(it, motes, span, tuple(inside), '%s %s, the next of the list' % (
-                verb(name, 'print', 'never '), either(left[0])))
+            never = verb(name, 'print', 'never ')
+            return Missing(it, motes, span, tuple(inside), '%s %s' % (never, ', '.join(map(either, left)))
+                           if it.deed.way == 'set' else '%s %s, the next of the list' % (never, either(left[0])))
         return Asked(inside[-1].where, True)
