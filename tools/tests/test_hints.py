@@ -310,7 +310,10 @@ class Warnings(unittest.TestCase):
             (CODE % 'set t 4; while !expired(t) { seq = (seq + 1); }', 5, 'a loop that waits for nothing'),
             (CODE % 'set t 4; while !is(packet) { }', 5, '`yield_until` and the opposite test, without a block'),
             (CODE % 'while 1 { seq = (seq + 1); }', 5, 'nothing waits'),
-            (CODE % 'yield_until fired(t);', 5, '`t` is never set'),
+            (CODE % 'yield_until fired(t);', 5, '`t` is never set, so `fired(t)` is never true'),
+            (CODE % 'wait_until expired(t);', 5, '`t` is never set, so `expired(t)` is always true'),
+            ('process a, b; autostart a, b; code a { etimer u; body { set u 5; } } '
+             'code b { etimer u; body { wait_until expired(u); } }', 5, '`u` is never set, so `expired(u)` is always'),
             ('process a; autostart a; code a { ctimer c { print 1; } body { set c 5; yield_until fired(c); } }', 5,
              'so `fired(c)` is never true here'),
             (CODE % 'send 1;', 50, 'nobody hears it'),

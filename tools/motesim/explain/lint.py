@@ -51,6 +51,9 @@ COUNT_DOWN = '; write `while (x > 0)` to count down'
 # The line of a scenario from a plan with a parameter that is 0: a 0 of a program may be its value.
 ZERO_GIVEN = re.compile(r'^# Parameters: (?:.*, )?\w+ = 0(?:,|$)', re.M)
 BEHIND = 'the timer `%s` is set only after this wait for it, so the wait never ends: set it before'
+NEVER_SET = 'the timer `%s` is never set'
+# The results of tests of a timer that is never set.
+ALWAYS = {'expired': ', so `expired(%s)` is always true', 'fired': ', so `fired(%s)` is never true'}
 FOR_TIMER, SETS = ('yield_until', 'wait_until'), ('set', 'restart_timer', 'reset')
 # The most other places that a warning names.
 MOST_PLACES = 8
@@ -103,6 +106,11 @@ class Program:
             if self.words[at:at + len(words)] == list(words):
                 return self.tokens[at]
         return None
+
+    def code_around(self, at: int) -> list[str]:
+        """The words of the code that a place is in."""
+        begin = next(it for it in range(at, -1, -1) if self.words[it] == 'code')
+        return self.words[begin:self.end_of_block(begin + 2)]
 
     def end_of_block(self, at: int) -> int:
         """The place of the brace that closes the one at a place."""
@@ -221,6 +229,16 @@ class Program:
                         yield self.tokens[at + 3]
                     done.add(timer)
 
+    def unset_timers(self) -> Iterator[tuple[str, Token]]:
+        """Each timer that its code never sets, with the warning. (Another code may have a timer of this name.)"""
+        for at, word in enumerate(self.words):
+            if word in ('etimer', 'ctimer'):
+                timer, code = self.tokens[at + 1], self.code_around(at)
+                if not any(followed(code, it, timer.text) for it in SETS):
+                    result = next((its % timer.text for test, its in ALWAYS.items()
+                                   if followed(code, test, '(', timer.text)), '')
+                    yield NEVER_SET % timer.text + result, timer
+
     def awaited_ctimers(self) -> Iterator[Token]:
         """Each name of a `ctimer` in `fired(..)` in its own code, outside the blocks of callback timers."""
         for at, word in enumerate(self.words):
@@ -235,6 +253,11 @@ class Program:
                 elif self.words[here:here + 2] == ['fired', '('] and self.words[here + 2] in names:
                     yield self.tokens[here + 2]
                 here += 1
+
+
+def followed(words: list[str], *wanted: str) -> bool:
+    """Returns whether the wanted words follow one another somewhere."""
+    return any(words[at:at + len(wanted)] == list(wanted) for at in range(len(words)))
 
 
 def is_of_event(test: list[str]) -> bool:
@@ -290,12 +313,8 @@ def of_program(program: Program, is_zero_given: bool) -> Iterator[Warned]:
         yield Warned(text, name, token)
     for token in program.waits_before_set():
         yield Warned(BEHIND % token.text, name, token)
-    for kind in 'etimer', 'ctimer':
-        for at, word in enumerate(program.words[:-1]):
-            if word == kind and program.tokens[at + 1].kind == 'name':
-                timer = program.tokens[at + 1]
-                if not any(program.first(it, timer.text) for it in SETS):
-                    yield Warned('the timer `%s` is never set' % timer.text, name, timer)
+    for text, token in program.unset_timers():
+        yield Warned(text, name, token)
 
 
 def of_losses(scenario: Scenario, report: Report) -> Iterator[Warned]:
