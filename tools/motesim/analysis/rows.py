@@ -8,7 +8,8 @@ from collections.abc import Sequence
 
 from motesim.analysis.points import MOST_VALUES, NET, PLACES, PLAN, PROGRAM, RUNS, SELECTS, SEPARATES, WITH, WITHOUT
 from motesim.analysis.points import Wish
-from motesim.analysis.points import changed_files, measures_of, name_of_net, names_of_nets, number_of, parameters_of, repeats_of
+from motesim.analysis.points import changed_files, measures_of, name_of_net, names_of_nets, number_of, parameters_of
+from motesim.analysis.points import repeats_of
 from motesim.experiments.draws import lines_of, warnings_in
 from motesim.experiments.measures import Cell
 from motesim.experiments.results import Row, text_of

@@ -284,7 +284,7 @@ def _module_of(file: str, sources: Mapping[str, str], loaded: dict[str, ModuleTy
 
 
 def _needs_two(function: Callable[..., object]) -> bool:
-    """Returns whether a user's function can't be called with the run alone: it also asks for the parameters."""
+    """Returns whether a user's function can't be called with only the run: it also asks for the parameters."""
     try:
         its = list(inspect.signature(function).parameters.values())
     except (TypeError, ValueError):

@@ -219,7 +219,8 @@ def compare(sides: Sides, wish: Wish, source: Source) -> bool:
     made = text.rows_of_differences(found, wish, *names)
     good = [row for row in rows if not row['fault']]
     shared = None if wish.nets else shared_nets(good, [wish.against, *filter(None, [wish.by])], wish.measure)
-    more = note_of_compared(sides) + note_of_measures(sides) + text.of_nets(shared) + text.of_intervals([it.difference for it in found])
+    intervals = text.of_intervals([it.difference for it in found])
+    more = note_of_compared(sides) + note_of_measures(sides) + text.of_nets(shared) + intervals
     warnings = warnings_of([*rows, *others], [*separated_by(wish), *wish.over.split(',')], False)
     more += warnings
     notes = of_groups(groups, found, wish) + more
@@ -371,9 +372,9 @@ def note_of_compared(sides: Sides) -> list[str]:
 def note_of_measures(sides: Sides) -> list[str]:
     """The lines about the measures that only one of two files has."""
     one, other = ([*measures_of(side)] for side in (sides.one, sides.other))
-    return ['only %s has %s: left out of the comparison' % (name, ', '.join(more)) for name, more in (
-        (sides.names[0], [it for it in one if it not in other]), (sides.names[1], [it for it in other if it not in one]))
-        if more]
+    found = [it for it in one if it not in other], [it for it in other if it not in one]
+    return ['only %s has %s: left out of the comparison' % (name, ', '.join(more))
+            for name, more in zip(sides.names, found) if more]
 
 
 def sides_of(wish: Wish, rows: list[Row], results: Path, other: Path, where: Sequence[str]) -> Sides:
