@@ -581,6 +581,7 @@ class Calls(unittest.TestCase):
                 found, above, hint = self.corrected('1', lines)
                 self.assertEqual((found, above), (line, declared))
                 self.assertEqual('with a value of your choice' in hint, '10' in declared)
+                self.assertTrue(hint.startswith('There is no `for`: a `while` with the first step above it'), hint)
 
     def test_no_reason_hides_one_that_says_what_else_to_do(self) -> None:
         seed, step = 'At the start of `body`: `dice = ((self * 257) + 1);', '`tries = (tries + 1);` at the end of its'

@@ -223,6 +223,7 @@ class Control(Lines):
         body = self.body()
         self.why_with_rest('There is no `for`: a `while` with the first step above it',
                            ', and `%s` at the end of its block' % step if step else '')
+        self.writer.reasons.sort(key=lambda it: not it.startswith('There is no `for`'))
         for word, (kind, name) in undeclared.items():
             self.declare(word, kind, name, LIMIT)
         if step and not self.is_cut:
