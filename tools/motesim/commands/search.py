@@ -18,7 +18,7 @@ Kinds of faults, for --faults:
   collisions   packets that arrive together are lost
   queues       the event queues are shorter (--queues 8,4,2,1)
   values       range, base or per have other values (--set range=8..12)
-  places       a mote is at another place (--step 5)
+  places       a mote is moved (--step 5)
   parameters   parameters of a plan have other values (--set period=10,20)
 
 docs/use/SEARCH.md begins with a protocol that looks right, and explains what the result of a search means. Ends with

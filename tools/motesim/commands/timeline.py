@@ -1,4 +1,4 @@
-"""Makes an HTML page of a run: a map of the motes, and a lane over time for each.
+"""Makes an HTML page of a run: a map of the motes, and for each mote a lane over time.
 FILE is a scenario, which is run, or a report."""
 from __future__ import annotations
 

@@ -21,17 +21,17 @@ ENDLESS = 'an endless loop in which nothing waits: the mote halts when its work 
 # the signs and values that stay the same within a call.
 AT_ONCE, WHILE, OF_EVENT, LATER = 'wait_until', 'wait_while', ('is', 'fired', 'gone'), 'yield_until'
 SAME = frozenset(('(', ')', '!', 'data', 'from', 'self', *OPERATORS))
-STILL = ('an endless loop in which only `%s` waits: its test is about the event of this call, and stays %s until the '
-         'next call, so the loop repeats until the mote\'s work is used up, and the mote halts; `%s`%s waits for the '
-         'next call first')
+STILL = ('an endless loop in which only `%s` waits: its test is about the event of this call, so it stays %s until '
+         'the next call. The loop repeats until the mote\'s work is used up, and then the mote halts. `%s`%s waits for '
+         'the next call first')
 STILL_TRUE = STILL % (AT_ONCE, 'true', LATER, '')
 STILL_FALSE = STILL % (WHILE, 'false', LATER, ' and the opposite test')
-BUSY = ('a loop that waits for nothing: its test can\'t change before the next call, so once it is true the loop '
-        'repeats until the mote\'s work is used up, and the mote halts; ')
+BUSY = ('a loop that waits for nothing: its test can\'t change before the next call. So once the test is true, the '
+        'loop repeats until the mote\'s work is used up, and then the mote halts; ')
 BUSY_FOR_STATE = BUSY + '`wait_while` and the same test, without a block, lets the mote wait'
 BUSY_FOR_EVENT = BUSY + '`%s` and the opposite test, without a block, waits for the next call first' % LATER
 ONE_BRANCH = ('the `while` on line %d of the program waits in only one branch: if the test of the `if` on line %d is '
-              '%s, nothing waits, so the loop repeats until the mote\'s work is used up, and the mote halts')
+              '%s, nothing waits. Then the loop repeats until the mote\'s work is used up, and the mote halts')
 # Statements after which a test may have another value, though no variable in it is assigned.
 CHANGES = frozenset(('spawn', 'synch', 'set', 'reset', 'restart_timer', 'stop', 'start', 'kill', 'acquire', 'signal'))
 OF_CTIMER = ('`%s` is a `ctimer`: its event goes to the process ctimer, which runs its block, so `fired(%s)` is never '
@@ -40,7 +40,7 @@ OF_CTIMER = ('`%s` is a `ctimer`: its event goes to the process ctimer, which ru
 # neighbouring seeds; and the warning.
 FACTOR, MOST_DRAWING = '257', 255
 SAME_DRAWS = ('in a net of more than 255 motes, mote k + 255 with one seed draws the same numbers as mote k with '
-              'the previous seed (255 * 257 is -1 in 16 bits), so runs of neighbouring seeds are not independent: '
+              'the previous seed (255 * 257 is -1 in 16 bits). So runs of neighbouring seeds are not independent: '
               'use at most 255 motes')
 OTHER_RECEIVER = ('the process `%s` waits for packets, but they go to the `receiver`, which is `%s`; write `receiver '
                   '%s;` if `%s` is meant')
