@@ -27,6 +27,7 @@ from motesim.runner.run import answer, program_path
 from motesim.scenario.scenario import Scenario
 from motesim.search.added import DIES, LATE, NoRoom, changed_program
 from motesim.search.change import Base, CannotChange
+from motesim.search.cuts import cut_of
 from motesim.search.faults import Asked, FaultyPart, change_of, faults_of
 from motesim.search.one_program import Limits, OneProgram
 from motesim.search.quick_judge import QuickJudge
@@ -186,6 +187,22 @@ class Texts(unittest.TestCase):
 
     def test_silent_mote(self) -> None:
         self.assertEqual(self.one('mote 3 is silent', kinds=('motes',))[2].losses, {(3, 1): 1, (3, 2): 1})
+
+    def test_sets_that_cut_the_net_for_any_protocol_are_known(self) -> None:
+        line = DIAMOND.replace('x = 12\ny = 0', 'x = 18\ny = 18').replace('x = 6\ny = -6', 'x = 12\ny = 12')
+        for text, words, wanted in (
+                (DIAMOND, ['link 1 to 3 loses everything'], ''),
+                (DIAMOND, ['link 1 to 3 loses everything', 'link 2 to 3 loses everything'],
+                 'cuts mote 3 off: no protocol can deliver to it'),
+                (DIAMOND, ['mote 0 is silent'], 'cuts mote 0 off: no protocol can deliver from it'),
+                (DIAMOND, ['range is 5'], 'cuts mote 0 off: no protocol can deliver from it'),
+                (line, ['link 1 to 2 loses everything'], 'cuts the net: no path is left from mote 1 to motes 2, 3'),
+                (line, ['link 2 to 3 loses everything'], 'cuts mote 3 off: no protocol can deliver to it'),
+                (line + '[[loss]]\nfrom = 1\nto = 2\nevery = 1\n', ['mote 3 is silent'],
+                 'cuts mote 3 off: no protocol can deliver from it')):
+            base = base_of(text)
+            found = faults_by_words(base, kinds=('links', 'motes', 'values'), values={'range': (5,)})
+            self.assertEqual(cut_of([found[it] for it in words], base), wanted)
 
     def test_collisions_take_version_2(self) -> None:
         gone, came, read = self.one('packets collide', kinds=('collisions',))
@@ -371,7 +388,7 @@ class Searches(unittest.TestCase):
         with folder_with() as folder:
             status, said, _ = search(folder, '--faults', 'motes', '-o', 'here', '--csv', 'found.csv')
             self.assertEqual(status, 1)
-            self.assertIn('broken: mote 3 prints flood 7\n  mote 0 is silent\n', said)
+            self.assertIn('broken: mote 3 prints flood 7\n  mote 0 is silent\n    cuts mote 0 off: no protocol', said)
             rows = list(csv.DictReader((folder / 'found.csv').read_text().splitlines()))
             self.assertEqual(rows, [{'expectation': REACHED, 'size': '1', 'faults': 'mote 0 is silent',
                                      'file': 'here/diamond_silent_0.toml'}])

@@ -116,7 +116,7 @@ def asking_of(words: argparse.Namespace) -> Asking:
 
 def show(words: argparse.Namespace, asking: Asking, search: Search, folder: Path) -> int:
     """Writes and shows the results; returns the status."""
-    found = found_by(search, asking.texts)
+    found = found_by(search, asking.texts, asking.base)
     write_files(found, asking.base, asking.texts, folder)
     write_whole(folder / 'found.csv', as_csv(found))
     if words.csv:

@@ -6,11 +6,13 @@ import io
 import json
 import os
 from dataclasses import dataclass
+from functools import cached_property
 from pathlib import Path
 from typing import Any
 
 from motesim.faults import Fault
 from motesim.search.change import Base
+from motesim.search.cuts import cut_of
 from motesim.search.faults import KINDS, FaultyPart, change_of
 from motesim.search.search import Search
 from motesim.search.sets import Tally
@@ -24,10 +26,17 @@ LONGEST_FILE_NAME = 120
 
 @dataclass
 class Found:
-    """A minimal set of faults, the sentences that it breaks, and the file with its scenario."""
+    """A minimal set of faults, the sentences that it breaks, the file with its scenario, and the scenario without
+    faults."""
     faults: list[FaultyPart]
     sentences: list[str]
     file: str = ''
+    base: Base | None = None
+
+    @cached_property
+    def cut(self) -> str:
+        """What the faults cut off, so that no protocol can deliver there; an empty text if they cut nothing off."""
+        return cut_of(self.faults, self.base) if self.base else ''
 
     @property
     def words(self) -> str:
@@ -41,11 +50,11 @@ def file_name_of(name: str, faults: list[FaultyPart]) -> str:
     return whole[:LONGEST_FILE_NAME]
 
 
-def found_by(search: Search, sentences: list[str]) -> list[Found]:
+def found_by(search: Search, sentences: list[str], base: Base | None = None) -> list[Found]:
     """Returns the sets that were found, the smaller ones first."""
     minimal = sorted(search.known.minimal.items(), key=lambda item: (len(item[0]), item[0]))
-    return [Found([search.known.faults[number] for number in faults], [sentences[it] for it in numbers_of(mask)])
-            for faults, mask in minimal]
+    return [Found([search.known.faults[number] for number in faults], [sentences[it] for it in numbers_of(mask)],
+                  base=base) for faults, mask in minimal]
 
 
 def toml_text(text: str) -> str:
@@ -144,7 +153,7 @@ def verdict_lines(search: Search, found: list[Found], sentences: list[str], show
             continue
         rows += ['', 'broken: ' + sentence]
         shown = sets if shows_all else sets[:SHOWN]
-        rows += ['  ' + it.words for it in shown]
+        rows += [row for it in shown for row in ('  ' + it.words, *(['    ' + it.cut] if it.cut else []))]
         if len(sets) > len(shown):
             rows.append('  and {:,} more (--all shows them)'.format(len(sets) - len(shown)))
     return rows
@@ -180,5 +189,5 @@ def as_json(search: Search, found: list[Found], sentences: list[str], name: str,
         'notes': notes, 'holds': holding,
         'broken': [it for it in wanted if it in broken],
         'found': [{'faults': [fault.words for fault in it.faults], 'effects': [fault.effect for fault in it.faults],
-                   'expectations': it.sentences, 'file': it.file} for it in found],
+                   'expectations': it.sentences, 'file': it.file, 'cut': it.cut or None} for it in found],
     }, indent=1, ensure_ascii=False) + '\n'
