@@ -73,6 +73,17 @@ class StudiesTest(unittest.TestCase):
             # What that costs is delay, in the thin net.
             self.assertGreater(of(20, 1, 'delay'), of(20, 4, 'delay'))
 
+    def test_trickle_in_phase_collides_more(self) -> None:
+        need_program(self)
+        words = [it for name in ('phases=1,256', 'seed=1,2', 'enough=1', 'step=20') for it in ('--vary', name)]
+        done = subprocess.run([sys.executable, '-B', str(TOOLS / 'sweep'), str(STUDIES / 'trickle.plan.toml'), *words],
+                              cwd=self.folder, capture_output=True, text=True, env=dict(os.environ))
+        self.assertEqual(done.returncode, 0, done)
+        with open(self.folder / 'trickle.csv', newline='') as file:
+            found = {(int(row['phases']), row['seed']): int(row['collided']) for row in csv.DictReader(file)}
+        for seed in '1', '2':
+            self.assertGreater(found[1, seed], 1.5 * found[256, seed])
+
     def test_flooding(self) -> None:
         rows = self.study('flooding', '--vary', 'seed=1,2', '--vary', 'jitter=1,32', '--vary', 'range=10,25')
         found = {(int(row['range']), int(row['jitter']), int(row['seed'])): row for row in rows}
