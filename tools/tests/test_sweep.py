@@ -251,7 +251,8 @@ class SweepTest(Bed):
         found = [(row['period'], row['motes'], row['name'], row['end'], row['prints'], row['fault']) for row in rows]
         self.assertEqual(found[:3], [('1', '2', 'a', '2', '2', ''), ('1', '3', 'a', '3', '3', ''),
                                      ('2', '2', 'a', '4', '2', '')])
-        self.assertEqual({(row['plan'], row['program']) for row in rows}, {('net.plan.toml', 'another')})
+        self.assertEqual({(row['plan'], row['program']) for row in rows}, {
+            ('net.plan.toml', 'another with the SHA-256 ' + digest(self.stub.read_bytes()))})
         self.assertTrue(all(len(row[name]) == 16 for row in rows for name in row if name.endswith('sha256')))
         self.assertEqual(len({row['scenario_sha256'] for row in rows}), 6)
         self.assertEqual({row['measures'] for row in rows}, {'end = last: every mote prints a; prints'})

@@ -2,6 +2,7 @@
 from __future__ import annotations
 
 import os
+from hashlib import sha256
 from pathlib import Path
 
 from motesim.runner.programs import is_compiled, is_proved, program_of_sources
@@ -17,7 +18,9 @@ def program_version(program: Path) -> str:
     """The version of the binary, if the binary is this tree's; another binary is identified only by its digest."""
     if is_proved(program):
         return VERSION
-    return '%s unproved' % VERSION if is_compiled(program) else 'another'
+    if is_compiled(program):
+        return '%s unproved' % VERSION
+    return 'another with the SHA-256 %s' % sha256(program.read_bytes()).hexdigest()[:16]
 
 
 def version_line(may_be_proved: bool = True) -> str:
