@@ -31,7 +31,7 @@ def reached_from(scenario: Scenario, mote: int) -> set[int]:
 
 
 def cut_of(faults: Sequence[FaultyPart], base: Base) -> str:
-    """What a set of faults cuts off, in words; an empty text if all paths of the scenario have another one instead."""
+    """The motes that a set of faults cuts off, in words; an empty text if each path has another one instead."""
     try:
         faulty = base.scenario(change_of(faults, base))
     except CannotChange:

@@ -35,7 +35,7 @@ class Found:
 
     @cached_property
     def cut(self) -> str:
-        """What the faults cut off, so that no protocol can deliver there; an empty text if they cut nothing off."""
+        """The motes that the faults cut off from others for any protocol, in words; an empty text if there are none."""
         return cut_of(self.faults, self.base) if self.base else ''
 
     @property
