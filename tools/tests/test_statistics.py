@@ -599,6 +599,12 @@ class Command(unittest.TestCase):
         self.assertIn('no interval for 1 mean: equal runs', ' '.join(rows[-1]))
         rows = self.plot('--measure', 'ratio', '--against', 'period', '--where', 'seed=2', '--show', 'mean')
         self.assertEqual(rows[2][-3:], ['none:', 'one', 'run'])
+        # (selected alone, these runs are all 1, but by the file the measure is a share)
+        rows = self.plot('--measure', 'ratio', '--against', 'period', '--where', 'period=1', '--show', 'mean')
+        self.assertEqual(rows[2][-3:], ['none:', 'equal', 'runs'])
+        (self.folder / 'more.csv').write_text((self.folder / 'net.csv').read_text().replace('0.2', '0.3'))
+        rows = self.plot('--measure', 'ratio', '--against', 'period', '--where', 'period=1', '--compare', 'more.csv')
+        self.assertEqual(rows[2][-5:-2], ['none:', 'equal', 'runs'])
 
     def test_a_side_of_two_plans_and_a_name_that_is_none(self) -> None:
         lines = results().splitlines()
@@ -692,6 +698,36 @@ class Command(unittest.TestCase):
         for shown in alike, programs:
             self.assertIn(shown, picture)
             self.assertIn(shown, (self.folder / 'a.origin.csv').read_text())
+
+    def test_lines_of_two_parameters(self) -> None:
+        words = '--measure', 'sent', '--against', 'seed', '--by', 'density', '--by', 'period'
+        rows = self.plot(*words, '--threshold', '12', '--where', 'seed=1..3')
+        self.assertEqual(rows[1][:3], ['density', 'period', 'seed'])
+        self.assertEqual([it[:2] for it in rows[2:20:3]], [[density, period] for density in ('dense', 'thin')
+                                                           for period in ('1', '4', '8')])
+        self.assertIn('density thin, period 1: the median rises above 12 at seed 2', ' '.join(map(' '.join, rows)))
+        self.plot(*words[:6], '--by', 'perod', status=2)
+        self.assertIn('there is no parameter perod; ', self.seen)
+        self.plot(*words[:6], '--by', 'density', status=2)
+        self.assertIn('--by names density twice', self.seen)
+        rows = self.plot(*words, '--compare', 'more.csv')
+        self.assertEqual(rows[2][:3], ['dense', '1', '1'])
+        interpreter_with(self, 'matplotlib')
+        self.plot(*words, '-o', 'a.svg', '--y-limits', '0:30', '--label', 'thin, 8=last')
+        picture = (self.folder / 'a.svg').read_text()
+        for legend in 'density dense, period 1', 'last':
+            self.assertIn('>%s<' % legend, picture)
+
+    def test_the_ends_of_the_vertical_axis(self) -> None:
+        words = '--measure', 'sent', '--against', 'period', '--by', 'density'
+        for wrong, more, seen in (('1:0', (), 'are LOW:HIGH'), ('0', (), 'are LOW:HIGH'), ('a:b', (), 'are LOW:HIGH'),
+                                  ('0:1', ('--log-y',), 'above 0'), ('0:1', ('--show', 'heat'), 'no vertical axis')):
+            self.plot(*words, '--y-limits', wrong, *more, status=2)
+            self.assertIn(seen, self.seen)
+        interpreter_with(self, 'matplotlib')
+        for more, top in ((), '400'), (('--log-y',), '500'), (('--compare', 'more.csv'), '400'):
+            self.plot(*words, *more, '-o', 'a.svg', '--y-limits', '100:500')
+            self.assertIn('>%s<' % top, (self.folder / 'a.svg').read_text())
 
     def test_a_logarithmic_axis_upwards(self) -> None:
         words = '--measure', 'ratio', '--against', 'period', '--by', 'density', '--log-y'
@@ -1042,6 +1078,12 @@ class Command(unittest.TestCase):
             '%d,%d,9,,%d,period seed\n' % (period, seed, seed * period) for period in (1, 2) for seed in (1, 2, 3)))
         rows = self.plot('--measure', 'rejected', '--against', 'period', '--show', 'mean')
         self.assertEqual([row[2] for row in rows[2:]], ['2.000', '4.000'])
+        # (by Student's t the first interval would begin at -0.484)
+        self.assertEqual([' '.join(row[3:]) for row in rows[2:]],
+                         ['0.000 4.484 t, cut at 0', '0.000 8.968 t, cut at 0'])
+        self.assertIn('intervals of 95 % by Student\'s t cut at 0', ' '.join(rows[0]))
+        rows = self.plot('--measure', 'rejected', '--against', 'period', '--show', 'mean', '--interval', 't')
+        self.assertEqual(rows[2][3], '-0.484')
 
     def test_runs_of_several_values_are_selected(self) -> None:
         for values, count in ('1..4', 10), ('4,8', 10), ('0..8..4', 10), ('8', 5), ('', None):
@@ -1345,10 +1387,10 @@ class Command(unittest.TestCase):
     def test_a_count_of_0_and_1_is_no_share(self) -> None:
         for name in ('collided', 'halt', 'sent of mote 3', 'count: mote 1 sends',
                      'delay: mote 0 sends -> mote 1 sends'):
-            self.assertEqual(Wish(name).kind_of(name, [0, 1, 1]), 'any', name)
+            self.assertEqual(Wish(name).kind_of(name, [0, 1, 1]), 'count', name)
         for name in 'holds: no mote halts', 'ok', 'ratio':
             self.assertEqual(Wish(name).kind_of(name, [0, 1, 1]), 'yes or no', name)
-            self.assertEqual(Wish(name, is_count=True).kind_of(name, [0, 1, 1]), 'any', name)
+            self.assertEqual(Wish(name, is_count=True).kind_of(name, [0, 1, 1]), 'count', name)
             self.assertEqual(Wish('other', name, is_count=True).kind_of(name, [0, 1, 1]), 'yes or no', name)
         self.assertEqual(Wish('collided').kind_of('collided', [0, 0.5]), 'share')
 

@@ -71,6 +71,33 @@ def size_of(text: str) -> tuple[float, float]:
     return float(found[1]), float(found[2])
 
 
+def limits_of(wish: Wish) -> tuple[float, float] | None:
+    """The ends of the vertical axis; None if the picture chooses them."""
+    if not wish.y_limits:
+        return None
+    try:
+        low, high = map(float, wish.y_limits.split(':'))
+    except ValueError:
+        low = high = math.nan
+    if not -math.inf < low < high < math.inf:
+        raise Fault('the limits of the vertical axis are LOW:HIGH, two numbers such as 0:1, and not %r' % wish.y_limits)
+    if wish.log_y and low <= 0:
+        raise Fault('with a logarithmic vertical axis its limits are above 0, and not %s' % wish.y_limits)
+    if wish.show == 'heat':
+        raise Fault('a map (heat) has no vertical axis with limits')
+    return low, high
+
+
+def _limit(axes: Any, wish: Wish) -> None:
+    """Sets the ends of the vertical axis that the request names."""
+    limits = limits_of(wish)
+    if limits and wish.log_y:
+        ticks = ticks_between(*limits)
+        axes.set_yticks(ticks, [number_text(it, 6) for it in ticks])
+    if limits:
+        axes.set_ylim(limits)
+
+
 def _figure(pyplot: Any, wish: Wish) -> tuple[Any, Any]:
     width, height = size_of(wish.size)
     figure, axes = pyplot.subplots(figsize=(width / INCH, height / INCH), layout='constrained')
@@ -79,7 +106,7 @@ def _figure(pyplot: Any, wish: Wish) -> tuple[Any, Any]:
 
 def _legend_of(wish: Wish, by: Cell) -> str:
     """The text of a value of `by` in the legend."""
-    return dict(wish.labels).get(text_of(by), '%s %s' % (wish.by, text_of(by)))
+    return dict(wish.labels).get(text_of(by), wish.name_of_by(by))
 
 
 def unused_labels(every: Iterable[Cell], wish: Wish) -> list[str]:
@@ -361,6 +388,7 @@ def _draw_curves(axes: Any, shown: Shown, wish: Wish) -> None:
             _scale_upwards(axes, shown, wish)
         elif 0 <= 2 * min(lows) < max(highs):
             axes.set_ylim(bottom=0)
+    _limit(axes, wish)
     _name_axes(axes, wish.x or (wish.measure if wish.show == 'cdf' else wish.against),
                wish.y or ('part of runs' if wish.show == 'cdf' else wish.measure))
     axes.grid(True, color='#dddddd', linewidth=0.6)
@@ -456,6 +484,7 @@ def draw_differences(found: Sequence[Difference], wish: Wish, words: str, notes:
                       **(look if is_scale else {**look, 'linestyle': ''}))
     axes.axhline(0, color='#555555', linewidth=0.8)
     _scale(axes, places, wish, is_scale)
+    _limit(axes, wish)
     _name_axes(axes, wish.x or wish.against, wish.y or 'difference of %s' % wish.measure)
     _legend(axes)
     has_room = words_around(figure, size_of(wish.size)[0], wish, words, '\n'.join(notes),

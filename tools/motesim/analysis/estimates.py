@@ -7,11 +7,11 @@ by its standard error. The draws come from a fixed seed, so the same runs give t
 part is a little larger than the confidence (`part_of_draws`), because a few runs spread less than the distribution
 from which they are drawn.
 
-The interval of a share is always within 0 and 1. If each run is 0 or 1, it is Wilson's score interval. Otherwise, if
-the interval by Student's t would pass 0 or 1, it is cut there; if there are enough runs, the interval by the bootstrap
-replaces it. An interval by the bootstrap of Student's t is cut to Wilson's score interval for runs that lose up to
-twice as much as the worst run. Runs that are all the same have no interval: they don't show how far others would
-spread.
+The interval of a share is always within 0 and 1, and that of a count is never below 0. If each run is 0 or 1, it is
+Wilson's score interval. Otherwise, if the interval by Student's t would pass 0 or 1, it is cut there; if there are
+enough runs, the interval by the bootstrap replaces it. An interval by the bootstrap of Student's t is cut to Wilson's
+score interval for runs that lose up to twice as much as the worst run. Runs that are all the same have no interval:
+they don't show how far others would spread.
 """
 from __future__ import annotations
 
@@ -40,7 +40,7 @@ RANGE = 2
 # The name that asks for a method that fits the runs.
 AUTO = 'auto'
 Value = TypeVar('Value')
-Measured = Literal['any', 'share', 'yes or no']
+Measured = Literal['any', 'count', 'share', 'yes or no']
 
 
 class Estimate(NamedTuple):
@@ -109,6 +109,12 @@ def mean_by_t_within(values: Sequence[float], confidence: float) -> Estimate:
     """The mean of shares with its interval by Student's t, which ends at 0 and 1."""
     runs, mean, low, high, _ = mean_by_t(values, confidence)
     return Estimate(runs, mean, max(0.0, low or 0.0), min(1.0, 1.0 if high is None else high), 'within')
+
+
+def mean_by_t_above_0(values: Sequence[float], confidence: float) -> Estimate:
+    """The mean of counts with its interval by Student's t, which ends at 0."""
+    runs, mean, low, high, _ = mean_by_t(values, confidence)
+    return Estimate(runs, mean, max(0.0, low or 0.0), high, 'above 0')
 
 
 def mean_without_interval(values: Sequence[float], confidence: float) -> Estimate:
@@ -215,9 +221,11 @@ def method_of(values: Sequence[float], confidence: float, interval: str, measure
         return 'alike'
     if interval != AUTO:
         return interval
+    low, high = mean_by_t(values, confidence)[2:4]
+    if measure == 'count':
+        return 'above 0' if low is not None and low < 0 else 't'
     if measure != 'share':
         return 't'
-    low, high = mean_by_t(values, confidence)[2:4]
     if low is None or high is None or 0 <= low and high <= 1:
         return 't'
     return 'bootstrap' if len(values) >= LEAST_RUNS else 'within'
@@ -231,7 +239,7 @@ def mean_of(values: Sequence[float], confidence: float, interval: str = AUTO, me
     if measure == 'share':
         return _within_wilson(values, found, found.low, found.high, confidence)
     if math.isfinite(found.low) and math.isfinite(found.high):
-        return found
+        return found._replace(low=max(0.0, found.low)) if measure == 'count' else found
     return found._replace(low=None, high=None, method='too alike')
 
 
@@ -268,6 +276,7 @@ def measured(values: Sequence[float]) -> Measured:
 
 METHODS: dict[str, Callable[[Sequence[float], float], Estimate]] = {
     't': mean_by_t, 'bootstrap': mean_by_bootstrap, 'bootstrap-t': mean_by_bootstrap_t, 'within': mean_by_t_within,
+    'above 0': mean_by_t_above_0,
     'wilson': mean_by_wilson, 'alike': mean_without_interval}
 # The methods that can be requested.
 MEANS = (AUTO, 't', 'bootstrap', 'bootstrap-t')
@@ -277,9 +286,11 @@ BOUNDED = 'bootstrap-t, Wilson'
 NAMES = {'t': 'Student\'s t', 'bootstrap': 'the bootstrap', 'bootstrap-t': 'the bootstrap of Student\'s t',
          BOUNDED: 'the bootstrap of Student\'s t within Wilson\'s score on twice the range',
          'wilson': 'Wilson\'s score',
-         'within': 'Student\'s t cut at 0 and 1', 'within pairs': 'Student\'s t cut at -1 and 1',
+         'above 0': 'Student\'s t cut at 0', 'within': 'Student\'s t cut at 0 and 1',
+         'within pairs': 'Student\'s t cut at -1 and 1',
          'newcombe': 'Newcombe\'s method 10'}
 OF_ROW = {'t': 't', 'bootstrap': 'bootstrap', 'bootstrap-t': 'bootstrap-t', BOUNDED: BOUNDED, 'wilson': 'Wilson',
-          'within': 't, cut at 0 and 1', 'within pairs': 't, cut at -1 and 1', 'newcombe': 'Newcombe 10',
+          'above 0': 't, cut at 0', 'within': 't, cut at 0 and 1',
+          'within pairs': 't, cut at -1 and 1', 'newcombe': 'Newcombe 10',
           'one': 'none: one run', 'alike': 'none: equal runs',
           'too alike': 'none: nearly equal runs', 'quartiles': 'quartiles'}

@@ -177,7 +177,7 @@ def _difference(pairs: Sequence[Pair], confidence: float, interval: str, kind: M
     if kind == 'yes or no' and len(pairs) > 1 and interval == AUTO:
         return difference_by_newcombe(pairs, confidence)
     found = mean_of(gaps, confidence, interval)
-    if interval != AUTO or kind == 'any' or found.low is None or found.high is None:
+    if interval != AUTO or kind in ('any', 'count') or found.low is None or found.high is None:
         return found
     if -1 <= found.low and found.high <= 1:
         return found

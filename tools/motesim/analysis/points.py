@@ -16,6 +16,8 @@ SHOWS = (MEDIAN, 'mean', 'points', 'cdf', 'heat')
 # Runs that differ only in a parameter of this name, or in one that ends in `_seed`, repeat one another.
 SEED, SEEDS = 'seed', '_seed'
 MOST_VALUES = 4
+# The number that is added to the parts of joint values before they are sorted as texts, so that none is below 0.
+OFFSET = 1e12
 SELECTS = '--where %s=%s selects some'
 # A column about a run's net that can be shown like a measure.
 REJECTED = 'rejected'
@@ -38,12 +40,26 @@ RUNS, WITH, WITHOUT, NET = '(runs)', '(with a value)', '(without a value)', '(ne
 Place = tuple[Cell, Cell]
 
 
+class Joint(str):
+    """The values of several parameters together, as one value."""
+    parts: tuple[Cell, ...]
+
+    @classmethod
+    def of(cls, parts: Sequence[Cell]) -> Joint:
+        found = cls(', '.join(map(text_of, parts)))
+        found.parts = tuple(parts)
+        return found
+
+
 class Wish(NamedTuple):
     """A request for a picture or a table, and the texts around it.
 
+    by             a parameter, or several with commas between them
     title, footer  the words above and below a picture; None for a text about its content and its runs, '' for no text
     size           the width and the height of a picture in centimetres, `16x10`, or `column`, or nothing
     labels         texts of the legend, by the values of `by`
+    kinds          the kinds of measures by all their values, also of runs that are not selected
+    y_limits       the ends of the vertical axis, `0:1`, or nothing
     nets           whether the runs of a net are averaged first, so that each net counts once
     is_count       whether the measure is a count, and so not a share, even if all its values are from 0 to 1
     """
@@ -69,16 +85,32 @@ class Wish(NamedTuple):
     where: tuple[str, ...] = ()
     labels: tuple[tuple[str, str], ...] = ()
     is_count: bool = False
+    y_limits: str = ''
+    kinds: Mapping[str, Measured] = {}
 
     @property
     def part(self) -> float:
         return self.confidence / 100
 
+    def columns_of_by(self, value: Cell) -> dict[str, Cell]:
+        """The values of the parameters that separate lines, by their names, for a value of `by`."""
+        if not self.by:
+            return {}
+        return dict(zip(self.by.split(','), value.parts)) if isinstance(value, Joint) else {self.by: value}
+
+    def name_of_by(self, value: Cell) -> str:
+        """A value of `by`, as in `period 20` or `period 20, density thin`."""
+        return ', '.join('%s %s' % (name, text_of(it)) for name, it in self.columns_of_by(value).items())
+
     def kind_of(self, name: str, values: Sequence[float]) -> Measured:
-        """Returns the kind of a measure with these values."""
-        kind = measured(values)
-        is_any = self.is_count and name == self.measure or kind == 'yes or no' and is_count(name)
-        return 'any' if is_any else kind
+        """Returns the kind of a measure: that of all its values in the file if it is known, or that of these values."""
+        kind = self.kinds.get(name, measured(values))
+        if self.nets and kind == 'yes or no':
+            # (the mean of a net is a share)
+            kind = measured(values)
+        if self.is_count and name == self.measure or is_count(name) or name == REJECTED:
+            return 'count' if min(values, default=0) >= 0 else 'any'
+        return kind
 
     def estimate(self, values: Sequence[float], measure: Measured = 'any') -> Estimate:
         """Returns the estimate of the runs of a point."""
@@ -176,8 +208,18 @@ def measures_of(rows: Sequence[Row]) -> list[str]:
     return measures + [REJECTED] * (REJECTED in rows[0] and REJECTED not in measures)
 
 
+def kinds_of(rows: Sequence[Row]) -> dict[str, Measured]:
+    """The kinds of the measures that have numbers."""
+    values = {name: [row[name] for row in rows if row[name] is not None] for name in measures_of(rows)}
+    return {name: measured([float(it) for it in its if isinstance(it, int | float)]) for name, its in values.items()
+            if its and not any(isinstance(it, str) for it in its)}
+
+
 def order(value: Cell) -> tuple[bool, float, str]:
     """The key by which numbers are sorted by their size, before texts."""
+    if isinstance(value, Joint):
+        return True, 0.0, '\0'.join('%d%030.9f%s' % (is_text, number + OFFSET, text)
+                                    for is_text, number, text in map(order, value.parts))
     return (True, 0.0, str(value)) if value is None or type(value) is str else (False, float(value), '')
 
 
@@ -203,7 +245,7 @@ def number_of(row: Row, measure: str) -> float | None:
 
 def is_seed(name: str) -> bool:
     """Returns whether a parameter by default only repeats runs, such as `seed` and `net_seed`."""
-    return name == SEED or name.endswith(SEEDS)
+    return name == SEED or name.endswith(SEEDS) and ',' not in name
 
 
 def repeats_of(varying: Sequence[str], over: str) -> list[str]:

@@ -7,9 +7,9 @@ from collections import Counter
 from collections.abc import Sequence
 
 from motesim.analysis.points import MOST_VALUES, NET, PLACES, PLAN, PROGRAM, RUNS, SELECTS, SEPARATES, WITH, WITHOUT
-from motesim.analysis.points import Wish
-from motesim.analysis.points import changed_files, measures_of, name_of_net, names_of_nets, number_of, parameters_of
-from motesim.analysis.points import repeats_of
+from motesim.analysis.points import Joint, Wish, changed_files, measures_of, name_of_net, names_of_nets, number_of
+from motesim.analysis.points import parameters_of, repeats_of
+from motesim.explain.synonyms import known
 from motesim.experiments.draws import lines_of, warnings_in
 from motesim.experiments.measures import Cell
 from motesim.experiments.results import Row, text_of
@@ -60,6 +60,21 @@ def once(rows: Sequence[Row], file: str, apart: Sequence[str] = ()) -> tuple[lis
         return list(rows), []
     return list(kept.values()), ['%s: %d row%s of the same run as another row (the first: %s) left out, so that each '
                                  'run counts once' % (file, more, 's' if more > 1 else '', shown_key(names, first))]
+
+
+def joined(rows: Sequence[Row], by: str) -> list[Row]:
+    """The rows with one parameter instead of the several that `by` names, if it names several."""
+    names, parameters = by.split(','), parameters_of(rows)
+    if len(names) == 1:
+        return list(rows)
+    for number, name in enumerate(names):
+        if name not in parameters:
+            raise Fault('there is no parameter %s; %s' % (name, known(name, parameters)))
+        if name in names[:number]:
+            raise Fault('--by names %s twice' % name)
+    left = ' '.join([*(it for it in parameters if it not in names), by])
+    return [{**{name: value for name, value in row.items() if name not in names}, 'parameters': left,
+             by: Joint.of([row[name] for name in names])} for row in rows]
 
 
 def by_net(rows: Sequence[Row], wish: Wish) -> list[Row]:

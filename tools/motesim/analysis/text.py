@@ -36,7 +36,7 @@ def rows_of(shown: Shown, wish: Wish) -> list[Row]:
         return [{**_of_by(point, wish), **_of_run(x, wish), wish.measure: value} for point in shown.points
                 for x, value in zip(point.others or (point.against,) * len(point.values), point.values)]
     if wish.show == 'cdf':
-        return [{**({wish.by: it.by} if wish.by else {}), wish.measure: value, 'part of runs': number / it.runs}
+        return [{**wish.columns_of_by(it.by), wish.measure: value, 'part of runs': number / it.runs}
                 for it in shown.curves() for number, value in _steps(it)]
     rows: list[Row] = []
     is_less = any((it.by, it.against) in {**shown.empty_at, **shown.faults_at} for it in shown.points)
@@ -76,8 +76,13 @@ def rows_of_picture(shown: Shown, wish: Wish) -> list[Row]:
                 for row, place in zip(rows, places)]
     if not found:
         return rows
-    return [{**row, 'threshold': float(wish.threshold), **columns_of_crossing(found[row.get(wish.by)])}
+    return [{**row, 'threshold': float(wish.threshold), **columns_of_crossing(_of_row(row, found, wish))}
             for row in rows]
+
+
+def _of_row(row: Row, found: Mapping[Cell, Crossing | None], wish: Wish) -> Crossing | None:
+    """The crossing of the curve to which a row belongs."""
+    return next(it for by, it in found.items() if wish.columns_of_by(by).items() <= row.items())
 
 
 def of_net(net: Net) -> str:
@@ -110,7 +115,7 @@ def _steps(curve: Curve) -> list[tuple[int, float | None]]:
 
 
 def _of_by(point: Point, wish: Wish) -> Row:
-    return {wish.by: point.by} if wish.by else {}
+    return dict(wish.columns_of_by(point.by))
 
 
 def _of_run(x: Cell, wish: Wish) -> Row:
@@ -178,7 +183,7 @@ def left_out(shown: Shown, wish: Wish, most: int | None = None) -> list[str]:
     if shown.lacking and wish.show == 'cdf':
         curves = [it for it in shown.curves() if len(it.values) < it.runs]
         counts = ['%d of %d %s' % (it.runs - len(it.values), it.runs, counted(wish)) for it in curves]
-        names = [' (%s %s)' % (wish.by, text_of(it.by)) if wish.by else '' for it in curves]
+        names = [' (%s)' % wish.name_of_by(it.by) if wish.by else '' for it in curves]
         lines.append('no value of %s in %s: %s ends below 1 by this share' % (
             wish.measure, ', '.join(map(''.join, zip(counts, names))),
             'the curve' if len(curves) == 1 else 'each of these curves'))
@@ -322,12 +327,12 @@ def parts_at_most(shown: Shown, wish: Wish) -> dict[Cell, tuple[int, int]]:
 
 def crossings(shown: Shown, wish: Wish) -> list[str]:
     """The crossing of each curve, in words."""
-    parts = [('%s %s: ' % (wish.by, text_of(by)) if wish.by else '') + '%d of %d %s (%.3f) have at most %s' % (
+    parts = [('%s: ' % wish.name_of_by(by) if wish.by else '') + '%d of %d %s (%.3f) have at most %s' % (
         count, runs, counted(wish), count / runs, shown_threshold(wish))
         for by, (count, runs) in parts_at_most(shown, wish).items()]
     if parts:
         return parts
-    return [('%s %s: ' % (wish.by, text_of(by)) if wish.by else '') + of_crossing(found, wish)
+    return [('%s: ' % wish.name_of_by(by) if wish.by else '') + of_crossing(found, wish)
             for by, found in crossings_of(shown, wish).items()]
 
 
@@ -385,7 +390,7 @@ def columns_of_crossing(found: Crossing | None) -> Row:
 def rows_of_differences(found: Sequence[Difference], wish: Wish, one: str, other: str) -> list[Row]:
     """A paired comparison as rows of a table; with nets, also how many there are, and which have missing pairs."""
     is_by_net = wish.nets
-    return [{**({wish.by: it.by} if wish.by else {}), wish.against: it.against,
+    return [{**wish.columns_of_by(it.by), wish.against: it.against,
              **({'nets': it.difference.runs} if is_by_net else {}), 'pairs': it.pairs,
              'left out': it.left_out, one: it.one, other: it.other,
              'difference': it.difference.middle, 'low': it.difference.low, 'high': it.difference.high,

@@ -35,7 +35,8 @@ def arguments() -> argparse.Namespace:
     words.add_argument('results', metavar='RESULTS', help='a file that tools/sweep wrote')
     words.add_argument('--measure', metavar='NAME', help='the measure to show')
     words.add_argument('--against', metavar='NAME', help='the parameter, or the measure, on the horizontal axis')
-    words.add_argument('--by', metavar='NAME', help='draw a line for each value of this parameter')
+    words.add_argument('--by', action='append', default=[], metavar='NAME',
+                       help='draw a line for each value of this parameter; --by twice: for each pair of values')
     words.add_argument('--show', choices=SHOWS,
                        help='the statistic of the runs at each point (median)')
     words.add_argument('--interval', choices=MEANS, default='auto',
@@ -66,6 +67,7 @@ def arguments() -> argparse.Namespace:
     words.add_argument('--log', action='store_true',
                        help='a logarithmic horizontal axis, on which doubling is a step of fixed length')
     words.add_argument('--log-y', action='store_true', help='a logarithmic vertical axis')
+    words.add_argument('--y-limits', metavar='LOW:HIGH', default='', help='the ends of the vertical axis, such as 0:1')
     words.add_argument('--plan', metavar='PLAN', help="show what this plan's `plot` describes")
     words.add_argument('-o', dest='output', metavar='FILE', help='the picture, NAME.svg, NAME.pdf or NAME.png')
     asked = words.parse_args()

@@ -5,20 +5,20 @@ import argparse
 import shlex
 import sys
 from collections.abc import Iterable, Sequence
-from functools import partial
+from functools import lru_cache, partial
 from pathlib import Path
 from typing import NamedTuple
 
 from motesim.analysis import drawing, text
 from motesim.analysis.drawing import FORMATS
-from motesim.analysis.estimates import AUTO, MEANS
+from motesim.analysis.estimates import AUTO, MEANS, Measured
 from motesim.analysis.estimates import quartiles as quartiles
 from motesim.analysis.origin import origin_of, origin_path
 from motesim.analysis.paired import Difference, Paired, differences, pairs_of
 from motesim.analysis.points import MEDIAN, SEPARATES, SHOWS, Wish, check_measures, check_pairs, check_plans
-from motesim.analysis.points import is_repeat, measures_of, names_of_nets, order, parameters_of, separated_by
+from motesim.analysis.points import is_repeat, kinds_of, measures_of, names_of_nets, order, parameters_of, separated_by
 from motesim.analysis.points import shared_nets, shown_of
-from motesim.analysis.rows import by_net, once, warnings_of
+from motesim.analysis.rows import by_net, joined, once, warnings_of
 from motesim.experiments import packages
 from motesim.experiments.asked import values_of
 from motesim.experiments.measures import Cell
@@ -36,11 +36,14 @@ PLOT = {'file': needed(str), 'measure': needed(str), 'against': optional(str, ''
         'title': optional(str, None), 'x': optional(str, ''), 'y': optional(str, ''), 'log': optional(bool, False),
         'show': optional(str, 'median'), 'interval': optional(str, AUTO), 'confidence': any_kind('a number', False),
         'threshold': any_kind('a number', False), 'over': optional(str, ''),
-        'footer': optional(str, None), 'size': optional(str, ''), 'log_y': optional(bool, False),
+        'footer': optional(str, None), 'size': optional(str, ''), 'y_limits': optional(str, ''),
+        'log_y': optional(bool, False),
         'nets': optional(bool, False), 'count': optional(bool, False), 'pair': optional(str, ''), 'compare': optional(str, ''),
         WHERE: optional(dict, {}), LABELS: optional(dict, {})}
 # The most values of a column in a message.
 MOST_SHOWN = 12
+# The kinds of measures, the more general ones first.
+GENERAL: tuple[Measured, ...] = ('any', 'count', 'share', 'yes or no')
 # The views without a measure on the vertical axis.
 NOT_UPWARDS = ('cdf', 'heat')
 # Options that have no effect in a comparison run by run, and are refused.
@@ -106,6 +109,10 @@ def wishes_of(plan: Plan) -> list[Wish]:
             drawing.size_of(wish.size)
         except Fault as fault:
             raise tables.fault(path + ('size',), str(fault), '`size`: a text such as `"16x10"`') from None
+        try:
+            drawing.limits_of(wish)
+        except Fault as fault:
+            raise tables.fault(path + ('y_limits',), str(fault), '`y_limits`: a text such as `"0:1"`') from None
         try:
             text.threshold_of(wish)
         except Fault as fault:
@@ -241,7 +248,7 @@ def compare(sides: Sides, wish: Wish, source: Source) -> bool:
 def of_groups(groups: Sequence[tuple[Cell, Paired]], found: Sequence[Difference], wish: Wish,
               most: int | None = None) -> list[str]:
     """The lines about the pairs that each line of a comparison leaves out."""
-    return [('%s %s: ' % (wish.by, text_of(by)) if wish.by else '') + line for by, paired in groups
+    return [('%s: ' % wish.name_of_by(by) if wish.by else '') + line for by, paired in groups
             for line in text.of_pairs(paired, [it for it in found if it.by == by], wish.against, most)]
 
 
@@ -274,11 +281,14 @@ def wishes(asked: argparse.Namespace) -> list[Wish]:
     if asked.show == 'heat' and not asked.by:
         raise Fault('--show heat needs --by: the parameter of the vertical axis')
     drawing.size_of(asked.size)
-    return [Wish(asked.measure, asked.against or '', asked.by or '', asked.output or '', asked.title, asked.x, asked.y,
-                 log=asked.log, show=asked.show or MEDIAN, interval=asked.interval, confidence=asked.confidence,
-                 threshold=asked.threshold or '', over=asked.over or '', footer=asked.footer, size=asked.size,
-                 log_y=asked.log_y, nets=asked.nets, pair=asked.pair or '', compare=asked.compare or '',
-                 labels=labels_of(asked.label), is_count=asked.count)]
+    wish = Wish(asked.measure, asked.against or '', ','.join(asked.by), asked.output or '', asked.title, asked.x,
+                asked.y, log=asked.log, show=asked.show or MEDIAN, interval=asked.interval,
+                confidence=asked.confidence, threshold=asked.threshold or '', over=asked.over or '',
+                footer=asked.footer, size=asked.size, log_y=asked.log_y, nets=asked.nets, pair=asked.pair or '',
+                compare=asked.compare or '', labels=labels_of(asked.label), is_count=asked.count,
+                y_limits=asked.y_limits)
+    drawing.limits_of(wish)
+    return [wish]
 
 
 def some_of(values: Iterable[Cell]) -> str:
@@ -319,8 +329,9 @@ def _texts_of(words: str) -> set[str]:
     return {text_of_value(it) for it in values_of(words)} if words else {''}
 
 
-def runs_of(path: Path, where: Sequence[str], apart: Sequence[str] = ()) -> list[Row]:
-    """The runs of a file of results, without repetitions."""
+@lru_cache(maxsize=2)
+def all_runs_of(path: Path) -> list[Row]:
+    """All rows of a file of results."""
     if path.exists() and not {'fault', 'parameters'} <= set(columns_of_results(path)):
         raise Fault('%s isn\'t a file that tools/sweep wrote: it has no columns `fault` and `parameters`' % path)
     rows = read_results(path)[1]
@@ -331,13 +342,28 @@ def runs_of(path: Path, where: Sequence[str], apart: Sequence[str] = ()) -> list
     if lacking:
         raise Fault('%s has no column for a parameter of its sweep, %s: keep all columns that tools/sweep wrote' % (
             path, ', '.join(lacking)))
-    rows = chosen(rows, where)
+    return rows
+
+
+def runs_of(path: Path, where: Sequence[str], apart: Sequence[str] = ()) -> list[Row]:
+    """The selected runs of a file of results, without repetitions."""
+    rows = chosen(all_runs_of(path), where)
     if not rows:
         raise Fault('%s has no runs with these values together: %s' % (path, ', '.join(where)))
     rows, lines = once(rows, str(path), apart)
     for line in lines:
         print('plot: %s' % line, file=sys.stderr)
     return rows
+
+
+def kinds_in(files: Sequence[Path]) -> dict[str, Measured]:
+    """The kinds of the measures in one or two files. A measure that differs between them has that of the more general
+    kind."""
+    found: dict[str, Measured] = {}
+    for path in files:
+        for name, kind in kinds_of(all_runs_of(path)).items():
+            found[name] = min(found.get(name, kind), kind, key=GENERAL.index)
+    return found
 
 
 class Sides(NamedTuple):
@@ -383,7 +409,7 @@ def sides_of(wish: Wish, rows: list[Row], results: Path, other: Path, where: Seq
     if wish.compare:
         if other.exists() and other.samefile(results):
             raise Fault('--compare needs another file than %s, the first side' % results)
-        others = runs_of(other, where)
+        others = joined(runs_of(other, where), wish.by)
         names = results.stem, other.stem
         if names[0] == names[1] or {*names} & {*parameters}:
             names = str(results), str(other)
@@ -410,12 +436,13 @@ def drawn(wish: Wish, asked: argparse.Namespace, read: dict[tuple[str, ...], lis
     key = *where, *apart
     if key not in read:
         read[key] = runs_of(results, where, apart)
-    other = folder / wish.compare
+    rows, other = joined(read[key], wish.by), folder / wish.compare
     files = (results, other) if wish.compare else (results,)
+    wish = wish._replace(kinds=kinds_in(files))
     source = Source(folder, files, shlex.join(['tools/plot', *sys.argv[1:]]))
     if wish.pair or wish.compare:
-        return compare(sides_of(wish, read[key], results, other, where), wish, source)
-    return show(read[key], wish, source)
+        return compare(sides_of(wish, rows, results, other, where), wish, source)
+    return show(rows, wish, source)
 
 
 def status_of(asked: argparse.Namespace) -> int:
