@@ -630,6 +630,12 @@ class Command(unittest.TestCase):
         (self.folder / name).write_text('%s,measures,measures_sha256\n' % head + ''.join(
             '%s,%s,%s\n' % (it, texts, name) for it in lines))
 
+    def test_a_file_with_the_name_of_a_column_is_compared(self) -> None:
+        (self.folder / 'less.csv').write_text(results(2))
+        rows = self.plot('--measure', 'sent', '--against', 'period', '--compare', 'less.csv', *ONE)
+        # (the means of both sides)
+        self.assertEqual(rows[2][3:5], ['13.000', '15.000'])
+
     def test_a_measure_that_both_files_have_is_compared(self) -> None:
         words = '--measure', 'sent', '--against', 'period', '--compare', 'more.csv', *ONE
         self.with_measures('net.csv', 'sent; ratio')

@@ -22,6 +22,8 @@ Row = dict[str, Any]
 # The column that names the nets with missing runs, and the most points or nets that the text below a picture names.
 NETS, MOST_BELOW = 'nets with missing runs', 6
 
+# The columns of a comparison that no side may have as its name.
+OF_COMPARISON = 'nets', 'pairs', 'left out', 'difference', 'low', 'high', 'interval', 'greater', 'less', NETS
 # The methods that draw runs again.
 DRAWING = ('bootstrap', 'bootstrap-t', BOUNDED)
 # The methods whose intervals of few skewed runs are too narrow.

@@ -411,7 +411,7 @@ def sides_of(wish: Wish, rows: list[Row], results: Path, other: Path, where: Seq
             raise Fault('--compare needs another file than %s, the first side' % results)
         others = joined(runs_of(other, where), wish.by)
         names = results.stem, other.stem
-        if names[0] == names[1] or {*names} & {*parameters}:
+        if names[0] == names[1] or {*names} & {*parameters, *text.OF_COMPARISON}:
             names = str(results), str(other)
         kept = [it for it in parameters if it in parameters_of(others)]
         compared = compared_by(rows, others, [it for it in kept if it != wish.against], wish.over)
