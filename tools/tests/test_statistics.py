@@ -1145,8 +1145,10 @@ class Command(unittest.TestCase):
         interpreter_with(self, 'matplotlib')
         self.plot(*words, '-o', 'a.svg')
         picture = ' '.join((self.folder / 'a.svg').read_text().split())
-        for shown in out, 'density dense: no run has a value', '>density thin<', '(5 runs)':
+        for shown in 'density dense: no run has a value', '>density thin<', '(5 runs)':
             self.assertIn(shown, picture)
+        # (the footer may have it in two lines)
+        self.assertIn(out, ' '.join(re.sub('<[^>]*>', ' ', picture).split()))
         self.assertIn('dense,,0.0\n', (self.folder / 'a.table.csv').read_text().replace('\r', ''))
 
     def test_runs_that_share_a_net_are_not_independent(self) -> None:

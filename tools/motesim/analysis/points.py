@@ -108,7 +108,9 @@ class Wish(NamedTuple):
         if self.nets and kind == 'yes or no':
             # (the mean of a net is a share)
             kind = measured(values)
-        if self.is_count and name == self.measure or is_count(name) or name == REJECTED:
+        # (a column with the name of a count, but with parts of 1, is a share that somebody named so)
+        is_named = name == REJECTED or is_count(name) and kind != 'share'
+        if self.is_count and name == self.measure or is_named:
             return 'count' if min(values, default=0) >= 0 else 'any'
         return kind
 
