@@ -466,6 +466,15 @@ class Searches(unittest.TestCase):
             self.assertIn("left out: motes 0, 1, 2, 3 can't be made to fail or start late: diamond.toml has its motes "
                           'in one array: write a table [[mote]] for each, with its keys on lines of their own\n', said)
 
+    def test_search_without_a_run_has_no_result(self) -> None:
+        # (each mote sends one packet, which can't be lost alone)
+        with folder_with() as folder:
+            status, said, _ = search(folder, '--faults', 'packets', '--json', 'f.json')
+            self.assertEqual(status, 2)
+            self.assertIn('no run was made, so nothing is known about 1 expectation:', said)
+            self.assertNotIn('holds in', said)
+            self.assertEqual(json.loads((folder / 'f.json').read_text())['holds'], [])
+
     def test_kind_without_a_fault(self) -> None:
         # (each mote sends one packet, which can't be lost alone)
         with folder_with() as folder:

@@ -135,7 +135,7 @@ def show(words: argparse.Namespace, asking: Asking, search: Search, folder: Path
         return INTERRUPTED
     if words.shrink:
         shrink_each(asking, found, folder, words.json == '-')
-    return 1 if found else 0
+    return 1 if found else 0 if search.runs else 2
 
 
 def shrink_each(asking: Asking, found: list[Found], folder: Path, is_quiet: bool) -> None:
@@ -174,6 +174,9 @@ def chosen(first: Found, sets: list[Found]) -> str:
 def last_line(search: Search, found: list[Found], folder: Path, base: Base) -> str:
     """The last line: how many expectations hold."""
     wanted, holding = (bin(mask).count('1') for mask in (search.known.wanted, search.holding))
+    if not (search.runs or search.ended_by):
+        return ('no run was made, so nothing is known about %s: choose other kinds of faults by --faults'
+                % counted(wanted, 'expectation', 'expectations'))
     broken = len({sentence for it in found for sentence in it.sentences})
     which = 'every run' if is_whole(search) else 'every run that was made'
     said = '%d of %d expectations hold in %s' % (holding, wanted, which)

@@ -61,7 +61,9 @@ class Search:
 
     @property
     def holding(self) -> int:
-        """The expectations that no set breaks, and that were judged with each of the faults."""
+        """The expectations that no set breaks, and that were judged with each of the faults; without a run, none."""
+        if not self.runs:
+            return 0
         broken = 0
         for mask in self.known.minimal.values():
             broken |= mask
