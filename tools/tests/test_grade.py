@@ -326,6 +326,19 @@ class Nets(Folder):
                             (net(PROGRAM % 9, motes=4) + lost, [2, 3]), (net(PROGRAM % 9, motes=1), [])):
             self.assertEqual(cut_off(Scenario.parse(text)), motes)
 
+    def test_sets_with_more_than_16_bits_are_remarked_on(self) -> None:
+        (self.top / 'task.expect.toml').write_text(
+            'expect = ["no mote halts", "motes 15 and 16 print a the set of motes that it hears"]')
+        (self.top / 'large.toml').write_text(net(PROGRAM % 9, motes=18))
+        self.grade('--net', 'large.toml')
+        self.assertEqual(self.seen, 'grade: in these nets a sentence wants a set of motes with more than 16 bits, '
+                                    'which no mote can print: large.toml (sentence 2, mote 15)\n')
+        self.assertIn('it prints a 3 at moment 48; no mote can print or send 81920, which has more than 16 bits\n',
+                      self.grade('--net', 'large.toml', '--why', 'anna'))
+        (self.top / 'task.expect.toml').write_text('expect = ["mote 1 prints a the set of motes that it hears"]')
+        self.grade('--net', 'large.toml')
+        self.assertEqual(self.seen, '')
+
     def test_faults_of_the_teacher_end_it(self) -> None:
         for words, seen in ((('--net', 'no.toml'), 'no.toml: No such file'),
                             (('--net', 'task.toml', '--program', 'x'), 'has no program x; it has: task')):

@@ -14,7 +14,9 @@ from motesim.files import replace_whole
 from motesim.grading import page, tables
 from motesim.grading.entries import Entry, anonymous, data_of, entries_of, skipped_of
 from motesim.grading.marking import Marks, Task, page_name, unmarked
-from motesim.grading.nets import Net, hidden_and_shown, nets_of, nets_with_cut_off, program_of, without_nets
+from motesim.grading.nets import (
+    Net, hidden_and_shown, nets_of, nets_with_cut_off, nets_with_wide_sets, program_of, without_nets,
+)
 from motesim.grading.own import OF_KEY
 from motesim.grading.pages import keep_names, pages_of, remove_earlier
 from motesim.grading.progress import Progress
@@ -146,13 +148,15 @@ def namesakes(entry: Entry, entries: Sequence[Entry]) -> list[str]:
         shlex.quote(entry.name), entry.name, ', '.join(others))] if others else []
 
 
-def remarks(asked: argparse.Namespace, nets: Sequence[Net]) -> list[str]:
+def remarks(asked: argparse.Namespace, nets: Sequence[Net], sentences: Sequence[str] = ()) -> list[str]:
     """Lines on things that a teacher may not have meant: combinations of values without a net, nets that are hidden
-    and shown, motes that are cut off, and files without a row."""
+    and shown, motes that are cut off, values that no mote can print, and files without a row."""
     lines = [*without_nets(asked.vary), *without_nets(asked.vary_hidden, True)]
     for remark, names in (
             ('these hidden nets equal a shown net, so a page of marks shows them', hidden_and_shown(nets)),
             ('in these nets no packet of the other motes reaches some motes', nets_with_cut_off(nets)),
+            ('in these nets a sentence wants a set of motes with more than 16 bits, which no mote can print',
+             nets_with_wide_sets(nets, read_all(sentences, Names()))),
             ('hidden files, expectations and marks have no row', skipped_of(asked.folder))):
         if names:
             more = ' and {:,} more'.format(len(names) - MOST_LISTED) if len(names) > MOST_LISTED else ''
@@ -185,7 +189,7 @@ def status_of(asked: argparse.Namespace) -> int:
         remove_earlier(pictures)
         # (the list has all pages that the marking may write, because the user can end it at any time)
         keep_names(pictures, task.possible_pictures(entries))
-    for line in remarks(asked, task.nets) if asked.why is None else ():
+    for line in remarks(asked, task.nets, task.part.sentences) if asked.why is None else ():
         print('grade: %s' % line, file=sys.stderr)
     marked = grade(entries, task, asked.jobs)
     if pictures:

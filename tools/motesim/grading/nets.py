@@ -9,6 +9,8 @@ from pathlib import Path
 
 from motesim.experiments.asked import values_of
 from motesim.faults import Fault
+from motesim.judge.sentences import Sentence
+from motesim.judge.wide import first_wide
 from motesim.plan.plan import Plan
 from motesim.plan.tables import Value, text_of_value
 from motesim.plan.text import Mote
@@ -18,6 +20,7 @@ from motesim.runner.run import read_file
 from motesim.scenario import Scenario
 from motesim.scenario.faults import LONGEST_TEXT, find_fault
 from motesim.scenario.kinds import has_plan
+from motesim.search.quick_judge import Hops
 from motesim.terminal import cut
 from motesim.toml import MARK, NoToml, read_toml
 
@@ -158,6 +161,18 @@ def nets_with_cut_off(nets: Sequence[Net]) -> list[str]:
         motes = cut_off(net.scenario)
         shown = ', '.join(map(str, motes[:MOST_MOTES])) + (', ..' if len(motes) > MOST_MOTES else '')
         found += ['%s (mote%s %s)' % (net.name, 's' * (len(motes) > 1), shown)] if motes else []
+    return found
+
+
+def nets_with_wide_sets(nets: Sequence[Net], sentences: Sequence[Sentence]) -> list[str]:
+    """The names of the nets in which a sentence wants a set of motes with more than 16 bits, each with the first such
+    sentence and mote."""
+    found = []
+    for net in nets:
+        values_of = Hops(net.scenario).values
+        first = ((number, first_wide(it, net.scenario.motes, values_of)) for number, it in enumerate(sentences, 1))
+        found += ['%s (sentence %d, mote %d)' % (net.name, number, mote)
+                  for number, mote in first if mote is not None][:1]
     return found
 
 

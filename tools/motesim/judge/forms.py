@@ -71,9 +71,11 @@ VALUE = Table('VALUE', 'Is', ('mote 1 prints p %s',), (
     (('its distance from mote 0',),
      'the least number of hops from mote 0 to the mote, over links that don\'t lose every packet'),
     (('the set of motes that it hears', 'the set of motes that it hears but 5'),
-     'a number in which bit n is set for each mote n that the mote hears, except those after `but`'),
+     'a number in which bit n is set for each mote n that the mote hears, except those after `but`; a program has '
+     'numbers of 16 bits, so this is for nets in which no mote above 15 is heard'),
     (('the set of motes linked with it',),
-     'a number in which bit n is set for each mote n that the mote hears and that also hears the mote'),
+     'a number in which bit n is set for each mote n that the mote hears and that also hears the mote; it has 16 '
+     'bits too'),
     (('a mote that it hears, one hop nearer to mote 0',), 'the number of such a mote'),
 ))
 TIMES = Table('TIMES', 'How many lines', ('mote 1 sends %s',), (

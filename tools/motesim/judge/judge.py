@@ -17,6 +17,7 @@ from motesim.judge.numbers import TOGETHER, either, has, has_lines, there_are, v
 from motesim.judge.sentences import (
     Copies, Count, Deed, Does, Hears, Lines, MediumLine, Motes, Packets, Pattern, Refused, Sentence, Value, Window,
 )
+from motesim.judge.wide import remark_on
 from motesim.report import LOST, Line, Report, Rows
 from motesim.scenario import Scenario
 
@@ -265,9 +266,11 @@ class Judge:
                 return None
             events = self.done(it.deed, motes)
             broken = self.of_events(it, events, motes)
-            if broken is None or broken.row is not None or events or it.than:
-                return broken
-            return Broken(broken.why + self.other_value(it, motes))
+            if broken is None:
+                return None
+            is_shown = broken.row is not None or events or it.than
+            why = broken.why + ('' if is_shown else self.other_value(it, motes))
+            return Broken(why + remark_on(it.deed, motes, self.values), broken.row)
         except _Apart as apart:
             return Broken(str(apart))
 
