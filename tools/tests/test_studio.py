@@ -96,10 +96,35 @@ class Edits(unittest.TestCase):
         self.assertEqual(self.edited(text, what='move', mote=1, x=9, y=0),
                          text.replace('x = 8\ny = 0', 'x = 9\ny = 0'))
 
+    def test_motes_of_an_inline_array_are_moved_added_and_removed(self) -> None:
+        for between in ', ', ',\n  ', ', # {x = 7, y = 7}\n', ' , ':
+            first, second = '{ x = 1, y = -2, program = "p" }', '{"y" = 2,x=3 , program = \'p\'}'
+            text = 'end = 1\nmote = [%s%s%s, ]\nloss = [{from = 1, to = 0, every = 2}]\n[programs]\np = "mote = [{"\n' % (
+                first, between, second)
+            self.assertEqual(self.edited(text, what='move', mote=0, x=-40, y=1),
+                             text.replace('x = 1, y = -2', 'x = -40, y = 1'))
+            self.assertEqual(self.edited(text, what='move', mote=1, x=5, y=6),
+                             text.replace('"y" = 2,x=3 ,', '"y" = 6,x=5 ,'))
+            added = tomllib.loads(self.edited(text, what='add', x=4, y=5, program='p'))['mote'][2]
+            self.assertEqual(added, {'x': 4, 'y': 5, 'program': 'p'})
+            self.assertEqual(self.edited(text, what='lose', **{'from': 1, 'to': 0}, every=7),
+                             text.replace('every = 2', 'every = 7'))
+            without = self.edited(text, what='lose', **{'from': 1, 'to': 0}, every=0)
+            self.assertIn('\nloss = []\n', without)
+            self.assertIn('\nloss = [{ from = 0, to = 1, every = 3 }]\n',
+                          self.edited(without, what='lose', **{'from': 0, 'to': 1}, every=3))
+            self.assertEqual(tomllib.loads(self.edited(text, what='remove', mote=0))['mote'],
+                             [{'y': 2, 'x': 3, 'program': 'p'}])
+            self.assertEqual(len(tomllib.loads(self.edited(text, what='remove', mote=1))['mote']), 1)
+
+    def test_the_motes_of_the_first_demo_are_moved_on_the_map(self) -> None:
+        text = (TOP / 'examples/two_motes.toml').read_text()
+        moved = self.edited(text, what='move', mote=1, x=9, y=8)
+        self.assertEqual(tomllib.loads(moved)['mote'][1], {**tomllib.loads(text)['mote'][1], 'x': 9, 'y': 8})
+
     def test_what_the_map_cannot_change_is_refused_and_why(self) -> None:
-        inline = 'version = 1\nend = 1\nmote = [{x = 1, y = 2, program = "p"}, {x = 3, y = 2, program = "p"}]\n'
-        self.assertIn('cannot change', self.refused(inline, what='move', mote=0, x=1, y=1))
-        self.assertIn('is not a table [[mote]] of its own', self.refused(inline, what='remove', mote=0))
+        dotted = 'version = 1\nend = 1\nmote = [{x.y = 1}, {x = 3, y = 2, program = "p"}]\n'
+        self.assertIn('cannot change', self.refused(dotted, what='move', mote=0, x=1, y=1))
         self.assertIn('has an error', self.refused(NET + '[', what='move', mote=0, x=1, y=1))
         wishes: list[dict[str, Any]] = [
             {'mote': 3, 'x': 0, 'y': 0}, {'mote': 0, 'x': 30_001, 'y': 0}, {'mote': 0, 'x': 0.5, 'y': 0},

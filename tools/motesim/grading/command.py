@@ -156,7 +156,7 @@ def remarks(asked: argparse.Namespace, nets: Sequence[Net], sentences: Sequence[
             ('these hidden nets equal a shown net, so a page of marks shows them', hidden_and_shown(nets)),
             ('in these nets no packet of the other motes reaches some motes', nets_with_cut_off(nets)),
             ('in these nets a sentence wants a set of motes with more than 16 bits, which no mote can print',
-             nets_with_wide_sets(nets, read_all(sentences, Names()))),
+             nets_with_wide_sets(nets, read_all(list(sentences), Names()))),
             ('hidden files, expectations and marks have no row', skipped_of(asked.folder))):
         if names:
             more = ' and {:,} more'.format(len(names) - MOST_LISTED) if len(names) > MOST_LISTED else ''

@@ -8,10 +8,12 @@ The text is read before and after an edit. An edit is refused if it would change
 from __future__ import annotations
 
 import copy
+from functools import cached_property
 from typing import Any, NamedTuple
 
 from motesim.faults import Fault
-from motesim.scenario.faults import Place, places, value_of
+from motesim.scenario.faults import Path, Place, places, value_of
+from motesim.scenario.inline import Span, inline_values
 from motesim.toml import NoToml, read_toml
 
 MOST_PLACE, MOST_MOTES, MOST_EVERY = 30_000, 1_000, 1_000_000
@@ -51,6 +53,11 @@ class Text:
     def offset(self, place: Place) -> int:
         return self.begins[place.line - 1] + place.column
 
+    @cached_property
+    def inline(self) -> dict[Path, Span]:
+        """The places of the values in inline arrays and tables."""
+        return inline_values(self.text, {path: self.offset(it) + it.length for path, it in self.places.items()})
+
     def members(self, name: str) -> list[Any]:
         members = self.tables.get(name, [])
         return members if type(members) is list else []
@@ -68,6 +75,8 @@ class Text:
 
     def number(self, path: tuple[str | int, ...], number: int) -> Change:
         """The change that sets a key to another number."""
+        if path in self.inline:
+            return Change(*self.inline[path], str(number))
         key = self.places.get(path)
         value = value_of(self.text, key) if key else None
         if value is None or value == key:
@@ -77,6 +86,8 @@ class Text:
 
     def without(self, name: str, index: int) -> Change:
         """The change that removes a table, and the second of two blank lines."""
+        if (name, index) in self.inline:
+            return self.without_inline(name, index)
         first, end_line = self.lines(name, index)
         if (first and end_line < len(self.rows) and not self.rows[first - 1].strip()
                 and not self.rows[end_line].strip()):
@@ -86,9 +97,32 @@ class Text:
             return Change(max(begin - 1, 0), len(self.text), '\n' if begin else '')
         return Change(begin, end, '')
 
+    def without_inline(self, name: str, index: int) -> Change:
+        """The change that removes a table of an inline array, with the comma after it, or else before it."""
+        (begin, end), after = self.inline[name, index], self.inline.get((name, index + 1))
+        if after is not None:
+            return Change(begin, after[0], '')
+        return Change(self.inline[name, index - 1][1] if index else begin, end, '')
+
+    def appended_inline(self, name: str, table: list[str]) -> Change:
+        """The change that adds a table at the end of an inline array."""
+        last, added = len(self.members(name)) - 1, '{ %s }' % ', '.join(table[1:])
+        if last < 0:
+            begin = self.inline[(name,)][0] + 1
+            return Change(begin, begin, added)
+        end = self.inline[name, last][1]
+        return Change(end, end, self.between(name, last) + added)
+
+    def between(self, name: str, last: int) -> str:
+        """The text that divides the last table of an inline array from the one before it, if it has no comment."""
+        text = self.text[self.inline[name, last - 1][1]:self.inline[name, last][0]] if last else ''
+        return text if text and not text.strip(', \r\n') else ', '
+
     def appended(self, name: str, table: list[str]) -> Change:
         """The change that adds a table, after the last one of its name or at the end of the text."""
         members = self.members(name)
+        if (name,) in self.inline:
+            return self.appended_inline(name, table)
         first, end_line = self.lines(name, len(members) - 1) if members else (0, len(self.rows))
         spaced = bool(members) and first > 0 and not self.rows[first - 1].strip()
         offset = min(self.begins[end_line], len(self.text))
@@ -195,8 +229,9 @@ def edit(source: str, wish: dict[str, Any]) -> tuple[list[Change], str]:
         got: dict[str, Any] | None = read_toml(applied(source, changes))
     except NoToml:
         got = None
-    if not wanted.get('loss', True):
-        del wanted['loss']
+    for tables in wanted, got or {}:
+        if not tables.get('loss', True):
+            del tables['loss']
     if got != wanted:
         raise Fault('The map cannot change a text that is written like this. Change it by hand.')
     return changes, said
