@@ -106,6 +106,7 @@ MEASURES: list[tuple[str, str, Cell]] = [
     ('delay: mote 1 prints a twice -> mote 2 prints a', 'delay: mote 1 prints a twice -> mote 2 prints a', None),
     ('ratio = delivery: mote 1 prints a -> mote 2 prints a', 'ratio', 0.5),
     ('pdr = delivery: mote 0 sends -> every mote but 0 prints a', 'pdr', 1.0),
+    ('pdr = delivery: mote 1 sends -> motes 0 and 2 print a', 'pdr', 0.5),
     ('pdr = delivery: motes 1 and 2 print a -> mote 1 prints a after 3', 'pdr', 0.333333333333),
     ('pdr = delivery: mote 2 sends -> mote 1 prints a', 'pdr', None),
     ('flow most: print a', 'flow most: print a', 6),
@@ -113,9 +114,75 @@ MEASURES: list[tuple[str, str, Cell]] = [
     ('python: mine.py:odd', 'odd', 'two words'),
 ]
 WRONG = ['speed', 'moment: mote 1 never prints a', 'moment: no mote halts', 'moment: no copy collides',
+         'delivery: mote 0 sends -> every mote prints a twice', 'count: every mote sends exactly 3 times',
+         'last: mote 1 prints a twice', 'motes: motes 1 and 2 together print a',
          'delay: mote 0 sends', 'delivery: mote 0 sends', 'moment: mote 0 sends -> mote 1 sends',
          'flow fast: print a', 'flow most: halt',
          'python: mine.py:none', 'python: no.py:x', "holds: the scenario is refused with 'medium fault 2'"]
+# Mote 0 sends the messages 7 and 8. Mote 1 prints both, mote 2 one of them, and mote 3 none.
+FLOOD = '''mote 0 p
+0 start a
+1 print source 7
+5 print source 8
+mote 1 p
+0 start a
+2 print a 7
+6 print a 8
+mote 2 p
+0 start a
+4 print a 7
+7 print a 7
+mote 3 p
+0 start a
+medium
+left 0
+'''
+NET_OF_4 = SCENARIO.replace('process a;', 'process a, source;') + '[[mote]]\nx = 30\ny = 0\nprogram = "p"\n'
+# Measures and their values for the report above, by hand. In a delivery the pairs of a message and a mote that have a
+# print are 7 with mote 1, 8 with mote 1 and 7 with mote 2.
+OF_FLOOD: list[tuple[str, Cell]] = [
+    ('delivery: mote 0 prints source -> every mote but 0 prints a', 0.5),
+    ('delivery: mote 0 prints source -> each of motes 1 to 3 prints a', 0.5),
+    ('delivery: mote 0 prints source -> all motes but 0 print a', 0.5),
+    ('delivery: mote 0 prints source -> every mote prints a', 0.375),
+    ('delivery: mote 0 prints source -> motes 2 and 3 print a', 0.25),
+    ('delivery: mote 0 prints source -> every mote but 0 prints a before 5', 0.333333333333),
+    ('delivery: mote 0 prints source -> every mote but 0 prints a 8', 0.166666666667),
+    ('delivery: mote 0 prints source 8 -> every mote but 0 prints a 8', 0.333333333333),
+    ('delivery: mote 0 prints source -> some mote but 0 prints a', 1.0),
+    ('delivery: mote 0 prints source -> some mote but 0 prints a after 6', 0.5),
+    ('delivery: mote 0 prints source -> motes 2 and 3 together print a', 0.5),
+    ('delivery: mote 0 prints source -> mote 1 prints a', 1.0),
+    ('delivery: mote 0 prints source -> mote 2 prints a', 0.5),
+    ('delivery: mote 0 prints source -> mote 3 prints a', 0.0),
+    ('delivery: every mote prints source -> mote 2 prints a', 0.5),
+    ('delivery: some mote prints source -> mote 2 prints a', 0.5),
+    ('delivery: each of motes 1 and 2 prints a -> motes 1 and 2 print a', 0.5),
+    ('delivery: mote 3 prints source -> every mote prints a', None),
+    ('moment: every mote but 0 prints a', None),
+    ('moment: motes 1 and 2 print a', 4),
+    ('moment: some mote but 0 prints a', 2),
+    ('moment: some mote but 0 prints a twice', 6),
+    ('moment: all motes together print a twice', 4),
+    ('delay: mote 0 prints source -> every mote but 0 prints a', None),
+    ('delay: mote 0 prints source 7 -> motes 1 and 2 print a 7', 3),
+    ('delay: mote 0 prints source 7 -> some mote but 0 prints a 7', 1),
+    ('delay: motes 1 and 2 print a -> mote 0 prints source', 1),
+    ('delay: some mote but 0 prints a -> mote 0 prints source', 3),
+    ('delay: every mote but 0 prints a -> mote 0 prints source', None),
+    ('last: every mote but 0 prints a', 7),
+    ('last: some mote but 0 prints a 8', 6),
+    ('count: every mote but 0 prints a', 4),
+    ('count: some mote but 0 prints a', 4),
+    ('count: motes 2 and 3 together print a', 2),
+    ('motes: every mote but 0 prints a', 2),
+    ('motes: some mote but 0 prints a', 2),
+    ('motes: every mote but 0 prints a 8', 1),
+    ('holds: every mote but 0 prints a', 0),
+    ('holds: some mote but 0 prints a', 1),
+    ('flow ratio: print source -> print a', 1.0),
+    ('flow reached: print source -> print a', 1.5),
+]
 MINE = '''def lines(run):
     return sum(1 for line in run.report.lines())
 
@@ -141,6 +208,22 @@ class MeasuresTest(unittest.TestCase):
         for words, name, value in MEASURES:
             measure = read_measure(words, self.names, {'mine.py': MINE})
             self.assertEqual((measure.name, measure.of(bench())), (name, value), words)
+
+    def test_every_mote_in_a_measure_means_each_of_them(self) -> None:
+        scenario = Scenario.parse(NET_OF_4)
+        it = Bench(Run('flood', Report.parse(FLOOD), scenario))
+        for words, value in OF_FLOOD:
+            self.assertEqual(read_measure(words, names_of(scenario)).of(it), value, words)
+
+    def test_a_mote_that_has_to_receive_its_own_messages_is_a_warning(self) -> None:
+        for words, is_warned in [('delivery: mote 1 prints a -> every mote prints a', True),
+                                 ('delivery: motes 1 and 2 print a 8 -> motes 1 and 2 print a', True),
+                                 ('delivery: mote 1 prints a -> every mote but 1 prints a', False),
+                                 ('delivery: mote 1 prints a -> some mote prints a', False),
+                                 ('delivery: mote 1 prints a -> mote 1 prints a', False),
+                                 ('delivery: mote 1 prints a 9 -> every mote prints a', False)]:
+            found = read_measure(words, self.names).warning(bench())
+            self.assertEqual('mote 1 is in both sentences' in found and '`every mote but 1`' in found, is_warned, words)
 
     def test_sources_of_the_same_value_in_two_motes_are_a_warning(self) -> None:
         for words, is_warned in [('delivery: every mote prints a -> mote 2 prints a', True),
@@ -288,6 +371,18 @@ class SweepTest(Bed):
         self.assertEqual([row['measures'] for row in self.rows()], ['python: m.py:f; ' + files])
         (self.folder / 'mine.py').write_text(MINE + '# changed\n')
         self.assertIn('from before a change of the measures', self.sweep('--measure', 'python: m.py:f').stderr)
+
+    def test_rows_of_an_older_definition_of_a_measure_are_not_mixed_with_new_ones(self) -> None:
+        for words, is_old in (('delivery: mote 0 sends -> every mote prints a', True),
+                              ('delivery: mote 0 sends -> mote 1 prints a', False),
+                              ('delivery: mote 0 sends -> some mote prints a', False)):
+            command = '--measure', words, '--vary', 'period=1,2', '-o', 'old.csv'
+            self.sweep(*command, '--renew')
+            path = self.folder / 'old.csv'
+            before = digest(repr(([words], [])).encode())
+            path.write_text(path.read_text().replace(self.rows('old.csv')[0]['measures_sha256'], before))
+            done = self.sweep(*command)
+            self.assertEqual('from before a change of the measures. --renew' in done.stderr, is_old, done)
 
     def test_a_parameter_that_nothing_uses_and_an_error_in_a_picture_are_known_before_the_runs(self) -> None:
         plan = self.folder / 'net.plan.toml'

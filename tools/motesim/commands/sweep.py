@@ -22,7 +22,9 @@ Values are 10,20,40 or 1..30 or 0..100..25 (in steps of 25). Measures are
                                 the time from the first moment to the second; earlier lines of the second don't count
   delivery: motes 1 to 9 print source -> mote 0 prints sink
                                 the share of the lines of the first sentence that are followed by a line of the second
-                                with the same value; messages on the way at the end count as lost
+                                with the same value; messages on the way at the end count as lost. With `every mote`
+                                or `motes 1 to 9` in the second sentence, each pair of a message and a mote counts;
+                                with `some mote`, any of the motes is enough
   python: measures.py:energy    your function in a file next to the plan; its argument is the run
 and `name = MEASURE` names its column.
 

@@ -10,7 +10,7 @@ from __future__ import annotations
 import re
 from collections.abc import Iterable, Mapping
 
-from motesim.experiments.measures import Cell
+from motesim.experiments.measures import OWN, Cell
 from motesim.experiments.results import Row
 from motesim.explain.moments import SAME_MOMENT
 from motesim.summary.flows import SHARED
@@ -18,7 +18,7 @@ from motesim.summary.flows import SHARED
 # A note with this beginning is about a run that has all its measures.
 WARNING = 'warning: '
 # The beginnings of warnings that a sweep counts separately: for each, it reports the number of runs that have it.
-ONCE = (SHARED, SAME_MOMENT)
+ONCE = (SHARED, OWN, SAME_MOMENT)
 # The column with the parameters that are seeds of the pattern; and the number of consecutive seeds that draw different
 # numbers.
 CHANCE, APART = 'chance_seeds', 257

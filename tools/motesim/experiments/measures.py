@@ -11,8 +11,9 @@ import inspect
 import math
 import re
 import traceback
-from collections import Counter
-from collections.abc import Callable, Mapping
+from bisect import bisect_right
+from collections import Counter, defaultdict
+from collections.abc import Callable, Mapping, Sequence
 from dataclasses import dataclass
 from functools import cached_property
 from pathlib import PurePath
@@ -28,9 +29,10 @@ from motesim.summary.flows import FlowFault, flow_rows, read_flow, shared, share
 from motesim.summary.shares import share
 from motesim.judge.judge import Event, Judge
 from motesim.plan.tables import Value
+from motesim.report import Line
 from motesim.runner.run import Run
 from motesim.scenario import Scenario
-from motesim.judge.sentences import Copies, Does, Names, Packets, Refused, Sentence, read_sentence
+from motesim.judge.sentences import Copies, Does, Motes, Names, Packets, Refused, Sentence, read_sentence
 
 Cell = int | float | str | None
 
@@ -39,16 +41,23 @@ REACHABLE = 'reachable'
 FLOWS = tuple(FLOW_NAMES[1:])
 # Measures of one sentence, and those of two, `A -> B`.
 OF_TWO = ('delay', 'delivery')
+# Measures of single lines, in which a number of lines, such as `twice`, has no meaning.
+OF_LINES = ('last', 'count', 'delivery')
 KINDS = ('holds', 'moment', 'last', 'count', 'motes', *OF_TWO)
 NAMED = re.compile(r'\s*([A-Za-z][A-Za-z0-9_ -]{0,39}?)\s*=(?!=)\s*(.*)', re.S)
 OF_SUMMARY = re.compile(r'([a-z]+)(?:\s+of\s+mote\s+([0-9]{1,4}))?')
 OF_FLOW = re.compile(r'flow\s+([a-z]+)\s*:(.*)', re.S)
 OF_SENTENCE = re.compile(r'(%s)\s*:(.*)' % '|'.join(KINDS), re.S)
+# The beginning of a second sentence of which one line is enough for a delivery.
+OF_ONE = re.compile(r'\s*(?:mote|some mote)\b', re.I)
 # The names of columns of unnamed measures that count something, or measure time.
 OF_COUNT = re.compile(r'(?:%s)(?:\s+of\s+mote\s+[0-9]+)?|(?:count|motes|moment|last|delay)\s*:.*'
                       r'|flow\s+(?:sent|delivered|copies|duplicates)\s*:.*' % '|'.join(
                           it for it in SUMMARY if it != 'ratio'), re.S)
 OF_PYTHON = re.compile(r'python\s*:\s*([^:]+?)\s*:\s*([A-Za-z_]\w*)')
+
+# The beginning of the warning about a mote that has to receive its own messages.
+OWN = 'a message and its own mote count as a pair'
 
 
 class MeasureFault(Fault):
@@ -123,10 +132,16 @@ def _events(judge: Judge, it: Does, motes: tuple[int, ...]) -> list[Event]:
     return sorted(found, key=lambda event: event.line.at)
 
 
+def _groups(judge: Judge, motes: Motes) -> list[tuple[int, ...]]:
+    """The motes of a sentence in groups that each have to do what it says: motes together are one group, otherwise each
+    mote is a group."""
+    chosen = judge.chosen(motes)
+    return [chosen] if motes.kind == 'together' else [(mote,) for mote in chosen]
+
+
 def _moment(judge: Judge, it: Does, since: int = 0) -> int | None:
     """The first moment at which a sentence is fulfilled by lines from a moment on, or None if it never is."""
-    wanted, chosen = max(1, it.count.least), judge.chosen(it.motes)
-    groups = [chosen] if it.motes.kind == 'together' else [(mote,) for mote in chosen]
+    wanted, groups = max(1, it.count.least), _groups(judge, it.motes)
     moments = ([event.line.at for event in _events(judge, it, group) if event.line.at >= since] for group in groups)
     found = [its[wanted - 1] for its in moments if len(its) >= wanted]
     if it.motes.kind == 'some':
@@ -156,20 +171,37 @@ def _motes(judge: Judge, it: Does) -> int:
     return sum(len(_events(judge, it, (mote,))) >= wanted for mote in judge.chosen(it.motes))
 
 
+def _lines(judge: Judge, it: Does, motes: tuple[int, ...]) -> list[Line]:
+    """The lines of these motes that a sentence is about, each in the window of its mote, in the order of their
+    moments."""
+    found = [event.line for mote in motes for event in _events(judge, it, (mote,))]
+    return sorted(found, key=lambda line: line.at)
+
+
+def _receivers(judge: Judge, motes: Motes) -> list[tuple[int, ...]]:
+    """The groups of motes that each message of a `delivery` has to reach, as in `_groups`. It reaches `some mote` if it
+    reaches any of them, so these are one group."""
+    return [judge.chosen(motes)] if motes.kind == 'some' else _groups(judge, motes)
+
+
+def _reached(sent: Mapping[int | None, Sequence[int]], lines: Sequence[Line]) -> int:
+    """The number of messages, given by their values and moments, that are followed by one of these lines with the same
+    value. Each line counts for one message."""
+    found = Counter[int | None]()
+    for line in lines:
+        found[line.value] += found[line.value] < bisect_right(sent.get(line.value, ()), line.at)
+    return found.total()
+
+
 def _delivery(judge: Judge, begin: Does, end: Does) -> float | None:
-    """The share of the lines of one sentence that are followed by a line of the other sentence with the same value.
-    Each line of the other sentence counts once."""
-    sent, arrived = (_events(judge, it, judge.chosen(it.motes)) for it in (begin, end))
-    lines = sorted([(it.line.at, False, it.line.value) for it in sent] + [(it.line.at, True, it.line.value)
-                                                                          for it in arrived], key=lambda it: it[:2])
-    waiting, delivered = Counter[int | None](), 0
-    for _, is_end, value in lines:
-        if not is_end:
-            waiting[value] += 1
-        elif waiting[value]:
-            waiting[value] -= 1
-            delivered += 1
-    return share(delivered, len(sent))
+    """The share of the pairs of a message (a line of one sentence) and a receiver (a mote of the other sentence) in
+    which the receiver has a line with the value of the message."""
+    sent: defaultdict[int | None, list[int]] = defaultdict(list)
+    messages = _lines(judge, begin, judge.chosen(begin.motes))
+    for line in messages:
+        sent[line.value].append(line.at)
+    receivers = _receivers(judge, end.motes)
+    return share(sum(_reached(sent, _lines(judge, end, group)) for group in receivers), len(messages) * len(receivers))
 
 
 def _count_rows(judge: Judge, it: Copies | Packets) -> int:
@@ -191,6 +223,15 @@ def _plain(sentence: Sentence, words: str) -> Does:
     if sentence.motes.kind == 'no' or sentence.count.compare in ('at most', 'fewer than'):
         raise MeasureFault('%r has no moment: it says what must not happen' % words)
     return sentence
+
+
+def _check_use(kind: str, it: Does) -> None:
+    """Refuses parts of a sentence that a measure doesn't use, because their meaning would be unclear."""
+    if kind in OF_LINES and it.is_counted:
+        raise MeasureFault('`%s:` is about single lines, and %r is about a number of lines: leave out the number' % (
+            kind, str(it.count)))
+    if kind == 'motes' and it.motes.kind == 'together':
+        raise MeasureFault('`motes:` counts the motes one by one: leave out `together`')
 
 
 def _guarded(work: Callable[[Judge], Cell]) -> Callable[[Bench], Cell]:
@@ -219,6 +260,8 @@ def _of_sentence(kind: str, words: str, names: Names) -> Callable[[Bench], Cell]
         rows = first
         return _guarded(lambda judge: _count_rows(judge, rows))
     its = [_plain(sentence, part) for sentence, part in zip(sentences, parts)]
+    for it in its:
+        _check_use(kind, it)
     if kind in OF_TWO:
         of_two: dict[str, Callable[[Judge, Does, Does], Cell]] = {'delay': _delay, 'delivery': _delivery}
         return _guarded(lambda judge: of_two[kind](judge, *its))
@@ -227,11 +270,23 @@ def _of_sentence(kind: str, words: str, names: Names) -> Callable[[Bench], Cell]
     return _guarded(lambda judge: work[kind](judge, its[0]))
 
 
+def _own(messages: Sequence[Line], receivers: Sequence[tuple[int, ...]]) -> str:
+    """A warning if each message has to reach several motes, and its own mote is one of them; otherwise an empty
+    text."""
+    own = next((it.mote for it in messages if (it.mote,) in receivers), None) if len(receivers) > 1 else None
+    return '' if own is None else OWN + ': mote %d is in both sentences, and so is a receiver of its own messages. ' \
+        'Leave it out, as in `every mote but %d`, or use `flow reached`, which counts only other motes' % (own, own)
+
+
 def _warning_of_delivery(words: str, names: Names) -> Callable[[Bench], str]:
-    """The warning of a `delivery` if several motes print the same value as a source."""
-    text = words.partition('->')[0].strip()
-    begin = _plain(read_sentence(text, names), text)
-    of = _guarded(lambda judge: shared(it.line for it in _events(judge, begin, judge.chosen(begin.motes))))
+    """The warning of a `delivery`: several motes print the same value as a source, or a mote is its own receiver."""
+    begin, end = (_plain(read_sentence(it.strip(), names), it.strip()) for it in words.split('->'))
+
+    def found(judge: Judge) -> str:
+        messages = _lines(judge, begin, judge.chosen(begin.motes))
+        return shared(messages) or _own(messages, _receivers(judge, end.motes))
+
+    of = _guarded(found)
     return lambda bench: str(of(bench) or '')
 
 
@@ -356,6 +411,14 @@ def processes_of_flow(words: str) -> list[str]:
     """The processes that the flow of a measure such as `flow reached: print flood` names."""
     found = OF_FLOW.fullmatch(_parts(words)[1])
     return sorted({it.process for it in read_flow(found[2]) if it.process}) if found else []
+
+
+def edition_of(words: str) -> str:
+    """The name of the present definition of a measure, if the same text had another meaning before; otherwise an empty
+    text."""
+    found = OF_SENTENCE.fullmatch(_parts(words)[1])
+    is_of_pairs = found and found[1] == 'delivery' and not OF_ONE.match(found[2].partition('->')[2])
+    return 'share of pairs' if is_of_pairs else ''
 
 
 def mote_of(words: str) -> int | None:

@@ -8,12 +8,13 @@ import subprocess
 import sys
 from array import array
 from collections import Counter
-from collections.abc import Iterable, Iterator, Mapping
+from collections.abc import Iterable, Iterator, Mapping, Sequence
 from pathlib import Path
 
 from motesim.analysis.points import is_seed
 from motesim.experiments import packages
 from motesim.faults import INTERRUPTED, Fault
+from motesim.experiments.measures import edition_of
 from motesim.experiments.one_run import DIGITS, TOO_BUSY, Job, Result, Work, digest, program_digest
 from motesim.output import beside
 from motesim.plan.plan import UNUSED, Plan
@@ -46,7 +47,7 @@ class Sweeper:
             'plan': self.plan.name, 'program': program_version(self.program),
             'program_sha256': program_digest(self.program), 'kit': kit_version(self.program),
             'parameters': ' '.join(self.plan.parameters), 'measures': texts_of(sweep.measures, self.sources),
-            'measures_sha256': digest(repr((sweep.measures, sorted(self.sources.items()))).encode())}
+            'measures_sha256': digest_of(sweep.measures, self.sources)}
         self.path = path
         # (for each parameter that varies, the place of each value)
         self.places = {name: {text_of_value(value): place for place, value in enumerate(values)}
@@ -239,6 +240,11 @@ class Sweeper:
             place = self.place_of(row)
             if place is not None and self.spots[place] == spot:
                 yield row
+
+
+def digest_of(measures: Sequence[str], sources: Mapping[str, str]) -> str:
+    """The digest of the measures and their files, and of definitions that have changed."""
+    return digest(repr((measures, sorted(sources.items()), *filter(None, map(edition_of, measures)))).encode())
 
 
 def texts_of(measures: Iterable[str], sources: Mapping[str, str]) -> str:
