@@ -267,14 +267,17 @@ class Texts(unittest.TestCase):
     def test_text_that_cannot_be_changed(self) -> None:
         head, _, motes = DIAMOND.partition('[[mote]]\n')
         rows = ', '.join('{x = %d, y = %d, program = "p"}' % at for at in ((0, 0), (6, 6), (6, -6), (12, 0)))
-        base = base_of('mote = [%s]\n' % rows + head)
-        move = faults_by_words(base, kinds=('places',), step=3)['mote 1 is at 9, 6']
-        with self.assertRaises(CannotChange):
-            base.text(change_of([move], base))
+        text = 'mote = [%s]\n' % rows + head.rstrip('\n')
+        base = base_of(text)
+        fails = faults_by_words(base, kinds=('deaths',), moments=(5,))['mote 1 fails at 5']
+        with self.assertRaisesRegex(CannotChange, 'its last line has no line end'):
+            base.text(change_of([fails], base))
+
+    def test_losses_are_added_to_an_empty_array(self) -> None:
         base = base_of('loss = []\n' + DIAMOND)
-        link = faults_by_words(base, kinds=('links',))['link 0 to 1 loses everything']
-        with self.assertRaisesRegex(CannotChange, 'losses in one array'):
-            base.text(change_of([link], base))
+        silent = faults_by_words(base, kinds=('motes',))['mote 0 is silent']
+        self.assertEqual(base.text(change_of([silent], base)), 'loss = [{ from = 0, to = 1, every = 1 }, '
+                         '{ from = 0, to = 2, every = 1 }]\n' + DIAMOND)
 
     def test_scenario_with_a_fault(self) -> None:
         with self.assertRaisesRegex(Fault, 'diamond.toml has no report: motesim: scenario fault 2'):
@@ -458,13 +461,19 @@ class Searches(unittest.TestCase):
             search(folder, *words, '--json', 'f.json')
             self.assertIn('left out: 8 of 10 copies', json.loads((folder / 'f.json').read_text())['notes'][0])
 
-    def test_motes_in_one_array_have_one_line(self) -> None:
+    def test_motes_and_losses_in_inline_arrays_can_be_changed(self) -> None:
         head, *motes = DIAMOND.split('[[mote]]')
         array = ', '.join('{ %s }' % ', '.join(it.strip().split('\n')) for it in motes)
-        with folder_with('mote = [%s]\n%s' % (array, head)) as folder:
-            status, said, _ = search(folder, '--faults', 'deaths,late')
-            self.assertIn("left out: motes 0, 1, 2, 3 can't be made to fail or start late: diamond.toml has its motes "
-                          'in one array: write a table [[mote]] for each, with its keys on lines of their own\n', said)
+        with folder_with('mote = [%s]\nloss = [{ from = 3, to = 1, every = 9 }]\n%s' % (array, head)) as folder:
+            status, said, seen = search(folder, '--faults', 'links,motes,deaths,late,places', '--moments', '5')
+            self.assertIn('all 36 single faults: 36 run\n', said, seen)
+            self.assertNotIn('NOT MADE', said)
+
+    def test_a_shorter_queue_and_a_failing_mote_are_combined(self) -> None:
+        with folder_with() as folder:
+            status, said, _ = search(folder, '--faults', 'queues,deaths', '--moments', '5', '--at-most', '2', '--expect',
+                                     'no mote halts')
+            self.assertIn('all 22 pairs: 22 run\n', said)
 
     def test_search_without_a_run_has_no_result(self) -> None:
         # (each mote sends one packet, which can't be lost alone)

@@ -153,29 +153,28 @@ class Base:
         """The place at which losses are added, with the text before them."""
         return self.lines.appended('loss', [])
 
-    @cached_property
-    def has_loss_array(self) -> bool:
-        """Returns whether the losses are one array in a line of their own, to which no table can be added."""
-        return bool(self.tables.get('loss')) and ('loss', 0) not in self.lines.places or self.tables.get('loss') == []
-
     def of_losses(self, change: Change) -> list[Edit]:
-        found, rows = [], []
+        found, added = list[Edit](), list[list[str]]()
         for (sender, receiver), every in change.losses.items():
             index = self.loss_index.get((sender, receiver))
             if index is None:
-                rows += ['[[loss]]', 'from = %d' % sender, 'to = %d' % receiver, 'every = %d' % every]
+                added.append(['from = %d' % sender, 'to = %d' % receiver, 'every = %d' % every])
             elif self.tables['loss'][index]['every'] != every:
                 found.append(self.value(('loss', index, 'every'), str(every)))
-        if rows:
-            if self.has_loss_array:
-                raise CannotChange('%s has its losses in one array, and no tables [[loss]] to which one can be added'
-                                   % self.name)
-            end = self.end_of_losses
-            found.append(Edit(end.begin, end.end, end.text + ''.join(row + '\n' for row in rows)))
-        return found
+        return [*found, self.with_losses(added)] if added else found
+
+    def with_losses(self, added: list[list[str]]) -> Edit:
+        """Adds losses, each a list of its keys with their values."""
+        if ('loss',) in self.lines.inline:
+            return self.lines.appended_inline('loss', added)
+        end = self.end_of_losses
+        rows = [row for it in added for row in ('[[loss]]', *it)]
+        return Edit(end.begin, end.end, end.text + ''.join(row + '\n' for row in rows))
 
     def stretch(self, path: tuple[str | int, ...]) -> tuple[int, int]:
         """The place of a key's value in the text, if it can be found."""
+        if path in self.lines.inline:
+            return self.lines.inline[path]
         if path not in self.stretches:
             value = value_of(self.source, place_of(self.source, path))
             begin = self.lines.offset(value)
@@ -186,9 +185,6 @@ class Base:
         """Replaces the value of a key."""
         begin, end = self.stretch(path)
         if self.source[begin:end].strip('"\'') != shown(self.tables, path):
-            if path[0] == 'mote':
-                raise CannotChange('%s has its motes in one array: write a table [[mote]] for each, with its keys on '
-                                   'lines of their own' % self.name)
             raise CannotChange('%s: %s is not on a line of its own, so it can\'t be changed in the text'
                                % (self.name, '.'.join(map(str, path))))
         return Edit(begin, end, text)
@@ -227,14 +223,15 @@ class Base:
         return [*found, Edit(at, at, ''.join(rows))]
 
     def last_line_of_programs(self) -> int:
-        """The line before which a program can be added: the first header after the table `programs`."""
+        """The line before which a program can be added: the first header after the table `programs`, or the end of the
+        text."""
         header = self.lines.places.get(('programs',))
         if header is None or self.lines.rows[header.line - 1].split('#')[0].strip() != '[programs]':
             raise CannotChange('%s: the programs are not in a table [programs], so none can be added' % self.name)
         after = next((line for line in self.lines.headers if line > header.line), None)
-        if after is None:
-            raise CannotChange('%s: the table [programs] is the last one; put it before the motes' % self.name)
-        return after - 1
+        if after is None and self.lines.rows[-1]:
+            raise CannotChange('%s: the table [programs] is the last one, and its last line has no line end' % self.name)
+        return len(self.lines.rows) - 1 if after is None else after - 1
 
     def of_added(self, change: Change, queue: dict[str, int]) -> list[Edit]:
         """Separate programs for motes that fail or start late."""

@@ -27,8 +27,8 @@ class Change(NamedTuple):
 
 
 def applied(text: str, changes: list[Change]) -> str:
-    """The text with the changes, which don't overlap."""
-    for change in sorted(changes, reverse=True):
+    """The text with the changes, which don't overlap; texts that are added at one place keep their order."""
+    for change in reversed(sorted(changes, key=lambda it: (it.begin, it.end))):
         text = text[:change.begin] + change.text + text[change.end:]
     return text
 
@@ -104,14 +104,14 @@ class Text:
             return Change(begin, after[0], '')
         return Change(self.inline[name, index - 1][1] if index else begin, end, '')
 
-    def appended_inline(self, name: str, table: list[str]) -> Change:
-        """The change that adds a table at the end of an inline array."""
-        last, added = len(self.members(name)) - 1, '{ %s }' % ', '.join(table[1:])
+    def appended_inline(self, name: str, tables: list[list[str]]) -> Change:
+        """The change that adds tables, each a list of its keys with their values, at the end of an inline array."""
+        last, added = len(self.members(name)) - 1, ['{ %s }' % ', '.join(it) for it in tables]
         if last < 0:
             begin = self.inline[(name,)][0] + 1
-            return Change(begin, begin, added)
-        end = self.inline[name, last][1]
-        return Change(end, end, self.between(name, last) + added)
+            return Change(begin, begin, ', '.join(added))
+        end, between = self.inline[name, last][1], self.between(name, last)
+        return Change(end, end, ''.join(between + it for it in added))
 
     def between(self, name: str, last: int) -> str:
         """The text that divides the last table of an inline array from the one before it, if it has no comment."""
@@ -122,7 +122,7 @@ class Text:
         """The change that adds a table, after the last one of its name or at the end of the text."""
         members = self.members(name)
         if (name,) in self.inline:
-            return self.appended_inline(name, table)
+            return self.appended_inline(name, [table[1:]])
         first, end_line = self.lines(name, len(members) - 1) if members else (0, len(self.rows))
         spaced = bool(members) and first > 0 and not self.rows[first - 1].strip()
         offset = min(self.begins[end_line], len(self.text))
