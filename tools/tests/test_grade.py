@@ -755,6 +755,18 @@ class Forms(Folder):
         self.assertIn('its name ends neither', self.grade(*words, 'ok'))
         self.assertEqual(self.seen, 'grade: --why ok shows the entry ok; other entries are ok.mote, ok.toml\n')
 
+    def test_why_of_the_beginning_of_a_name(self) -> None:
+        self.hand_in('gus_never_ends.mote', PROGRAM % 4)
+        words = '--net', 'task.toml', '--why'
+        self.assertIn('broken  every mote prints a 3', self.grade(*words, 'gus'))
+        self.assertEqual(self.seen, 'grade: --why gus shows gus_never_ends.mote, the only entry that begins so\n')
+        self.hand_in('gus_again.mote', PROGRAM % 3)
+        self.grade(*words, 'gus', status=2)
+        self.assertEqual(self.seen, 'grade: class has several solutions gus: --why needs the whole name of one: '
+                                    'gus_again.mote, gus_never_ends.mote\n')
+        self.grade(*words, '', status=2)
+        self.assertIn('class has no solution : ', self.seen)
+
     def test_anonymous_numbers_change_with_each_marking(self) -> None:
         for number in range(8):
             self.hand_in('s%d.toml' % number, net(PROGRAM % 3))

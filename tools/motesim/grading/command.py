@@ -122,27 +122,35 @@ def key_of(entries: Sequence[Entry], folder: Path) -> str:
     return OF_KEY + ''.join(it + '\n' for it in rows)
 
 
+def listed(names: Sequence[str]) -> str:
+    """The first of these names."""
+    return ', '.join([*names[:MOST_NAMES], *(['..'] if len(names) > MOST_NAMES else [])])
+
+
 def entry_of(name: str, entries: Sequence[Entry], folder: Path) -> Entry:
-    """The solution that a name means, with or without its ending. Raises a `Fault` that lists the solutions if there
-    is none, for instance because the file was renamed, or if several differ only in their endings."""
+    """The solution that a name means: the whole name, the name without its ending, or the beginning of only one name.
+    Raises a `Fault` that lists the solutions if there is none or if there are several."""
     found = next((it for it in entries if it.name == name), None)
     if found:
         return found
-    without = [it for it in entries if it.name.rpartition('.')[0] == name]
-    if len(without) > 1:
+    meant = [it for it in entries if it.name.rpartition('.')[0] == name] or [
+        it for it in entries if name and it.name.startswith(name)]
+    if len(meant) > 1:
         raise Fault('%s has several solutions %s: --why needs the whole name of one: %s' % (
-            folder, name, ', '.join(it.name for it in without)))
-    if without:
-        return without[0]
+            folder, name, listed([it.name for it in meant])))
+    if meant:
+        return meant[0]
     names = [it.name for it in entries]
     like = nearest(name, [*names, *(it.rpartition('.')[0] for it in names)])
-    more = [] if len(names) <= MOST_NAMES else ['..']
     raise Fault('%s has no solution %s%s: --why needs the name of one of its files: %s' % (
-        folder, name, ' (did you mean %s?)' % like if like else '', ', '.join([*names[:MOST_NAMES], *more])))
+        folder, name, ' (did you mean %s?)' % like if like else '', listed(names)))
 
 
-def namesakes(entry: Entry, entries: Sequence[Entry]) -> list[str]:
-    """A line about the solutions that have the name of an entry without an ending, with an ending."""
+def others_of(name: str, entry: Entry, entries: Sequence[Entry]) -> list[str]:
+    """A line if a name may mean another solution: if it is only the beginning of the entry's name, or if other
+    solutions have this name with an ending."""
+    if name not in (entry.name, entry.name.rpartition('.')[0]):
+        return ['--why %s shows %s, the only entry that begins so' % (shlex.quote(name), entry.name)]
     others = [it.name for it in entries if it.name.rpartition('.')[0] == entry.name]
     return ['--why %s shows the entry %s; other entries are %s' % (
         shlex.quote(entry.name), entry.name, ', '.join(others))] if others else []
@@ -176,7 +184,7 @@ def status_of(asked: argparse.Namespace) -> int:
     entries = entries_of(asked.folder)
     if asked.why is not None:
         entry = entry_of(asked.why, entries, asked.folder)
-        for line in namesakes(entry, entries):
+        for line in others_of(asked.why, entry, entries):
             print('grade: %s' % line, file=sys.stderr)
         entries = [entry]
     elif asked.anonymous:
