@@ -20,7 +20,8 @@ from typing import NamedTuple
 
 from motesim.faults import Fault, command
 from motesim.words import words_of
-from motesim.runner.programs import TOP, optimized_path
+from motesim.runner.optimized import optimized_path
+from motesim.runner.programs import TOP
 
 # Each scenario with the arguments of its script.
 SCENARIOS = {'beacons': [31, 2000, 10], 'polls': [500, 200], 'broadcasts': [8, 20000], 'timers': [64, 200000],

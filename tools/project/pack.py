@@ -32,7 +32,8 @@ from pathlib import Path, PurePosixPath
 from typing import NamedTuple
 
 from motesim.faults import Fault, command
-from motesim.runner.programs import COMPILED, TOP, is_proved, optimize, program_of_sources, program_path
+from motesim.runner.optimized import wait_for_optimized
+from motesim.runner.programs import COMPILED, TOP, is_proved, program_of_sources, program_path
 from motesim.scenario import kinds
 from motesim.terminal import one_line
 from motesim.version import KIT, VERSION
@@ -61,7 +62,7 @@ def program() -> Path:
     """The binary that MOTESIM names, or the proved binary of these sources, or one that is compiled without a
     proof."""
     found = program_path() if os.environ.get('MOTESIM') else program_of_sources() or compile_program()
-    optimize(found, waits=True)
+    wait_for_optimized(found)
     return found
 
 

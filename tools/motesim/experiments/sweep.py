@@ -20,7 +20,8 @@ from motesim.output import beside
 from motesim.plan.plan import UNUSED, Plan
 from motesim.plan.tables import Value, text_of_value, value_of_text
 from motesim.experiments.results import PLAN_FILES, CsvFile, Row, SqliteFile, open_results, text_of
-from motesim.runner.programs import TOP, optimized_path
+from motesim.runner.optimized import optimized_path
+from motesim.runner.programs import TOP
 from motesim.experiments.asked import Sweep, chance_seeds, columns_of, known_names, some_runs, sources_of, sweep_of
 from motesim.experiments.asked import unused
 from motesim.experiments.draws import CHANCE, WARNING, Notes, Seeds, warnings_in

@@ -6,6 +6,7 @@ out/programs by a digest of what they were made from:
 
     proved-DIGEST/motesim      built by `./prove` or `./test`; the digest is of the sources, contracts and proofs
     compiled-DIGEST/motesim    compiled without a proof; the digest is of the sources
+    slow-DIGEST/motesim        a copy of the first compiled one (motesim.runner.optimized)
 
 A binary in this folder is complete, and never changes, except that an optimized one replaces the first compiled one.
 """
@@ -32,6 +33,8 @@ DAY = 86_400
 PROGRAMS = TOP / 'out/programs'
 # The folder next to a binary that isn't optimized yet, with the inputs of the linker.
 PARTS = 'parts'
+# The least niceness of the process that optimizes a binary: the user's other work goes first, but doesn't starve it.
+NICENESS = 5
 # The binary in an archive that tools/pack made (an archive has no crates); and the page that the archive has if the
 # binary was proved.
 PACKED, PACKED_PROVED = TOP / 'motesim', TOP / 'PROVED.md'
@@ -145,22 +148,23 @@ def compiled_program() -> Path | None:
     return compiled_kept() if any(PROGRAMS.glob('compiled-*')) and is_program(compiled_kept()) else None
 
 
-def optimize(program: Path, waits: bool = False) -> None:
+def optimizer_of(program: Path) -> Path:
+    """The script that replaces a compiled binary by an optimized one, and then deletes itself."""
+    return program.resolve().parent / PARTS / 'optimize'
+
+
+def optimize(program: Path, niceness: int = NICENESS) -> None:
     """Starts a process in the background that replaces a compiled binary by an optimized one, unless this is done
-    already or another process does it. With `waits`, prints a line, and returns once the binary is optimized."""
-    script = program.resolve().parent / PARTS / 'optimize'
-    # (the script is deleted at the end)
-    with contextlib.suppress(FileNotFoundError):
-        with open(script, 'rb') as held, contextlib.suppress(BlockingIOError):
-            fcntl.flock(held, fcntl.LOCK_EX | fcntl.LOCK_NB)
-            # (the process has the lock until it ends)
-            subprocess.Popen(['nice', script], stdin=subprocess.DEVNULL, stdout=subprocess.DEVNULL,
-                             stderr=subprocess.DEVNULL, start_new_session=True, pass_fds=[held.fileno()])
-        if waits:
-            with open(script, 'rb') as held:
-                print('motesim: waiting for the optimized program, which is compiled in the background',
-                      file=sys.stderr, flush=True)
-                fcntl.flock(held, fcntl.LOCK_SH)
+    already, another process does it, or the folder can't be changed. The process has at least this niceness."""
+    script = optimizer_of(program)
+    with contextlib.suppress(OSError), open(script, 'rb') as held:
+        fcntl.flock(held, fcntl.LOCK_EX | fcntl.LOCK_NB)
+        # (those who wait say how long it lasts)
+        os.utime(script)
+        # (the process has the lock until it ends)
+        subprocess.Popen(['nice', '-n', str(max(0, niceness - os.nice(0))), script], stdin=subprocess.DEVNULL,
+                         stdout=subprocess.DEVNULL, stderr=subprocess.DEVNULL, start_new_session=True,
+                         pass_fds=[held.fileno()])
 
 
 def program_of_sources(may_be_proved: bool = True) -> Path | None:
@@ -170,22 +174,22 @@ def program_of_sources(may_be_proved: bool = True) -> Path | None:
     return (proved_program() if may_be_proved else None) or compiled_program()
 
 
-def _is_kept_as(kind: str, program: Path) -> bool:
-    return program.parent.parent == PROGRAMS.resolve() and program.parent.name.startswith(kind)
+def _is_kept_as(kinds: tuple[str, ...], program: Path) -> bool:
+    return program.parent.parent == PROGRAMS.resolve() and program.parent.name.startswith(kinds)
 
 
 def is_proved(program: Path) -> bool:
     """Returns whether a binary was built by a proof: in this tree, or for an archive."""
     program = program.resolve()
     is_packed = program == PACKED.resolve() and PACKED_PROVED.is_file()
-    return is_packed or program == PROVED.resolve() or _is_kept_as('proved-', program)
+    return is_packed or program == PROVED.resolve() or _is_kept_as(('proved-',), program)
 
 
 def is_compiled(program: Path) -> bool:
     """Returns whether a binary was compiled without a proof: here, or for an archive."""
     program = program.resolve()
     is_packed = program == PACKED.resolve() and not PACKED_PROVED.is_file()
-    return is_packed or _is_kept_as('compiled-', program)
+    return is_packed or _is_kept_as(('compiled-', 'slow-'), program)
 
 
 def is_said_today() -> bool:
@@ -231,11 +235,3 @@ def _program_here() -> Path:
     if is_compiled(found):
         say_not_proved()
     return found
-
-
-def optimized_path() -> Path:
-    """The binary to run, as `program_path` returns it, once it is optimized: for tools that write its digest or measure
-    it."""
-    path = program_path().resolve()
-    optimize(path, waits=True)
-    return path

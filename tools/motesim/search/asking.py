@@ -6,7 +6,7 @@ from collections.abc import Callable
 
 from motesim.experiments.one_run import program_digest
 from motesim.judge.sentences import Sentence
-from motesim.runner.programs import optimized_path
+from motesim.runner.optimized import optimized_path
 from motesim.search.by_dask import ByDask
 from motesim.search.change import Base
 from motesim.search.faults import WHY_NONE, Asked, faults_of, untried_copies
