@@ -523,6 +523,21 @@ class SweepTest(Bed):
         self.assertIn(' 0 of them now', subprocess.run([*command, '--retry'], cwd=self.folder, capture_output=True,
                                                        text=True).stdout)
 
+    def test_runs_whose_losses_lose_nothing_are_counted(self) -> None:
+        need_program(self)
+        (self.folder / 'net.plan.toml').write_text(PLAN.replace('name = "a"', 'name = "a"\nevery = 2') + (
+            '[[loss]]\nrule = "all"\nevery = "${every}"\n'))
+        (self.folder / 'a.mote').write_text(
+            'process a; autostart a; code a { var n = 0; body { while ((self == 1) && (n < 3)) { send 7; n = (n + 1); '
+            'pause; } } } // ${period}\n')
+        command = self.command('--vary', 'every=2..5', '--measure', 'sent')
+        done = subprocess.run(command, cwd=self.folder, capture_output=True, text=True)
+        self.assertEqual(done.stderr, (
+            'sweep: 2 runs have a warning in the column note; the first (every = 4): no packet was lost, though the '
+            'scenario has losses: a loss with `every = N` loses the packet N of its sender, but no mote with losses '
+            'sent more than 3 packets, and the least N is 4\n'), done)
+        self.assertEqual([bool(row['note']) for row in self.rows()], [False, False, True, True])
+
     def test_sources_of_the_same_value_are_reported_once_with_the_number_of_runs(self) -> None:
         need_program(self)
         (self.folder / 'net.plan.toml').write_text(PLAN)

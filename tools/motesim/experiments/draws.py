@@ -12,13 +12,14 @@ from collections.abc import Iterable, Mapping
 
 from motesim.experiments.measures import OWN, Cell
 from motesim.experiments.results import Row
+from motesim.explain.idle import IDLE
 from motesim.explain.moments import SAME_MOMENT
 from motesim.summary.flows import SHARED
 
 # A note with this beginning is about a run that has all its measures.
 WARNING = 'warning: '
 # The beginnings of warnings that a sweep counts separately: for each, it reports the number of runs that have it.
-ONCE = (SHARED, OWN, SAME_MOMENT)
+ONCE = (SHARED, OWN, SAME_MOMENT, IDLE)
 # The column with the parameters that are seeds of the pattern; and the number of consecutive seeds that draw different
 # numbers.
 CHANCE, APART = 'chance_seeds', 257

@@ -15,6 +15,7 @@ from pathlib import Path
 from types import FrameType
 from typing import NamedTuple
 
+from motesim.explain.idle import idle_losses
 from motesim.explain.lint import by_cause, of_losses, of_moments, of_seeds, programs_of
 from motesim.faults import Fault
 from motesim.runner.batch import fault_of
@@ -168,13 +169,14 @@ def measured(work: Work, bench: Bench, known: Scenario) -> tuple[dict[str, Cell]
 
 
 def warned(report: Report, known: Scenario, seconds: float, is_first: bool = True) -> list[str]:
-    """The warnings about packets that a mote sent at one moment, so that they collided; for the first run of a
-    treatment, also the warnings about losses in step and about seeds. If finding them lasts longer than a run may last,
+    """The warnings about packets that a mote sent at one moment, so that they collided, and about losses that lost
+    nothing; for the first run of a treatment, also the warnings about losses in step and about seeds. If finding them lasts longer than a run may last,
     there are none."""
     try:
         with limited(seconds):
             of_first = [*of_losses(known, report), *of_seeds(known, programs_of(known))] if is_first else []
-            return [WARNING + it.text for it in by_cause([*of_first, *of_moments(report)])]
+            found = [it.text for it in by_cause([*of_first, *of_moments(report)])]
+            return [WARNING + it for it in (*found, idle_losses(known, report)) if it]
     except TimeoutError:
         return []
 
