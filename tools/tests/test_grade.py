@@ -124,6 +124,7 @@ class Entries(Folder):
         (self.folder / 'group').mkdir()
         self.hand_in('group/eve.toml', net(PROGRAM % 3))
         rows = self.rows('--net', 'task.toml')
+        self.assertIn('1  5 of 14  every mote prints', self.grade('--net', 'task.toml'))
         self.assertEqual({name: row for name, row in rows.items() if row != '3 of 3'}, {
             'x.toml': '0 of 3  an empty folder', 'gone.toml': '0 of 3  a link, and not a file',
             'other.toml': '0 of 3  a link, and not a file', 'pipe.toml': '0 of 3  a pipe, and not a file',
@@ -132,12 +133,32 @@ class Entries(Folder):
             'allowed (at line 1, column 85)',
             'key.toml': '0 of 3  the file is not TOML: A key has more than 80 parts: write fewer dots (at line 1, '
             'column 1)',
-            'notes.txt': '0 of 3  its name ends neither in .toml nor in .mote',
-            'zoe.toml.txt': '0 of 3  its name ends neither in .toml nor in .mote: remove the ending .txt',
+            'notes.txt': '- of 3  its name ends neither in .toml nor in .mote',
+            'zoe.toml.txt': '- of 3  its name ends neither in .toml nor in .mote: remove the ending .txt',
             'bytes.toml': '0 of 3  the file is not UTF-8 text: save it as UTF-8',
             'large.toml': '0 of 3  the file is longer than 1,048,576 bytes'})
         self.assertEqual(sorted(name for name, row in rows.items() if row == '3 of 3'),
                          ['=1+1.toml', 'anna.toml', 'group/eve.toml', 'new\\nline.toml', 'raw\\xff.toml'])
+
+    def test_files_that_are_no_solutions_have_no_mark_and_do_not_count(self) -> None:
+        (self.folder / 'Emil_4712_file').mkdir()
+        self.hand_in('Emil_4712_file/emil.mote', PROGRAM % 4)
+        self.hand_in('Emil_4712_file/notes.txt', 'hello')
+        (self.folder / 'Emil_4712_file/work.zip').write_bytes(b'PK\x03\x04\0')
+        in_c = '/* neighbours */\n#include "contiki.h"\nPROCESS(a, "a");\n'
+        self.hand_in('ivan.c', in_c)
+        self.hand_in('jana.mote', in_c)
+        named = 'its name ends neither in .toml nor in .mote'
+        self.assertEqual(self.rows('--net', 'task.toml'), {
+            'Emil_4712_file/emil.mote': '1 of 3  broken: 1, 2', 'Emil_4712_file/notes.txt': '- of 3  ' + named,
+            'Emil_4712_file/work.zip': '- of 3  ' + named, 'anna.toml': '3 of 3',
+            'ivan.c': '- of 3  it is a program in C, and ' + named,
+            'jana.mote': '0 of 3  it is a program in C, not in the notation of mote programs'})
+        self.grade('--net', 'task.toml', '-o', 'marks.csv', '-o', 'marks.html', '-o', 'marks.toml')
+        self.assertIn('\n"ivan.c","",3,"it is a program in C, and %s","","",""\n' % named, self.page('marks.csv'))
+        self.assertIn('<td class="number ">- of 3</td>', self.page())
+        self.assertIn('<td class="number">1 of 3</td><td>every mote prints a 3</td>', self.page())
+        self.assertNotIn('holds', tomllib.loads(self.page('marks.toml'))['solution'][1])
 
     def test_a_file_without_a_program_says_so(self) -> None:
         for name, text in ('a.mote', '\ufeff'), ('b.mote', '// later\n'), ('c.toml', ' \n'), ('d.toml', '# later\n'):

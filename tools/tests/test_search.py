@@ -471,8 +471,8 @@ class Searches(unittest.TestCase):
 
     def test_a_shorter_queue_and_a_failing_mote_are_combined(self) -> None:
         with folder_with() as folder:
-            status, said, _ = search(folder, '--faults', 'queues,deaths', '--moments', '5', '--at-most', '2', '--expect',
-                                     'no mote halts')
+            status, said, _ = search(folder, '--faults', 'queues,deaths', '--moments', '5', '--at-most', '2',
+                                     '--expect', 'no mote halts')
             self.assertIn('all 22 pairs: 22 run\n', said)
 
     def test_search_without_a_run_has_no_result(self) -> None:

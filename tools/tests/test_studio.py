@@ -99,8 +99,8 @@ class Edits(unittest.TestCase):
     def test_motes_of_an_inline_array_are_moved_added_and_removed(self) -> None:
         for between in ', ', ',\n  ', ', # {x = 7, y = 7}\n', ' , ':
             first, second = '{ x = 1, y = -2, program = "p" }', '{"y" = 2,x=3 , program = \'p\'}'
-            text = 'end = 1\nmote = [%s%s%s, ]\nloss = [{from = 1, to = 0, every = 2}]\n[programs]\np = "mote = [{"\n' % (
-                first, between, second)
+            text = ('end = 1\nmote = [%s%s%s, ]\nloss = [{from = 1, to = 0, every = 2}]\n[programs]\n'
+                    'p = "mote = [{"\n' % (first, between, second))
             self.assertEqual(self.edited(text, what='move', mote=0, x=-40, y=1),
                              text.replace('x = 1, y = -2', 'x = -40, y = 1'))
             self.assertEqual(self.edited(text, what='move', mote=1, x=5, y=6),

@@ -17,19 +17,25 @@ from typing import NamedTuple
 from motesim.faults import Fault
 from motesim.grading.own import own_of
 from motesim.scenario.faults import LONGEST_TEXT
+from motesim.scenario.kinds import begins_as_c
 from motesim.terminal import one_line
 
 SUFFIXES = ('.toml', '.mote')
 OF_TEACHER = '.expect.toml'
 MOST_ENTRIES = 10_000
+IN_C = 'it is a program in C'
 DEEPEST = 8
 
 
 class Entry(NamedTuple):
-    """An entry: its shown name, its path, and the reason why it can't be graded, or an empty text."""
+    """An entry: its shown name, its path, and the reason why it can't be graded, or an empty text.
+
+    is_solution  whether it is marked: a plain file with another ending, such as notes or an archive, has no mark
+    """
     name: str
     path: Path
     why: str = ''
+    is_solution: bool = True
 
 
 def _kind(mode: int) -> str:
@@ -39,6 +45,24 @@ def _kind(mode: int) -> str:
         if test(mode):
             return '%s, and not a file' % what
     return 'not a file'
+
+
+def _why_by_name(name: str, path: Path) -> str:
+    """The reason why a plain file has no mark, if its name isn't that of a solution. The reason doesn't contain the
+    name, because it is shown on anonymous pages too."""
+    why = 'its name ends neither in .toml nor in .mote'
+    if name.lower().endswith(SUFFIXES):
+        return why + ': write the ending in small letters'
+    if name.removesuffix('.txt').endswith(SUFFIXES):
+        return why + ': remove the ending .txt'
+    return '%s, and %s' % (IN_C, why) if _is_c(path) else why
+
+
+def _is_c(path: Path) -> bool:
+    try:
+        return begins_as_c(data_of(Entry('', path)))
+    except Fault:
+        return False
 
 
 def _entries(folder: Path, top: Path, depth: int) -> Iterator[Entry]:
@@ -70,11 +94,7 @@ def _entries(folder: Path, top: Path, depth: int) -> Iterator[Entry]:
         elif not stat.S_ISREG(mode):
             yield Entry(its, path, _kind(mode))
         elif not it.name.endswith(SUFFIXES):
-            small = it.name.lower().endswith(SUFFIXES)
-            # (the reason doesn't contain the name, because it is shown on anonymous pages too)
-            yield Entry(its, path, 'its name ends neither in .toml nor in .mote%s' % (
-                ': write the ending in small letters' if small else ': remove the ending .txt'
-                if it.name.removesuffix('.txt').endswith(SUFFIXES) else ''))
+            yield Entry(its, path, _why_by_name(it.name, path), False)
         elif not it.name.endswith(OF_TEACHER):
             yield Entry(its, path)
 

@@ -11,7 +11,7 @@ from motesim.explain.explanation import explanation, of_program, of_program_file
 from motesim.explain.lint import Program, of_start
 from motesim.faults import Fault
 from motesim.files import replace_whole
-from motesim.grading.entries import Entry, data_of, without_program
+from motesim.grading.entries import IN_C, Entry, data_of, without_program
 from motesim.grading.nets import NOT_UTF8, Net, NoProgram, program_of
 from motesim.judge.expectations import (
     REFUSED, REQUIRED, Part, UnknownSentence, known_of, more_of, read_all, refused, same_report,
@@ -24,7 +24,7 @@ from motesim.runner import LimitMet, Limits, Runner
 from motesim.runner.run import Run
 from motesim.scenario import Scenario
 from motesim.scenario.faults import find_fault
-from motesim.scenario.kinds import begins_as_program, begins_as_scenario
+from motesim.scenario.kinds import begins_as_c, begins_as_program, begins_as_scenario
 from motesim.terminal import cut, one_line
 from motesim.timeline.html import write_page
 from motesim.timeline.note import note_of
@@ -75,6 +75,7 @@ class Marks:
     sentences, but not in the solution.
 
     is_open  whether it has to be marked again, because the reason isn't in the solution
+    is_solution  whether it is marked: other files than solutions have no mark, and don't count
     picture  the page with the timeline of its first failed sentence, in the folder of pictures
     no_page  the reason why there is no such page, though pages were asked for
     fix      for a refused scenario or program, the place of its error, and the correction
@@ -89,9 +90,14 @@ class Marks:
     no_page: str = ''
     fix: tuple[str, ...] = ()
     is_open: bool = False
+    is_solution: bool = True
     halts: str = ''
     shown_halts: str = ''
     warned: tuple[str, ...] = ()
+
+    @property
+    def has_mark(self) -> bool:
+        return self.is_solution and not self.is_open
 
     def in_lines(self) -> Marks:
         """These marks, with each text in one line: names in a solution may have characters that would end or change a
@@ -152,7 +158,7 @@ class Task:
         """The marks of an entry."""
         number, entry = numbered
         if entry.why:
-            return Marks(entry.name, why=entry.why)
+            return Marks(entry.name, why=entry.why, is_solution=entry.is_solution)
         if entry.path.suffix == '.mote' and not self.nets:
             return Marks(entry.name, why='a program needs a net: name one by --net')
         data = b''
@@ -167,6 +173,8 @@ class Task:
             if entry.path.suffix == '.mote' and begins_as_scenario(data):
                 return Marks(entry.name, why='it is a scenario, not the text of a program: a file of a scenario is '
                                              'NAME.toml')
+            if entry.path.suffix == '.mote' and begins_as_c(data):
+                return Marks(entry.name, why=IN_C + ', not in the notation of mote programs', fix=self.fix(entry, data))
             # (messages name lines by the solution's file; the name of an anonymous solution has the same ending)
             file = entry.name.removesuffix(entry.path.suffix).rpartition('/')[2] + entry.path.suffix
             if not self.nets:

@@ -7,7 +7,7 @@ from urllib.parse import quote
 
 from motesim.grading.marking import Marks
 from motesim.grading.own import OF_PAGE
-from motesim.grading.tables import count_of, required_of
+from motesim.grading.tables import count_of, holds, required_of
 from motesim.judge.expectations import REQUIRED
 
 HEAD = OF_PAGE + """<meta charset="utf-8">
@@ -34,7 +34,7 @@ OF_REQUIRED = ' If a required sentence doesn\'t hold, the mark is 0, whatever el
 
 
 def _colour(marks: Marks, count: int) -> str:
-    return '' if marks.is_open else 'all' if marks.held == count and count else 'some' if marks.held else 'none'
+    return '' if not marks.has_mark else 'all' if marks.held == count and count else 'some' if marks.held else 'none'
 
 
 def _first_failed(marks: Marks, folder: str) -> str:
@@ -64,9 +64,10 @@ def page_of(marked: Sequence[Marks], sentences: Sequence[str], title: str, folde
     """The page. `folder` has the timelines."""
     rows = [_row(it, len(sentences), folder) for it in marked]
     required = required_of(marked)
-    held = [sum(len(it.marks) > place and it.marks[place].holds for it in marked) for place in range(len(sentences))]
+    solutions = [it for it in marked if it.is_solution]
+    held = [sum(holds(it, place + 1) for it in solutions) for place in range(len(sentences))]
     below = ['<tr><td class="number">%d</td><td class="number">%d of %d</td><td>%s</td></tr>' % (
-        number, count, len(marked), escape(sentence) + REQUIRED * (number in required))
+        number, count, len(solutions), escape(sentence) + REQUIRED * (number in required))
         for number, (count, sentence) in enumerate(zip(held, sentences), 1)]
     return '\n'.join([
         HEAD % escape(title) + '<h1>%s</h1>' % escape(title),

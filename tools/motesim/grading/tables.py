@@ -31,8 +31,8 @@ def required_of(marked: Sequence[Marks]) -> list[int]:
 
 
 def count_of(marks: Marks, count: int) -> str:
-    """The number of sentences that hold for a solution."""
-    return '- of %d' % count if marks.is_open else '%d of %d' % (marks.held, count)
+    """The number of sentences that hold for a solution; `-` if it has no mark."""
+    return '%d of %d' % (marks.held, count) if marks.has_mark else '- of %d' % count
 
 
 def table(marked: Sequence[Marks], sentences: Sequence[str]) -> list[str]:
@@ -51,8 +51,8 @@ def table(marked: Sequence[Marks], sentences: Sequence[str]) -> list[str]:
 
 def below(marked: Sequence[Marks], sentences: Sequence[str]) -> list[str]:
     """The sentences, each with how many solutions meet it."""
-    required = required_of(marked)
-    return ['%3d  %d of %d  %s%s' % (number, sum(holds(it, number) for it in marked), len(marked), sentence,
+    required, solutions = required_of(marked), [it for it in marked if it.is_solution]
+    return ['%3d  %d of %d  %s%s' % (number, sum(holds(it, number) for it in solutions), len(solutions), sentence,
                                      REQUIRED * (number in required)) for number, sentence in enumerate(sentences, 1)]
 
 
@@ -89,8 +89,8 @@ def csv_of(marked: Sequence[Marks], sentences: Sequence[str], is_for_excel: bool
     rows.writerow([*COLUMNS, *map(cell, sentences)])
     for it in marked:
         holds: list[object] = [int(one.holds) for one in it.marks]
-        missing = '' if it.is_open else 0
-        rows.writerow([cell(without_separators(it.name)), missing if it.is_open else it.held, len(sentences),
+        missing = 0 if it.has_mark else ''
+        rows.writerow([cell(without_separators(it.name)), it.held if it.has_mark else missing, len(sentences),
                        cell(without_separators(it.fault)), *(holds or [missing] * len(sentences))])
     return out.getvalue()
 
@@ -115,7 +115,7 @@ def toml_of(marked: Sequence[Marks], sentences: Sequence[str], expectations: str
     lines += ['required = [%s]' % ', '.join(map(str, required))] if required else []
     for it in marked:
         lines += ['', '[[solution]]', 'name = %s' % quoted(it.name)]
-        if not it.is_open:
+        if it.has_mark:
             broken = [number for number in range(1, len(sentences) + 1) if not holds(it, number)]
             lines.append('holds = %d' % it.held)
             lines.append('broken = [%s]' % ', '.join(map(str, broken)))

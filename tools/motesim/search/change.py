@@ -230,7 +230,8 @@ class Base:
             raise CannotChange('%s: the programs are not in a table [programs], so none can be added' % self.name)
         after = next((line for line in self.lines.headers if line > header.line), None)
         if after is None and self.lines.rows[-1]:
-            raise CannotChange('%s: the table [programs] is the last one, and its last line has no line end' % self.name)
+            raise CannotChange('%s: the table [programs] is the last one, and its last line has no line end'
+                               % self.name)
         return len(self.lines.rows) - 1 if after is None else after - 1
 
     def of_added(self, change: Change, queue: dict[str, int]) -> list[Edit]:
