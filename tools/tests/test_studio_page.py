@@ -202,6 +202,22 @@ class Page(unittest.TestCase):
         self.wait('document.getElementById("fault").hidden && !document.body.classList.contains("stale")')
         self.assertEqual(self.value('document.querySelectorAll(".fault-mark, .fault-line").length'), 0)
 
+    def test_a_mark_stays_below_its_place_in_a_long_line(self) -> None:
+        self.open()
+        self.type_behind('print 1', '; ' + 'print (1 + 1); ' * 20 + 'prin 2; ' + 'print (2 + 2); ' * 20)
+        self.wait('document.querySelector("#fault .marked")')
+        line, mark = self.value('document.querySelector("#fault .marked").textContent').split('\n')
+        self.assertEqual(line[mark.index('^'):mark.index('^') + 6], 'prin 2')
+        # (two lines high, or three with a scroll bar, and scrolled so that the mark is in view)
+        height, pitch, begin, width, whole = self.value('''(() => {
+          const it = document.querySelector("#fault .marked");
+          return [it.clientHeight, parseFloat(getComputedStyle(it).lineHeight), it.scrollLeft, it.clientWidth,
+            it.scrollWidth];
+        })()''')
+        self.assertLess(height, 3 * pitch)
+        place = whole * mark.index('^') / max(len(line), len(mark))
+        self.assertTrue(begin < place < begin + width, (begin, place, width))
+
     def test_the_panel_of_a_fault_leaves_the_line_that_is_typed_in_view(self) -> None:
         for codemirror in (None, CODEMIRROR) if has_editor(CODEMIRROR) else (None,):
             with self.subTest(codemirror=codemirror):

@@ -9,6 +9,7 @@ import {setNow} from '../../timeline/page/play.js';
 import {collect} from '../../timeline/page/search.js';
 import {page, panes} from '../../timeline/page/stage.js';
 import {Lost, Refused, ask, attempt} from './link.js';
+import {showMarked} from './marked.js';
 import {say, showState, unsay} from './notices.js';
 import {studio} from './state.js';
 
@@ -104,7 +105,7 @@ function showFault({words: lines, line, place}) {
   unsay('limit');
   byId('fault').hidden = false;
   byId('warnings').hidden = true;
-  byId('fault').querySelector('pre').textContent = [line, ...lines].join('\n');
+  showMarked(byId('fault').querySelector('pre'), [line, ...lines]);
   byId('fault-place').hidden = !place;
   if (place) studio.editor.mark(place); else studio.editor.clear();
   const where = place ? `error in line ${place[0] + 1}` : 'an error';
