@@ -207,6 +207,11 @@ class Sentences(unittest.TestCase):
                 ('mote 1 prints a 1 until 13', 'mote 1 prints a 1 by 13'),
                 ('mote 1 sends once every 10 from 0 to 99', 'mote 1 sends once in each 10 from 0 to 99'),
                 ('exactly 3 packets is sent', 'exactly 3 packets are sent'), ('mote 1 sends befor 13', 'before'),
+                ('mote 1 prints a its number of hops from mote 0', 'mote 1 prints a its distance from mote 0'),
+                ('mote 1 prints a the distance to mote 0', 'mote 1 prints a its distance from mote 0'),
+                ('mote 1 prints a its hop count from 0', 'mote 1 prints a its distance from mote 0'),
+                ('every mote finally prints a the number of hops to mote 2',
+                 'every mote finally prints a its distance from mote 2'),
                 ('all motes halt never', 'all motes never halt'), ('no packets collide', 'no copy collides'),
                 ('there are no collisions', 'no copy collides'),
                 ('node 1 doesn\'t receive a packet before moment 5', 'mote 1 never receives before 5')):

@@ -56,6 +56,8 @@ FORMS: list[tuple[str, Replaced]] = [
     (r"\b(?:doesn't|does not|must not|should not|shall not|will not|won't|can't) (%s)\b" % VERBS, r'never \1s'),
     (r"\b(?:don't|do not) (%s)\b" % VERBS, r'never \1'),
     (r'\b(?:should|must|shall|will|has to) (%s)\b' % VERBS, r'\1s'),
+    (r'\b(?:its|the) (?:(?:least|shortest|smallest) )?(?:(?:number|count) of hops|hop(?: ?count|s| distance)?|distance)'
+     r'(?: in hops)? (?:from|to) (?:mote )?(?=\d)', 'its distance from mote '),
     (r'\bhears (?=(?:every |no |some )?motes?\b)', 'can hear '),
     (r"\b(?:doesn't|does not) hear (?=motes?\b)", 'cannot hear '),
     (r'\b(?P<verb>sends?|receives?) (?P<bound>exactly |at least |at most |more than |fewer than )?'
