@@ -23,7 +23,7 @@ from motesim.analysis.paired import Pair, Paired, differences, pairs_of
 from motesim.analysis.estimates import Estimate
 from motesim.analysis.points import Point, Wish, is_seed, shown_of
 from motesim.analysis.rows import by_net, once, warnings_of
-from motesim.analysis.text import columns_of_crossing, of_crossing, of_pairs, remarks
+from motesim.analysis.text import columns_of_crossing, of_crossing, of_crossing_in_short, of_pairs, remarks
 from motesim.experiments.results import Row, number_text, read_results
 from motesim.faults import Fault
 from motesim.plan.chance import Chance
@@ -219,6 +219,10 @@ class Crossings(unittest.TestCase):
                                 'at 2 to 4\n'
                                 '  how often the true curve crosses isn\'t known: report the range 0 to 4, or make '
                                 'more runs there')
+        wish = Wish('m', 'x', show='mean', threshold='0.6')
+        self.assertEqual(of_crossing_in_short(found, wish), 'the mean crosses 0.6 3 times (95 %: 0 to 4)')
+        self.assertEqual(of_crossing_in_short(found._replace(share=0.9), wish),
+                         'the mean crosses 0.6 3 times (95 %: 0 to 4; 90 % of the drawn curves cross)')
         columns = columns_of_crossing(found)
         self.assertEqual((columns['crossings'], round(columns['last crossing'], 3), columns['last crossing low'],
                           columns['last crossing high']), (3, 3, 2, 4))
@@ -846,6 +850,7 @@ class Command(unittest.TestCase):
         self.assertAlmostEqual(float(row['crossing']), 5.97)
         shown = ' '.join((self.folder / 'a.svg').read_text().split())
         self.assertIn('mean, and intervals of 95 % by Student\'s t over seed (5 runs)', shown)
+        self.assertIn('density thin: the mean rises above 0.6 at period 5.97 (95 %: 4 to 8)</text>', shown)
 
     def test_pairs_of_two_files_and_of_two_values(self) -> None:
         rows = self.plot('--measure', 'sent', '--against', 'period', '--compare', 'more.csv', '--over', 'seed,density')
@@ -1259,9 +1264,9 @@ class Command(unittest.TestCase):
                   '0.6', '-o', 'a.svg')
         picture = ' '.join(re.sub('<[^>]*>', ' ', (self.folder / 'a.svg').read_text()).split())
         for shown in ('(3 to 5 runs)', 'left out: 5 runs without a value of ratio: 1 at period 1, density thin; 2 at '
-                      'period 4, density thin; 2 at period 8, density thin', 'by the bootstrap of 4 runs, 3 to 4 at a '
-                      'point: '):
+                      'period 4, density thin; 2 at period 8, density thin'):
             self.assertIn(shown, picture)
+        self.assertIn('by the bootstrap of 4 runs, 3 to 4 at a point: ', (self.folder / 'a.origin.csv').read_text())
         with open(self.folder / 'a.table.csv', newline='') as file:
             self.assertEqual([it['left out'] for it in csv.DictReader(file)], ['0', '0', '0', '1', '2', '2'])
 

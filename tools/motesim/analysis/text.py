@@ -338,6 +338,26 @@ def crossings(shown: Shown, wish: Wish) -> list[str]:
             for by, found in crossings_of(shown, wish).items()]
 
 
+def crossings_in_short(shown: Shown, wish: Wish) -> list[str]:
+    """The crossing of each curve in one line, for the text below a picture."""
+    return [('%s: ' % wish.name_of_by(by) if wish.by else '') + of_crossing_in_short(found, wish)
+            for by, found in crossings_of(shown, wish).items()] or crossings(shown, wish)
+
+
+def of_crossing_in_short(found: Crossing | None, wish: Wish) -> str:
+    """The crossing of a curve, with its interval, in a few words. If there are several crossings, the range from the
+    first interval to the last."""
+    if found is None or found.low is None or found.high is None:
+        return of_crossing(found, wish)
+    middle, threshold = middle_of(wish)[0], shown_threshold(wish)
+    high = found.last[1] if found.last else found.high
+    interval = '%g %%: %s to %s%s' % (wish.confidence, *_ends(found.low, high), _share(found))
+    if found.last:
+        return 'the %s crosses %s %d times (%s)' % (middle, threshold, len(found.places), interval)
+    return 'the %s %s %s at %s %s (%s)' % (middle, 'rises above' if found.is_rising else 'falls below', threshold,
+                                           wish.against, number_text(found.at), interval)
+
+
 def of_crossing(found: Crossing | None, wish: Wish) -> str:
     """The crossing of a curve, with its interval."""
     middle, threshold = middle_of(wish)[0], shown_threshold(wish)
@@ -354,14 +374,18 @@ def of_crossing(found: Crossing | None, wish: Wish) -> str:
         lines = ['the %s crosses %s %d times:' % (middle, threshold, len(ways)), *ways]
     if found.low is None or found.high is None:
         return '\n  '.join(lines)
-    share = '' if found.share > 0.995 else '; %d %% of the drawn curves cross' % round(100 * found.share)
     few = ', %d to %d at a point' % found.sizes if found.sizes[0] < found.sizes[1] else ''
     by = 'with %g %%, by the bootstrap of %d %s%s: ' % (wish.confidence, found.draws, counted(wish), few)
     if found.last is None:
-        return '\n  '.join([*lines, '%s%s to %s%s' % (by, *_ends(found.low, found.high), share)])
+        return '\n  '.join([*lines, '%s%s to %s%s' % (by, *_ends(found.low, found.high), _share(found))])
     return '\n  '.join([*lines, '%sthe first crossing at %s to %s, and the last at %s to %s%s' % (
-        by, *_ends(found.low, found.high), *_ends(*found.last), share.replace('cross', 'cross in both directions')
-        if found.is_rising != found.places[-1].is_rising else share), _range(found)])
+        by, *_ends(found.low, found.high), *_ends(*found.last), _share(found)), _range(found)])
+
+
+def _share(found: Crossing) -> str:
+    """The part of the drawn curves that cross, unless nearly all of them do."""
+    both = ' in both directions' if found.last and found.is_rising != found.places[-1].is_rising else ''
+    return '' if found.share > 0.995 else '; %d %% of the drawn curves cross%s' % (round(100 * found.share), both)
 
 
 def _ends(low: float, high: float) -> tuple[str, str]:
