@@ -108,7 +108,7 @@ HOLDS = [
     'mote 2 finally prints hears the set of motes linked with it', 'mote 1 finally prints hears 1 by 45',
     'mote 1 finally prints hears the set of motes that it hears but 2 by 48',
     'mote 2 prints hears its distance from mote 0', 'mote 2 prints hears its number',
-    'mote 1 prints just flood its distance from mote 0 by 60',
+    'mote 1 prints just flood its distance from mote 0 by 60', 'no mote sends the greatest mote number',
     'mote 2 prints flood a mote that it hears, one hop nearer to mote 0 at 46', "mote 1 writes 'collide 2 0' at 49",
     "mote 1 writes 'collide' or 'print flood' exactly 3 times", 'mote 0 starts flood', 'mote 0 never leaves flood',
     'exactly 1 copy collides', 'exactly 1 copy collides at mote 1', 'no copy collides at mote 2',
@@ -136,6 +136,7 @@ BROKEN = [
     ('mote 2 finally prints hears the set of motes that it hears but 1', 16),
     ('mote 1 prints just hears its distance from mote 0', 11), ('mote 2 prints just flood its number', 15),
     ('mote 0 prints just flood its number', None),
+    ('mote 2 finally prints hears the greatest mote number', 16),
     ('mote 0 finally prints hears 1', None), ('no copy collides', 12), ('no copy is lost', 27),
     ('no copy is left', 29), ('at most 3 packets are sent', 27), ("mote 3 writes 'halt halt'", None),
     ('no copy arrives at mote 0', 4),
@@ -190,6 +191,13 @@ class Sentences(unittest.TestCase):
                 broken = self.judge.broken(read_sentence(sentence, self.names))
                 assert broken is not None
                 self.assertEqual(broken.row, row, broken.why)
+
+    def test_the_greatest_mote_number_is_that_of_the_net(self) -> None:
+        for motes in 3, 4:
+            lines = REPORT.replace('46 print hears 2', '46 print hears %d' % (motes - 1))
+            its = Judge(Report.parse(lines), Scenario.parse(SCENARIO))
+            broken = its.broken(read_sentence('mote 2 finally prints hears the greatest mote number', self.names))
+            self.assertEqual(broken is None, motes == 4, broken)
 
     def test_a_sentence_of_another_form_is_shown_whole(self) -> None:
         for sentence, meant in (('mote 0 prints 9', 'mote 0 prints p 9'),

@@ -307,6 +307,7 @@ class QuickJudging(unittest.TestCase):
             "every mote writes 'start etimer'", 'mote 1 receives 1 from mote 0', 'some copy overflows',
             'every mote sends its number', 'every mote sends its distance from mote 0', 'mote 0 never sends 1',
             'at least 50 % of the motes send', 'mote 1 sends after mote 0 sends',
+            'every mote sends the greatest mote number',
             'every mote receives at 12 plus 4 for each hop from mote 0', 'no mote but 0 sends its number']
 
     def test_of_examples_with_faults(self) -> None:
@@ -320,7 +321,7 @@ class QuickJudging(unittest.TestCase):
             part = parts_of(beside(path).read_text(), path.name)[0]
             more = [it for it in self.MORE if base.scenario_itself.motes > 1]
             more += ['some mote prints just %s %s' % (process, value) for process in names.processes or ()
-                     for value in ('its number', 'its distance from mote 0', '1')]
+                     for value in ('its number', 'its distance from mote 0', 'the greatest mote number', '1')]
             sentences = read_all([*part.sentences, *more], names)
             quick = QuickJudge(sentences)
             faults = faults_of(base, Asked(('links', 'motes', 'collisions')))

@@ -54,8 +54,7 @@ DEED = Table('DEED', 'Lines of the report', ('mote 1 %s',), (
     (('prints just P 1 to 29 in any order',),
      'all lines `print P V` together have just these values, in any order'),
     (('prints just P its distance from mote 0',),
-     'there is just one line `print P V`, and it has this value; each VALUE below that differs from mote to mote may '
-     'follow'),
+     'there is just one line `print P V`, and it has this value; each VALUE below that is in words may follow'),
     (('finally prints P VALUE',), 'the last line `print P V` has this value'),
     (('sends', 'sends VALUE'), '`send N V`'),
     (('receives', 'receives VALUE', 'receives VALUE from mote 2'), '`recv F N V`'),
@@ -68,6 +67,7 @@ DEED = Table('DEED', 'Lines of the report', ('mote 1 %s',), (
 VALUE = Table('VALUE', 'Is', ('mote 1 prints p %s',), (
     (('7',), 'this number'),
     (('its number',), 'the number of the mote'),
+    (('the greatest mote number',), 'the number of the last mote of the net, as in an election of a leader'),
     (('its distance from mote 0',),
      'the least number of hops from mote 0 to the mote, over links that don\'t lose every packet'),
     (('the set of motes that it hears', 'the set of motes that it hears but 5'),

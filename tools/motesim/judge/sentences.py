@@ -178,10 +178,11 @@ class Window:
 
 @dataclass(frozen=True)
 class Value:
-    """A value: a number, or a value that differs by mote.
+    """A value: a number, or a value that differs by mote or by net.
 
-    kind   number, self, distance (hops from `number`), heard (the set of the motes that it hears), linked (the set of
-           those that also hear it), nearer (a mote that it hears, one hop nearer to `number`)
+    kind   number, self, greatest (the greatest number of a mote), distance (hops from `number`), heard (the set of the
+           motes that it hears), linked (the set of those that also hear it), nearer (a mote that it hears, one hop
+           nearer to `number`)
     but    motes that aren't counted in a set
     """
     kind: str
@@ -458,9 +459,11 @@ class _Reader:
         return self.calculated() if number is None else Value('number', number)
 
     def calculated(self) -> Value | None:
-        """A value that differs by mote, if one is next."""
+        """A value that differs by mote or by net, if one is next."""
         if self.accept('its number'):
             return Value('self')
+        if self.accept('the greatest mote number'):
+            return Value('greatest')
         if self.accept('its distance from mote'):
             return Value('distance', self.mote())
         if self.accept('the set of motes that it hears'):

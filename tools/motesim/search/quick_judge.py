@@ -64,6 +64,8 @@ class Hops:
             return {value.number}
         if value.kind == 'self':
             return {mote}
+        if value.kind == 'greatest':
+            return {self.scenario.motes - 1}
         if value.kind == 'distance':
             return {self.hops(value.number, mote)}
         heard = self.heard[mote]
