@@ -632,16 +632,20 @@ class Calls(unittest.TestCase):
 
     def test_a_chain_of_else_if(self) -> None:
         chain = 'if (tries == 1) {\nprint 1;\n} else if (tries == 2) {\nprint 2;\n%s} else {\nprint 4;\n}'
-        for more, said in (('', ''), ('} else if (tries == 3) {\nprint 3;\n', 'The chain has 2 such `else if`: write '
-                                     'each of them in this way, and add 2 more `}` after the last block of the '
-                                     'chain.')):
-            text = RETRY % ('1', chain % more)
-            fault = find_fault(text)
-            assert fault
-            found = advice(text, fault)
-            assert found
-            self.assertEqual(found.line, '} else { if (tries == 2) {')
-            self.assertTrue(found.hint.endswith(said or 'closes it.'), found.hint)
+        for more in '', '} else if (tries == 3) {\nprint 3;\n':
+            text, steps = RETRY % ('1', chain % more), more.count('if') + 1
+            for step in range(steps):
+                fault = find_fault(text)
+                found = advice(text, fault) if fault else None
+                assert fault and found
+                self.assertTrue(found.hint.endswith('closes it.'), found.hint)
+                self.assertEqual(found.line, '} else { if (tries == %d) {' % (2 + step))
+                self.assertEqual(found.shown(text, 0)[2:], ['and write, as line %d:' % found.below[0].first,
+                                                            '  }' + step * ' }' + ' }'])
+                corrected = correction(text, fault)
+                assert corrected
+                text = corrected.applied(text)
+            self.assertIsNone(find_fault(text))
 
     def test_a_packet_to_a_mote(self) -> None:
         found, _, hint = self.corrected('1', 'send(3, tries);')

@@ -4,6 +4,7 @@ from __future__ import annotations
 from typing import NamedTuple
 
 from motesim.explain import forms, hints, names
+from motesim.from_c.closings import Edit
 from motesim.from_c.correction import correction
 from motesim.from_c.expressions import SMALL_LETTERS
 from motesim.from_c.structure import ONE_LINE
@@ -16,8 +17,6 @@ OF_PARENTHESES = ('Only an operation on two values has parentheses, as in `(a + 
 NAME_TWICE = 4
 # Declarations that are above the line that names the processes.
 OF_TOP = ('event ', 'semaphore ')
-# The end of the reason for an `else if` whose block continues below the line.
-CUT_CHAIN = 'one more `}` closes it'
 
 
 class Advice(NamedTuple):
@@ -25,12 +24,14 @@ class Advice(NamedTuple):
     left out.
 
     above  another line to be inserted, usually further up, and the number of the line below which it belongs
+    below  other lines further down, to be inserted or replaced
     """
     hint: str
     line: str | None = None
     first: int = 0
     last: int = 0
     above: tuple[int, str] | None = None
+    below: tuple[Edit, ...] = ()
 
     def shown(self, source: str, offset: int | None) -> list[str]:
         """The lines below the hint. If `offset` is given, the scenario has the program's lines after this number of
@@ -46,7 +47,8 @@ class Advice(NamedTuple):
             return [inserted[0].replace('and insert', 'Insert'), inserted[1], 'and leave %s out.' % which]
         if not self.line:
             return ['Leave %s out%s' % (which, ',' if inserted else '.'), *inserted]
-        return ['Write, as %s:' % which, _indented(source, self.first, self.line), *inserted]
+        below = [line for it in self.below for line in _edited(source, it, offset)]
+        return ['Write, as %s:' % which, _indented(source, self.first, self.line), *inserted, *below]
 
 
 def _which(first: int, last: int, offset: int | None) -> str:
@@ -65,6 +67,15 @@ def _inserted(above: tuple[int, str], offset: int | None) -> str:
     return 'below ' + _which(line, line, offset)
 
 
+def _edited(source: str, edit: Edit, offset: int | None) -> list[str]:
+    """A line further down that is inserted or replaced."""
+    if edit.last >= edit.first:
+        return ['and write, as %s:' % _which(edit.first, edit.last, offset), _indented(source, edit.first, edit.line)]
+    # (the line below closes a block, in which the inserted line is the last one)
+    return ['and insert below %s:' % _which(edit.last, edit.last, offset), '  ' + _indented(source, edit.first,
+                                                                                          edit.line)]
+
+
 def _indented(source: str, number: int, line: str) -> str:
     """A line that begins in the same column as a line of the program, or further right if that opens a block."""
     there = source.split('\n')[number - 1] if number and not line.startswith(OF_TOP) else ''
@@ -81,7 +92,7 @@ def advice(source: str, fault: ProgramError) -> Advice | None:
     small = forms.of_capitals(source, fault)
     if found and found.line and small and small[1] in found.line and found.reasons != (ONE_LINE,):
         others = [it for it in found.reasons if not it.startswith(SMALL_LETTERS)]
-        return Advice(' '.join([small[0], *others]), found.line, found.first, found.last, found.above)
+        return Advice(' '.join([small[0], *others]), found.line, found.first, found.last, found.above, found.below)
     if found is None:
         return Advice(hint + names.otherwise(source, fault)) if hint else _declared(source, fault)
     reasons = ' '.join(found.reasons) or hint or OF_PARENTHESES
@@ -94,26 +105,7 @@ def advice(source: str, fault: ProgramError) -> Advice | None:
         is_misspelt = hint in [hints.MEANT % it for it in ('fired', 'expired', 'running')]
         return Advice(hint if hint and is_misspelt else reasons)
     own = '' if found.above else names.otherwise(source, fault)
-    if CUT_CHAIN in reasons:
-        own += _of_chain(source, fault)
-    return Advice(reasons + own, found.line, found.first, found.last, found.above)
-
-
-def _of_chain(source: str, fault: ProgramError) -> str:
-    """Advice on an `else if` whose block continues below, and on those that follow in the same chain."""
-    words = [it.text for it in tokens_of(source)]
-    at = next((at for at, it in enumerate(tokens_of(source)) if it == fault.token), 0)
-    count = 0
-    while words[at - 1:at + 1] == ['else', 'if'] and '{' in words[at:]:
-        count, at, depth = count + 1, words.index('{', at), 0
-        while at < len(words):
-            depth += (words[at] == '{') - (words[at] == '}')
-            at += 1
-            if not depth:
-                break
-        at += 1
-    return (' The chain has %d such `else if`: write each of them in this way, and add %d more `}` after the last '
-            'block of the chain.' % (count, count)) if count > 1 else ''
+    return Advice(reasons + own, found.line, found.first, found.last, found.above, found.below)
 
 
 def _is_assigned(source: str, fault: ProgramError) -> bool:

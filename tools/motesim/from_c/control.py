@@ -1,12 +1,13 @@
 """The control flow of C, as the notation has it: blocks, tests and loops."""
 from __future__ import annotations
 
-from motesim.from_c.expressions import ONE_TOO_MANY, QUALIFIERS, TYPES, NoCounterpart, Node
+from motesim.from_c.closings import Closing
+from motesim.from_c.counting import caution, is_changed, loop_of, natural, refuse_endless
+from motesim.from_c.expressions import ONE_TOO_MANY, QUALIFIERS, TYPES, WORDS, NoCounterpart, Node
 from motesim.from_c.lines import Lines
 from motesim.from_c.places import conjuncts, ends_loop, last_statement
 from motesim.from_c.scope import allowed
-from motesim.from_c.tokens import Token
-from motesim.notation.faults import STATEMENTS
+from motesim.from_c.tokens import Token, tokens_of
 
 NO_SWITCH = ('There is no `switch`: each `case` is a test of its own, `if (%s == %s) { .. } else { if (%s == %s) { .. '
              '} }`.')
@@ -17,6 +18,16 @@ WITHOUT_STEPS = ('yield_until', 'wait_until', 'wait_while')
 # The value of a limit that isn't declared.
 LIMIT = '10'
 NO_BREAK = 'There is no `break`: let the test of the `while` become false.'
+
+
+def ends_value(token: Token) -> bool:
+    """Returns whether a value may end with a token."""
+    return token.kind in ('name', 'number') and token.text not in WORDS or token.text == ')'
+
+
+def begins_statement(token: Token) -> bool:
+    """Returns whether a token behind a value can only belong to what follows the value."""
+    return token.kind in ('name', 'end') and token.text not in WORDS or token.text in (';', '{', '}', '++', '--')
 
 
 class Control(Lines):
@@ -61,30 +72,52 @@ class Control(Lines):
         if self.token.text != 'if':
             return 'else ' + self.body()
         inner = self.statement()
+        if self.is_cut:
+            self.close_behind('}')
+        self.hides_else = self.hides_else or self.lacks_else
         self.why_with_rest('There is no `else if`: open a block, `else {`, and put the `if` into it',
                            '; one more `}` closes it')
         return 'else { %s' % inner if self.is_cut else 'else { %s }' % inner
 
-    def body(self) -> str:
-        """A block; a single statement without braces gets braces."""
+    def body(self, last: str = '', is_if: bool = False) -> str:
+        """A block, with `last` as its last statement; a single statement without braces gets braces."""
         if self.token.kind == 'end' and self.opens:
             self.why('A block always has its braces: the one that opens it is missing.')
-            self.is_cut = True
+            self.cut(Closing(last, is_if=is_if))
             return '{'
         if self.token.kind == 'end':
             raise NoCounterpart
         if self.token.text == ';' and self.ahead(1).text == '{' and self.accept(';'):
             self.why('The block follows the test directly, without a `;`.')
         if not self.accept('{'):
-            self.why('A block always has its braces.')
-            return '{ %s }' % self.statement()
+            return self.braced(last)
         found: list[str] = []
         while not self.accept('}'):
             if self.token.kind == 'end':
-                self.is_cut = True
+                self.cut(Closing(last, is_if=is_if))
                 return ' '.join(['{', *filter(None, found)])
             found.append(self.statement())
-        return ' '.join(['{', *filter(None, found), '}'])
+        return ' '.join(['{', *filter(None, [*found, last]), '}'])
+
+    def cut(self, closing: Closing) -> None:
+        """Notes a block that continues below these lines."""
+        self.is_cut = True
+        self.closings.append(closing)
+
+    def braced(self, last: str) -> str:
+        """A single statement with braces around it. If its own block continues below these lines, so does this one."""
+        self.why('A block always has its braces.')
+        text = self.statement()
+        self.hides_else = self.hides_else or self.lacks_else
+        if not self.is_cut:
+            return ' '.join(['{', *filter(None, [text, last]), '}'])
+        self.close_behind(*filter(None, [last, '}']))
+        return '{ ' + text
+
+    def close_behind(self, *texts: str) -> None:
+        """Notes texts behind the block that continues below these lines."""
+        inner = self.closings.pop()
+        self.closings.append(inner._replace(behind=' '.join(filter(None, [inner.behind, *texts]))))
 
     def condition(self) -> str:
         """The test of an `if` or a `while`, up to its block."""
@@ -98,7 +131,7 @@ class Control(Lines):
             self.close()
             if self.token.text in ('||', '&&', '==', '!=', '<', '<=', '>', '>=', '+', '-', '/', '%', 'and', 'or'):
                 self.at, inner = begin, None
-        text = self.writer.text(inner or self.expression())
+        text = self.writer.text(natural(inner or self.expression()))
         while self.accept(')'):
             self.why(ONE_TOO_MANY)
         if self.accept('then', ':'):
@@ -125,7 +158,7 @@ class Control(Lines):
 
     def of_break(self) -> str:
         """A `break`, as an assignment that makes the test of the loop false."""
-        ends = [it for it in map(ends_loop, conjuncts(self.place.loop)) if it]
+        ends = self.ends_of_loop()
         before = last_statement([it.text for it in self.tokens[:self.at]]) or self.place.before
         if before in ends:
             self.at += 1
@@ -139,6 +172,13 @@ class Control(Lines):
         self.at += 1
         self.writer.insist('%s Here, `%s;` does it; the rest of the block still runs once.' % (NO_BREAK, assigned))
         return self.end(assigned)
+
+    def ends_of_loop(self) -> list[str]:
+        """The assignments that make the test of the loop false, also after the rest of its block."""
+        rest = (*(it.text for it in self.tokens[self.at:]), *self.place.rest)
+        found = [(test, ends_loop(test)) for test in conjuncts(self.place.loop)]
+        return [it for test, it in found if it and (' < ' in test or ' <= ' in test or not is_changed(
+            it.partition(' ')[0], rest))]
 
     def of_flag(self, before: str) -> str:
         """Advice to end a loop by a variable of its own, next to the test that it has."""
@@ -159,13 +199,20 @@ class Control(Lines):
         test, outside = self.condition(), self.place
         if word == 'while' and (self.before or self.after):
             return self.counting_loop(test)
-        self.place = outside._replace(loop=test, is_head=False) if word == 'while' else outside
-        text = '%s %s %s' % (word, test, self.body())
-        self.place = outside
+        if word == 'while':
+            refuse_endless(test)
+            self.place = outside._replace(loop=test, is_head=False, rest=())
+        block = self.body(is_if=word == 'if')
+        text, self.place = '%s %s %s' % (word, test, block), outside
+        danger = caution(test, block) if word == 'while' else ''
+        if danger:
+            self.writer.insist(danger)
         if self.token.text in ELSE_IFS:
             self.split_else_if(self.at)
         if word == 'if' and self.token.text == 'else' and not self.is_cut:
             text += ' ' + self.other()
+        elif word == 'if' and self.token.kind == 'end' and not self.is_cut:
+            self.lacks_else = True
         return text
 
     def counting_loop(self, test: str) -> str:
@@ -175,14 +222,13 @@ class Control(Lines):
         if ' || ' in test:
             self.refuse_steps()
         self.before, self.after = [], []
-        body = self.body()
+        body = self.body(last)
         if first:
             self.why('The step is at the start of the block, so `%s` isn\'t done when the test is false.' % first)
             body = body.replace('{', '{ ' + first, 1)
         if last:
             self.why_with_rest('The step is above the loop and at the end of its block',
                                ': write `%s` there' % last)
-            body = body if self.is_cut else '%s %s }' % (body.removesuffix('}').rstrip(), last)
         return ('%s while %s %s' % (last, test, body)).strip()
 
     def refuse_steps(self) -> None:
@@ -198,37 +244,57 @@ class Control(Lines):
         return ' '.join(filter(None, (self.steps(self.before), text, self.steps(self.after))))
 
     def is_empty_loop(self) -> bool:
-        """Returns whether a semicolon ends the loop after its test."""
+        """Returns whether a semicolon ends the loop directly behind its test."""
+        at = self.end_of_test()
+        return self.ahead(at).text == ';' and self.ahead(at + 1).text != '{'
+
+    def end_of_test(self) -> int:
+        """The number of tokens of a test: a statement behind it begins with a word that can't continue the test."""
         at = depth = 0
-        while self.ahead(at).kind != 'end' and (depth or self.ahead(at).text not in (';', '{')):
-            depth += (self.ahead(at).text == '(') - (self.ahead(at).text == ')')
+        while self.ahead(at).kind != 'end':
+            token = self.ahead(at)
+            depth += (token.text == '(') - (token.text == ')')
             at += 1
-        is_alone = self.ahead(at).text == ';' and self.ahead(at + 1).text != '{' and self.ahead(at - 1).text == ')'
-        return is_alone and all(self.ahead(it).text not in STATEMENTS for it in range(at))
+            if depth <= 0 and ends_value(token) and begins_statement(self.ahead(at)):
+                break
+        return at
 
     def for_loop(self) -> str:
         """A `for`, as a `while`; if its block continues below these lines, its last step is below them, too."""
         self.at += 2
         first = '' if self.accept(';') else self.first_of_loop()
-        self.writer.unknown = {} if self.place.head else None
-        test = '1' if self.token.text == ';' else self.writer.text(self.expression())
-        undeclared, self.writer.unknown = self.writer.unknown or {}, None
-        self.need(';')
-        step = ''
-        if not self.accept(')'):
-            step = self.step_of_loop()
-            while self.accept(','):
-                step += ' ' + self.step_of_loop()
-            self.need(')')
-        body = self.body()
+        test, undeclared = self.test_of_loop()
+        loop = loop_of(first, test, self.steps_of_loop())
+        rest = tuple(it.text for it in tokens_of(loop.last))
+        outside, self.place = self.place, self.place._replace(loop=loop.test, is_head=False, rest=rest)
+        body = self.body(loop.last)
+        self.place = outside
         self.why_with_rest('There is no `for`: a `while` with the first step above it',
-                           ', and `%s` at the end of its block' % step if step else '')
+                           ', and `%s` at the end of its block' % loop.last if loop.last else '')
+        if loop.reason:
+            self.why(loop.reason)
         self.writer.reasons.sort(key=lambda it: not it.startswith('There is no `for`'))
         for word, (kind, name) in undeclared.items():
             self.declare(word, kind, name, LIMIT)
-        if step and not self.is_cut:
-            body = '%s %s }' % (body.removesuffix('}').rstrip(), step)
-        return ('%s while %s %s' % (first, test, body)).strip()
+        if loop.start:
+            body = body.replace('{', '{ ' + loop.start, 1)
+        return ('%s while %s %s' % (loop.first, loop.test, body)).strip()
+
+    def test_of_loop(self) -> tuple[str, dict[str, tuple[str, str]]]:
+        """The test of a `for`, and the names in it that aren't declared."""
+        self.writer.unknown = {} if self.place.head else None
+        test = '1' if self.token.text == ';' else self.writer.text(natural(self.expression()))
+        undeclared, self.writer.unknown = self.writer.unknown or {}, None
+        self.need(';')
+        return test, undeclared
+
+    def steps_of_loop(self) -> str:
+        """The steps of a `for`, behind which its block follows."""
+        steps: list[str] = []
+        while not self.accept(')'):
+            steps.append(self.step_of_loop())
+            self.accept(',')
+        return ' '.join(steps)
 
     def first_of_loop(self) -> str:
         """The first step of a `for`, which may declare its variable."""
@@ -248,9 +314,19 @@ class Control(Lines):
         if behind in ('++', '--'):
             self.at += 2
             return self.stepped(word, behind) + ';'
-        self.tokens.insert(next(at for at in range(self.at, len(self.tokens)) if self.tokens[at].text == ')'),
-                           Token('sign', ';'))
+        # (a semicolon ends the step at the parenthesis of the `for`, or at the comma before another step)
+        self.tokens.insert(self.end_of_step(), Token('sign', ';'))
         return self.assignment()
+
+    def end_of_step(self) -> int:
+        """The place of the sign that ends a step of a `for`."""
+        depth = 0
+        for at in range(self.at, len(self.tokens)):
+            text = self.tokens[at].text
+            if not depth and text in (')', ','):
+                return at
+            depth += (text == '(') - (text == ')')
+        raise NoCounterpart
 
     def do_loop(self) -> str:
         self.at += 1

@@ -7,14 +7,15 @@ from __future__ import annotations
 from collections.abc import Iterator
 from typing import NamedTuple
 
+from motesim.from_c.closings import Edit, edits_of
 from motesim.from_c.expressions import NoCounterpart
 from motesim.from_c.scope import Scope
-from motesim.from_c.places import head_for, place_below
+from motesim.from_c.places import Surroundings, head_for, place_below, rest_of_loop
 from motesim.from_c.statements import Statements
 from motesim.from_c.structure import ONE_LINE, begins_unnamed_code, process_line, process_lines, unclosed_block
 from motesim.notation.faults import ProgramError, find_fault, tokens_of
 
-MOST_LINES = 4
+MOST_LINES = 6
 OF_COMMENT = 'A comment begins with `//` and ends with its line, so each line of a long one needs its own `//`.'
 # No correction is tried in a longer text, or for longer lines.
 LONGEST_TEXT, LONGEST_LINES = 200_000, 2_000
@@ -24,18 +25,21 @@ class Correction(NamedTuple):
     """The lines of a program (from 1) to be replaced; the new text, or None if none is known; and the reasons.
 
     above  a line that is to be inserted elsewhere, mostly further up, and the number of the line below which it belongs
+    below  the edits at the ends of blocks that continue below the lines
     """
     first: int
     last: int
     line: str | None
     reasons: tuple[str, ...]
     above: tuple[int, str] | None = None
+    below: tuple[Edit, ...] = ()
 
     def applied(self, text: str) -> str:
         """A program's text with the correction."""
         lines = text.split('\n')
         edits = [(self.first - 1, self.last, [] if self.line is None else [self.line])]
         edits += [(self.above[0], self.above[0], [self.above[1]])] if self.above else []
+        edits += [(it.first - 1, it.last, [it.line]) for it in self.below]
         for begin, end, new in sorted(edits, key=lambda it: it[0], reverse=True):
             lines[begin:end] = new
         return '\n'.join(lines)
@@ -46,13 +50,17 @@ def _spans(text: str, fault: ProgramError) -> Iterator[tuple[int, int]]:
     here, count = fault.token.line, text.count('\n') + 1
     before = [it.line for it in tokens_of(text)[:-1] if (it.line, it.column) < (fault.token.line, fault.token.column)]
     above = before[-1] if before else here
+    if above < here and fault.token.text == ';':
+        # (it ends the statement above)
+        yield above, here
     yield here, here
     if above < here:
         yield above, above
         yield above, here
-    for more in range(1, MOST_LINES):
-        if here + more <= count:
-            yield here, here + more
+    for first in dict.fromkeys((here, above)):
+        for more in range(1, MOST_LINES):
+            if here + more <= count:
+                yield first, here + more
     if above == here and here > 1:
         yield here - 1, here
     # (a function ends with a brace at the beginning of a line)
@@ -80,9 +88,8 @@ def _same(one: str, other: str) -> bool:
     return [it.text for it in tokens_of(one)] == [it.text for it in tokens_of(other)]
 
 
-def _readings(source: str, scope: Scope, above: list[str], unclosed: int) -> Iterator[Statements]:
+def _readings(source: str, scope: Scope, place: Surroundings, unclosed: int) -> Iterator[Statements]:
     """The ways in which lines may be read, the likeliest first. `unclosed` is the number of blocks without an end."""
-    place = place_below(above)
     ends = ('}', '') if unclosed > 0 else ('', '}')
     for end in ends if '_end' in source.lower() else ('',):
         yield Statements(source, scope, place, end)
@@ -159,7 +166,9 @@ def correction(text: str, fault: ProgramError) -> Correction | None:
         if len(source) > LONGEST_LINES:
             continue
         found: list[tuple[int, Correction]] = []
-        for reader in _readings(source, scope, lines[:first - 1], unclosed):
+        place, rest = place_below(lines[:first - 1]), '\n'.join(lines[last:])
+        place = place._replace(rest=rest_of_loop(source, rest, place.levels))
+        for reader in _readings(source, scope, place, unclosed):
             try:
                 written = reader.written()
             except NoCounterpart as said:
@@ -167,7 +176,10 @@ def correction(text: str, fault: ProgramError) -> Correction | None:
                 if begun <= fault.token.line <= last and not (is_only_named and last > fault.token.line):
                     advice = advice or str(said)
                 continue
-            made = Correction(first, last, written, reader.writer.shown())
+            below = edits_of(text, last, reader.closings)
+            if below is None or reader.hides_else and reader.lacks_else and tokens_of(rest)[0].text == 'else':
+                continue
+            made = Correction(first, last, written, reader.writer.shown(), below=below)
             for above in _insertions(text, reader):
                 made = made._replace(above=above)
                 found.append((0 if _same(source, written) else _rank(text, made), made))

@@ -1,6 +1,7 @@
 """The base of the readers of C and Contiki: the methods that all kinds of statements share."""
 from __future__ import annotations
 
+from motesim.from_c.closings import Closing
 from motesim.from_c.expressions import ONE_TOO_MANY, READ_ONLY, Expressions, NoCounterpart, Node, Writer
 from motesim.from_c.places import Surroundings
 from motesim.from_c.scope import Scope, allowed
@@ -19,6 +20,11 @@ class Lines(Expressions):
             self.writer.foreign = frozenset(scope.of_kind('variable')) - place.variables
         # Two facts: a block continues below these lines; a header without its brace opens a block.
         self.is_cut = self.opens = False
+        # What the blocks that continue below these lines need at their ends, the innermost first.
+        self.closings: list[Closing] = []
+        # Two facts: an `if` without an `else` ends these lines; it got braces around it, so an `else` that follows
+        # would belong to another statement.
+        self.lacks_else = self.hides_else = False
         self.nested = 0
         # The line (from 1 among these lines) on which the innermost of the statements that are being read begins.
         self.begun = 1
@@ -96,8 +102,8 @@ class Lines(Expressions):
         """A statement."""
         raise NotImplementedError
 
-    def body(self) -> str:
-        """A block; a single statement without braces gets braces."""
+    def body(self, last: str = '', is_if: bool = False) -> str:
+        """A block, with `last` as its last statement; a single statement without braces gets braces."""
         raise NotImplementedError
 
     def assignment(self) -> str:

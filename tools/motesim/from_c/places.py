@@ -38,6 +38,8 @@ class Surroundings(NamedTuple):
     lower    the words of its declarations above the lines, below which no variable may be declared
     last     the first word of the statement above the lines, or nothing
     before   the complete text of this statement, without its semicolon
+    levels   the number of braces that close the innermost `while` around the lines
+    rest     the words of this `while` below the lines
     """
     is_head: bool = False
     is_top: bool = False
@@ -50,6 +52,8 @@ class Surroundings(NamedTuple):
     before: str = ''
     is_below: bool = False
     lower: frozenset[str] = frozenset()
+    levels: int = 0
+    rest: tuple[str, ...] = ()
 
 
 def place_below(above: list[str]) -> Surroundings:
@@ -79,7 +83,21 @@ def place_below(above: list[str]) -> Surroundings:
     names = frozenset(words[at + 1] for at in declared if at + 1 < len(words))
     timers = frozenset(name for word, name in zip(words[codes[-1]:], words[codes[-1] + 1:]) if word == 'etimer')
     return Surroundings(len(opened) == 1, False, loop, words[codes[-1] + 1], head, names, timers, _last(words),
-                        last_statement(words), True, frozenset(BEHIND_VARIABLES.intersection(words[codes[-1]:])))
+                        last_statement(words), True, frozenset(BEHIND_VARIABLES.intersection(words[codes[-1]:])),
+                        next((count for count, it in enumerate(reversed(opened), 1) if it), 0))
+
+
+def rest_of_loop(lines: str, below: str, levels: int) -> tuple[str, ...]:
+    """The words below some lines, up to the brace that closes the last of the levels that are open above them."""
+    inner = [it.text for it in tokens_of(lines)]
+    levels += inner.count('{') - inner.count('}')
+    found: list[str] = []
+    for token in tokens_of(below):
+        levels += (token.text == '{') - (token.text == '}')
+        if levels <= 0:
+            break
+        found.append(token.text)
+    return tuple(found)
 
 
 def head_for(text: str, declared: str, code: str = '') -> int:
