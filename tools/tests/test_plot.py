@@ -197,15 +197,18 @@ class PlotTest(unittest.TestCase):
     def test_the_confidence_and_the_interval_of_a_plan_are_checked(self) -> None:
         plot = 'end = 9\n[[plot]]\nfile = "a.svg"\nmeasure = "sent"\nagainst = "period"\n'
         for words, seen in (('confidence = 30', '50 to 99.9'), ('confidence = "much"', '50 to 99.9'),
-                            ('interval = "t"', 'this plot shows none')):
+                            ('interval = "t"', 'this plot shows none'), ('draws = 10', '100 to 1000000')):
             (self.folder / 'a.plan.toml').write_text(plot + words + '\n')
             done = self.plot('--plan', 'a.plan.toml')
             self.assertEqual(done.returncode, 2, done)
             self.assertIn('a.plan.toml, line 6:', done.stderr)
             self.assertIn(seen, done.stderr)
         interpreter_with(self, 'matplotlib')
-        (self.folder / 'a.plan.toml').write_text(plot + 'by = "density"\nshow = "mean"\nconfidence = 97.5\n')
-        self.assertEqual(self.plot('--plan', 'a.plan.toml').returncode, 0)
+        (self.folder / 'a.plan.toml').write_text(plot + 'by = "density"\nshow = "mean"\nconfidence = 97.5\n'
+                                                        'interval = "bootstrap"\ndraws = 300\n')
+        done = self.plot('--plan', 'a.plan.toml')
+        self.assertEqual(done.returncode, 0)
+        self.assertIn('bootstrap: 300 draws', done.stdout)
         self.assertIn('intervals of 97.5 %', (self.folder / 'a.svg').read_text())
 
     def test_what_a_plan_says_is_drawn(self) -> None:

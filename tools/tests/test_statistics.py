@@ -833,6 +833,21 @@ class Command(unittest.TestCase):
         self.assertIn('the median rises above 0.6 at period 5.628', ' '.join(rows[-3]))
         self.plot('--measure', 'ratio', '--against', 'density', '--by', 'period', '--threshold', '0.6', status=2)
 
+    def test_the_number_of_draws(self) -> None:
+        words = '--measure', 'ratio', '--against', 'period', '--by', 'density', '--interval', 'bootstrap'
+        for count, more in ((2000, ()), (2000, ('--draws', '2000')), (100, ('--draws', '100'))):
+            for its in (('--show', 'mean'), ('--show', 'mean', '--threshold', '0.6')):
+                rows = self.plot(*words, *its, *more)
+                self.assertIn('bootstrap: {:,} draws with'.format(count), '\n'.join(map(' '.join, rows)))
+        values = [math.sqrt(it) for it in range(12)]
+        for how in 'bootstrap', 'bootstrap-t':
+            some, usual, same = (estimates.mean_of(values, 0.95, how, draws=it) for it in (100, 2000, 2000))
+            self.assertEqual((usual, usual), (estimates.mean_of(values, 0.95, how), same))
+            self.assertNotEqual(usual, some)
+        for count in '99', '1000001':
+            self.plot(*words, '--show', 'mean', '--draws', count, status=2)
+            self.assertIn('--draws is 100 to 1000000', self.seen)
+
     def test_a_crossing_along_a_measure_draws_both_axes(self) -> None:
         rows = self.plot('--measure', 'ratio', '--against', 'sent', '--by', 'density', '--show', 'mean', '--threshold',
                          '0.6')

@@ -122,8 +122,9 @@ def drawn_lines(curve: Sequence[Runs], middle: Middle, count: int) -> Iterator[L
 
 
 def crossing(curve: Sequence[Runs], threshold: float, confidence: float, middle: Middle = statistics.fmean,
-             is_log: bool = False, is_log_y: bool = False) -> Crossing | None:
-    """The places at which a curve crosses a threshold; None if it doesn't."""
+             is_log: bool = False, is_log_y: bool = False, count: int = DRAWS) -> Crossing | None:
+    """The places at which a curve crosses a threshold, with intervals from so many drawn curves; None if it doesn't
+    cross."""
     line = sorted(point(list(zip(it.xs, it.ys)), middle) for it in curve)
     places = tuple(places_of(line, threshold, is_log, is_log_y))
     if not places:
@@ -133,7 +134,7 @@ def crossing(curve: Sequence[Runs], threshold: float, confidence: float, middle:
     sizes = min(len(it.ys) for it in curve), max(len(it.ys) for it in curve)
     if draws < 2:
         return Crossing(at, is_rising, gap, None, None, 1.0, draws, places, sizes)
-    lines = list(drawn_lines(curve, middle, DRAWS))
+    lines = list(drawn_lines(curve, middle, count))
     part = part_of_draws(confidence, draws)
     gaps = [gap_of(it, threshold, is_rising) for it in lines]
     low, high = _around(gaps, gap, part)

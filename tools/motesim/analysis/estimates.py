@@ -24,10 +24,9 @@ from typing import Literal, NamedTuple, TypeVar
 
 from motesim.plan.chance import Chance
 
-DRAWS = 2_000
+# The draws of the bootstrap unless a number is given, and the least and the greatest number.
+DRAWS, LEAST_DRAWS, MOST_DRAWS = 2_000, 100, 1_000_000
 SEED = 1
-# The draws of the bootstrap, in words.
-DRAWN = '{:,} draws with replacement, by SplitMix64 with the seed {}'.format(DRAWS, SEED)
 STEPS = 200
 TINY = 1e-300
 # With fewer runs the bootstrap's intervals are too narrow.
@@ -135,6 +134,11 @@ def between(found: list[float], confidence: float) -> tuple[float, float]:
     return found[round(out * last)], found[round((1 - out) * last)]
 
 
+def words_of(draws: int) -> str:
+    """The draws of the bootstrap, in words."""
+    return 'bootstrap: {:,} draws with replacement, by SplitMix64 with the seed {}'.format(draws, SEED)
+
+
 @lru_cache(maxsize=None)
 def part_of_draws(confidence: float, runs: int) -> float:
     """The middle part of the bootstrap's draws that is an interval of this confidence.
@@ -149,14 +153,14 @@ def part_of_draws(confidence: float, runs: int) -> float:
     return 1 - 2 * statistics.NormalDist().cdf(-reach)
 
 
-def mean_by_bootstrap(values: Sequence[float], confidence: float) -> Estimate:
+def mean_by_bootstrap(values: Sequence[float], confidence: float, draws: int = DRAWS) -> Estimate:
     """The mean with its interval by the bootstrap (expanded percentiles)."""
     mean, runs, chance = statistics.fmean(values), len(values), Chance(SEED)
-    drawn = [statistics.fmean(resampled(values, chance)) for _ in range(DRAWS)]
+    drawn = [statistics.fmean(resampled(values, chance)) for _ in range(draws)]
     return Estimate(runs, mean, *between(drawn, part_of_draws(confidence, runs)), 'bootstrap')
 
 
-def mean_by_bootstrap_t(values: Sequence[float], confidence: float) -> Estimate:
+def mean_by_bootstrap_t(values: Sequence[float], confidence: float, draws: int = DRAWS) -> Estimate:
     """The mean with its interval by the bootstrap of Student's t: the draws show how (mean - true) / error spreads.
 
     A draw whose runs are all the same has no standard error, and counts as infinitely far from the mean. If there are
@@ -165,7 +169,7 @@ def mean_by_bootstrap_t(values: Sequence[float], confidence: float) -> Estimate:
     mean, runs, chance = statistics.fmean(values), len(values), Chance(SEED)
     error, gaps = statistics.stdev(values) / math.sqrt(runs), [it - mean for it in values]
     found = []
-    for _ in range(DRAWS):
+    for _ in range(draws):
         drawn = resampled(gaps, chance)
         gap = sum(drawn) / runs
         if min(drawn) == max(drawn):
@@ -231,9 +235,11 @@ def method_of(values: Sequence[float], confidence: float, interval: str, measure
     return 'bootstrap' if len(values) >= LEAST_RUNS else 'within'
 
 
-def mean_of(values: Sequence[float], confidence: float, interval: str = AUTO, measure: Measured = 'any') -> Estimate:
+def mean_of(values: Sequence[float], confidence: float, interval: str = AUTO, measure: Measured = 'any',
+            draws: int = DRAWS) -> Estimate:
     """The mean of runs, with an interval by a method that fits them."""
-    found = METHODS[method_of(values, confidence, interval, measure)](values, confidence)
+    method = method_of(values, confidence, interval, measure)
+    found = BY_DRAWS[method](values, confidence, draws) if method in BY_DRAWS else METHODS[method](values, confidence)
     if found.method != 'bootstrap-t' or found.low is None or found.high is None:
         return found
     if measure == 'share':
@@ -275,9 +281,10 @@ def measured(values: Sequence[float]) -> Measured:
 
 
 METHODS: dict[str, Callable[[Sequence[float], float], Estimate]] = {
-    't': mean_by_t, 'bootstrap': mean_by_bootstrap, 'bootstrap-t': mean_by_bootstrap_t, 'within': mean_by_t_within,
-    'above 0': mean_by_t_above_0,
-    'wilson': mean_by_wilson, 'alike': mean_without_interval}
+    't': mean_by_t, 'within': mean_by_t_within, 'above 0': mean_by_t_above_0, 'wilson': mean_by_wilson,
+    'alike': mean_without_interval}
+BY_DRAWS: dict[str, Callable[[Sequence[float], float, int], Estimate]] = {
+    'bootstrap': mean_by_bootstrap, 'bootstrap-t': mean_by_bootstrap_t}
 # The methods that can be requested.
 MEANS = (AUTO, 't', 'bootstrap', 'bootstrap-t')
 # Each method in a heading, and in a row.

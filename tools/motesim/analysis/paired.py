@@ -16,7 +16,7 @@ from collections import Counter
 from collections.abc import Callable, Mapping, Sequence
 from typing import NamedTuple
 
-from motesim.analysis.estimates import AUTO, Estimate, Measured, is_skewed, mean_by_wilson, mean_of, measured
+from motesim.analysis.estimates import AUTO, DRAWS, Estimate, Measured, is_skewed, mean_by_wilson, mean_of, measured
 from motesim.analysis.points import PLACES, Net, name_of_net, order
 from motesim.experiments.measures import Cell
 from motesim.experiments.results import Row
@@ -152,7 +152,7 @@ def _number(row: Mapping[str, Cell], measure: str) -> float:
 
 
 def differences(paired: Paired, confidence: float, interval: str,
-                kind_of: Callable[[Sequence[float]], Measured] = measured) -> list[Difference]:
+                kind_of: Callable[[Sequence[float]], Measured] = measured, draws: int = DRAWS) -> list[Difference]:
     """The differences, for each value of the parameter on the horizontal axis."""
     groups: dict[Cell, list[Pair]] = {}
     for pair in paired.pairs:
@@ -165,18 +165,18 @@ def differences(paired: Paired, confidence: float, interval: str,
         left = sum(count for (place, _), count in paired.left_out.items() if place == against)
         found.append(Difference(against, statistics.fmean(it.one for it in its),
                                 statistics.fmean(it.other for it in its),
-                                _difference(its, confidence, interval, kind), sum(it > 0 for it in gaps),
+                                _difference(its, confidence, interval, kind, draws), sum(it > 0 for it in gaps),
                                 sum(it < 0 for it in gaps), left, sum(it.runs for it in its),
                                 [it for it in nets if it.place[1] == against], is_skewed(gaps)))
     return found
 
 
-def _difference(pairs: Sequence[Pair], confidence: float, interval: str, kind: Measured) -> Estimate:
+def _difference(pairs: Sequence[Pair], confidence: float, interval: str, kind: Measured, draws: int) -> Estimate:
     """The mean difference of some pairs, with an interval by a method that fits them."""
     gaps = [pair.other - pair.one for pair in pairs]
     if kind == 'yes or no' and len(pairs) > 1 and interval == AUTO:
         return difference_by_newcombe(pairs, confidence)
-    found = mean_of(gaps, confidence, interval)
+    found = mean_of(gaps, confidence, interval, draws=draws)
     if interval != AUTO or kind in ('any', 'count') or found.low is None or found.high is None:
         return found
     if -1 <= found.low and found.high <= 1:

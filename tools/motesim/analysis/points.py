@@ -5,7 +5,7 @@ from collections import Counter
 from collections.abc import Mapping, Sequence
 from typing import NamedTuple
 
-from motesim.analysis.estimates import AUTO, NAMES, Estimate, Measured, mean_of, measured, median_with_quartiles
+from motesim.analysis.estimates import AUTO, DRAWS, NAMES, Estimate, Measured, mean_of, measured, median_with_quartiles
 from motesim.explain.synonyms import known
 from motesim.experiments.measures import Cell, file_of, is_count, name_of
 from motesim.experiments.results import PLAN_FILES, Row, text_of
@@ -61,6 +61,7 @@ class Wish(NamedTuple):
     kinds          the kinds of measures by all their values, also of runs that are not selected
     y_limits       the ends of the vertical axis, `0:1`, or nothing
     nets           whether the runs of a net are averaged first, so that each net counts once
+    draws          the number of draws of a bootstrap
     is_count       whether the measure is a count, and so not a share, even if all its values are from 0 to 1
     """
     measure: str
@@ -86,6 +87,7 @@ class Wish(NamedTuple):
     labels: tuple[tuple[str, str], ...] = ()
     is_count: bool = False
     y_limits: str = ''
+    draws: int = DRAWS
     kinds: Mapping[str, Measured] = {}
 
     @property
@@ -118,7 +120,7 @@ class Wish(NamedTuple):
         """Returns the estimate of the runs of a point."""
         if self.show == 'median':
             return median_with_quartiles(values, self.part)
-        return mean_of(values, self.part, self.interval, measure)
+        return mean_of(values, self.part, self.interval, measure, self.draws)
 
 
 class Point(NamedTuple):

@@ -8,8 +8,8 @@ from functools import lru_cache
 from typing import Any
 
 from motesim.analysis.crossings import Crossing, Middle, Runs, crossing
-from motesim.analysis.estimates import BOUNDED, DRAWN, ENOUGH_RUNS, LEAST_RUNS, NAMES, OF_ROW, RANGE
-from motesim.analysis.estimates import Estimate, is_skewed_near_an_end
+from motesim.analysis.estimates import BOUNDED, DRAWS, ENOUGH_RUNS, LEAST_RUNS, NAMES, OF_ROW, RANGE
+from motesim.analysis.estimates import Estimate, is_skewed_near_an_end, words_of
 from motesim.analysis.paired import Difference, Paired, reasons
 from motesim.analysis.points import Curve, Net, Place, Point, Shown, Wish, order
 from motesim.experiments.measures import Cell
@@ -224,8 +224,8 @@ def remarks(shown: Shown, wish: Wish) -> list[str]:
     found = of_nets(shown.shared) if wish.show == 'mean' or wish.threshold and wish.show != 'cdf' else []
     found += [*of_bars(shown, wish), *shown.warnings]
     if wish.show != 'mean':
-        return [*(['bootstrap: %s' % DRAWN] if has_crossing else []), *found]
-    found += of_intervals([it for point in shown.points for it in point.estimates], has_crossing)
+        return [*([words_of(wish.draws)] if has_crossing else []), *found]
+    found += of_intervals([it for point in shown.points for it in point.estimates], has_crossing, wish.draws)
     return found + of_skewed(shown, wish)
 
 
@@ -256,12 +256,12 @@ def of_nets(shared: tuple[int, int] | None) -> list[str]:
             'for places and chance, or average by net first: --nets' % shared]
 
 
-def of_intervals(estimates: Sequence[Estimate], is_drawn: bool = False) -> list[str]:
+def of_intervals(estimates: Sequence[Estimate], is_drawn: bool = False, draws: int = DRAWS) -> list[str]:
     """Lines about intervals: the draws of the bootstrap, if one is used; missing intervals; and intervals that are too
     narrow."""
     lines = []
     if is_drawn or any(it.method in DRAWING for it in estimates):
-        lines.append('bootstrap: %s' % DRAWN)
+        lines.append(words_of(draws))
     few = [it.runs for it in estimates if it.method in DRAWING and it.runs < LEAST_RUNS]
     if few:
         lines.append('the bootstrap of %d runs is too narrow: use --interval t, or %d runs or more' % (
@@ -315,7 +315,8 @@ def crossings_of(shown: Shown, wish: Wish) -> dict[Cell, Crossing | None]:
         if wish.log and any(x <= 0 for point in its for x in point.others or (point.x,)):
             raise Fault('--log needs values above 0, and some of %s are not' % wish.against)
         curve = tuple(Runs(it.others or (it.x,) * len(it.values), it.values, it.keys) for it in its)
-        found[by] = _crossing(curve, threshold, wish.part, middle_of(wish)[1], wish.log, wish.log_y)
+        found[by] = _crossing(curve, threshold, wish.part, middle_of(wish)[1], wish.log, wish.log_y,
+                              wish.draws)
     return found
 
 

@@ -45,6 +45,8 @@ def arguments() -> argparse.Namespace:
                        help="the measure is a count: it isn't a share, even if all its values are 0 and 1")
     words.add_argument('--confidence', type=float, default=95, metavar='PERCENT',
                        help='the confidence of the intervals (95)')
+    words.add_argument('--draws', type=int, default=2000, metavar='N',
+                       help='the number of draws of a bootstrap (2000)')
     words.add_argument('--threshold', metavar='VALUE',
                        help='report where each curve crosses this value; with --show cdf, the share of runs with at '
                             'most this value')

@@ -170,8 +170,8 @@ def measured(work: Work, bench: Bench, known: Scenario) -> tuple[dict[str, Cell]
 
 def warned(report: Report, known: Scenario, seconds: float, is_first: bool = True) -> list[str]:
     """The warnings about packets that a mote sent at one moment, so that they collided, and about losses that lost
-    nothing; for the first run of a treatment, also the warnings about losses in step and about seeds. If finding them lasts longer than a run may last,
-    there are none."""
+    nothing; for the first run of a treatment, also the warnings about losses in step and about seeds. If finding them
+    lasts longer than a run may last, there are none."""
     try:
         with limited(seconds):
             of_first = [*of_losses(known, report), *of_seeds(known, programs_of(known))] if is_first else []

@@ -11,7 +11,7 @@ from typing import NamedTuple
 
 from motesim.analysis import drawing, text
 from motesim.analysis.drawing import FORMATS
-from motesim.analysis.estimates import AUTO, MEANS, Measured
+from motesim.analysis.estimates import AUTO, DRAWS, LEAST_DRAWS, MEANS, MOST_DRAWS, Measured
 from motesim.analysis.estimates import quartiles as quartiles
 from motesim.analysis.origin import origin_of, origin_path
 from motesim.analysis.paired import Difference, Paired, differences, pairs_of
@@ -37,7 +37,7 @@ PLOT = {'file': needed(str), 'measure': needed(str), 'against': optional(str, ''
         'show': optional(str, 'median'), 'interval': optional(str, AUTO), 'confidence': any_kind('a number', False),
         'threshold': any_kind('a number', False), 'over': optional(str, ''),
         'footer': optional(str, None), 'size': optional(str, ''), 'y_limits': optional(str, ''),
-        'log_y': optional(bool, False),
+        'log_y': optional(bool, False), 'draws': optional(int, DRAWS),
         'nets': optional(bool, False), 'count': optional(bool, False), 'pair': optional(str, ''), 'compare': optional(str, ''),
         WHERE: optional(dict, {}), LABELS: optional(dict, {})}
 # The most values of a column in a message.
@@ -95,6 +95,9 @@ def wishes_of(plan: Plan) -> list[Wish]:
         values['confidence'] = 95 if values['confidence'] is None else values['confidence']
         if type(values['confidence']) not in (int, float) or not 50 <= values['confidence'] <= 99.9:
             raise tables.fault(path + ('confidence',), 'A plot has no such `confidence`.', 'a number of 50 to 99.9')
+        if not LEAST_DRAWS <= values['draws'] <= MOST_DRAWS:
+            raise tables.fault(path + ('draws',), 'A plot has no such `draws`.', 'a number of %d to %d' % (
+                LEAST_DRAWS, MOST_DRAWS))
         values[WHERE] = tuple('%s=%s' % (name, _text_of_where(tables, path + (WHERE, name), value))
                                 for name, value in values[WHERE].items())
         for name, value in values[LABELS].items():
@@ -218,7 +221,7 @@ def compare(sides: Sides, wish: Wish, source: Source) -> bool:
         groups.append((by, pairs_of(one, other, wish.measure, kept, wish.against, names, nets)))
     found = [it._replace(by=by) for by, paired in groups for it in sorted(
         differences(paired.by_net() if wish.nets else paired, wish.part, wish.interval,
-                    partial(wish.kind_of, wish.measure)), key=lambda it: order(it.against))]
+                    partial(wish.kind_of, wish.measure), wish.draws), key=lambda it: order(it.against))]
     by = text.by_methods([it.difference.method for it in found])
     words = '%s against %s: %s less %s, %s' % (wish.measure, wish.against, names[1], names[0],
                                                'run by run, and averaged by net' if wish.nets else 'run by run')
@@ -226,7 +229,7 @@ def compare(sides: Sides, wish: Wish, source: Source) -> bool:
     made = text.rows_of_differences(found, wish, *names)
     good = [row for row in rows if not row['fault']]
     shared = None if wish.nets else shared_nets(good, [wish.against, *filter(None, [wish.by])], wish.measure)
-    intervals = text.of_intervals([it.difference for it in found])
+    intervals = text.of_intervals([it.difference for it in found], draws=wish.draws)
     more = note_of_compared(sides) + note_of_measures(sides) + text.of_nets(shared) + intervals
     warnings = warnings_of([*rows, *others], [*separated_by(wish), *wish.over.split(',')], False)
     more += warnings
@@ -280,13 +283,15 @@ def wishes(asked: argparse.Namespace) -> list[Wish]:
         raise Fault('--pair and --compare are two comparisons: leave out one')
     if asked.show == 'heat' and not asked.by:
         raise Fault('--show heat needs --by: the parameter of the vertical axis')
+    if not LEAST_DRAWS <= asked.draws <= MOST_DRAWS:
+        raise Fault('--draws is %d to %d' % (LEAST_DRAWS, MOST_DRAWS))
     drawing.size_of(asked.size)
     wish = Wish(asked.measure, asked.against or '', ','.join(asked.by), asked.output or '', asked.title, asked.x,
                 asked.y, log=asked.log, show=asked.show or MEDIAN, interval=asked.interval,
                 confidence=asked.confidence, threshold=asked.threshold or '', over=asked.over or '',
                 footer=asked.footer, size=asked.size, log_y=asked.log_y, nets=asked.nets, pair=asked.pair or '',
                 compare=asked.compare or '', labels=labels_of(asked.label), is_count=asked.count,
-                y_limits=asked.y_limits)
+                y_limits=asked.y_limits, draws=asked.draws)
     drawing.limits_of(wish)
     return [wish]
 
