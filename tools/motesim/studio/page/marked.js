@@ -1,4 +1,4 @@
-// Lines of a message in which a line of the text has marks below it. Such a line isn't wrapped: it scrolls with its mark.
+// Messages that show a line of the text with marks below it. Such a line isn't wrapped: it scrolls with its marks.
 import {element} from '../../timeline/page/dom.js';
 
 const MARK = /^\s*\^+$/;
