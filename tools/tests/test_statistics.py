@@ -380,7 +380,7 @@ class Pairs(unittest.TestCase):
             found = pairs_of([row(1, seed, 0) for seed in range(len(gaps))],
                              [row(1, seed, gap) for seed, gap in enumerate(gaps)], 'sent', ['period', 'seed'], 'period')
             lines = of_pairs(found, differences(found, 0.95, 't'), 'period')
-            start = '1 mean difference of fewer than 30 skewed pairs, at period 1: '
+            start = 'at period 1 the mean difference is from fewer than 30 pairs, and they are skewed: '
             self.assertEqual(any(it.startswith(start) for it in lines), is_said)
 
     def test_pairs_of_two_nets_are_counted(self) -> None:

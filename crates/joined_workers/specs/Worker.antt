@@ -38,7 +38,7 @@ pub record IsFirstOf (copies : List RadioCopy) (first : Option ℕ) : Type 0 whe
 
 -- Suppose that the share was at a moment that isn't after the window's end, that the window isn't longer than the
 -- lookahead, and that each copy that arrived is expected. Then the new share is the result of the window, on all
--- copies that the worker has taken by then, and these are the outgoing copies.
+-- copies that the worker has taken by then, and `outgoing` are the copies that its motes sent to other workers.
 abbrev pub RunsItsMotes : NetModel → (owners : List ℕ) → (until : ℕ) → (arrived outgoing : List RadioCopy)
     → (old new : Worker) → Type 0
 RunsItsMotes model owners until arrived outgoing old new = (from : ℕ) (motes : Motes)

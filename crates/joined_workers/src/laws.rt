@@ -2,10 +2,10 @@
 
 ghost use Rattle.joined_workers.specs.Laws.{StaysUntilNext, WindowMovesOn};
 
-/// Suppose that a window begins at the moment of the workers, isn't empty, and isn't longer than the lookahead, and
-/// that in it each worker took in the copies that had been sent to it, ran its motes, and delivered the copies that
-/// they sent. Suppose that all senders were then gathered. Then the window of all workers is one of the windows in the
-/// law of windows: the motes have reached its end, each worker still has its own motes, and it has gathered all copies
+/// Suppose that a window begins at the moment of the workers, isn't empty, and isn't longer than the lookahead.
+/// Suppose also that in this window each worker took in the copies sent to it, ran its motes, and delivered the
+/// copies that they sent, and that all senders were then gathered. Then the law of windows applies to the window of
+/// all workers: the motes have reached its end, each worker still has its own motes, and it has gathered all copies
 /// that the motes of other workers sent to its motes.
 pub fn a_window_moves_on()
     ensures window_moves_on { WindowMovesOn }

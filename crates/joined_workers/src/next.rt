@@ -8,14 +8,16 @@ use crate::worker::sooner;
 use all_workers::{Worker, WorkerGroup};
 use worker_window::Share;
 
-/// Calls `Share::next`. This function has only one clause, for the proof of the loop.
+/// Calls `Share::next`. It is a separate function so that the proof of the loop in `next_of_all` uses only this one
+/// clause.
 fn next_of(share: &Share) -> Option<u64>
     ensures tells_next { TellsNext share.now result }
 {
     share.next()
 }
 
-/// Returns the `first_out` of a worker. This function has only one clause, for the proof of the loop.
+/// Returns the `first_out` of a worker. It is a separate function so that the proof of the loop in `first_of_all` uses
+/// only this one clause.
 fn first_out_of(worker: &Worker) -> Option<u64>
     ensures value { result ≡ worker.now.first_out }
 {

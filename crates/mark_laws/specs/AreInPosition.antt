@@ -6,9 +6,9 @@ use Rattle.copy_inbox.specs.Items.{HasPrefix}
 use Rattle.copy_exchange.specs.Pushes.{marks_in, pushes}
 use Rattle.mark_laws.specs.State.{Plan, MarkState, IsPair}
 
--- The items from one worker to another: the first has finished `finished` windows, the other `begun`. The first has
--- pushed all items of the windows that it has finished, and no item of a window that it hasn't begun. The other has
--- taken a prefix of these items, with the marks of the windows that it has finished itself.
+-- The items from one worker to another: the first has finished `finished` windows, and the other has finished `begun`
+-- windows. The first has pushed all items of the windows that it has finished, and no item of a window that it hasn't
+-- begun. The other has taken a prefix of these items, with the marks of the windows that it has finished itself.
 pub record IsLine (windows finished begun : ℕ) (sent : ℕ → List RadioCopy) (pushed taken : List Carried) : Type 0 where
   pub whole : HasPrefix pushed (pushes finished sent)
   pub front : HasPrefix (pushes (min (suc finished) windows) sent) pushed

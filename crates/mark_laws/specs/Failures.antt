@@ -15,7 +15,7 @@ pub record Flagged : Type 0 where
 abbrev pub start_flagged : Flagged
 start_flagged = record { queued = start_queued; gone = λ v. false; stop = false }
 
--- a turn: a worker that isn't gone makes one of the steps above; a worker fails, or will never start; or a worker
+-- a turn: a worker that isn't gone carries out one of the steps above; a worker fails, or will never start; or a worker
 -- leaves
 pub data Turn : Type 0 where
   Does : Event → Turn
@@ -32,7 +32,7 @@ pub record MayFail (p : Plan) (c : Flagged) (worker : ℕ) : Type 0 where
   pub still : c.gone worker ≡ false
   pub runs : c.queued.state.finished worker < p.windows
 
--- a worker that waits for a mark may leave when the flag is set, also if its queue isn't empty
+-- a worker that waits for a mark may leave when the flag is set, even if its queue isn't empty
 pub record MayLeave (p : Plan) (c : Flagged) (worker : ℕ) : Type 0 where
   pub there : worker < p.workers
   pub still : c.gone worker ≡ false
@@ -62,7 +62,7 @@ steps_in (Does e ∷ turns) = e ∷ steps_in turns
 steps_in (Fails v ∷ turns) = steps_in turns
 steps_in (Leaves v ∷ turns) = steps_in turns
 
--- no worker can make a step, and no worker may leave; failures that may still happen don't count
+-- no worker has a possible step, and no worker may leave; failures that may still happen don't count
 pub record IsStuckFlagged (p : Plan) (senders : Senders p) (c : Flagged) : Type 0 where
   pub steps : (e : Event) → MayDo p senders c e → ⊥
   pub leaves : (v : ℕ) → MayLeave p c v → ⊥

@@ -60,8 +60,8 @@ abbrev pub IsOfWindow : (sent : ℕ → List RadioCopy) → (window : ℕ) → C
 IsOfWindow sent k (Packet copy) = Contains (sent k) copy
 IsOfWindow sent k (Mark n) = n ≡ k
 
--- An item that a worker may take belongs to the worker's current window, or to the next one, which its sender has then
--- begun: the number of the item's window is the number of the sender's marks that the worker has taken before the
+-- An item that a worker may take belongs to the worker's current window or to the next one, and its sender has begun
+-- this window. The number of the item's window is the number of the sender's marks that the worker has taken before the
 -- item.
 pub record ComesFrom (p : Plan) (w : MarkState) (worker owners window : ℕ) (x : Carried) : Type 0 where
   pub not_before : w.finished worker ≤ window
@@ -142,8 +142,8 @@ LetsEach p senders q lets = (e : Event) → MayHappenQueued p senders q e
     → (f : Event) × MayHappenQueued p senders q f × (worker_of f ≡ worker_of e) × (lets f ≡ true)
 
 -- Workers may keep an order of their own among the steps that they may take, such as all copies of a window before its
--- marks. If it lets each worker that has a possible step take one, then a run is at the end when no step that is both
--- possible and allowed is left.
+-- marks. Suppose that this order allows a step to each worker that has a possible one. Then a run is at the end when no
+-- step that is both possible and allowed is left.
 abbrev pub OwnOrderDoesNotStick : Type 0
 OwnOrderDoesNotStick = (p : Plan) (senders : Senders p) (events : List Event) (q : Queued)
     → RunQueued p senders start_queued events q
@@ -162,7 +162,8 @@ FlaggedStuckIsOver = (p : Plan) (senders : Senders p) (turns : List Turn) (c : F
     → RunTurns p senders start_flagged turns c → IsStuckFlagged p senders c
     → (v : ℕ) → v < p.workers → (c.gone v ≡ true) ⊎ (c.queued.state.finished v ≡ p.windows)
 
--- if no worker has failed, no worker is gone; and if then the only turns left are failures, everything is done
+-- If no worker has failed, no worker is gone. If, in addition, the only turns left are failures, all workers have
+-- finished all windows, and all items were pushed and taken.
 abbrev pub UnlessOneFails : Type 0
 UnlessOneFails = (p : Plan) (senders : Senders p) (turns : List Turn) (c : Flagged)
     → RunTurns p senders start_flagged turns c → c.stop ≡ false

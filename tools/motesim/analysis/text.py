@@ -439,9 +439,10 @@ def of_pairs(paired: Paired, found: Sequence[Difference], against: str, most: in
     skewed = [text_of(it.against) for it in found if it.is_skewed and it.difference.runs < ENOUGH_RUNS
               and it.difference.method in ('t', 'within pairs')]
     if skewed:
-        lines.append('%s of fewer than %d skewed pairs, at %s %s: the interval of such a difference contains the true '
-                     'mean less often than its confidence says; make more runs, or use --interval bootstrap-t' % (
-                         some(len(skewed), 'mean difference'), ENOUGH_RUNS, against, ', '.join(skewed)))
+        lines.append('at %s %s %s mean difference is from fewer than %d pairs, and they are skewed: its interval '
+                     'contains the true mean less often than its confidence says; make more runs, or use --interval '
+                     'bootstrap-t' % (
+                         against, ', '.join(skewed), 'the' if len(skewed) == 1 else 'each', ENOUGH_RUNS))
     if paired.of_two_nets:
         lines.append('in %d of %d pairs the motes have different places on the two sides: such a pair compares two '
                      'different nets, so it doesn\'t remove the effect of the net' % (

@@ -10,7 +10,7 @@ next to the scenario NAME.toml.
 Kinds of faults, for --faults:
   links        a link loses everything, in one direction
   both-ways    a link loses everything, in both directions
-  every        a link loses each k-th packet (--every 2,3)
+  every        a link loses every k-th packet (--every 2,3)
   packets      a link loses a single packet
   motes        a mote is silent: nobody hears what it sends
   deaths       a mote fails at a moment (--moments 40,80)
@@ -21,8 +21,10 @@ Kinds of faults, for --faults:
   places       a mote is moved (--step 5)
   parameters   parameters of a plan have other values (--set period=10,20)
 
-docs/use/SEARCH.md begins with a protocol that looks right, and explains what the result of a search means. Ends with
-status 0 if all expectations hold in every run, 1 if one is broken, 2 if there is no result, and 130 after Ctrl-C.
+docs/use/SEARCH.md begins with a protocol that looks right, and explains what the result of a search means.
+
+The tool ends with status 0 if all expectations hold in every run, 1 if one is broken, 2 if there is no result, and 130
+after Ctrl-C.
 """
 from __future__ import annotations
 
@@ -44,7 +46,8 @@ def arguments() -> argparse.ArgumentParser:
     words.add_argument('--expect', action='append', default=[], metavar='SENTENCE',
                        help='an expectation, instead of those of a file')
     words.add_argument('--faults', default='', metavar='KINDS',
-                       help='the kinds of faults (links,motes; with --set, the kinds of its values)')
+                       help='the kinds of faults (links,motes; with --set: values, parameters or both, whichever '
+                            '--set names)')
     words.add_argument('--at-most', type=int, default=1, metavar='K',
                        help='the greatest number of simultaneous faults (1)')
     words.add_argument('--every', default='2', metavar='NUMBERS', help='for `every`: the values of k (2)')

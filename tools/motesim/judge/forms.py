@@ -54,7 +54,8 @@ DEED = Table('DEED', 'Lines of the report', ('mote 1 %s',), (
     (('prints just P 1 to 29 in any order',),
      'all lines `print P V` together have just these values, in any order'),
     (('prints just P its distance from mote 0',),
-     'there is just one line `print P V`, and it has this value; each VALUE below that is in words may follow'),
+     'there is just one line `print P V`, and it has this value; after `prints just P` you can also write the other '
+     'values below that are in words'),
     (('finally prints P VALUE',), 'the last line `print P V` has this value'),
     (('sends', 'sends VALUE'), '`send N V`'),
     (('receives', 'receives VALUE', 'receives VALUE from mote 2'), '`recv F N V`'),

@@ -18,7 +18,7 @@ from motesim.search.change import Base, CannotChange, Change
 KINDS: dict[str, tuple[str, str]] = {
     'links': ('link that loses everything, in one direction', 'links that lose everything, in one direction'),
     'both-ways': ('link that loses everything, in both directions', 'links that lose everything, in both directions'),
-    'every': ('link that loses each k-th packet', 'links that lose each k-th packet'),
+    'every': ('link that loses every k-th packet', 'links that lose every k-th packet'),
     'packets': ('single packet lost on a link', 'single packets lost on a link'),
     'motes': ('silent mote', 'silent motes'),
     'deaths': ('mote that fails at a moment', 'motes that fail at a moment'),
@@ -131,9 +131,9 @@ def effect_of(words: str, motes: int) -> tuple[str | int, ...]:
 class Asked:
     """The faults that are wanted.
 
-    every    the k of links that lose each k-th packet
+    every    the values of k, for links that lose every k-th packet
     sent     how many packets each mote sends in the run without a fault
-    moments  the moments at which motes fail or start; none for a quarter, a half and three quarters of the time
+    moments  the moments at which motes fail or start; if empty, a quarter, a half and three quarters of the time
     queues   the lengths of event queues
     values   other values of `range`, `base` and `per`
     step     how far motes are moved, in x or y
