@@ -11,6 +11,7 @@ from fractions import Fraction
 from typing import NamedTuple
 
 from motesim.explain import quotes, synonyms
+from motesim.explain.kept import keeps_others
 from motesim.scenario.faults import LOSS, MEDIUM, MOTE, TOP, Place, Rule, ScenarioError, find_fault, place_of
 from motesim.toml import NoToml, read_toml
 
@@ -174,6 +175,7 @@ def _attempts_at_value(text: str, rows: list[str], tables: object, fault: Scenar
         yield from _attempts_at_header(header[1], number)
         return
     rule = _rule(fault)
+    yield from _attempts_at_array(row, number, place, value, name, rule)
     found = _whole(name, value)
     if found and rule and rule.kind is int:
         yield Repair(found[1], number, number, (_replaced(row, place, found[0]),))
@@ -193,6 +195,18 @@ def _attempts_at_value(text: str, rows: list[str], tables: object, fault: Scenar
         for other in (value - 1, *range(count)):
             if 0 <= other < count:
                 yield Repair(hint, number, number, (_replaced(row, place, str(other)),))
+
+
+def _attempts_at_array(row: str, number: int, place: Place, value: object, name: str,
+                       rule: Rule | None) -> Iterator[Repair]:
+    """A table instead of an array of tables, or an array with one table instead of the table."""
+    inner = row[place.column:].rstrip()
+    if rule and rule.kind is list and isinstance(value, dict):
+        yield Repair('`%s` is an array of tables: it has brackets, also around a single table.' % name, number, number,
+                     ('%s[%s]' % (row[:place.column], inner),))
+    if rule and rule.kind is dict and isinstance(value, list) and len(value) == 1:
+        yield Repair('`%s` is one table, without brackets around it.' % name, number, number,
+                     (row[:place.column] + inner.removeprefix('[').removesuffix(']').strip(),))
 
 
 def _attempts_at_number(hint: str, row: str, number: int, place: Place, of: tuple[str, int, int]) -> Iterator[Repair]:
@@ -229,7 +243,9 @@ def _attempts_at_missing(text: str, rows: list[str], tables: object, fault: Scen
     hint = 'The table has `%s`: write `%s`.' % (like, wanted)
     if isinstance(value, list) and len(value) == 2 and wanted in ('x', 'y') and isinstance(table, dict):
         pairs = ['%s = %s' % it for it in zip('xy', value) if it[0] not in table]
-        yield Repair('A mote has its place in two keys, `x` and `y`.', number, number, tuple(pairs))
+        end = _end_of_entry(row, place)
+        lines = [row[:place.column] + ', '.join(pairs) + row[end:]] if _is_inline(row, place) else pairs
+        yield Repair('A mote has its place in two keys, `x` and `y`.', number, number, tuple(lines))
     whole = _whole(wanted, value)
     if whole:
         at = VALUE_BEHIND.match(row, place.column + place.length)
@@ -238,6 +254,25 @@ def _attempts_at_missing(text: str, rows: list[str], tables: object, fault: Scen
             written = row[:place.column] + wanted + between + whole[0] + row[at.end(1):]
             yield Repair('%s %s' % (hint, whole[1]), number, number, (written,))
     yield Repair(hint, number, number, (_replaced(row, place, wanted),))
+
+
+def _is_inline(row: str, place: Place) -> bool:
+    """Returns whether a key is in an inline table, so that other keys are on the same line."""
+    return bool(row[:place.column].strip())
+
+
+def _end_of_entry(row: str, place: Place) -> int:
+    """The column behind the value of a key."""
+    found = VALUE_BEHIND.match(row, place.column + place.length)
+    return found.end() if found else len(row)
+
+
+def _without(row: str, place: Place) -> str:
+    """A line without a key of an inline table, its value and one comma."""
+    before, behind = row[:place.column].rstrip(), row[_end_of_entry(row, place):].lstrip()
+    if behind.startswith(','):
+        return '%s %s' % (before, behind[1:].lstrip())
+    return '%s %s' % (before.removesuffix(','), behind)
 
 
 VALUE_BEHIND = re.compile(r'''["']?\s*=\s*("[^"]*"|'[^']*'|\[[^\]]*\]|[^\s,}#]+)''')
@@ -256,13 +291,13 @@ def _attempts_at_key(text: str, rows: list[str], tables: object, fault: Scenario
     table = str(fault.path[0]) if len(fault.path) > 1 else ''
     known = {'medium': [*MEDIUM, 'collide'], 'loss': [*LOSS], 'mote': [*MOTE]}.get(table, [*TOP, 'queue'])
     like = synonyms.meant(name, known)
+    header = re.fullmatch(r'\s*\[\[?\s*\w+\s*\]\]?\s*', row)
     if like:
-        header = re.fullmatch(r'\s*\[\[?\s*\w+\s*\]\]?\s*', row)
-        line = ('[[%s]]' if like in ('mote', 'loss') else '[%s]') % like if header else row.replace(name, like, 1)
+        line = ('[[%s]]' if like in ('mote', 'loss') else '[%s]') % like if header else _replaced(row, place, like)
         yield Repair('Did you mean `%s`?' % like, number, number, (line,))
-    if re.fullmatch(r'\s*%s\s*=.*' % re.escape(name), row) and (name not in synonyms.CHANCE):
+    if not header and name not in synonyms.CHANCE:
         reason = synonyms.LEFT_OUT.get(name, 'There is no key `%s` in this table.' % name)
-        yield Repair(reason, number, number, ())
+        yield Repair(reason, number, number, (_without(row, place),) if _is_inline(row, place) else ())
 
 
 def _attempts_at_name(text: str, rows: list[str], tables: object, fault: ScenarioError) -> Iterator[Repair]:
@@ -278,7 +313,7 @@ def _attempts_at_name(text: str, rows: list[str], tables: object, fault: Scenari
         yield Repair('Did you mean `%s`?' % like, number, number, (_replaced(row, place, '"%s"' % like),))
     elif fault.path[0] == 'queue' and names:
         hint = 'A key of `queue` is the name of a program: %s.' % ', '.join('`%s`' % it for it in names)
-        yield Repair(hint, number, number, (row.replace(named, like or names[0], 1),))
+        yield Repair(hint, number, number, (_replaced(row, place, like or names[0]),))
 
 
 def _attempts(text: str, fault: ScenarioError) -> Iterator[Repair]:
@@ -320,7 +355,10 @@ def repair(text: str, fault: ScenarioError) -> Repair | None:
     for number, it in enumerate(_attempts(text, fault)):
         if number == MOST_ATTEMPTS:
             break
-        with_it = find_fault('\n'.join([*rows[:it.first - 1], *it.lines, *rows[it.last:]]).encode('utf-8', 'replace'))
+        changed = '\n'.join([*rows[:it.first - 1], *it.lines, *rows[it.last:]])
+        if not keeps_others(text, changed, fault):
+            continue
+        with_it = find_fault(changed.encode('utf-8', 'replace'))
         if with_it is None:
             return it
         if best is None and _is_better(fault, with_it, it.last):

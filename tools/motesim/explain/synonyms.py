@@ -62,4 +62,5 @@ def like_of_missing(tables: object, fault: ScenarioError) -> str | None:
     if not isinstance(table, dict):
         return None
     others = [it for it in table if it not in {**TOP, **MEDIUM, **LOSS, **MOTE}]
-    return nearest(wanted, others) or next((it for it in others if it.lower() in SYNONYMS.get(wanted, ())), None)
+    names = (wanted, *SYNONYMS.get(wanted, ()))
+    return nearest(wanted, others) or next((it for it in others if it.lower() in names), None)

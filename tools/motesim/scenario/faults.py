@@ -12,11 +12,11 @@ from typing import Any
 
 from motesim.notation.faults import ProgramError
 from motesim.notation.faults import find_fault as find_program_fault
+from motesim.scenario.inline import Path as Path
+from motesim.scenario.inline import inline_keys, inline_values
 from motesim.toml import NoToml, read_toml
 
 LONGEST_TEXT = 1_048_576
-# A table or a key: the names and the numbers that lead to it.
-Path = tuple[str | int, ...]
 
 # For each line that reports a fault, without `motesim: `, the rule. motesim.notation.faults has the rules for the
 # faults of programs.
@@ -329,7 +329,7 @@ def place_of(text: str, path: Path) -> Place:
     for length in range(len(path), 0, -1):
         if path[:length] in found:
             place = found[path[:length]]
-            return _within(text, place, str(path[length])) if length < len(path) else place
+            return place if length == len(path) else _within(text, place, path, length)
     return Place(1, 0, len(text.split('\n')[0]))
 
 
@@ -340,8 +340,16 @@ def value_of(text: str, place: Place) -> Place:
     return Place(place.line, found.start(1), len(found[1])) if found else place
 
 
-def _within(text: str, place: Place, name: str) -> Place:
-    """A key after this place on the same line, as in a table that is written in one line; otherwise this place."""
-    line = text.split('\n')[place.line - 1]
-    found = re.compile(r'\b%s(?=["\']?\s*=)' % re.escape(name)).search(line, place.column + place.length)
-    return Place(place.line, found.start(), len(name)) if found else place
+def _within(text: str, place: Place, path: Path, length: int) -> Place:
+    """The place of a table or a key in the inline array or table behind a key: a part of the path of some length leads
+    to this key. If it isn't there, the place of the nearest table around it, otherwise of the key."""
+    rows = text.split('\n')
+    begin = sum(len(it) + 1 for it in rows[:place.line - 1])
+    ends = {path[:length]: begin + place.column + place.length}
+    found = {**inline_values(text, ends), **inline_keys(text, ends)}
+    span = next((found[path[:it]] for it in range(len(path), length, -1) if path[:it] in found), None)
+    if span is None:
+        return place
+    line = text.count('\n', 0, span[0])
+    end = min(span[1], text.find('\n', span[0]) % (len(text) + 1))
+    return Place(line + 1, span[0] - text.rfind('\n', 0, span[0]) - 1, end - span[0])
