@@ -273,8 +273,8 @@ where
 }
 
 /// The reported error is that of the worker with the lowest number: the error of worker 0, or, if worker 0 has taken
-/// its three turns, the refused start of worker 1. With `--fail-alloc` this test runs many times, and another
-/// allocation fails in each run. With enough memory the refused start is reported.
+/// its three turns, the refused start of worker 1. With enough memory the refused start is reported. If an allocation
+/// of worker 0 fails (`rt try --test --fail-alloc N`), the error may also be that worker 0 is out of memory.
 #[test]
 fn the_lowest_workers_error(rt: HostRuntime) -> Result<(), Fail> {
     let net = read_scenario(rt.alloc(), BUSY_PAIR)?;
