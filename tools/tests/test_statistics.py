@@ -199,8 +199,8 @@ def curve_of(values: Sequence[tuple[float, Sequence[float]]], keys: Sequence[Seq
 
 class Crossings(unittest.TestCase):
     def test_the_place_by_hand(self) -> None:
-        self.assertEqual(place([(0, 0), (10, 5), (20, 10)], 7.5), (15, True, (10, 20)))
-        self.assertEqual(place([(0, 1), (4, 0)], 0.25), (3, False, (0, 4)))
+        self.assertEqual(place([(0, 0), (10, 5), (20, 10)], 7.5), (15, True, (10, 20), 1))
+        self.assertEqual(place([(0, 1), (4, 0)], 0.25), (3, False, (0, 4), 0))
         self.assertIsNone(place([(0, 1), (4, 2)], 3))
         self.assertIsNone(place([(0, 1), (4, 0)], 0.25, is_rising=True))
 
@@ -234,12 +234,38 @@ class Crossings(unittest.TestCase):
         open_end = columns_of_crossing(found._replace(low=1.5, high=math.inf))
         self.assertEqual((open_end['crossing low'], open_end['crossing high']), (1.5, math.inf))
 
+    def test_a_line_that_turns_back_is_crossed_in_the_order_of_its_points(self) -> None:
+        # In the order of x this curve would cross 0.5 twice: between 1 and 2, and between 2 and 4.
+        found = crossing(curve_of([(4.0, [0.1, 0.1]), (1.0, [0.3, 0.3]), (2.0, [0.9, 0.9])]), 0.5, 0.95)
+        assert found
+        self.assertEqual([(round(it.at, 6), it.is_rising, it.gap, it.number) for it in found.places],
+                         [(1.333333, True, (1, 2), 1)])
+        self.assertEqual((found.low, found.high), (1, 2))
+        found = crossing(curve_of([(4.0, [0.1, 0.1]), (1.0, [0.3, 0.3]), (2.0, [0.9, 0.9])]), 0.2, 0.95)
+        assert found
+        self.assertEqual((round(found.at, 6), found.gap, found.low, found.high), (2.5, (1, 4), 1, 4))
+
+    def test_a_drawn_line_that_crosses_beyond_its_ends_crosses_on_the_side_to_which_it_leads(self) -> None:
+        # These curves lead to the right beyond their first point, 4, and to the left beyond their last one, 2.
+        for first, last, threshold, low, high in ([0.9, 0.2], [0.9, 0.8], 0.56, 2, math.inf), (
+                [0.1, 0.2], [0.1, 0.8], 0.4, -math.inf, 4):
+            found = crossing(curve_of([(4.0, first), (2.0, last)]), threshold, 0.95)
+            assert found
+            self.assertEqual((found.low, found.high), (low, high))
+
+    def test_the_share_of_curves_that_cross_twice_needs_both_crossings(self) -> None:
+        # (the bootstrap draws the last point as 0 and 0, 0 and 1, or 1 and 1: in a quarter it isn't below 0.6)
+        found = crossing(curve_of([(0.0, [0, 0]), (1.0, [1, 1]), (2.0, [0, 1])]), 0.6, 0.95)
+        assert found
+        self.assertEqual(len(found.places), 2)
+        self.assertAlmostEqual(found.share, 0.75, delta=0.04)
+
     def test_on_a_logarithmic_axis_lines_are_straight_in_the_logarithm(self) -> None:
         # (half way up from 10 to 40 is 20, which is where the picture with --log shows it)
         found = place([(10, 0), (40, 1)], 0.5, is_log=True)
         assert found
         self.assertAlmostEqual(found[0], 20)
-        self.assertEqual(place([(10, 0), (40, 1)], 0.5), (25, True, (10, 40)))
+        self.assertEqual(place([(10, 0), (40, 1)], 0.5), (25, True, (10, 40), 0))
 
     def test_an_interval_is_never_narrower_than_the_gap_between_points(self) -> None:
         found = crossing(curve_of([(x, [x / 10] * 5) for x in range(11)]), 0.45, 0.95)
@@ -559,11 +585,23 @@ HEAD = 'period,density,seed,sent,ratio,fault,parameters\n'
 ONE = '--where', 'density=thin'
 
 
+HEAD_OF_TURNS = 'motes,seed,cost,delivered,fault,parameters\n'
+
+
 def results(extra: int = 0) -> str:
     """`sent` is ten times the period and the seed, and more in the dense net; `ratio` rises with the period."""
     return HEAD + ''.join('%d,%s,%d,%d,%s,,period density seed\n' % (
         period, density, seed, 10 * period + seed + extra + 5 * (density == 'dense'), period / 10 + seed / 1000)
         for period in (1, 4, 8) for density in ('thin', 'dense') for seed in range(1, 6))
+
+
+# At 10, 20 and 30 motes the mean of `cost` is 5, 3 and 4, and that of `delivered` 0.2, 0.6 and 0.9.
+TURNS = HEAD_OF_TURNS + ''.join('%s,%d,%s,%s,,motes seed\n' % (motes, seed, cost + seed - 2, share)
+                                for motes, cost, share in ((10, 5, 0.2), (20, 3, 0.6), (30, 4, 0.9))
+                                for seed in (1, 2, 3))
+# The line of the first curve of a picture.
+CURVE = re.compile(r'<g id="line2d_\d+">\s*<path d="([^"]*)" clip-path="[^"]*" style="fill: none; stroke: #0072b2; '
+                   r'stroke-width: 1.5')
 
 
 class Command(unittest.TestCase):
@@ -895,6 +933,60 @@ class Command(unittest.TestCase):
         self.plot(*words, status=2)
         self.assertIn('the two sides have no pair of runs', self.seen)
 
+    def test_points_of_two_measures_are_joined_in_the_order_of_the_parameter(self) -> None:
+        (self.folder / 'net.csv').write_text(TURNS)
+        words = '--measure', 'delivered', '--against', 'cost', '--threshold', '0.7'
+        for how, name in ('mean', 'mean'), ('median', 'median'):
+            lines = [' '.join(row) for row in self.plot(*words, '--show', how)]
+            self.assertTrue(lines[0].startswith('delivered against cost, in the order of motes, over seed'), lines)
+            self.assertEqual([row.split()[:2] for row in lines[1:5]], [
+                ['motes', 'cost'], ['10', '5.000'], ['20', '3.000'], ['30', '4.000']])
+            # (a third of the way from 0.6 to 0.9, and from 3 to 4)
+            self.assertIn('the %s rises above 0.7 at cost 3.333, between motes 20 and 30' % name, lines)
+        interpreter_with(self, 'matplotlib')
+        self.plot(*words, '--show', 'mean', '-o', 'a.svg')
+        line = CURVE.search((self.folder / 'a.svg').read_text())
+        assert line
+        one, two, three = (float(it.split()[0]) for it in re.split('[ML]', line[1])[1:])
+        self.assertTrue(two < three < one, line[1])
+        rows = list(csv.DictReader((self.folder / 'a.table.csv').read_text().splitlines()))
+        self.assertEqual([(row['motes'], row['cost'], row['crossings']) for row in rows], [
+            ('10', '5.0', '1'), ('20', '3.0', '1'), ('30', '4.0', '1')])
+
+    def test_a_line_of_two_measures_has_a_gap_and_names_are_not_joined(self) -> None:
+        words = '--measure', 'delivered', '--against', 'cost', '--show', 'mean'
+        text = TURNS.replace('10,', 'few,').replace('20,', 'some,').replace('30,', 'many,')
+        (self.folder / 'net.csv').write_text(text)
+        lines = [' '.join(row) for row in self.plot(*words)]
+        self.assertTrue(lines[0].startswith('delivered against cost, over seed'), lines)
+        self.plot(*words, '--threshold', '0.7', status=2)
+        self.assertIn('a curve crosses a threshold only if the values of motes are numbers', self.seen)
+        interpreter_with(self, 'matplotlib')
+        self.plot(*words, '-o', 'a.svg')
+        self.assertIsNone(CURVE.search((self.folder / 'a.svg').read_text()))
+        more = ''.join('40,%d,6,0.95,,motes seed\n' % seed for seed in (1, 2, 3))
+        (self.folder / 'net.csv').write_text(re.sub(',0.9,', ',,', TURNS) + more)
+        self.plot(*words, '-o', 'a.svg')
+        line = CURVE.search((self.folder / 'a.svg').read_text())
+        assert line
+        self.assertEqual((line[1].count('M'), line[1].count('L')), (2, 1), line[1])
+
+    def test_points_have_the_parameters_of_their_runs(self) -> None:
+        (self.folder / 'net.csv').write_text(TURNS)
+        for against, rows in ('motes', [['motes', 'delivered', 'seed'], ['10', '0.200', '1']]), (
+                'cost', [['motes', 'cost', 'delivered', 'seed'], ['10', '4', '0.200', '1']]):
+            words = '--measure', 'delivered', '--against', against, '--show', 'points'
+            found = self.plot(*words)
+            self.assertEqual([found[1], [it.removesuffix('.000') for it in found[2]]], rows)
+        self.plot('--measure', 'sent', '--against', 'cost', '--show', 'points', status=2)
+        text = TURNS.replace('seed,cost', 'rate,seed,cost').replace('motes seed', 'motes rate seed')
+        text = re.sub('^(..),', r'\1,1,', text, flags=re.M) + '30,2,1,4,1,,motes rate seed\n'
+        (self.folder / 'net.csv').write_text(text)
+        found = self.plot('--measure', 'delivered', '--against', 'cost', '--show', 'points')
+        self.assertEqual((found[1], found[-1][:2]), (['motes', 'rate', 'cost', 'delivered', 'seed'], ['30', '2']))
+        self.plot('--measure', 'delivered', '--against', 'cost', '--show', 'points', '--threshold', '0.7', status=2)
+        self.assertIn('only along one parameter, and its points differ in motes and rate: ', self.seen)
+
     def test_the_measure_without_a_value_is_named_on_either_axis(self) -> None:
         text = 'period,seed,sent,first,fault,parameters\n' + ''.join('%d,%d,%d,%s,,period seed\n' % (
             period, seed, seed, '' if seed == 1 else '5') for period in (1, 2) for seed in (1, 2, 3))
@@ -999,8 +1091,7 @@ class Command(unittest.TestCase):
         (self.folder / 'net.csv').write_text('\n'.join(lines) + '\n')
         for how in 'mean', 'median':
             self.plot('--measure', 'sent', '--against', 'period', *ONE, '--show', how, '-o', 'a.svg')
-            line = re.search(r'<g id="line2d_\d+">\s*<path d="([^"]*)" clip-path="[^"]*" style="fill: none; '
-                             r'stroke: #0072b2; stroke-width: 1.5', (self.folder / 'a.svg').read_text())
+            line = CURVE.search((self.folder / 'a.svg').read_text())
             assert line
             self.assertEqual(line[1].count('M'), 2, line[1])
 
@@ -1015,8 +1106,9 @@ class Command(unittest.TestCase):
 
     def test_each_run_is_at_its_own_place_on_two_measures(self) -> None:
         rows = self.plot('--measure', 'sent', '--against', 'ratio', *ONE, '--show', 'points')
-        self.assertEqual(rows[1], ['ratio', 'sent'])
-        self.assertEqual(rows[2:5], [['0.101', '11.000'], ['0.102', '12.000'], ['0.103', '13.000']])
+        self.assertEqual(rows[1], ['period', 'ratio', 'sent', 'seed'])
+        self.assertEqual(rows[2:5], [['1', '0.101', '11.000', '1'], ['1', '0.102', '12.000', '2'],
+                                     ['1', '0.103', '13.000', '3']])
         interpreter_with(self, 'matplotlib')
         self.plot('--measure', 'sent', '--against', 'ratio', *ONE, '--show', 'points', '-o', 'a.svg')
         picture = (self.folder / 'a.svg').read_text()

@@ -6,6 +6,9 @@ drawn again with replacement (the bootstrap), and each drawn curve crosses at it
 the same seeds, the seeds are drawn, and the same seeds are used for the whole curve, because runs of one seed have
 much in common. Otherwise the runs of each point are drawn independently.
 
+If the horizontal axis shows a measure, the line joins the points in the order of a parameter, and so may turn back. The
+callers have the points in this order.
+
 There are no runs between two neighbouring points, so each drawn curve only shows between which points it crosses.
 The interval contains these gaps completely: it reaches from their left ends to their right ends.
 
@@ -37,10 +40,12 @@ class Runs(NamedTuple):
 
 
 class Place(NamedTuple):
-    """A place at which a line crosses, its direction, and the neighbouring points between which it is."""
+    """A place at which a line crosses, its direction, the places of the neighbouring points between which it is, the
+    lesser one first, and the number of the earlier one of these points, from 0."""
     at: float
     is_rising: bool
     gap: tuple[float, float]
+    number: int = 0
 
 
 class Crossing(NamedTuple):
@@ -69,11 +74,11 @@ class Crossing(NamedTuple):
 def places_of(line: Line, threshold: float, is_log: bool = False, is_log_y: bool = False) -> list[Place]:
     """All places at which a line crosses a threshold."""
     found = []
-    for (x, y), (next_x, next_y) in zip(line, line[1:]):
+    for number, ((x, y), (next_x, next_y)) in enumerate(zip(line, line[1:])):
         if (y < threshold) != (next_y < threshold):
             part = math.log(threshold / y) / math.log(next_y / y) if is_log_y else (threshold - y) / (next_y - y)
             at = x * (next_x / x) ** part if is_log else x + (next_x - x) * part
-            found.append(Place(at, next_y > y, (x, next_x)))
+            found.append(Place(at, next_y > y, (min(x, next_x), max(x, next_x)), number))
     return found
 
 
@@ -91,7 +96,15 @@ def gap_of(line: Line, threshold: float, is_rising: bool, is_last: bool = False)
     if found:
         return found[-1 if is_last else 0].gap
     is_above = line[-1][1] >= threshold
-    return (BEFORE, BEFORE) if is_above == is_rising else (BEHIND, BEHIND)
+    end = _beyond(line[1][0], line[0][0], BEFORE) if is_above == is_rising else _beyond(
+        line[-2][0], line[-1][0], BEHIND)
+    return end, end
+
+
+def _beyond(neighbour: float, end: float, otherwise: float) -> float:
+    """The side of the axis to which a line leads from a point at its end, whose neighbour is known: an infinite number.
+    If both are at one place, the side is `otherwise`."""
+    return otherwise if neighbour == end else BEFORE if end < neighbour else BEHIND
 
 
 def by_key(curve: Sequence[Runs]) -> list[dict[Key, tuple[float, float]]] | None:
@@ -118,18 +131,18 @@ def drawn_lines(curve: Sequence[Runs], middle: Middle, count: int) -> Iterator[L
         # (if a point has none of the drawn keys, runs are drawn from its own)
         runs = [[points[number][key] for key in drawn if key in points[number]] if points else []
                 for number in range(len(curve))]
-        yield sorted(point(own or resampled(alone[number], chance), middle) for number, own in enumerate(runs))
+        yield [point(own or resampled(alone[number], chance), middle) for number, own in enumerate(runs)]
 
 
 def crossing(curve: Sequence[Runs], threshold: float, confidence: float, middle: Middle = statistics.fmean,
              is_log: bool = False, is_log_y: bool = False, count: int = DRAWS) -> Crossing | None:
     """The places at which a curve crosses a threshold, with intervals from so many drawn curves; None if it doesn't
-    cross."""
-    line = sorted(point(list(zip(it.xs, it.ys)), middle) for it in curve)
+    cross. The points are in the order of the line."""
+    line = [point(list(zip(it.xs, it.ys)), middle) for it in curve]
     places = tuple(places_of(line, threshold, is_log, is_log_y))
     if not places:
         return None
-    at, is_rising, gap = places[0]
+    at, is_rising, gap, _ = places[0]
     draws = len({key for it in curve for key in it.keys}) if by_key(curve) else min(len(it.ys) for it in curve)
     sizes = min(len(it.ys) for it in curve), max(len(it.ys) for it in curve)
     if draws < 2:
@@ -138,13 +151,12 @@ def crossing(curve: Sequence[Runs], threshold: float, confidence: float, middle:
     part = part_of_draws(confidence, draws)
     gaps = [gap_of(it, threshold, is_rising) for it in lines]
     low, high = _around(gaps, gap, part)
-    last = None
+    last, ends = None, gaps
     if len(places) > 1:
         ends = [gap_of(it, threshold, places[-1].is_rising, True) for it in lines]
         last = _around(ends, places[-1].gap, part)
-        # (a drawn curve may lack the first crossing or the last one)
-        gaps = [min(its) for its in zip(gaps, ends)]
-    share = sum(math.isfinite(left) for left, _ in gaps) / len(gaps)
+    # (a drawn curve may lack the first crossing or the last one)
+    share = sum(math.isfinite(one + other) for (one, _), (other, _) in zip(gaps, ends)) / len(gaps)
     return Crossing(at, is_rising, gap, low, high, share, draws, places, sizes, last)
 
 

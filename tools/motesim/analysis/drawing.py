@@ -147,8 +147,8 @@ def lengths(found: Sequence[Estimate]) -> list[list[float]]:
 
 def _draw_points(axes: Any, points: list[Point], xs: list[float], wish: Wish, look: dict[str, str],
                  label: str | None, is_scale: bool) -> None:
-    """Draws a curve with its intervals, or all points. On an axis of names no line joins the points, because the order
-    of names means nothing."""
+    """Draws a curve with its intervals, or all points. If the points differ in a name, no line joins them, because the
+    order of names means nothing."""
     if wish.show == 'points':
         # (on an axis of a measure each run has a place of its own)
         places = [it for x, point in zip(xs, points)
@@ -347,11 +347,13 @@ def draw(shown: Shown, wish: Wish, path: Path) -> bool:
 def with_gaps(points: list[Point], shown: Shown, places: Sequence[Cell]) -> list[Point]:
     """The points of a curve. At a place at which no run has a value there is a point that isn't drawn: otherwise the
     line would cross that place."""
+    nothing = Estimate(0, math.nan, None, None)
     if points[0].across is not None:
-        return points
+        more = [Point(by, math.nan, (), nothing, nothing, along=tuple(along)) for by, *along in shown.gaps
+                if by == points[0].by]
+        return sorted([*points, *more], key=lambda it: [order(value) for value in it.along])
     by, here = points[0].by, {it.against for it in points}
     missing = {place for of, place in (*shown.empty_at, *shown.faults_at) if of == by and place not in here}
-    nothing = Estimate(0, math.nan, None, None)
     # (lines join neighbours on an axis of names, so the axis omits a place at which no curve has a value)
     is_scale = all(type(it) in (int, float) for it in places)
     gaps = [Point(by, it, (), nothing) for it in missing if it in places or is_scale and type(it) in (int, float)]
@@ -374,7 +376,7 @@ def _draw_curves(axes: Any, shown: Shown, wish: Wish) -> None:
             every = _numbers(places, is_scale)
             moved = dict(zip(every, dodged(every, number, len(groups), wish.log and is_scale)))
             xs = [moved.get(it, it) for it in xs]
-        _draw_points(axes, points, xs, wish, _look(number), label, is_scale)
+        _draw_points(axes, points, xs, wish, _look(number), label, is_scale and shown.is_ordered)
     _draw_threshold(axes, shown, wish)
     if wish.show != 'cdf':
         if shown.points[0].across is None:

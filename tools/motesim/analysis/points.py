@@ -135,6 +135,8 @@ class Point(NamedTuple):
     keys: tuple[tuple[Cell, ...], ...] = ()
     # For each run, its value on the horizontal axis, if that axis shows a measure.
     others: tuple[float, ...] = ()
+    # If the horizontal axis shows a measure: the values of the parameters in which the points of a line differ.
+    along: tuple[Cell, ...] = ()
 
     @property
     def x(self) -> float:
@@ -174,6 +176,9 @@ class Shown(NamedTuple):
     warnings       lines about the runs
     nets           if nets are averaged: those in which runs have no value
     lacked         with a measure on each axis: the measures that some runs lack
+    along          with a measure on each axis: the parameters in which the points of a line differ. A line joins the
+                   points in their order
+    gaps           with a measure on each axis: the values of `by` and `along` at which no run has both measures
     """
     points: list[Point]
     over: list[str]
@@ -188,6 +193,14 @@ class Shown(NamedTuple):
     nets: Sequence[Net] = ()
     warnings: Sequence[str] = ()
     lacked: Sequence[str] = ()
+    along: Sequence[str] = ()
+    gaps: Sequence[tuple[Cell, ...]] = ()
+
+    @property
+    def is_ordered(self) -> bool:
+        """Whether the points have an order in which a line can join them: names have none."""
+        return len(self.along) < 2 and all(type(value) in (int, float) for point in self.points
+                                           for value in point.along)
 
     def curves(self) -> list[Curve]:
         """The runs of each value of `by`, also of one whose runs have no value."""
@@ -443,6 +456,13 @@ def _nets(rows: Sequence[Row], wish: Wish) -> list[Net]:
     return sorted(found, key=lambda it: (order(it.place[0]), order(it.place[1])))
 
 
+class _Both(NamedTuple):
+    """A run with two measures: the values on both axes, and those of the parameters that repeat runs."""
+    x: float
+    y: float
+    key: tuple[Cell, ...]
+
+
 def _of_two_measures(rows: Sequence[Row], good: Sequence[Row], varying: Sequence[str], wish: Wish) -> Shown:
     """Points with a measure on each axis: runs that only repeat one another are one point."""
     over = repeats_of(varying, wish.over)
@@ -452,32 +472,38 @@ def _of_two_measures(rows: Sequence[Row], good: Sequence[Row], varying: Sequence
     check_measures(good, wish)
     if len(along) > 1 and wish.show != 'points':
         check_mixture(good, along, over, wish.by, 'one line')
-    groups: dict[tuple[Cell, ...], list[tuple[float, float, tuple[Cell, ...]]]] = {}
-    bys: dict[tuple[Cell, ...], Cell] = {}
+    groups: dict[tuple[Cell, ...], list[_Both]] = {}
     empty = not_above_0 = 0
     lacked: set[str] = set()
     for row in good:
         x, y = number_of(row, wish.against), number_of(row, wish.measure)
-        key = tuple(row[name] for name in kept)
         empty += _lacking_runs(row, None if x is None else y)
         # (the mean of a net doesn't show which of the two measures its runs lack)
         is_net = bool(row.get(WITHOUT))
         lacked |= {name for name, value in ((wish.against, x), (wish.measure, y)) if value is None or is_net}
+        group = groups.setdefault((row[wish.by] if wish.by else None, *(row[name] for name in along)), [])
         if x is None or y is None:
             continue
         if wish.log and x <= 0:
             not_above_0 += 1
             continue
-        groups.setdefault(key, []).append((x, y, tuple(row[name] for name in over)))
-        bys[key] = row[wish.by] if wish.by else None
-    of_x = wish.kind_of(wish.against, [x for runs in groups.values() for x, _, _ in runs])
-    of_y = wish.kind_of(wish.measure, [y for runs in groups.values() for _, y, _ in runs])
+        group.append(_Both(x, y, tuple(row[name] for name in over)))
+    return Shown(_along(groups, wish), over, len(rows) - len(good), empty, not_above_0,
+                 shared=shared_nets(good, kept, wish.measure), nets=_nets(good, wish._replace(against='')),
+                 lacked=[it for it in (wish.against, wish.measure) if it in lacked], along=along,
+                 gaps=[place for place, runs in groups.items() if not runs])
+
+
+def _along(groups: Mapping[tuple[Cell, ...], Sequence[_Both]], wish: Wish) -> list[Point]:
+    """The points with a measure on each axis, in the order in which a line joins them: that of `by`, and then that of
+    the other parameters in which they differ, with which the groups are named."""
+    of_x = wish.kind_of(wish.against, [run.x for runs in groups.values() for run in runs])
+    of_y = wish.kind_of(wish.measure, [run.y for runs in groups.values() for run in runs])
     points = []
-    for key, runs in groups.items():
+    for (by, *along), runs in sorted(groups.items(), key=lambda it: [order(value) for value in it[0]]):
+        if not runs:
+            continue
         xs, values, keys = zip(*runs)
         across = wish.estimate(xs, of_x)
-        points.append(Point(bys[key], across.middle, values, wish.estimate(values, of_y), across, keys, xs))
-    points.sort(key=lambda it: (order(it.by), order(it.against)))
-    return Shown(points, over, len(rows) - len(good), empty, not_above_0,
-                 shared=shared_nets(good, kept, wish.measure), nets=_nets(good, wish._replace(against='')),
-                 lacked=[it for it in (wish.against, wish.measure) if it in lacked])
+        points.append(Point(by, across.middle, values, wish.estimate(values, of_y), across, keys, xs, tuple(along)))
+    return points

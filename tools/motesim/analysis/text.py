@@ -1,6 +1,7 @@
 """The tables behind pictures."""
 from __future__ import annotations
 
+import itertools
 import math
 import statistics
 from collections.abc import Mapping, Sequence
@@ -24,6 +25,9 @@ NETS, MOST_BELOW = 'nets with missing runs', 6
 
 # The columns of a comparison that no side may have as its name.
 OF_COMPARISON = 'nets', 'pairs', 'left out', 'difference', 'low', 'high', 'interval', 'greater', 'less', NETS
+# The ends of the interval of a crossing beyond all points, if the axis shows a parameter, and if it shows a measure.
+OF_PARAMETER = 'before the first point', 'after the last point'
+OF_MEASURE = 'less than at any point', 'more than at any point'
 # The methods that draw runs again.
 DRAWING = ('bootstrap', 'bootstrap-t', BOUNDED)
 # The methods whose intervals of few skewed runs are too narrow.
@@ -35,8 +39,7 @@ _crossing = lru_cache(maxsize=64)(crossing)
 def rows_of(shown: Shown, wish: Wish) -> list[Row]:
     """The points as rows of a table."""
     if wish.show == 'points':
-        return [{**_of_by(point, wish), **_of_run(x, wish), wish.measure: value} for point in shown.points
-                for x, value in zip(point.others or (point.against,) * len(point.values), point.values)]
+        return rows_of_runs(shown, wish)
     if wish.show == 'cdf':
         return [{**wish.columns_of_by(it.by), wish.measure: value, 'part of runs': number / it.runs}
                 for it in shown.curves() for number, value in _steps(it)]
@@ -44,7 +47,8 @@ def rows_of(shown: Shown, wish: Wish) -> list[Row]:
     is_less = any((it.by, it.against) in {**shown.empty_at, **shown.faults_at} for it in shown.points)
     for point in shown.points:
         place = point.by, point.against
-        row: Row = {**_of_by(point, wish), **_of_against(point, wish), counted(wish): point.estimate.runs}
+        row: Row = {**_of_by(point, wish), **_of_along(point, shown), **_of_against(point, wish),
+                    counted(wish): point.estimate.runs}
         if shown.runs_at:
             row['runs'] = shown.runs_at[place]
         if is_less:
@@ -56,6 +60,17 @@ def rows_of(shown: Shown, wish: Wish) -> list[Row]:
             rows.append({**row, 'mean': middle, 'low': low, 'high': high,
                          'interval': ' and '.join(dict.fromkeys(OF_ROW[it.method] for it in point.estimates))})
     return rows
+
+
+def rows_of_runs(shown: Shown, wish: Wish) -> list[Row]:
+    """Each run as a row, with the parameters in which the runs of a point differ, such as its seed."""
+    rows: list[Row] = [
+        {**_of_by(point, wish), **_of_along(point, shown), **_of_run(x, wish), wish.measure: value,
+         **dict(zip(shown.over, key))} for point in shown.points
+        for x, value, key in zip(point.others or (point.against,) * len(point.values), point.values, point.keys)]
+    # (the mean of a net has no value of a parameter that varies within nets)
+    blank = {name for name in shown.over if all(row[name] is None for row in rows)}
+    return [{name: value for name, value in row.items() if name not in blank} for row in rows]
 
 
 def some(number: int, word: str) -> str:
@@ -120,6 +135,11 @@ def _of_by(point: Point, wish: Wish) -> Row:
     return dict(wish.columns_of_by(point.by))
 
 
+def _of_along(point: Point, shown: Shown) -> Row:
+    """The values of the parameters in whose order a line joins points."""
+    return dict(zip(shown.along, point.along))
+
+
 def _of_run(x: Cell, wish: Wish) -> Row:
     """The place of one run on the horizontal axis."""
     return {wish.against: x} if wish.against else {}
@@ -149,6 +169,8 @@ def csv_of(rows: Sequence[Row]) -> str:
 def heading(shown: Shown, wish: Wish) -> str:
     over = ', over ' + ', '.join(shown.over) if shown.over else ''
     against = ' against %s' % wish.against if wish.against else ''
+    if shown.along and shown.is_ordered and wish.show in ('mean', 'median'):
+        against += ', in the order of %s' % shown.along[0]
     nets = ', averaged by net first' if wish.nets else ''
     return '%s%s%s%s%s' % (wish.measure, against, over, nets, how(shown, wish))
 
@@ -310,14 +332,23 @@ def crossings_of(shown: Shown, wish: Wish) -> dict[Cell, Crossing | None]:
     found: dict[Cell, Crossing | None] = {}
     for by in dict.fromkeys(point.by for point in shown.points):
         its = [point for point in shown.points if point.by == by]
-        if not all(isinstance(point.against, int | float) for point in its):
-            raise Fault('a curve crosses a threshold only if the values of %s are numbers' % wish.against)
+        _check_order(shown, its, wish)
         if wish.log and any(x <= 0 for point in its for x in point.others or (point.x,)):
             raise Fault('--log needs values above 0, and some of %s are not' % wish.against)
         curve = tuple(Runs(it.others or (it.x,) * len(it.values), it.values, it.keys) for it in its)
         found[by] = _crossing(curve, threshold, wish.part, middle_of(wish)[1], wish.log, wish.log_y,
                               wish.draws)
     return found
+
+
+def _check_order(shown: Shown, points: Sequence[Point], wish: Wish) -> None:
+    """Refuses a threshold if the points of a curve have no order."""
+    if len(shown.along) > 1:
+        raise Fault('a curve crosses a threshold only along one parameter, and its points differ in %s: select values '
+                    'of all but one with --where, or separate them with --by' % ' and '.join(shown.along))
+    if not shown.is_ordered or not all(isinstance(point.against, int | float) for point in points):
+        raise Fault('a curve crosses a threshold only if the values of %s are numbers' % ''.join(
+            shown.along or [wish.against]))
 
 
 def parts_at_most(shown: Shown, wish: Wish) -> dict[Cell, tuple[int, int]]:
@@ -335,37 +366,47 @@ def crossings(shown: Shown, wish: Wish) -> list[str]:
         for by, (count, runs) in parts_at_most(shown, wish).items()]
     if parts:
         return parts
-    return [('%s: ' % wish.name_of_by(by) if wish.by else '') + of_crossing(found, wish)
+    return [('%s: ' % wish.name_of_by(by) if wish.by else '') + of_crossing(found, wish, neighbours(shown, by))
             for by, found in crossings_of(shown, wish).items()]
 
 
 def crossings_in_short(shown: Shown, wish: Wish) -> list[str]:
     """The crossing of each curve in one line, for the text below a picture."""
-    return [('%s: ' % wish.name_of_by(by) if wish.by else '') + of_crossing_in_short(found, wish)
+    return [('%s: ' % wish.name_of_by(by) if wish.by else '') + of_crossing_in_short(found, wish, neighbours(shown, by))
             for by, found in crossings_of(shown, wish).items()] or crossings(shown, wish)
 
 
-def of_crossing_in_short(found: Crossing | None, wish: Wish) -> str:
+def of_crossing_in_short(found: Crossing | None, wish: Wish, between: Sequence[str] = ()) -> str:
     """The crossing of a curve, with its interval, in a few words. If there are several crossings, the range from the
     first interval to the last."""
     if found is None or found.low is None or found.high is None:
-        return of_crossing(found, wish)
+        return of_crossing(found, wish, between)
     middle, threshold = middle_of(wish)[0], shown_threshold(wish)
-    high = found.last[1] if found.last else found.high
-    interval = '%g %%: %s to %s%s' % (wish.confidence, *_ends(found.low, high), _share(found))
+    interval = '%g %%: %s to %s%s' % (wish.confidence, *_ends(*_range(found), between), _share(found))
     if found.last:
         return 'the %s crosses %s %d times (%s)' % (middle, threshold, len(found.places), interval)
-    return 'the %s %s %s at %s %s (%s)' % (middle, 'rises above' if found.is_rising else 'falls below', threshold,
-                                           wish.against, number_text(found.at), interval)
+    points = ', %s' % between[found.places[0].number] if between else ''
+    return 'the %s %s %s at %s %s%s (%s)' % (middle, 'rises above' if found.is_rising else 'falls below', threshold,
+                                             wish.against, number_text(found.at), points, interval)
 
 
-def of_crossing(found: Crossing | None, wish: Wish) -> str:
-    """The crossing of a curve, with its interval."""
+def neighbours(shown: Shown, by: Cell) -> list[str]:
+    """For each point of a curve but the last: this point and the next one in words, if the horizontal axis shows a
+    measure and so doesn't name them."""
+    its = [point.along for point in shown.points if point.by == by] if shown.along else []
+    return ['between %s %s and %s' % (shown.along[0], *map(text_of, (*one, *other)))
+            for one, other in itertools.pairwise(its)]
+
+
+def of_crossing(found: Crossing | None, wish: Wish, between: Sequence[str] = ()) -> str:
+    """The crossing of a curve, with its interval; `between` has the neighbouring points in words, if they have
+    names."""
     middle, threshold = middle_of(wish)[0], shown_threshold(wish)
     if found is None:
         return 'the %s doesn\'t cross %s' % (middle, threshold)
-    ways = ['%s %s at %s %s, between the points %s and %s' % (
-        'rises above' if it.is_rising else 'falls below', threshold, wish.against, *map(number_text, (it.at, *it.gap)))
+    ways = ['%s %s at %s %s, %s' % (
+        'rises above' if it.is_rising else 'falls below', threshold, wish.against, number_text(it.at),
+        between[it.number] if between else 'between the points %s and %s' % tuple(map(number_text, it.gap)))
         for it in found.places]
     if found.low is None or found.high is None:
         ways[-1] += '; there is no interval, because each point has one run'
@@ -375,12 +416,20 @@ def of_crossing(found: Crossing | None, wish: Wish) -> str:
         lines = ['the %s crosses %s %d times:' % (middle, threshold, len(ways)), *ways]
     if found.low is None or found.high is None:
         return '\n  '.join(lines)
+    return '\n  '.join([*lines, *_of_interval(found, found.low, found.high, wish, between)])
+
+
+def _of_interval(found: Crossing, low: float, high: float, wish: Wish, between: Sequence[str]) -> list[str]:
+    """The lines about the interval of a crossing, or about those of the first and the last."""
     few = ', %d to %d at a point' % found.sizes if found.sizes[0] < found.sizes[1] else ''
     by = 'with %g %%, by the bootstrap of %d %s%s: ' % (wish.confidence, found.draws, counted(wish), few)
+    ends = _ends(low, high, between)
     if found.last is None:
-        return '\n  '.join([*lines, '%s%s to %s%s' % (by, *_ends(found.low, found.high), _share(found))])
-    return '\n  '.join([*lines, '%sthe first crossing at %s to %s, and the last at %s to %s%s' % (
-        by, *_ends(found.low, found.high), *_ends(*found.last), _share(found)), _range(found)])
+        return ['%s%s to %s%s' % (by, *ends, _share(found))]
+    return ['%sthe first crossing at %s to %s, and the last at %s to %s%s' % (
+        by, *ends, *_ends(*found.last, between), _share(found)),
+        'how often the true curve crosses isn\'t known: report the range %s to %s, or make more runs there' % _ends(
+            *_range(found), between)]
 
 
 def _share(found: Crossing) -> str:
@@ -389,16 +438,16 @@ def _share(found: Crossing) -> str:
     return '' if found.share > 0.995 else '; %d %% of the drawn curves cross%s' % (round(100 * found.share), both)
 
 
-def _ends(low: float, high: float) -> tuple[str, str]:
-    """The ends of the interval of a crossing."""
-    return ('before the first point' if math.isinf(low) else number_text(low),
-            'after the last point' if math.isinf(high) else number_text(high))
+def _ends(low: float, high: float, between: Sequence[str]) -> tuple[str, str]:
+    """The ends of the interval of a crossing; an infinite end has a text of its own."""
+    beyond = OF_MEASURE if between else OF_PARAMETER
+    return beyond[0] if math.isinf(low) else number_text(low), beyond[1] if math.isinf(high) else number_text(high)
 
 
-def _range(found: Crossing) -> str:
-    """The range of an axis that contains all crossings of a curve that crosses several times."""
-    return 'how often the true curve crosses isn\'t known: report the range %s to %s, or make more runs there' % _ends(
-        found.low or 0, found.last[1] if found.last else 0)
+def _range(found: Crossing) -> tuple[float, float]:
+    """The range of an axis that contains the intervals of the first and the last crossing."""
+    ends = [it for it in (found.low, found.high, *(found.last or ())) if it is not None]
+    return min(ends), max(ends)
 
 
 def columns_of_crossing(found: Crossing | None) -> Row:
