@@ -16,8 +16,8 @@ from motesim.faults import Fault
 from motesim.plan.tables import Tables
 from motesim.scenario import faults as scenario_faults
 from motesim.summary.flows import FlowFault, flow_rows, read_flow
-from motesim.explain.lint import warnings
-from motesim.notation.faults import ProgramError, find_fault
+from motesim.explain.lint import Warned, by_cause, warnings
+from motesim.notation.faults import ProgramError, Token, find_fault
 from motesim.report import Report
 from motesim.runner.run import Answer
 from motesim.scenario import Scenario
@@ -308,6 +308,15 @@ class Warnings(unittest.TestCase):
             (CODE % 'yield_until is(packet); print data;', 5, 'calls them `deaf`; write `receiver a;` above'),
             (CODE % 'set t 4; while !expired(t) { }', 5, '`wait_while` and the same test, without a block'),
             (CODE % 'set t 4; while !expired(t) { seq = (seq + 1); }', 5, 'a loop that waits for nothing'),
+            (CODE % 'while (seq < 3) { print seq; }', 5, 'write its step, such as `seq = (seq + 1);`, at the end of its '
+                                                         'block'),
+            (CODE % 'while (3 < seq) { print seq; }', 5, 'such as `seq = (seq - 1);`, at the end'),
+            (CODE % 'while (seq <= seen) { }', 5, 'such as `seq = (seq + 1);`, at the end'),
+            (CODE % 'while !seq { print 1; }', 5, 'nothing changes `seq`. The loop repeats until'),
+            (CODE % 'while (self == 0) { print 1; }', 5, 'let something in its block wait'),
+            (CODE.replace('body', 'ctimer c { seq = 1; } body') % 'set t 1; set c 1; while (seq == 0) { }', 5,
+             '`wait_while` and the same test, without a block'),
+            (CODE.replace('body', 'onpoll { poll a; } body') % 'while (seq == 0) { }', 5, 'nothing changes `seq`'),
             (CODE % 'set t 4; while !is(packet) { }', 5, '`yield_until` and the opposite test, without a block'),
             (CODE % 'while 1 { seq = (seq + 1); }', 5, 'nothing waits'),
             (CODE % 'yield_until fired(t);', 5, '`t` is never set, so `fired(t)` is never true'),
@@ -346,6 +355,13 @@ class Warnings(unittest.TestCase):
         text = ('process a, b; autostart a, b; code a { ctimer c { if fired(c) { print 1; } } body { set c 5; yield; } '
                 '} code b { etimer c; body { set c 5; yield_until fired(c); } }')
         self.assertEqual(self.seen(text), [])
+
+    def test_two_loops_that_never_end_have_one_warning(self) -> None:
+        found = by_cause([Warned('a', 'p', Token('while', 3, 0), cause='loop'),
+                          Warned('a', 'p', Token('while', 5, 0), cause='loop'),
+                          *(Warned('halts', mote=it, cause='halt p') for it in range(3))])
+        self.assertEqual([it.text for it in found],
+                         ['a; the same is true of the loop on line 5 of the program (motes 0, 1, 2)'])
 
     def test_a_loop_that_waits_is_in_order(self) -> None:
         self.assertEqual(self.seen(program=CODE % 'set t 1; while 1 { yield_until fired(t); reset t; }'), [])

@@ -6,9 +6,11 @@ program's text, or the number of a mote. A scenario with warnings is valid, and 
 from __future__ import annotations
 
 import re
-from collections.abc import Iterator
+from collections.abc import Iterator, Sequence
 from typing import NamedTuple
 
+from motesim.explain import busy
+from motesim.explain.busy import OF_EVENT
 from motesim.explain.moments import bursts
 from motesim.explain.resonance import all_at_once, resonances
 from motesim.notation.faults import OPERATORS, WAITS, Token, tokens_of
@@ -19,17 +21,13 @@ ENDLESS = 'an endless loop in which nothing waits: the mote halts when its work 
 # The word that doesn't wait if its test is already true, and the word that doesn't wait if its test is already false;
 # the tests of the event, which keep their results within a call; the word that always waits for another call first; and
 # the signs and values that stay the same within a call.
-AT_ONCE, WHILE, OF_EVENT, LATER = 'wait_until', 'wait_while', ('is', 'fired', 'gone'), 'yield_until'
+AT_ONCE, WHILE, LATER = 'wait_until', 'wait_while', 'yield_until'
 SAME = frozenset(('(', ')', '!', 'data', 'from', 'self', *OPERATORS))
 STILL = ('an endless loop in which only `%s` waits: its test is about the event of this call, so it stays %s until '
          'the next call. The loop repeats until the mote\'s work is used up, and then the mote halts. `%s`%s waits for '
          'the next call first')
 STILL_TRUE = STILL % (AT_ONCE, 'true', LATER, '')
 STILL_FALSE = STILL % (WHILE, 'false', LATER, ' and the opposite test')
-BUSY = ('a loop that waits for nothing: its test can\'t change before the next call. So once the test is true, the '
-        'loop repeats until the mote\'s work is used up, and then the mote halts; ')
-BUSY_FOR_STATE = BUSY + '`wait_while` and the same test, without a block, lets the mote wait'
-BUSY_FOR_EVENT = BUSY + '`%s` and the opposite test, without a block, waits for the next call first' % LATER
 ONE_BRANCH = ('the `while` on line %d of the program waits in only one branch: if the test of the `if` on line %d is '
               '%s, nothing waits. Then the loop repeats until the mote\'s work is used up, and the mote halts')
 # Statements after which a test may have another value, though no variable in it is assigned.
@@ -137,7 +135,7 @@ class Program:
                     yield STILL_TRUE if wait == AT_ONCE else STILL_FALSE, self.tokens[at + 2 + waits[0]]
             elif word == 'while' and self.is_busy(at):
                 test = self.words[at + 1:self.words.index('{', at)]
-                yield BUSY_FOR_EVENT if set(test) & set(OF_EVENT) else BUSY_FOR_STATE, self.tokens[at]
+                yield busy.warning(test, self.code_around(at)), self.tokens[at]
 
     def waiting_branches(self) -> Iterator[tuple[str, Token]]:
         """Each `while` that waits in one branch of an `if`, and in the other one repeats without a wait."""
@@ -400,15 +398,32 @@ def by_cause(found: list[Warned]) -> list[Warned]:
     return [together(its) for its in groups.values()]
 
 
+def some_of(places: Sequence[object]) -> str:
+    """The first of some numbers."""
+    return ', '.join(str(it) for it in places[:MOST_PLACES]) + (', ..' if len(places) > MOST_PLACES else '')
+
+
+def of_loops(lines: list[int]) -> str:
+    """The end of a warning about a loop, with the lines of the other loops that it is about."""
+    return '; the same is true of the loop%s on line%s %s of the program' % (
+        *2 * ['s' if len(lines) > 1 else ''], some_of(lines)) if lines else ''
+
+
+def of_halted(motes: list[int]) -> str:
+    """The end of a warning about loops, with the motes that they halt."""
+    return ' (mote%s %s)' % ('s' if len(motes) > 1 else '', some_of(motes)) if motes else ''
+
+
 def together(its: list[Warned]) -> Warned:
     """The first of several warnings with one cause, with the places of the others."""
     first, others = its[0], its[1:]
     if not others:
         return first
-    places = [it.mote if it.mote is not None else it.loss for it in others]
-    shown = ', '.join(str(it) for it in places[:MOST_PLACES]) + (', ..' if len(places) > MOST_PLACES else '')
     if first.cause == 'loop':
-        return first._replace(text='%s (mote%s %s)' % (first.text, 's' if len(places) > 1 else '', shown))
+        return first._replace(text=first.text + of_loops([it.token.line for it in others if it.token])
+                              + of_halted([it.mote for it in others if it.mote is not None]))
+    places = [it.mote if it.mote is not None else it.loss for it in others]
+    shown = some_of(places)
     what = 'loss' if others[0].mote is None else 'mote'
     many = what + ('es' if what == 'loss' else 's')
     return first._replace(text='%s; the same is true of %d more %s: %s' % (
