@@ -923,7 +923,7 @@ class Command(unittest.TestCase):
         rows = self.plot(*words)
         self.assertEqual([it[:6] for it in rows[2:4]], [['1', '3', '0', '2.000', '4.000', '2.000'],
                                                         ['2', '3', '0', '4.000', '6.000', '2.000']])
-        self.assertIn('net and more also differ in protocol (flood, gossip): this is part of the difference', [
+        self.assertIn('protocol is flood in the file net and gossip in the file more: this is part of the difference', [
             ' '.join(it) for it in rows])
         # (a seed that differs makes other runs, which are no pairs)
         path = self.folder / 'more.csv'
@@ -1136,6 +1136,22 @@ class Command(unittest.TestCase):
             labels = re.findall(r'text-anchor: middle[^>]*>([0-9.]+)</text>', picture)
             self.assertGreaterEqual(len(labels), 2, more)
             self.assertIn(out, ' '.join(picture.split()))
+
+    def test_a_value_of_0_has_no_place_on_a_logarithmic_axis_of_a_table_either(self) -> None:
+        (self.folder / 'net.csv').write_text(results().replace('\n1,', '\n0,'))
+        words = '--measure', 'sent', '--against', 'period', *ONE, '--log'
+        for more in (), ('--show', 'mean', '--threshold', '42'), ('-o', 'a.svg'):
+            self.plot(*words, *more, status=2)
+            self.assertEqual(self.seen, 'plot: --log needs values above 0, and period is 0 in some runs: leave out '
+                                        '--log, or select other values, as in --where period=4..8\n')
+        self.plot(*words, '--where', 'period=4..8')
+        self.plot('--measure', 'sent', '--against', 'period', '--pair', 'density=thin,dense', '--log', status=2)
+        self.assertIn('--where period=4..8', self.seen)
+        self.plot('--measure', 'sent', '--against', 'density', '--over', 'seed,period', '--log', status=2)
+        self.assertIn('density is dense in some runs: leave out --log\n', self.seen)
+        (self.folder / 'net.csv').write_text(results().replace(',11,', ',0,'))
+        self.plot('--measure', 'sent', '--show', 'cdf', '--where', 'period=1', *ONE, '--log', status=2)
+        self.assertIn('some of sent are not: leave out --log\n', self.seen)
 
     def test_the_labels_of_a_logarithmic_axis(self) -> None:
         self.assertEqual(ticks_between(0.9, 120), [1, 2, 5, 10, 20, 50, 100])

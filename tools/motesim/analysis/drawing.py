@@ -172,9 +172,6 @@ def _draw_steps(axes: Any, shown: Shown, wish: Wish) -> None:
     """For each curve the part of its runs whose value is at most x, up to the greatest value of all curves."""
     curves = shown.curves()
     every = [value for it in curves for value in it.values]
-    threshold = threshold_of(wish)
-    if wish.log and min([*every, *([] if threshold is None else [threshold])]) <= 0:
-        raise Fault('--log needs values above 0, and some of %s are not' % wish.measure)
     for number, it in enumerate(curves):
         look, values = _look(number), it.values or [min(every)]
         parts = [at / it.runs for at in range(len(it.values) + 1)]
@@ -267,12 +264,6 @@ def _scale_upwards(axes: Any, shown: Shown, wish: Wish) -> None:
     axes.set_ylim(low / room, high * room)
 
 
-def _check_log(places: Sequence[Cell], wish: Wish) -> None:
-    """Refuses a logarithmic horizontal axis if a place on it isn't above 0."""
-    if wish.log and not all(isinstance(it, int | float) and it > 0 for it in places):
-        raise Fault('--log needs values above 0, and some of %s are not' % wish.against)
-
-
 def _numbers(places: Sequence[Cell], is_scale: bool) -> list[float]:
     """The places of values on the axis: a number is its own place, and other values are placed by their order."""
     return [float(it) if is_scale and isinstance(it, int | float) else float(at) for at, it in enumerate(places)]
@@ -280,7 +271,6 @@ def _numbers(places: Sequence[Cell], is_scale: bool) -> list[float]:
 
 def _scale(axes: Any, places: list[Cell], wish: Wish, is_scale: bool) -> None:
     """The horizontal axis."""
-    _check_log(places, wish)
     if is_scale and wish.log:
         axes.set_xscale('log', base=2)
     if is_scale and not wish.log and len(places) > MOST_TICKS:
@@ -366,8 +356,6 @@ def _draw_curves(axes: Any, shown: Shown, wish: Wish) -> None:
     if wish.show == 'cdf':
         _draw_steps(axes, shown, wish)
     groups = _groups(shown) if wish.show != 'cdf' else {}
-    if wish.show != 'cdf' and shown.points[0].across is None:
-        _check_log(places, wish)
     for number, (by, points) in enumerate(groups.items()):
         label = _legend_of(wish, by) if wish.by else None
         points = with_gaps(points, shown, places) if wish.show in ('mean', 'median') else points

@@ -227,6 +227,36 @@ def _not_above_0(shown: Shown, wish: Wish) -> int:
     return sum(value <= 0 for point in shown.points for value in point.values)
 
 
+def check_log(shown: Shown, wish: Wish) -> None:
+    """Refuses a logarithmic horizontal axis if a value on it isn't above 0. (If both axes show measures, such runs are
+    left out.)"""
+    if wish.log and wish.show == 'cdf':
+        threshold = threshold_of(wish)
+        values = [value for it in shown.curves() for value in it.values]
+        if min([*values, *([] if threshold is None else [threshold])]) <= 0:
+            raise Fault('--log needs values above 0, and some of %s are not: leave out --log' % wish.measure)
+    elif not shown.points[0].across:
+        check_log_of([it.against for it in shown.points], wish)
+
+
+def check_log_of(places: Sequence[Cell], wish: Wish) -> None:
+    """Refuses a logarithmic axis for these values of a parameter if one of them isn't a number above 0."""
+    wrong = [it for it in places if not _is_above_0(it)]
+    if not wish.log or not wrong:
+        return
+    above = [text_of(it) for it in sorted(set(places) - set(wrong), key=order)]
+    ways = ['leave out --log']
+    if above:
+        ways.append('or select other values, as in --where %s=%s' % (
+            wish.against, '..'.join([above[0], *above[1:][-1:]])))
+    raise Fault('--log needs values above 0, and %s is %s in some runs: %s' % (
+        wish.against, text_of(wrong[0]), ', '.join(ways)))
+
+
+def _is_above_0(value: Cell) -> bool:
+    return isinstance(value, int | float) and value > 0
+
+
 def check_log_y(shown: Shown, wish: Wish) -> None:
     """Refuses a logarithmic vertical axis if one of the means or medians to be shown isn't above 0."""
     if not wish.log_y or wish.show == 'points':
@@ -333,8 +363,6 @@ def crossings_of(shown: Shown, wish: Wish) -> dict[Cell, Crossing | None]:
     for by in dict.fromkeys(point.by for point in shown.points):
         its = [point for point in shown.points if point.by == by]
         _check_order(shown, its, wish)
-        if wish.log and any(x <= 0 for point in its for x in point.others or (point.x,)):
-            raise Fault('--log needs values above 0, and some of %s are not' % wish.against)
         curve = tuple(Runs(it.others or (it.x,) * len(it.values), it.values, it.keys) for it in its)
         found[by] = _crossing(curve, threshold, wish.part, middle_of(wish)[1], wish.log, wish.log_y,
                               wish.draws)

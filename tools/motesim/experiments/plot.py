@@ -179,6 +179,7 @@ def show(rows: Sequence[Row], wish: Wish, source: Source) -> bool:
         warnings=warnings_of(rows, [*separated_by(wish), *wish.over.split(',')]))
     if not shown.points:
         raise Fault('; '.join(['there is no value of %s to show' % wish.measure, *text.left_out(shown, wish)]))
+    text.check_log(shown, wish)
     text.check_log_y(shown, wish)
     if wish.file and packages.is_here('matplotlib'):
         picture = source.folder / wish.file
@@ -222,6 +223,7 @@ def compare(sides: Sides, wish: Wish, source: Source) -> bool:
     found = [it._replace(by=by) for by, paired in groups for it in sorted(
         differences(paired.by_net() if wish.nets else paired, wish.part, wish.interval,
                     partial(wish.kind_of, wish.measure), wish.draws), key=lambda it: order(it.against))]
+    text.check_log_of([it.against for it in found], wish)
     by = text.by_methods([it.difference.method for it in found])
     words = '%s against %s: %s less %s, %s' % (wish.measure, wish.against, names[1], names[0],
                                                'run by run, and averaged by net' if wish.nets else 'run by run')
@@ -395,9 +397,13 @@ def compared_by(rows: Sequence[Row], others: Sequence[Row], names: Sequence[str]
 
 def note_of_compared(sides: Sides) -> list[str]:
     """The line about the parameters in which two files differ."""
-    its = ['%s (%s, %s)' % (name, *(text_of(side[0][name]) or 'none' for side in (sides.one, sides.other)))
-           for name in sides.compared]
-    return ['%s and %s also differ in %s: this is part of the difference' % (*sides.names, ', '.join(its))] * bool(its)
+    def value(side: Sequence[Row], name: str) -> str:
+        return text_of(side[0][name]) or 'none'
+
+    its = ['%s is %s in the file %s and %s in the file %s' % (
+        name, value(sides.one, name), sides.names[0], value(sides.other, name), sides.names[1])
+        for name in sides.compared]
+    return ['%s: this is part of the difference' % ', '.join(its)] * bool(its)
 
 
 def note_of_measures(sides: Sides) -> list[str]:
