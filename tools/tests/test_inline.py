@@ -106,5 +106,52 @@ class Inline(unittest.TestCase):
                 self.assertEqual(found and found.lines, right and (right,))
 
 
+class NoToml(unittest.TestCase):
+    """Arrays that lack a sign, or to which a table is added below."""
+    def repaired(self, text: str) -> str:
+        fault = find_fault(text.encode())
+        found = repair(text, fault) if fault else None
+        assert found, text
+        return found.applied(text)
+
+    def test_a_sign_is_missing(self) -> None:
+        for between in ', ', ',\n  ':
+            array = 'mote = [%s]' % between.join(MOTES)
+            for at in range(3):
+                inner = MOTES[at]
+                for old, new in ((inner + ',', inner), (inner, inner.replace(', y', ' y')),
+                                 (inner, inner.replace(' }', '')), (inner, inner.replace(', program', ' program'))):
+                    if old not in array:
+                        continue
+                    text = '%s%s\n%s\n%s' % (HEAD, MEDIUM, array.replace(old, new), PROGRAMS)
+                    with self.subTest(text):
+                        self.assertIsNone(find_fault(self.repaired(text).encode()))
+                        self.assertEqual(''.join(self.repaired(text).split()), ''.join(
+                            ('%s%s\n%s\n%s' % (HEAD, MEDIUM, array, PROGRAMS)).split()))
+            text = '%s%s\n%s\n%s' % (HEAD, MEDIUM, array[:-1], PROGRAMS)
+            self.assertEqual(self.repaired(text), '%s%s\n%s\n%s' % (HEAD, MEDIUM, array, PROGRAMS))
+
+    def test_a_table_below_an_array(self) -> None:
+        for between in ', ', ',\n  ':
+            text = '%s%s\nmote = [%s]\n%s\n' % (HEAD, MEDIUM, between.join(MOTES), PROGRAMS)
+            more = '[[mote]]\nx = 8\ny = -1\nprogram = "hello"\n'
+            for added in more, more + '\n' + more.replace('8', '9'), more + '[[mote]]\n# the last\nx = 5\n':
+                changed = self.repaired(text + added)
+                self.assertIn('%s, { x = 8, y = -1, program = "hello" }]' % MOTES[-1], changed)
+                self.assertEqual(changed.count('[[mote]]'), added.count('[[mote]]') - 1)
+            fault = find_fault((text + more).encode())
+            assert fault
+            shown = explanation('a.toml', (text + more).encode(), 'motesim: ' + fault.message)
+            self.assertRegex(shown[-2], 'and leave lines [0-9]+ to [0-9]+ out.')
+
+    def test_a_comment_is_not_left_out(self) -> None:
+        text = '%s%s\nmote = [%s]\n%s\n[[mote]]\n# the last\nx = 8\n' % (HEAD, MEDIUM, MOTE, PROGRAMS)
+        fault = find_fault(text.encode())
+        assert fault
+        self.assertIsNone(repair(text, fault))
+        shown = explanation('a.toml', text.encode(), 'motesim: ' + fault.message)
+        self.assertIn('no `[[mote]]` below it', ' '.join(' '.join(shown).split()))
+
+
 if __name__ == '__main__':
     unittest.main()

@@ -1,4 +1,4 @@
-"""The warning about a loop that waits for nothing and whose test can't change: the advice fits the words of the test."""
+"""The warning about a loop that waits for nothing and whose test can't change, with advice that fits the test."""
 from __future__ import annotations
 
 from collections.abc import Iterator, Sequence
@@ -11,8 +11,8 @@ BUSY = ('a loop that waits for nothing: its test can\'t change before the next c
         'loop repeats until the mote\'s work is used up, and then the mote halts; ')
 FOR_STATE = BUSY + '`wait_while` and the same test, without a block, lets the mote wait'
 FOR_EVENT = BUSY + '`yield_until` and the opposite test, without a block, waits for the next call first'
-ENDLESS = ('a loop that never ends once its test is true: nothing changes `%s`. The loop repeats until the mote\'s work '
-           'is used up, and then the mote halts; %s at the end of its block')
+ENDLESS = ('a loop that never ends once its test is true: nothing changes `%s`. The loop repeats until the mote\'s '
+           'work is used up, and then the mote halts; %s at the end of its block')
 CONSTANT = ('a loop whose test never changes: once the test is true, the loop repeats until the mote\'s work is used '
             'up, and then the mote halts; let something in its block wait')
 

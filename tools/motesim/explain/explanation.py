@@ -141,7 +141,7 @@ def rule_and_advice(source: str, its: program_faults.ProgramError, offset: int |
 
 def repaired(found: Repair) -> list[str]:
     """The repair of a scenario, with the corrected lines."""
-    return hinted(found.hint) + [found.head()] + ['  ' + line for line in found.lines]
+    return hinted(found.hint) + found.shown()
 
 
 def allowed(may: str) -> list[str]:

@@ -67,6 +67,10 @@ NO_TOML = {
     'twice': 'Each table occurs once; only motes and losses are many, and each of them is a table `[[mote]]`, '
     '`[[loss]]`.',
     'overwrite': 'A key may occur only once in its table.',
+    'Unclosed array': 'Between the tables of an array there are commas, and `]` ends the array.',
+    'Unclosed inline': 'Between the keys of an inline table there are commas, and `}` ends the table.',
+    'immutable': 'An array in brackets, such as `mote = [..]`, has all its tables: no `[[mote]]` below it '
+    'adds another.',
     MANY_PARTS: 'A dot between two words of a key makes a table in a table. A scenario needs two parts at most: '
                 '`medium.range = 10`.',
     TOO_DEEP: 'A scenario needs no bracket in more than two others. Is a `]` or a `}` missing?',

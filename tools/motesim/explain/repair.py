@@ -10,7 +10,8 @@ from collections.abc import Callable, Iterator
 from fractions import Fraction
 from typing import NamedTuple
 
-from motesim.explain import quotes, synonyms
+from motesim.explain import arrays, quotes, synonyms
+from motesim.explain.change import Repair as Repair
 from motesim.explain.kept import keeps_others
 from motesim.scenario.faults import LOSS, MEDIUM, MOTE, TOP, Place, Rule, ScenarioError, find_fault, place_of
 from motesim.toml import NoToml, read_toml
@@ -25,21 +26,6 @@ OF_QUOTES = 'These are quotes of another kind, as word processors make them: wri
 OF_COMMENT = 'In a scenario, a comment begins with `#`; `//` begins one in a program.'
 OF_UNIT = 'Times are whole numbers of moments, and distances whole numbers: without a unit.'
 WHOLE = 'Places, times and distances are whole numbers, without a point and without quotes.'
-
-
-class Repair(NamedTuple):
-    """A hint, the lines (from 1) to be replaced, and the correct lines. If there are no correct lines, the others are
-    left out.
-    """
-    hint: str
-    first: int
-    last: int
-    lines: tuple[str, ...]
-
-    def head(self) -> str:
-        """The text above the lines."""
-        which = 'line %d' % self.first if self.first == self.last else 'lines %d to %d' % (self.first, self.last)
-        return 'Write, as %s:' % which if self.lines else 'Leave %s out.' % which
 
 
 class Form(NamedTuple):
@@ -87,7 +73,6 @@ FORMS = [
           'A table is named in brackets, `[medium]`; each mote and each loss is a table of its own, named in two: '
           '`[[mote]]`, `[[loss]]`.'),
 ]
-COMMA = 'Between the tables of an array there are commas.'
 
 
 def _attempts_at_quotes(rows: list[str], fault: ScenarioError) -> Iterator[Repair]:
@@ -112,7 +97,7 @@ def _attempts_at_toml(rows: list[str], fault: ScenarioError) -> Iterator[Repair]
         row = rows[number - 1]
         if number < here:
             if row.rstrip().endswith('}'):
-                yield Repair(COMMA, number, number, (row.rstrip() + ',',))
+                yield Repair(arrays.COMMA, number, number, (row.rstrip() + ',',))
             continue
         for it in FORMS:
             written = it.form.sub(it.instead, row)
@@ -325,6 +310,9 @@ def _attempts(text: str, fault: ScenarioError) -> Iterator[Repair]:
             yield Repair(quotes.OF_END % (opened, other[1]), other[0], other[0], (other[2],))
         if not opened:
             of_quotes = list(_attempts_at_quotes(rows, fault))
+            if not of_quotes and fault.line:
+                yield from arrays.added(text, fault.line[0])
+                yield from arrays.signs(rows, fault.line[0])
             yield from of_quotes or _attempts_at_toml(rows, fault)
         return
     try:
@@ -350,12 +338,11 @@ def repair(text: str, fault: ScenarioError) -> Repair | None:
     is_toml = fault.message != 'scenario fault 1'
     if len(text) > LONGEST or fault.program or (not fault.path and not fault.lacks if is_toml else not fault.line):
         return None
-    rows = text.split('\n')
     best: Repair | None = None
     for number, it in enumerate(_attempts(text, fault)):
         if number == MOST_ATTEMPTS:
             break
-        changed = '\n'.join([*rows[:it.first - 1], *it.lines, *rows[it.last:]])
+        changed = it.applied(text)
         if not keeps_others(text, changed, fault):
             continue
         with_it = find_fault(changed.encode('utf-8', 'replace'))
