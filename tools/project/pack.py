@@ -7,7 +7,7 @@ or newer, from any folder: nothing is installed, and nothing is fetched from a n
     tar xzf motesim-VERSION.tar.gz && cd motesim-VERSION && ./run examples/flooding.toml
 
 The archive has the files that git knows. To add folders and files of your own, such as an exercise and its worksheet,
-name them: tools/pack examples/mylab worksheet.pdf. Those from outside of this tree are at the top of the archive. A
+name them: tools/pack examples/mylab worksheet.pdf. Files from outside this tree are at the top of the archive. A
 file isn't packed if a word of its name, or of its folder's, begins with `solution`, `hidden`, `answer` or `marks`,
 even if you name it; nor are key.csv and docs/use/TEACH.md. With --for-teachers all these files are packed too.
 Files and folders whose names begin with a dot are never packed, and neither are copies that an editor made, NAME~.

@@ -453,7 +453,7 @@ class SweepTest(Bed):
         self.assertEqual(anew.stdout, 'net.csv: 6 runs, 6 of them now, 0 with a fault\n')
         other = self.sweep(*self.words, '--measure', 'sent')
         self.assertEqual(other.returncode, 2)
-        self.assertIn('other columns than this sweep (it lacks sent): ', other.stderr)
+        self.assertIn('are not those of this sweep (it lacks sent): ', other.stderr)
 
     def test_rows_that_a_command_does_not_run_again_are_not_removed(self) -> None:
         words = '--measure', 'prints', '--measure', 'python: mine.py:wrong'
@@ -466,7 +466,7 @@ class SweepTest(Bed):
         (self.folder / 'mine.py').write_text(MINE + '# more\n')
         done = self.sweep('--vary', 'period=1..3', '--vary', 'motes=2', *words, '--renew')
         self.assertEqual((done.returncode, done.stderr), (2, (
-            'sweep: net.csv has 3 rows of other values than this command, from before a change of the measures, and '
+            'sweep: net.csv has 3 rows from before a change of the measures, with values that this command lacks, and '
             '--renew would remove them: vary all values of the file, or name another file with -o\n')))
         self.assertEqual(sorted(map(str, self.rows())), sorted(map(str, before)))
         done = self.sweep('--vary', 'period=1..3', '--vary', 'motes=2,3', *words, '--renew')

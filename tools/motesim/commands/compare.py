@@ -6,7 +6,7 @@ mote before it. Differences between two scenarios are listed too. The tool also 
 of the two reports has, and the number of lines that differ, by mote and by kind. `--html FILE` writes a page with one
 timeline above the other.
 
-Ends with status 0 if the reports are the same, 1 if they differ, and 2 if a report can't be read.
+The tool ends with status 0 if the reports are the same, 1 if they differ, and 2 if a report can't be read.
 """
 from __future__ import annotations
 

@@ -1,14 +1,16 @@
 """Checks which sentences hold for a run of a scenario: tools/expect SCENARIO [EXPECTATIONS]
 
-The expectations are a TOML file; if none is named, NAME.expect.toml next to the scenario NAME.toml. It contains
-sentences:
+The expectations are a TOML file with sentences. If no file is named, the tool reads NAME.expect.toml, next to the
+scenario NAME.toml:
 
     expect = ["mote 6 prints flood 1 by 60", "no mote halts", "every mote but 0 receives at least 3"]
 
 The scenario is run. For each sentence a line says whether the sentence holds and, if it doesn't, which line of the
 report is the first to break it. docs/use/EXPECTATIONS.md has all forms of sentences. The last line is
-`N passed, M failed`. Ends with status 0 if all sentences hold, 1 if one is broken, and 2 if there is no result: a
-sentence or a file can't be read, or `motesim` isn't built (the environment variable MOTESIM names another binary).
+`N passed, M failed`.
+
+The tool ends with status 0 if all sentences hold, 1 if one is broken, and 2 if there is no result: a sentence or a
+file can't be read, or `motesim` isn't built (the environment variable MOTESIM names another binary).
 """
 from __future__ import annotations
 

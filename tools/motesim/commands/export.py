@@ -8,8 +8,9 @@
   tools/export net.toml --form contiki -o net_c --host  with a simulator in C that runs them here
 
 REPORT is a report, or a scenario, which is run. A moment counts as a millisecond. docs/use/EXPORTS.md describes the
-formats and how to open the files; docs/use/CONTIKI.md is about the C files. Ends with status 0, or with 2 if a file
-can't be read or written.
+formats and how to open the files; docs/use/CONTIKI.md is about the C files.
+
+The tool ends with status 0, or with 2 if a file can't be read or written.
 """
 from __future__ import annotations
 

@@ -20,7 +20,7 @@ NAME.csv for a spreadsheet, NAME.toml, or NAME.html, a page that links each firs
 --why NAME shows what breaks the sentences in one solution or, if it is refused, the place of its error. --write FOLDER
 writes each program in each net as a scenario, FOLDER/anna.toml_in_hidden.toml, for the studio and the other tools.
 
-Ends with status 0; with 1 if a solution isn't marked; with 2 if the sentences or the nets can't be read.
+The tool ends with status 0; with 1 if a solution isn't marked; with 2 if the sentences or the nets can't be read.
 """
 from __future__ import annotations
 

@@ -17,7 +17,7 @@ the table behind it, NAME.table.csv, and its origin, NAME.origin.csv: the comman
 results. Pictures need matplotlib (on Debian: apt-get install python3-matplotlib); without it there is a table, and a
 line that says so. docs/use/EXPERIMENTS.md shows all of it at work.
 
-Ends with status 0, with 1 if there is a table instead of a picture, or with 2 if there is nothing to show.
+The tool ends with status 0, with 1 if there is a table instead of a picture, or with 2 if there is nothing to show.
 """
 from __future__ import annotations
 

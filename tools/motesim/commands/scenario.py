@@ -5,8 +5,10 @@
   tools/scenario --from net.toml -o net.plan.toml            the other way: a plan, with files next to it
 
 Without -o the scenario is written to standard output. The same plan, files and parameters always produce the same
-bytes. docs/use/EXPERIMENTS.md describes plans. Ends with status 0, or with 2 if the plan or a file next to it has an
-error; the message shows the place of the error.
+bytes. docs/use/EXPERIMENTS.md describes plans.
+
+The tool ends with status 0, or with 2 if the plan or a file next to it has an error; the message shows the place of
+the error.
 """
 from __future__ import annotations
 

@@ -10,9 +10,10 @@ sentences and faults are adapted. If EXPECTATION is a file, the tool uses the fi
 EXPECTATION, the first broken sentence in NAME.expect.toml, next to the scenario NAME.toml.
 
 The result is written to NAME.small.toml, with its expectation next to it. It is one-minimal: no single further step is
-possible. docs/use/SEARCH.md has an example. After Ctrl-C the smallest scenario so far is written. Ends with status 0,
-with 2 if nothing could be made smaller, for instance because the scenario meets the expectation, and with 130 after
-Ctrl-C.
+possible. docs/use/SEARCH.md has an example. After Ctrl-C the smallest scenario so far is written.
+
+The tool ends with status 0, with 2 if nothing could be made smaller, for instance because the scenario meets the
+expectation, and with 130 after Ctrl-C.
 """
 from __future__ import annotations
 

@@ -38,7 +38,7 @@ messages begin with a print. For an origin, and for the net
 `--motes` and `--links` show only one of the tables. `--csv` writes a table for a spreadsheet: the table of motes with
 the net, or with `--links` the table of links. `--json` writes all tables in JSON.
 
-Ends with status 0, or with 2 if the report can't be read.
+The tool ends with status 0, or with 2 if the report can't be read.
 """
 from __future__ import annotations
 

@@ -19,7 +19,7 @@ Values are 10,20,40 or 1..30 or 0..100..25 (in steps of 25). Measures are
   count: SENTENCE               the number of lines of the sentence
   motes: SENTENCE               the number of motes of the sentence that fulfil it
   delay: mote 0 sends 1 -> every mote but 0 prints flood 1
-                                the time from the first moment to the second; earlier lines of the second don't count
+                                the time from the first event to the second; earlier lines of the second don't count
   delivery: motes 1 to 9 print source -> mote 0 prints sink
                                 the share of the lines of the first sentence that are followed by a line of the second
                                 with the same value; messages on the way at the end count as lost. With `every mote`
@@ -28,8 +28,10 @@ Values are 10,20,40 or 1..30 or 0..100..25 (in steps of 25). Measures are
   python: measures.py:energy    your function in a file next to the plan; its argument is the run
 and `name = MEASURE` names its column.
 
-docs/use/EXPERIMENTS.md shows a sweep from its beginning to a plot. Ends with status 0, with 1 if a row has an error or
-lacks a measure, with 2 if nothing could be done, and with 130 after Ctrl-C.
+docs/use/EXPERIMENTS.md shows a sweep from its beginning to a plot.
+
+The tool ends with status 0, with 1 if a row has an error or lacks a measure, with 2 if nothing could be done, and with
+130 after Ctrl-C.
 """
 from __future__ import annotations
 
@@ -57,8 +59,8 @@ def main() -> int:
                        help='the limit of a report, in bytes (200,000,000)')
     words.add_argument('--dask', metavar='ADDRESS', help='send the runs to the Dask scheduler at this address')
     words.add_argument('--renew', action='store_true',
-                       help='repeat the rows from before a change of the plan, motesim or the measures; refused if '
-                            'the file has such rows of other values than the command')
+                       help='repeat the rows from before a change of the plan, motesim or the measures; the tool '
+                            'refuses if some of these rows have values that the command lacks')
     words.add_argument('--retry', action='store_true', help='repeat runs with an error or without a measure')
     words.add_argument('--plot', action='store_true', help="draw what the plan's `plot` describes")
     asked = words.parse_args()

@@ -10,8 +10,9 @@ scenario to the smallest one whose reports still differ, and writes it to a file
   tools/differential net.toml ..               scenarios of your own
   tools/differential --gate                    all examples and cases, and 300 scenarios with the commit as seed
 
-The last lines list the features that the scenarios reached. Ends with status 0 if all agree, 1 if some differ, and 2
-if there is no `motesim` or no C compiler.
+The last lines list the features that the scenarios reached.
+
+The tool ends with status 0 if all agree, 1 if some differ, and 2 if there is no `motesim` or no C compiler.
 """
 from __future__ import annotations
 

@@ -419,7 +419,7 @@ def sides_of(wish: Wish, rows: list[Row], results: Path, other: Path, where: Seq
     parameters = parameters_of(rows)
     if wish.compare:
         if other.exists() and other.samefile(results):
-            raise Fault('--compare needs another file than %s, the first side' % results)
+            raise Fault('--compare needs a second file: %s is the first side already' % results)
         others = joined(runs_of(other, where), wish.by)
         names = results.stem, other.stem
         if names[0] == names[1] or {*names} & {*parameters, *text.OF_COMPARISON}:

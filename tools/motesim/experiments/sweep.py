@@ -123,7 +123,7 @@ class Sweeper:
             raise Fault('%s has %d rows from before a change of %s. --renew runs them again, and -o names another '
                         'file' % (self.path, count - unchanged, what))
         if lost:
-            raise Fault('%s has %d rows of other values than this command, from before a change of %s, and --renew '
+            raise Fault('%s has %d rows from before a change of %s, with values that this command lacks, and --renew '
                         'would remove them: vary all values of the file, or name another file with -o' % (
                             self.path, lost, what))
         if len(spots) < count:

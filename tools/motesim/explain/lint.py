@@ -283,7 +283,7 @@ def of_start(program: Program) -> Iterator[Warned]:
 
 
 def of_receiver(program: Program) -> Iterator[Warned]:
-    """Yields the warnings about packets that another process than the receiver waits for, and about a receiver that
+    """Yields the warnings about packets that a process other than the receiver waits for, and about a receiver that
     never waits for packets."""
     words = program.words
     codes = {words[at + 1]: words[at:program.end_of_block(at + 2)] for at, it in enumerate(words) if it == 'code'}

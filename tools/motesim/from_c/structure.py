@@ -1,4 +1,4 @@
-"""Mistakes at another place than the fault: in the lines that name the processes, or a block that isn't closed.
+"""Mistakes at a place other than that of the fault: in the lines that name the processes, or a block that isn't closed.
 
 The functions `process_line` and `unclosed_block` return the number of a line (from 1, or 0 if nothing is found), the
 corrected line, and the reason.

@@ -47,7 +47,7 @@ RULES: dict[int, tuple[str, str]] = {
     7: ('TooDeep', 'Blocks and expressions are nested at most 32 deep.'),
     8: ('TooMany', 'There is one too many of these.'),
     9: ('NoProcess', 'A program has at least one process.'),
-    10: ('BadTarget', 'This name has another kind than is needed here; a thread never spawns itself.'),
+    10: ('BadTarget', 'A name of another kind is needed here; a thread never spawns itself.'),
     11: ('Memory', 'Memory ran out while the program was read. The text may have no error.'),
 }
 

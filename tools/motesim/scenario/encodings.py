@@ -63,7 +63,7 @@ def hint(file: str, found: Encoding) -> str:
 
 
 def refuse_encoding(file: str, data: bytes) -> None:
-    """Raises a fault if a text seems to have another encoding than UTF-8."""
+    """Raises a fault if a text seems to have an encoding other than UTF-8."""
     found = encoding_of(data)
     if found:
         raise Fault('%s Save it as UTF-8: %s' % (shown(file, found), command_for(file, found)))

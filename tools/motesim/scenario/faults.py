@@ -187,7 +187,7 @@ def _check_medium(tables: dict[str, Any]) -> None:
                 may = '`%s`: a mote, 0 to %d' % (name, len(tables['mote']) - 1)
                 raise ScenarioError('medium fault 4', ('loss', index, name), may)
         if pair[0] == pair[1]:
-            raise ScenarioError('medium fault 4', ('loss', index, 'to'), '`to`: another mote than %d' % pair[0])
+            raise ScenarioError('medium fault 4', ('loss', index, 'to'), '`to`: a mote other than %d' % pair[0])
         if loss['every'] == 0:
             raise ScenarioError('medium fault 4', ('loss', index, 'every'), may_of('every', LOSS['every']))
         if pair in seen:
