@@ -289,7 +289,7 @@ class Hints(unittest.TestCase):
             self.assertIn('Allowed here: ' + seen, ' '.join(str(raised.exception).split()))
 
     def test_none_where_nothing_is_known(self) -> None:
-        text = CODE % 'print 1; }'
+        text = CODE % 'print 1;' + ' 5'
         self.assertIsNone(hints.of_program(text, fault_of(text)))
 
 

@@ -85,6 +85,13 @@ class Inline(unittest.TestCase):
         for change, marked, wanted in IN_LOSS:
             self.check_array('loss', LOSSES, change, marked, wanted, '%s\nmote = [%s]' % (MEDIUM, ', '.join(MOTES)))
 
+    def test_a_missing_key_is_said_with_its_mote(self) -> None:
+        text = '%s%s\nmote = [%s, { x = 1, z = 0, program = "hello" }]\n%s' % (HEAD, MEDIUM, MOTE, PROGRAMS)
+        fault = find_fault(text.encode())
+        assert fault
+        shown = explanation('a.toml', text.encode(), 'motesim: ' + fault.message)
+        self.assertIn('Hint: Mote 1 (counted from 0) has no `y`.', shown)
+
     def test_a_medium(self) -> None:
         for change, marked, wanted in IN_MEDIUM:
             element = MEDIUM.replace(*change).partition('= ')[2]

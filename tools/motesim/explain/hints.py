@@ -104,6 +104,8 @@ def of_program(text: str, fault: ProgramError) -> str | None:
     behind = tokens[at + 1] if at + 1 < len(tokens) else here
     if fault.kind == 1:
         return _of_letter(before, here) or _of_capital(text, here) or _of_sign(here, behind)
+    if fault.kind == 2 and here.text == '}' and not _is_open(before):
+        return 'One `}` is too many: all blocks above it are closed.'
     if fault.kind == 2:
         return _of_unexpected(before, here, behind, fault.may) or _of_operator(tokens, at, fault.may)
     if fault.kind == 3:
@@ -113,6 +115,12 @@ def of_program(text: str, fault: ProgramError) -> str | None:
     if fault.kind == 6:
         return 'A callback can\'t wait, but may wake a process that does: `poll P;` or `post P msg 0;`.'
     return None
+
+
+def _is_open(tokens: list[Token]) -> bool:
+    """Returns whether a block is open behind some tokens."""
+    signs = [it.text for it in tokens]
+    return signs.count('{') > signs.count('}')
 
 
 def _of_letter(before: list[Token], here: Token) -> str | None:
@@ -295,6 +303,8 @@ def _of_missing(tables: dict[str, object], fault: ScenarioError) -> str | None:
     behind = next((name for name, table in tables.items() if isinstance(table, dict) and wanted in table), None)
     if not fault.path and behind:
         return 'The existing `%s` belongs to `[%s]`, because it is below that name: move it up.' % (wanted, behind)
+    if len(fault.path) > 1:
+        return '%s %s (counted from 0) has no `%s`.' % (str(fault.path[0]).capitalize(), fault.path[1], wanted)
     return None
 
 

@@ -9,10 +9,13 @@ from typing import NamedTuple
 
 from motesim.from_c.closings import Edit, edits_of
 from motesim.from_c.expressions import NoCounterpart
+from motesim.from_c.heads import bare_body, end_of_body, process_block
 from motesim.from_c.scope import Scope
 from motesim.from_c.places import Surroundings, head_for, place_below, rest_of_loop
 from motesim.from_c.statements import Statements
-from motesim.from_c.structure import ONE_LINE, begins_unnamed_code, process_line, process_lines, unclosed_block
+from motesim.from_c.structure import (
+    ONE_LINE, begins_unnamed_code, extra_brace, process_line, process_lines, unclosed_block,
+)
 from motesim.notation.faults import ProgramError, find_fault, tokens_of
 
 MOST_LINES = 6
@@ -102,9 +105,20 @@ def _readings(source: str, scope: Scope, place: Surroundings, unclosed: int) -> 
 def _structural(text: str, fault: ProgramError) -> Correction | None:
     """The line that repairs the order of the processes, or a block that isn't closed, if there is no other fault; or
     the line that names the process whose code begins at the fault."""
-    for line, written, reason in (process_line(text), unclosed_block(text)):
+    for line, written, reason in (process_line(text), unclosed_block(text), extra_brace(text)):
         made = Correction(line, line, written, (reason,))
         if line and (_rank(text, made) == 2 or begins_unnamed_code(text, fault.token.line)):
+            return made
+    return None
+
+
+def _heads(text: str, fault: ProgramError) -> Correction | None:
+    """The first line of a process that has no `code`, and the end of its block."""
+    for head in (process_block(text, fault.token), bare_body(text, fault.token)):
+        closings = [head.closing] if head.closing.behind else []
+        below = edits_of(text, end_of_body(text, head.line), closings)
+        made = Correction(head.line, head.line, head.written, (head.reason,), below=below or ())
+        if head.line and below is not None and _rank(text, made):
             return made
     return None
 
@@ -157,7 +171,7 @@ def correction(text: str, fault: ProgramError) -> Correction | None:
     scope = Scope.of(text)
     signs = [it.text for it in tokens_of(text)]
     unclosed = signs.count('{') - signs.count('}')
-    whole = _long_comment(text, fault) or _structural(text, fault) or _process_lines(text, fault)
+    whole = _long_comment(text, fault) or _structural(text, fault) or _heads(text, fault) or _process_lines(text, fault)
     if whole:
         return whole
     advice, is_only_named = '', _is_only_named(text, fault)

@@ -8,7 +8,7 @@ from __future__ import annotations
 import re
 
 from motesim.from_c.scope import CODE, Scope, process_of
-from motesim.notation.faults import tokens_of
+from motesim.notation.faults import Token, tokens_of
 
 Repair = tuple[int, str, str]
 NOTHING: Repair = (0, '', '')
@@ -17,6 +17,8 @@ PROCESSES = re.compile(r'\s*process\s+([a-z0-9_]+(?:\s*,\s*[a-z0-9_]+)*)\s*;\s*(
 NAMES = re.compile(r'^[ \t]*(?:process\s+([a-z0-9_]+(?:\s*,\s*[a-z0-9_]+)*)\s*;'
                    r'|PROCESS(?:_NAME)?\s*\((?:[^()";{}]|"[^"\n]*")*\)[ \t]*;?)'
                    r'[ \t]*(?://[ \t]*(.*?)|/\*[ \t]*(.*?)[ \t]*\*/)?[ \t\r]*$', re.M)
+# In a text with more braces, none of them is tried.
+MOST_BRACES = 200
 ONE_LINE = 'Processes are named by one line, `process a, b;`.'
 
 
@@ -86,6 +88,50 @@ def unclosed_block(text: str) -> Repair:
             if token.line > line and token.column == indent < its:
                 return _closed(lines, line, token.line)
     return NOTHING
+
+
+def extra_brace(text: str) -> Repair:
+    """The line with a brace that closes nothing, by the columns at which lines begin; without the brace it may be
+    empty."""
+    tokens = [it for it in tokens_of(text) if it.text]
+    signs = [it.text for it in tokens]
+    if signs.count('}') != signs.count('{') + 1 or signs.count('}') > MOST_BRACES:
+        return NOTHING
+    lines = text.split('\n')
+    braces = [at for at, sign in enumerate(signs) if sign == '}']
+    faults = {at: _misplaced(lines, tokens[:at] + tokens[at + 1:]) for at in braces}
+    best = [at for at in braces if not faults[at]]
+    if not best:
+        return NOTHING
+    token = tokens[best[-1]]
+    row = lines[token.line - 1]
+    return token.line, (row[:token.column] + row[token.column + 1:]).strip(), 'One `}` is too many.'
+
+
+def _misplaced(lines: list[str], tokens: list[Token]) -> int:
+    """The number of braces that close nothing, or begin a line in another column than the line that opens their block;
+    and of statements that begin a line in another column than the first one of their block."""
+    # (for each open block, the column of the line that opens it, and that of its first statement on a line of its own)
+    opened: list[tuple[int, int | None]] = [(-1, None)]
+    count = 0
+    for token in tokens:
+        column = _indent(lines[token.line - 1])
+        is_first = token.column == column
+        if token.text == '}':
+            begin, _ = opened.pop() if len(opened) > 1 else (-1, None)
+            count += begin < 0 or is_first and column != begin
+        elif is_first and token.text != '{':
+            begin, inner = opened[-1]
+            count += column <= begin or inner not in (None, column)
+            opened[-1] = begin, column
+        if token.text == '{':
+            opened.append((column, None))
+    return count
+
+
+def _indent(line: str) -> int:
+    """The column at which a line begins."""
+    return len(line) - len(line.lstrip())
 
 
 def _closed(lines: list[str], line: int, end: int) -> Repair:
