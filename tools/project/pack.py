@@ -1,8 +1,8 @@
 """Makes one archive for a classroom: tools/pack [-o FILE] [OWN ..]
 
 The archive motesim-VERSION.tar.gz has `motesim`, the tools and pages for users, the examples, and the terms under
-which all of it may be passed on. It runs on any Linux for x86-64 with glibc 2.34 or newer, the tools with Python 3.11
-or newer, from any folder: nothing is installed, and nothing is fetched from a network.
+which all of it may be passed on. The archive runs on any Linux for x86-64 with glibc 2.34 or newer, from any folder.
+Its tools need Python 3.11 or newer. Nothing is installed, and nothing is fetched from a network.
 
     tar xzf motesim-VERSION.tar.gz && cd motesim-VERSION && ./run examples/flooding.toml
 

@@ -3,9 +3,9 @@
   tools/sweep net.plan.toml --vary period=10,20,40 --vary seed=1..30 --measure sent --measure ratio -o net.csv
 
 Each combination becomes a row of net.csv (CSV, or SQLite if the name ends in .sqlite), with its parameters. If you
-start the same command again, it makes only the missing runs. After Ctrl-C the finished rows stay in the file. A run
-with an error has a row with the error; a measure that fails has an empty cell and a note. A plan can have values and
-measures in its table `sweep`: --vary replaces the plan's values of the same parameter, and --measure adds to the
+start the same command again, the tool makes only the missing runs. After Ctrl-C the finished rows stay in the file. A
+run with an error has a row with the error; a measure that fails has an empty cell and a note. A plan can have values
+and measures in its table `sweep`: --vary replaces the plan's values of the same parameter, and --measure adds to the
 plan's measures. --plot draws what the plan's `plot` describes.
 
 Values are 10,20,40 or 1..30 or 0..100..25 (in steps of 25). Measures are
