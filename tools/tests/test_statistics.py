@@ -879,11 +879,11 @@ class Command(unittest.TestCase):
                 self.assertIn('bootstrap: {:,} draws with'.format(count), '\n'.join(map(' '.join, rows)))
         values = [math.sqrt(it) for it in range(12)]
         for how in 'bootstrap', 'bootstrap-t':
-            some, usual, same = (estimates.mean_of(values, 0.95, how, draws=it) for it in (100, 2000, 2000))
-            self.assertEqual((usual, usual), (estimates.mean_of(values, 0.95, how), same))
-            self.assertNotEqual(usual, some)
-        for count in '99', '1000001':
-            self.plot(*words, '--show', 'mean', '--draws', count, status=2)
+            usual = estimates.mean_of(values, 0.95, how)
+            self.assertEqual(usual, estimates.mean_of(values, 0.95, how, draws=2000))
+            self.assertNotEqual(usual, estimates.mean_of(values, 0.95, how, draws=100))
+        for wrong in '99', '1000001':
+            self.plot(*words, '--show', 'mean', '--draws', wrong, status=2)
             self.assertIn('--draws is 100 to 1000000', self.seen)
 
     def test_a_crossing_along_a_measure_draws_both_axes(self) -> None:
