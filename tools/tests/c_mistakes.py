@@ -76,6 +76,10 @@ RIGHT: list[tuple[str, str, str]] = [
     (BODY, 'yield_until (fired(t));', 'yield_until fired(t);'),
     (BODY, 'yield_until(is(packet));', 'yield_until is(packet);'),
     (BODY, 'linkaddr_t x;', 'x = 0;'),
+    (BODY, 'yield_until t.expired;', 'yield_until expired(t);'),
+    (BODY, 'yield_until t.fired && data > 1;', 'yield_until (fired(t) && (data > 1));'),
+    (BODY, 'if (other.running) { print items.count; }', 'if running(other) { print count(items); }'),
+    (BODY, 'yield_until t.expired();', 'yield_until expired(t);'),
     (BODY, 'yield_until fired t;', 'yield_until fired(t);'),
     (BODY, 'if (is packet && (data > 3)) {\n}', 'if (is(packet) && (data > 3)) {\n}'),
     (BODY, 'if (is packet and running other) {\n}', 'if (is(packet) && running(other)) {\n}'),
@@ -241,6 +245,8 @@ RIGHT: list[tuple[str, str, str]] = [
 ]
 
 SAID: list[tuple[str, str, str]] = [
+    (BODY, 'print t.interval;', 'There are no fields: the tests of `t` are `fired(t)` and `expired(t)`.'),
+    (BODY, 'print x.value;', 'A packet has no fields'),
     (BODY, 'collect_send(&tc, 15);', 'collects values along a tree'),
     (BODY, 'mesh_send(&mesh, &addr);', 'There is no routing'),
     (BODY, 'runicast_send(&r, &to, 4);', 'No packet is acknowledged or sent again by itself'),

@@ -28,6 +28,8 @@ TYPES = frozenset((
 QUALIFIERS = frozenset(('static', 'const', 'volatile', 'extern', 'register'))
 VALUES = {'true': '1', 'false': '0', 'null': '0', 'node_id': 'self', 'simmoteid': 'self', 'rtimer_now': 'now'}
 TESTS = ('is', 'fired', 'expired', 'gone', 'running', 'count')
+# The tests of a name of each kind.
+TESTS_OF = {'timer': ('fired', 'expired'), 'process': ('gone', 'running'), 'semaphore': ('count',)}
 CALLS = {'etimer_expired': 'expired', 'ctimer_expired': 'expired', 'timer_expired': 'expired',
          'stimer_expired': 'expired',
          'process_is_running': 'running', 'pt_sem_count': 'count', 'sem_count': 'count'}
@@ -544,4 +546,15 @@ class Writer:
         if 'u8' in words and at.text in ('from', 'sender', *ADDRESSES):
             self.why('An address is one number: `from` of the sender, `self` of the mote itself.')
             return 'self' if at.text in ADDRESSES else 'from'
-        return self.refuse(NO_ARRAYS if node.kind == 'index' else NO_FIELDS)
+        return self.refuse(NO_ARRAYS) if node.kind == 'index' else self.field(node)
+
+    def field(self, node: Node) -> str:
+        """A test of a timer, a process or a semaphore that is written as its field. Other fields are refused."""
+        name, tests = node.parts[0], TESTS_OF.get(self.scope.kinds.get(node.parts[0].text, ''), ())
+        if name.kind != 'name' or not tests:
+            return self.refuse(NO_FIELDS)
+        if node.text not in tests:
+            known = ' and '.join('`%s(%s)`' % (it, name.text) for it in tests)
+            return self.refuse('There are no fields: the tests of `%s` are %s.' % (name.text, known))
+        self.why('There are no fields: a test is in front of its name, `%s(%s)`.' % (node.text, name.text))
+        return self.call(Node('call', node.text, (name,)))
