@@ -95,7 +95,7 @@ LACKS = [
      'Allowed here: the key `version`: a whole number, 1 to 2'),
     ({SCENARIO: ''}, '.. has no key `version`. Add:', 'version = 2',
      'Hint: The text has no key and no table. examples/print_then_yield.toml is a small scenario'),
-    ({'[medium]': '[medum]'}, '.., line 3:', '[medum]', 'Hint: The table has `medum`: did you mean `medium`?'),
+    ({'[medium]': '[medum]'}, '.., line 3:', '[medum]', 'Hint: Did you mean `[medium]`?'),
 ]
 
 # Changes to the scenario, each with the message, and the line and the text that are marked.

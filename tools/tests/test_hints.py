@@ -308,8 +308,8 @@ class Warnings(unittest.TestCase):
             (CODE % 'yield_until is(packet); print data;', 5, 'calls them `deaf`; write `receiver a;` above'),
             (CODE % 'set t 4; while !expired(t) { }', 5, '`wait_while` and the same test, without a block'),
             (CODE % 'set t 4; while !expired(t) { seq = (seq + 1); }', 5, 'a loop that waits for nothing'),
-            (CODE % 'while (seq < 3) { print seq; }', 5, 'write its step, such as `seq = (seq + 1);`, at the end of its '
-                                                         'block'),
+            (CODE % 'while (seq < 3) { print seq; }', 5, 'write its step, such as `seq = (seq + 1);`, at the '
+                                                         'end of its block'),
             (CODE % 'while (3 < seq) { print seq; }', 5, 'such as `seq = (seq - 1);`, at the end'),
             (CODE % 'while (seq <= seen) { }', 5, 'such as `seq = (seq + 1);`, at the end'),
             (CODE % 'while !seq { print 1; }', 5, 'nothing changes `seq`. The loop repeats until'),
@@ -355,6 +355,17 @@ class Warnings(unittest.TestCase):
         text = ('process a, b; autostart a, b; code a { ctimer c { if fired(c) { print 1; } } body { set c 5; yield; } '
                 '} code b { etimer c; body { set c 5; yield_until fired(c); } }')
         self.assertEqual(self.seen(text), [])
+
+    def test_a_net_in_which_nobody_sends(self) -> None:
+        waits = CODE.replace('code a', 'receiver a; code a') % '%s while 1 { yield_until is(packet); print data; }'
+        nobody, radio = 'no program of a mote sends one by `send`', '`send (seq + 7);` sends a packet by radio'
+        for statements, wanted in (('', []), ('if (self == 0) { broadcast msg (seq + 7); }', [nobody, radio]),
+                                   ('broadcast msg (seq + 7) into seen;', [nobody, radio]),
+                                   ('broadcast msg 7; send 7;', []), ('post a packet 7;', []),
+                                   ('broadcast packet 7;', [])):
+            seen = ' '.join(it for it in self.seen(waits % ('set t 1; ' + statements)) if 'by `send`' in it)
+            with self.subTest(statements):
+                self.assertEqual([it for it in (nobody, radio) if it in seen], wanted)
 
     def test_two_loops_that_never_end_have_one_warning(self) -> None:
         found = by_cause([Warned('a', 'p', Token('while', 3, 0), cause='loop'),

@@ -46,6 +46,9 @@ NEVER_RECEIVES = ('packets go to the process `%s`, which never waits for them: t
                   'them unseen; wait by `yield_until is(packet);`, or leave the `receiver` out')
 NATURAL = 'no number is below 0, so this test is %s true: values are 0 to 65,535, and 0 - 1 is 65,535'
 COUNT_DOWN = '; write `while (x > 0)` to count down'
+NOBODY_SENDS = 'the program waits for packets, but no program of a mote sends one by `send`'
+OF_BROADCAST = ('; this `broadcast` posts an event to the processes of its own mote, and `send %s;` sends a packet by '
+                'radio')
 # The line of a scenario from a plan with a parameter that is 0: a 0 of a program may be its value.
 ZERO_GIVEN = re.compile(r'^# Parameters: (?:.*, )?\w+ = 0(?:,|$)', re.M)
 BEHIND = 'the timer `%s` is set only after this wait for it, so the wait never ends: set it before'
@@ -342,11 +345,35 @@ def programs_of(scenario: Scenario) -> dict[str, Program]:
     return {name: Program(name, text) for name, text in scenario.programs.items()}
 
 
+def of_silence(scenario: Scenario, programs: dict[str, Program]) -> Iterator[Warned]:
+    """Yields the warnings about programs that broadcast an event and wait for packets, if no mote sends any."""
+    used = [program for name, program in programs.items() if any(it.program == name for it in scenario.places)]
+    if any({'send', 'packet'} & set(packets_of(program)) for program in used):
+        return
+    for program in used:
+        waits, casts = program.first('is', '(', 'packet', ')'), program.first('broadcast')
+        if waits and program.receivers and casts:
+            at = program.tokens.index(casts)
+            value = ' '.join(program.words[at + 2:program.words.index(';', at)]).partition(' into ')[0]
+            text = NOBODY_SENDS + OF_BROADCAST % value.replace('( ', '(').replace(' )', ')')
+            yield Warned(text, program.name, casts)
+
+
+def packets_of(program: Program) -> Iterator[str]:
+    """The word `send` of a program, and the events that it posts."""
+    for at, word in enumerate(program.words):
+        if word == 'send':
+            yield word
+        elif word in ('post', 'synch', 'broadcast'):
+            yield program.words[at + (1 if word == 'broadcast' else 2)]
+
+
 def of_net(scenario: Scenario, programs: dict[str, Program], report: Report | None) -> Iterator[Warned]:
     """Yields the warnings of a net."""
     for name in scenario.programs:
         if all(place.program != name for place in scenario.places):
             yield Warned('no mote runs the program `%s`' % name, name, programs[name].tokens[0])
+    yield from of_silence(scenario, programs)
     alone = [number for number in range(scenario.motes) if not scenario.hearers(number)]
     speaks = [number for number in alone if 'send' in programs[scenario.places[number].program].words]
     lonely = [number for number in alone

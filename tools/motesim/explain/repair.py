@@ -223,6 +223,9 @@ def _attempts_at_missing(text: str, rows: list[str], tables: object, fault: Scen
         return
     table, place = synonyms.at(tables, fault.path), place_of(text, (*fault.path, like))
     row, number, value = rows[place.line - 1], place.line, synonyms.at(tables, (*fault.path, like))
+    if HEADER.fullmatch(row):
+        brackets = '[[%s]]' if wanted in ('mote', 'loss') else '[%s]'
+        yield Repair('Did you mean `%s`?' % (brackets % wanted), number, number, (brackets % wanted,))
     if place.length != len(like) or row[place.column:place.column + place.length] != like:
         return
     hint = 'The table has `%s`: write `%s`.' % (like, wanted)
@@ -260,6 +263,7 @@ def _without(row: str, place: Place) -> str:
     return '%s %s' % (before.removesuffix(','), behind)
 
 
+HEADER = re.compile(r'\s*\[\[?\s*\w+\s*\]\]?\s*')
 VALUE_BEHIND = re.compile(r'''["']?\s*=\s*("[^"]*"|'[^']*'|\[[^\]]*\]|[^\s,}#]+)''')
 
 
@@ -276,7 +280,7 @@ def _attempts_at_key(text: str, rows: list[str], tables: object, fault: Scenario
     table = str(fault.path[0]) if len(fault.path) > 1 else ''
     known = {'medium': [*MEDIUM, 'collide'], 'loss': [*LOSS], 'mote': [*MOTE]}.get(table, [*TOP, 'queue'])
     like = synonyms.meant(name, known)
-    header = re.fullmatch(r'\s*\[\[?\s*\w+\s*\]\]?\s*', row)
+    header = HEADER.fullmatch(row)
     if like:
         line = ('[[%s]]' if like in ('mote', 'loss') else '[%s]') % like if header else _replaced(row, place, like)
         yield Repair('Did you mean `%s`?' % like, number, number, (line,))

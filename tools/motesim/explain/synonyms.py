@@ -56,11 +56,24 @@ def meant(name: str, known: Iterable[str]) -> str | None:
     return nearest(name, names) or next((it for it in names if name.lower() in SYNONYMS.get(it, ())), None)
 
 
+def _known(path: tuple[str | int, ...]) -> Iterable[str]:
+    """The keys of a table."""
+    tables = {'medium': (*MEDIUM, 'collide'), 'loss': (*LOSS,), 'mote': (*MOTE,)}
+    return tables.get(str(path[0]), ()) if path else (*TOP, 'queue')
+
+
+def _may_be(wanted: str, value: object, path: tuple[str | int, ...]) -> bool:
+    """Returns whether a value may be meant for a key: a table or an array only if the key has one, and no other value
+    then."""
+    is_table = not path and wanted in TOP and TOP[wanted].kind in (dict, list)
+    return isinstance(value, (dict, list)) if is_table else not isinstance(value, dict)
+
+
 def like_of_missing(tables: object, fault: ScenarioError) -> str | None:
     """An unknown key that most likely means the key that is missing in the same table."""
     wanted, table = fault.missing, at(tables, fault.path)
     if not isinstance(table, dict):
         return None
-    others = [it for it in table if it not in {**TOP, **MEDIUM, **LOSS, **MOTE}]
+    others = [it for it in table if it not in _known(fault.path) and _may_be(wanted, table[it], fault.path)]
     names = (wanted, *SYNONYMS.get(wanted, ()))
     return nearest(wanted, others) or next((it for it in others if it.lower() in names), None)
