@@ -198,7 +198,7 @@ class Shown(NamedTuple):
 
     @property
     def is_ordered(self) -> bool:
-        """Whether the points have an order in which a line can join them: names have none."""
+        """True if the points have an order in which a line can join them: names have none."""
         return len(self.along) < 2 and all(type(value) in (int, float) for point in self.points
                                            for value in point.along)
 
