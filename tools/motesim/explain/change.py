@@ -22,7 +22,7 @@ class Repair(NamedTuple):
     without: tuple[int, int] | None = None
 
     def shown(self) -> list[str]:
-        """The correct lines, and where to write them."""
+        """The place of the correct lines, and these lines."""
         which = lines_named(self.first, self.last)
         head = 'Write, as %s:' % which if self.lines else 'Leave %s out.' % which
         rest = ['and leave %s out.' % lines_named(*self.without)] if self.without else []
