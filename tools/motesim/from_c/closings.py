@@ -5,7 +5,7 @@ a block of several lines, needs one more brace behind that block.
 """
 from __future__ import annotations
 
-from collections.abc import Iterable, Iterator
+from collections.abc import Iterator, Sequence
 from itertools import groupby
 from typing import NamedTuple
 
@@ -38,8 +38,10 @@ class Piece(NamedTuple):
     text: str
 
 
-def edits_of(text: str, last: int, closings: Iterable[Closing]) -> tuple[Edit, ...] | None:
+def edits_of(text: str, last: int, closings: Sequence[Closing]) -> tuple[Edit, ...] | None:
     """The edits below a line that the open blocks need, the innermost first; None if a block has no end."""
+    if not any(it.inside or it.behind for it in closings):
+        return ()
     tokens = [it for it in tokens_of(text) if it.text]
     at, pieces = next((at for at, it in enumerate(tokens) if it.line > last), len(tokens)), list[Piece]()
     for closing in closings:

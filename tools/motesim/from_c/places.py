@@ -89,6 +89,8 @@ def place_below(above: list[str]) -> Surroundings:
 
 def rest_of_loop(lines: str, below: str, levels: int) -> tuple[str, ...]:
     """The words below some lines, up to the brace that closes the last of the levels that are open above them."""
+    if not levels:
+        return ()
     inner = [it.text for it in tokens_of(lines)]
     levels += inner.count('{') - inner.count('}')
     found: list[str] = []
