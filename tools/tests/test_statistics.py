@@ -1427,7 +1427,8 @@ class Command(unittest.TestCase):
             return [(float(it[1]), float(it[2]), text) for it, (_, text) in zip(places, found) if it]
 
         # (8.8 centimetres are 249.4 points; an axis with its labels needs 0.8 of the height at least)
-        for size, more in ('8.8x6', ()), ('column', ()), ('8.8x6', ('--threshold', '0.6')):
+        for size, more in ('8.8x6', ()), ('column', ()), ('8.8x6', (
+                '--threshold', '0.6', '--interval', 'bootstrap')):
             said = [' '.join(it) for it in self.plot(*words, '--size', size, *more)]
             picture = (self.folder / 'a.svg').read_text()
             self.assertIn('width="249.448819pt"', picture)
