@@ -273,7 +273,8 @@ def _of_sentence(kind: str, words: str, names: Names) -> Callable[[Bench], Cell]
 def _own(messages: Sequence[Line], receivers: Sequence[tuple[int, ...]]) -> str:
     """A warning if each message has to reach several motes, and its own mote is one of them; otherwise an empty
     text."""
-    own = next((it.mote for it in messages if (it.mote,) in receivers), None) if len(receivers) > 1 else None
+    several = {*receivers} if len(receivers) > 1 else set()
+    own = next((it.mote for it in messages if (it.mote,) in several), None)
     return '' if own is None else OWN + ': mote %d is in both sentences, and so is a receiver of its own messages. ' \
         'Leave it out, as in `every mote but %d`, or use `flow reached`, which counts only other motes' % (own, own)
 
