@@ -15,6 +15,7 @@ from __future__ import annotations
 
 import argparse
 import hashlib
+import math
 import os
 from collections.abc import Mapping, Sequence
 from functools import partial
@@ -55,16 +56,13 @@ def named(edits: Sequence[Edit], names: Sequence[str]) -> list[Edit]:
 
 
 def tenth(edits: Sequence[Edit], seed: str) -> list[Edit]:
-    """A tenth of the mutants, chosen by a seed: whole batches, of as few crates as possible, because each crate needs
-    a control."""
+    """A tenth of the mutants, chosen by a seed: batches, whole except the last, of as few crates as possible, because
+    each crate needs a control."""
     def place(group: list[Edit]) -> list[bytes]:
         return [hashlib.sha256((seed + it).encode()).digest() for it in (group[0].crate.name, group[0].name)]
 
-    found: list[Edit] = []
-    for group in sorted(groups(edits), key=place):
-        if len(found) * 10 < len(edits):
-            found += group
-    return found
+    batches = sorted(groups(edits), key=place)
+    return [it for group in batches for it in group][:math.ceil(len(edits) / 10)]
 
 
 def without_open(edits: Sequence[Edit]) -> list[Edit]:

@@ -368,9 +368,9 @@ class Choice(unittest.TestCase):
     CRATES: Any = [SimpleNamespace(name=name) for name in ('low', 'high', 'other')]
     EVERY = [Edit(crate, Path('%d.edit' % at), 'f%d' % (at % 20), True, None) for crate in CRATES for at in range(40)]
 
-    def test_a_tenth_has_whole_batches(self) -> None:
+    def test_a_tenth_is_chosen_by_a_seed(self) -> None:
         found = wrong_bodies.tenth(self.EVERY, 'one')
-        self.assertTrue(12 <= len(found) < 24, found)
+        self.assertEqual([len(found), len(wrong_bodies.tenth(self.EVERY[:21], 'one'))], [12, 3])
         self.assertEqual(found, wrong_bodies.tenth(self.EVERY, 'one'))
         self.assertNotEqual(found, wrong_bodies.tenth(self.EVERY, 'two'))
 

@@ -77,7 +77,6 @@ pub data Step : Type 0 where
   take : Mark → Pending → Step
 
 -- The step at a token, for each kind of symbol; the symbols `f` are pending after this symbol.
-
 abbrev pub cast_step : Pending → Token → Step
 cast_step f (token.Name x) = take (named x (uses an_event x)) f
 cast_step f (token.Keyword word.Continue) = take (key word.Continue) f
