@@ -36,8 +36,10 @@ def pytest(together: str) -> list[str]:
 
 
 def become(called: list[str], **environment: str) -> NoReturn:
-    """Replaces this process by another command."""
-    os.execvpe(called[0], called, {**os.environ, 'PYTHONDONTWRITEBYTECODE': '1', **environment})
+    """Replaces this process by another command. The tools that it starts find this interpreter first: `python3` may be
+    a script that looks for the interpreter at each start, as pyenv's is, and this takes as long as a tool itself."""
+    path = os.pathsep.join([str(Path(sys.executable).parent), os.environ.get('PATH', os.defpath)])
+    os.execvpe(called[0], called, {**os.environ, 'PYTHONDONTWRITEBYTECODE': '1', 'PATH': path, **environment})
 
 
 def asked_of(module: Path, named: str | None) -> tuple[list[str], list[str]]:

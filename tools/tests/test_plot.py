@@ -91,7 +91,7 @@ class PlotTest(unittest.TestCase):
             (self.folder / 'a.png').unlink()
         wrong = self.plot('--measure', 'sent', '--against', 'density', '--by', 'period', '--log', '-o', 'a.png')
         self.assertEqual((wrong.returncode, wrong.stdout), (2, ''))
-        self.assertIn('--log needs values above 0, and some of density are not', wrong.stderr)
+        self.assertIn('--log needs values above 0, and density is dense in some runs: leave out --log', wrong.stderr)
 
     def test_a_package_that_only_the_interpreter_of_debian_has(self) -> None:
         with mock.patch.object(packages, 'is_here', return_value=False), mock.patch.object(packages, 'has') as has:
@@ -124,7 +124,8 @@ class PlotTest(unittest.TestCase):
              '--against needs another parameter: density, seed'),
             (('--measure', 'sent', '--against', 'density', '--pair', 'period=1,5'),
              'no run has period = 5; there are: 1, 2, 3, 10'),
-            (('--measure', 'sent', '--against', 'density', '--compare', 'net.csv'), '--compare needs another file'),
+            (('--measure', 'sent', '--against', 'density', '--compare', 'net.csv'),
+             '--compare needs a second file: net.csv is the first side already'),
             (('--measure', 'sent', '--against', 'density', '--where', 'period=7'), 'period has: 1, 2, 3, 10'),
             (('--measure', 'sent', '--against', 'density', '--where', 'period=1,7'), 'these values: period=7; '),
             (('--measure', 'sent', '--against', 'density', '--where', 'period=3', '--where', 'seed=4'),
