@@ -26,6 +26,9 @@ RIGHT: list[tuple[str, str, str]] = [
     (BODY, 'while (n-- > 3) { print n; }', 'while (n > 3) { n = (n - 1); print n; }'),
     (BODY, 'while (--n) { print n; }', 'n = (n - 1); while n { print n; n = (n - 1); }'),
     (BODY, 'if (--n) { print n; }', 'n = (n - 1); if n { print n; }'),
+    (BODY, 'print(n++);', 'print n; n = (n + 1);'),
+    (BODY, 'send(++n);', 'n = (n + 1); send n;'),
+    (BODY, 'while (n--) > 3 { print n; }', 'while (n > 3) { n = (n - 1); print n; }'),
     (BODY, 'for (i = 0, n = 5; i < n; i++, n--) { print i; }',
      'i = 0; n = 5; while (i < n) { print i; i = (i + 1); n = (n - 1); }'),
     # Parentheses: too few.

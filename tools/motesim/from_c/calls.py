@@ -101,14 +101,14 @@ class Calls(Lines):
 
     def listed(self) -> list[Node]:
         """Several values in parentheses, as in `print(n, x)`; nothing if the parentheses belong to one value."""
-        begin = self.at
+        begin = self.place_here
         try:
             self.need('(')
             values = self.arguments()
         except NoCounterpart:
             values = []
         if len(values) < 2:
-            self.at = begin
+            self.go_back(begin)
             return []
         self.why('A `print` shows one number.')
         return values

@@ -121,7 +121,7 @@ class Control(Lines):
 
     def condition(self) -> str:
         """The test of an `if` or a `while`, up to its block."""
-        begin, inner = self.at, None
+        begin, inner = self.place_here, None
         if self.token.text == '{':
             self.why('A `while` has a test: `while 1` repeats its block, in which something has to wait.')
             return '1'
@@ -130,7 +130,8 @@ class Control(Lines):
             # (an operator behind the parenthesis continues the test; a name or a brace begins the block)
             self.close()
             if self.token.text in ('||', '&&', '==', '!=', '<', '<=', '>', '>=', '+', '-', '/', '%', 'and', 'or'):
-                self.at, inner = begin, None
+                self.go_back(begin)
+                inner = None
         text = self.writer.text(natural(inner or self.expression()))
         while self.accept(')'):
             self.why(ONE_TOO_MANY)

@@ -138,6 +138,16 @@ class Expressions:
         self.after: list[tuple[str, str]] = []
 
     @property
+    def place_here(self) -> tuple[int, int, int]:
+        """The place of the reader, to which `go_back` returns: the next token, and the steps that it has found."""
+        return self.at, len(self.before), len(self.after)
+
+    def go_back(self, place: tuple[int, int, int]) -> None:
+        """Continues from an earlier place, so that each step behind this place is found only once."""
+        self.at = place[0]
+        del self.before[place[1]:], self.after[place[2]:]
+
+    @property
     def token(self) -> Token:
         return self.ahead(0)
 

@@ -385,7 +385,7 @@ class Statements(Declarations, Calls, Control):
 
     def of_pair(self) -> str:
         """The first of two numbers in parentheses, as in `send(3, data)`; nothing if there are fewer."""
-        begin = self.at
+        begin = self.place_here
         if self.accept('('):
             try:
                 found = self.expression()
@@ -393,7 +393,7 @@ class Statements(Declarations, Calls, Control):
                     return self.writer.text(found)
             except NoCounterpart:
                 pass
-        self.at = begin
+        self.go_back(begin)
         return ''
 
     def set_variable(self) -> str:
