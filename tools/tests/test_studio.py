@@ -2,6 +2,7 @@
 from __future__ import annotations
 
 import http.client
+import itertools
 import json
 import os
 import re
@@ -116,6 +117,24 @@ class Edits(unittest.TestCase):
             self.assertEqual(tomllib.loads(self.edited(text, what='remove', mote=0))['mote'],
                              [{'y': 2, 'x': 3, 'program': 'p'}])
             self.assertEqual(len(tomllib.loads(self.edited(text, what='remove', mote=1))['mote']), 1)
+
+    def test_a_removed_mote_takes_its_losses_from_an_inline_array(self) -> None:
+        motes = ', '.join('{ x = %d, y = 0, program = "p" }' % x for x in range(3))
+        for pairs in itertools.permutations([(0, 1), (1, 2), (0, 2)]):
+            for between in ', ', ',\n  ', ', # {from = 7}\n':
+                for end in '', ',', ' , ':
+                    losses = between.join('{ from = %d, to = %d, every = 2 }' % it for it in pairs) + end
+                    text = 'end = 1\nmote = [%s]\nloss = [%s]\n[programs]\np = ""\n' % (motes, losses)
+                    for mote in range(3):
+                        left = tomllib.loads(self.edited(text, what='remove', mote=mote)).get('loss')
+                        self.assertEqual(left, [{'from': 0, 'to': 1, 'every': 2}], text)
+
+    def test_the_only_loss_of_an_inline_array_is_removed_with_its_comma(self) -> None:
+        for end in '', ',', ' ,\n', '\n':
+            text = ('end = 1\nmote = [{ x = 0, y = 0 }, { x = 1, y = 0 }]\nloss = [{ from = 0, to = 1, every = 2 }%s]\n'
+                    % end)
+            for wish in {'what': 'lose', 'from': 0, 'to': 1, 'every': 0}, {'what': 'remove', 'mote': 1}:
+                self.assertEqual(tomllib.loads(self.edited(text, **wish))['loss'], [], text)
 
     def test_the_motes_of_the_first_demo_are_moved_on_the_map(self) -> None:
         text = (TOP / 'examples/two_motes.toml').read_text()

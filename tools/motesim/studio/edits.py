@@ -8,6 +8,7 @@ The text is read before and after an edit. An edit is refused if it would change
 from __future__ import annotations
 
 import copy
+from collections.abc import Sequence
 from functools import cached_property
 from typing import Any, NamedTuple
 
@@ -84,10 +85,14 @@ class Text:
                         % (path[2], path[0], path[1]))
         return Change(self.offset(value), self.offset(value) + value.length, str(number))
 
-    def without(self, name: str, index: int) -> Change:
+    def without(self, name: str, *indexes: int) -> list[Change]:
+        """The changes that remove tables of a name."""
+        if (name,) in self.inline:
+            return self.without_inline(name, indexes)
+        return [self.without_table(name, index) for index in indexes]
+
+    def without_table(self, name: str, index: int) -> Change:
         """The change that removes a table, and the second of two blank lines."""
-        if (name, index) in self.inline:
-            return self.without_inline(name, index)
         first, end_line = self.lines(name, index)
         if (first and end_line < len(self.rows) and not self.rows[first - 1].strip()
                 and not self.rows[end_line].strip()):
@@ -97,12 +102,22 @@ class Text:
             return Change(max(begin - 1, 0), len(self.text), '\n' if begin else '')
         return Change(begin, end, '')
 
-    def without_inline(self, name: str, index: int) -> Change:
-        """The change that removes a table of an inline array, with the comma after it, or else before it."""
-        (begin, end), after = self.inline[name, index], self.inline.get((name, index + 1))
-        if after is not None:
-            return Change(begin, after[0], '')
-        return Change(self.inline[name, index - 1][1] if index else begin, end, '')
+    def without_inline(self, name: str, indexes: Sequence[int]) -> list[Change]:
+        """The changes that remove tables of an inline array: each with the comma after it, and those behind the last
+        table that stays with the comma before them."""
+        count = len(self.members(name))
+        last = max({*range(count)} - {*indexes}, default=-1)
+        found = [Change(self.inline[name, it][0], self.inline[name, it + 1][0], '') for it in indexes if it < last]
+        if last + 1 < count:
+            begin = self.inline[name, last][1] if last >= 0 else self.inline[name, 0][0]
+            end = self.inline[name, count - 1][1]
+            found.append(Change(begin, end if last >= 0 else self.behind_comma(end), ''))
+        return found
+
+    def behind_comma(self, offset: int) -> int:
+        """The offset behind the comma that follows, or the same one if none does."""
+        behind = self.text[offset:].lstrip()
+        return len(self.text) - len(behind) + 1 if behind.startswith(',') else offset
 
     def appended_inline(self, name: str, tables: list[list[str]]) -> Change:
         """The change that adds tables, each a list of its keys with their values, at the end of an inline array."""
@@ -169,24 +184,24 @@ def remove(text: Text, wish: dict[str, Any], wanted: dict[str, Any]) -> tuple[li
     mote = _mote(text, wish)
     if len(text.members('mote')) == 1:
         raise Fault('a scenario has at least one mote')
-    changes, kept, gone = [text.without('mote', mote)], [], 0
+    changes, kept, gone = text.without('mote', mote), [], list[int]()
     del wanted['mote'][mote]
     for index, loss in enumerate(wanted.get('loss', [])):
         if mote in (loss['from'], loss['to']):
-            changes.append(text.without('loss', index))
-            gone += 1
+            gone.append(index)
             continue
         for name in ('from', 'to'):
             if loss[name] > mote:
                 loss[name] -= 1
                 changes.append(text.number(('loss', index, name), loss[name]))
         kept.append(loss)
+    changes += text.without('loss', *gone) if gone else []
     if 'loss' in wanted:
         wanted['loss'] = kept
     said = 'Mote %d is removed' % mote
     if mote < len(wanted['mote']):
         said += '; the motes after it are renumbered'
-    return changes, said + ('; so are its %d losses.' % gone if gone > 1 else '; so is its loss.' if gone else '.')
+    return changes, said + ('; so are its %d losses.' % len(gone) if len(gone) > 1 else '; so is its loss.' if gone else '.')
 
 
 def lose(text: Text, wish: dict[str, Any], wanted: dict[str, Any]) -> tuple[list[Change], str]:
@@ -202,7 +217,7 @@ def lose(text: Text, wish: dict[str, Any], wanted: dict[str, Any]) -> tuple[list
         if found is None:
             return [], way + ' loses nothing.'
         del wanted['loss'][found]
-        return [text.without('loss', found)], way + ' loses nothing.'
+        return text.without('loss', found), way + ' loses nothing.'
     said = '%s loses %s.' % (way, 'all packets' if every == 1 else '1 packet in %d' % every)
     if found is not None:
         wanted['loss'][found]['every'] = every
