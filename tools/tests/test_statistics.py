@@ -499,6 +499,18 @@ class Rows(unittest.TestCase):
                 shown_of(others, wish)
         self.assertEqual(len(shown_of(others, Wish('sent', 'period', by='measures_sha256')).points), 2)
 
+    def test_a_measure_with_an_older_meaning_is_another_measure(self) -> None:
+        for words, is_old in ('delivery: mote 0 sends -> every mote prints a', True), ('last: mote 0 sends', False):
+            old: Row = {**row(1, 1, 5), 'measures': 'sent = %s; ratio' % words, 'measures_sha256': 'old'}
+            new: Row = {**row(2, 1, 5), 'measures': 'sent = %s' % words, 'measures_sha256': 'new',
+                        'plan_files': 'plan aa'}
+            if is_old:
+                with self.assertRaisesRegex(Fault, '^these are runs of 2 sets of measures'):
+                    shown_of([old, new], Wish('sent', 'period'))
+            else:
+                self.assertEqual(len(shown_of([old, new], Wish('sent', 'period')).points), 2)
+            self.assertEqual(len(shown_of([{**old, 'plan_files': 'plan aa'}, new], Wish('sent', 'period')).points), 2)
+
     def test_runs_that_draw_alike_are_found_in_any_rows(self) -> None:
         rows: list[Row] = [{**row(1, seed, seed), 'chance_seeds': 'seed'} for seed in (1, 100, 258, 300, 772)]
         self.assertEqual(warnings_of(rows), [

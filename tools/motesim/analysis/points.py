@@ -7,7 +7,7 @@ from typing import NamedTuple
 
 from motesim.analysis.estimates import AUTO, DRAWS, NAMES, Estimate, Measured, mean_of, measured, median_with_quartiles
 from motesim.explain.synonyms import known
-from motesim.experiments.measures import Cell, file_of, is_count, name_of
+from motesim.experiments.measures import Cell, edition_of, file_of, is_count, name_of
 from motesim.experiments.results import PLAN_FILES, Row, text_of
 from motesim.faults import Fault
 
@@ -323,11 +323,16 @@ def check_plans(rows: Sequence[Row], names: Sequence[str], wish: Wish) -> None:
 
 
 def definition_of(row: Row, name: str) -> str | None:
-    """The text of a measure, with the digests of the users' files if it is in one; None if the row doesn't say it."""
+    """The text of a measure, with the digests of the users' files if it is in one, and with the edition of its meaning;
+    None if the row doesn't say it."""
     parts = text_of(row.get(TEXTS)).split('; ')
     files = [it for it in parts if OF_FILE in it]
     words = next((it for it in parts if it not in files and name_of(it) == name), None)
-    return words if words is None or not file_of(words) else '; '.join([words, *files])
+    if words is None:
+        return None
+    # (the rows of sweeps before the present edition have no digests of files either)
+    edition = [edition_of(words)] if row.get(PLAN_FILES) else []
+    return '; '.join(filter(None, [words, *edition, *(files if file_of(words) else [])]))
 
 
 def check_measures(rows: Sequence[Row], wish: Wish) -> None:
