@@ -1164,6 +1164,10 @@ class Command(unittest.TestCase):
         (self.folder / 'net.csv').write_text(results().replace(',11,', ',0,'))
         self.plot('--measure', 'sent', '--show', 'cdf', '--where', 'period=1', *ONE, '--log', status=2)
         self.assertIn('some of sent are not: leave out --log\n', self.seen)
+        (self.folder / 'net.csv').write_text(results().replace('\n1,', '\n0,').replace('\n4,', '\n0.5,'))
+        self.plot(*words, status=2)
+        self.assertIn('as in --where period=0.5,8\n', self.seen)
+        self.plot(*words, '--where', 'period=0.5,8')
 
     def test_the_labels_of_a_logarithmic_axis(self) -> None:
         self.assertEqual(ticks_between(0.9, 120), [1, 2, 5, 10, 20, 50, 100])

@@ -244,13 +244,18 @@ def check_log_of(places: Sequence[Cell], wish: Wish) -> None:
     wrong = [it for it in places if not _is_above_0(it)]
     if not wish.log or not wrong:
         return
-    above = [text_of(it) for it in sorted(set(places) - set(wrong), key=order)]
-    ways = ['leave out --log']
+    above, ways = sorted(set(places) - set(wrong), key=order), ['leave out --log']
     if above:
-        ways.append('or select other values, as in --where %s=%s' % (
-            wish.against, '..'.join([above[0], *above[1:][-1:]])))
+        ways.append('or select other values, as in --where %s=%s' % (wish.against, _selection(above)))
     raise Fault('--log needs values above 0, and %s is %s in some runs: %s' % (
         wish.against, text_of(wrong[0]), ', '.join(ways)))
+
+
+def _selection(values: Sequence[Cell]) -> str:
+    """Values as --where selects them: a range has only whole numbers, so other values are in a list."""
+    if all(isinstance(it, int) for it in values):
+        return '..'.join(dict.fromkeys((text_of(values[0]), text_of(values[-1]))))
+    return ','.join(map(text_of, values))
 
 
 def _is_above_0(value: Cell) -> bool:
