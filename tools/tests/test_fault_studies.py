@@ -62,9 +62,16 @@ class Studies(unittest.TestCase):
 
     def test_what_cannot_be_read(self) -> None:
         for text, wanted in (('a = [', 'is not TOML'), ('scenario = "x"', r'no tables \[\[study\]\]'),
+                             ('scenario = "x"\nstudy = [1]', 'study 1 of .*: it has to be a table'),
+                             (STUDY.replace('faults = "links"', 'fault = "links"', 1),
+                              'study 1 of .*: `fault` is not allowed there; allowed are: about, replace, faults, '),
                              (STUDY.replace('faults = "links"', 'faults = 5', 1),
-                              'study 1 of .* `faults` is not allowed there'),
-                             (STUDY.replace('breaks = []', '', 1), 'study 1 of .* lacks')):
+                              'study 1 of .*: the value of `faults` has to be a text in quotes$'),
+                             (STUDY.replace('at_most = 2', 'at_most = true', 1),
+                              'study 3 of .*: the value of `at_most` has to be a whole number$'),
+                             (STUDY.replace('breaks = []', '', 1), 'study 1 of .*: it needs `expect`, and exactly one'),
+                             (STUDY.replace('breaks = []', 'breaks = []\ncounts = [0]', 1),
+                              'study 1 of .*: it needs `expect`, and exactly one of `breaks` and `counts`$')):
             with tempfile.TemporaryDirectory() as folder, self.assertRaisesRegex(Fault, wanted):
                 path = Path(folder, 'study.toml')
                 path.write_text(text)

@@ -54,13 +54,14 @@ class Asking:
         blind = 0
         for mask in self.prepared.blind.values():
             blind |= mask
-        rows += ['the process that makes a mote fail or start late breaks this by itself, so the search can\'t judge '
-                 'it with such faults: ' + self.texts[number] for number in numbers_of(blind)]
+        rows += ['left out for motes that fail or start late, because the process that causes these faults breaks the '
+                 'expectation by itself: ' + self.texts[number] for number in numbers_of(blind)]
         return rows
 
     @property
     def remarks(self) -> list[str]:
-        """The notes, and a line about the single copies that can't be lost: the results aren't about them."""
+        """The notes, and a line about the single copies whose loss isn't tried: the results say nothing about
+        these copies."""
         return [*self.notes, *(['left out: ' + self.untried] if self.untried else [])]
 
     def digest(self) -> str:

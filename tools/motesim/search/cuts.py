@@ -1,6 +1,6 @@
 """Sets of faults that cut a net apart: between some motes no path is left, so no protocol can deliver.
 
-A path leads over links that don't lose everything. Motes that fail or start late during a run don't count here.
+A path leads over links that don't lose everything. Motes that fail or start late are ignored here.
 """
 from __future__ import annotations
 
@@ -31,7 +31,7 @@ def reached_from(scenario: Scenario, mote: int) -> set[int]:
 
 
 def cut_of(faults: Sequence[FaultyPart], base: Base) -> str:
-    """The motes that a set of faults cuts off, in words; an empty text if each path has another one instead."""
+    """The motes that a set of faults cuts off, in words; an empty text if another path replaces every broken one."""
     try:
         faulty = base.scenario(change_of(faults, base))
     except CannotChange:

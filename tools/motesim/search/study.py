@@ -32,6 +32,7 @@ from motesim.toml import NoToml, read_toml
 
 KEYS: dict[str, type] = {'about': str, 'replace': dict, 'faults': str, 'at_most': int, 'moments': list, 'every': list,
                          'queues': list, 'expect': list, 'breaks': list, 'counts': list}
+FORMS: dict[type, str] = {str: 'a text in quotes', int: 'a whole number', list: 'an array', dict: 'a table'}
 
 
 def studies_of(path: Path) -> tuple[Path, list[dict[str, Any]]]:
@@ -44,14 +45,25 @@ def studies_of(path: Path) -> tuple[Path, list[dict[str, Any]]]:
     if type(scenario) is not str or type(studies) is not list or not studies:
         raise Fault('%s has no `scenario = "FILE"`, or no tables [[study]]' % path)
     for number, study in enumerate(studies, 1):
-        for key, value in study.items():
-            if type(value) is not KEYS.get(key):
-                raise Fault('study %d of %s: `%s` is not allowed there; allowed are: %s' % (
-                    number, path, key, ', '.join(KEYS)))
-        if 'expect' not in study or ('breaks' in study) == ('counts' in study):
-            raise Fault('study %d of %s lacks `expect`, or doesn\'t have one of `breaks` and `counts`' % (number,
-                                                                                                          path))
+        wrong = _wrong_keys(study)
+        if wrong:
+            raise Fault('study %d of %s: %s' % (number, path, wrong))
     return path.parent / scenario, studies
+
+
+def _wrong_keys(study: object) -> str:
+    """The error in the keys of a study, or an empty text."""
+    if not isinstance(study, dict):
+        return 'it has to be a table, as after the line `[[study]]`'
+    for key, value in study.items():
+        wanted = KEYS.get(key)
+        if not wanted:
+            return '`%s` is not allowed there; allowed are: %s' % (key, ', '.join(KEYS))
+        if type(value) is not wanted:
+            return 'the value of `%s` has to be %s' % (key, FORMS[wanted])
+    if 'expect' not in study or ('breaks' in study) == ('counts' in study):
+        return 'it needs `expect`, and exactly one of `breaks` and `counts`'
+    return ''
 
 
 def asking_of(study: dict[str, Any], scenario: Path) -> Asking:
