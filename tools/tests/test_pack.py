@@ -220,7 +220,8 @@ class Pack(unittest.TestCase):
 
     def test_solutions_in_a_folder_of_one_s_own_are_packed_only_on_request(self) -> None:
         top = self.tree('docs/use/TEACH.md tools/motesim/answers.py', '')
-        its = 'start.toml', 'task1_solution.toml', 'net-hidden.toml', 'answers/anna.toml', 'marks.csv', 'key.csv', 'bookmarks.md'
+        its = ('start.toml', 'task1_solution.toml', 'net-hidden.toml', 'answers/anna.toml', 'marks.csv', 'key.csv',
+               'bookmarks.md')
         for name in its:
             (top / 'lab' / name).parent.mkdir(parents=True, exist_ok=True)
             (top / 'lab' / name).write_text('')

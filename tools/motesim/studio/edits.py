@@ -201,7 +201,8 @@ def remove(text: Text, wish: dict[str, Any], wanted: dict[str, Any]) -> tuple[li
     said = 'Mote %d is removed' % mote
     if mote < len(wanted['mote']):
         said += '; the motes after it are renumbered'
-    return changes, said + ('; so are its %d losses.' % len(gone) if len(gone) > 1 else '; so is its loss.' if gone else '.')
+    its_losses = '; so are its %d losses.' % len(gone) if len(gone) > 1 else '; so is its loss.' if gone else '.'
+    return changes, said + its_losses
 
 
 def lose(text: Text, wish: dict[str, Any], wanted: dict[str, Any]) -> tuple[list[Change], str]:
