@@ -272,7 +272,7 @@ class Hints(unittest.TestCase):
         self.assertNotIn('in C', ' '.join(explain.explanation('a.toml', scenario_below, 'motesim: scenario fault 2')))
 
     def test_a_semicolon_behind_a_block_is_named(self) -> None:
-        self.assertIn('behind a `}` there is none', self.hint('process a; autostart a; code a { body { }; }'))
+        self.assertIn('after a `}` there is none', self.hint('process a; autostart a; code a { body { }; }'))
 
     def test_python_says_only_what_it_says(self) -> None:
         for text, seen in [

@@ -171,7 +171,7 @@ class Reports(unittest.TestCase):
         self.assertEqual(self.fault('')[0], 1)
         self.assertEqual(self.fault('mote 0 a\n')[0], 2)
         self.assertEqual(self.fault(SMALL[:-1]), (21, 
-                         "the report is cut off at line 21: expected a line end behind 'left', but the text ends"))
+                         "the report is cut off at line 21: expected a line end after 'left', but the text ends"))
 
     def test_a_report_that_is_cut_off_is_told_so(self) -> None:
         for cut in range(SMALL.index('\n') + 1, len(SMALL)):

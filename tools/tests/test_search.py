@@ -442,7 +442,7 @@ class Searches(unittest.TestCase):
             sets, found, said = minimal_sets(folder, '--expect', 'the report has exactly %d lines' % lines, '--expect',
                                              REACHED, '--faults', 'deaths', '--moments', '90')
             self.assertEqual(sets, {})
-            self.assertIn('can\'t judge it', ' '.join(found['notes']))
+            self.assertIn('breaks the expectation by itself: ', ' '.join(found['notes']))
             self.assertEqual(found['holds'], [REACHED])
             self.assertIn('1 of 2 expectations hold in every run', said)
             status, said, _ = search(folder, '--expect', 'the report has exactly %d lines' % lines, '--faults',

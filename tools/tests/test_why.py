@@ -464,7 +464,7 @@ class Misses(unittest.TestCase):
 
     def test_a_line_at_another_moment(self) -> None:
         self.assertEqual(self.misses('mote 1 prints h 8 by 6')[0],
-                         '`print h 8`, at 7: 1 moment too late, since the sentence allows up to 6')
+                         '`print h 8`, at 7: 1 moment too late, because the sentence allows up to 6')
         self.assertEqual(self.misses('mote 1 prints h 8 after 9')[0], '`print h 8`, at 7: 3 moments too early')
 
     def test_other_values(self) -> None:
@@ -485,26 +485,29 @@ class Misses(unittest.TestCase):
         """`print data` of b is reached once; the first call of b, by the poll, isn't with `msg`."""
         said = self.misses('mote 0 prints b 9')
         self.assertIn('line 24: `print data` was reached once, at 4', said)
-        self.assertIn('b waits at line 23: `yield_until is(msg)` since 4, and nothing called it since; line 8: `post b '
+        self.assertIn('b has waited at line 23: `yield_until is(msg)` since 4, and nothing has called it since; '
+                      'line 8: `post b '
                       'msg 5`, which calls it, was last reached at 4', said)
 
     def test_a_condition_that_never_held(self) -> None:
         scenario = SCENARIO.replace('    yield_until is(packet);\n    print data;',
                                     '    while 1 {\n      yield;\n      if (data > 8) {\n        print data;\n      }\n    }')
         report = REPORT.replace('7 print h 8\n7 leave h\n', '')
-        self.assertIn('line 9: `print data` was never reached, since line 8: `if (data > 8)` was tested once, and was '
+        self.assertIn('line 9: `print data` was never reached, because line 8: `if (data > 8)` was tested once, '
+                      'and was '
                       'never true, the last time at 7', self.misses('mote 1 prints h 9', source(scenario, report)))
 
     def test_the_statement_that_would_have_called_and_its_condition(self) -> None:
         found = source(CALLED, REPORT_OF_CALLED)
-        false = ' was never reached, since line 16: `if (n > 7)` was tested 3 times, and was never true, the last ' \
+        false = ' was never reached, because line 16: `if (n > 7)` was tested 3 times, and was never true, the last ' \
                 'time at 30'
-        self.assertIn('worker waits at line 28: `yield_until is(go)` since 0; its condition was tested once since, and '
+        self.assertIn('worker has waited at line 28: `yield_until is(go)` since 0; its condition has been tested '
+                      'once since then, and '
                       'was never true; line 17: `synch worker go 1`, which calls it,' + false,
                       self.misses('mote 0 prints worker 1', found))
         self.assertIn('its process late never started; line 18: `start late`, which starts it,' + false,
                       self.misses('mote 0 prints late 7', found))
-        self.assertIn('line 9: `print n` was never reached, since nothing ran its thread count_up; line 21: `spawn '
+        self.assertIn('line 9: `print n` was never reached, because nothing ran its thread count_up; line 21: `spawn '
                       'count_up`, which runs it,' + false.replace('16', '20').replace('n > 7', 'n == 9'),
                       self.misses('mote 0 prints boss 9', found))
 
@@ -526,7 +529,8 @@ code p {
 """
 '''
         words = self.misses('mote 0 prints p 9', Source('test', answer(lost.encode()).report, Scenario.parse(lost)))
-        self.assertIn('p waits at line 9: `yield_until fired(round)` since 9, and nothing called it since; timer round '
+        self.assertIn('p has waited at line 9: `yield_until fired(round)` since 9, and nothing has called it '
+                      'since; timer round '
                       'was due at 5: its event was taken while p waited at line 8: `yield_until fired(retry)`', words)
         ctimer = head + '''process p; autostart p;
 code p {
@@ -547,7 +551,7 @@ code p {
         text = CALLED.replace('if (n == 9)', 'if (n == 2)').replace('print n;', 'if (n == 3) { print n; } n = 0;')
         called = Callers(source(text, REPORT_OF_CALLED).program(0), cast(Replay, SimpleNamespace(calls=[], reached=[
             Reached(0, 10, 2, True), Reached(0, 20, 2, False)])), 40)
-        self.assertRegex(called.reason(3), r'^, since line 9: `if \(n == 3\)` was tested twice, and was not true the '
+        self.assertRegex(called.reason(3), r'^, because line 9: `if \(n == 3\)` was tested twice, and was not true the '
                                            r'last time, at 20$')
 
     def test_a_process_that_nothing_starts(self) -> None:
@@ -616,7 +620,7 @@ code p {
         begun = time.process_time()
         first = next(_Misses(asker, missing, 0).outside())
         self.assertLess(time.process_time() - begun, 2)
-        self.assertEqual(first.words, '`send 0 7`, at 4: 1 moment too late, since the sentence allows up to 3')
+        self.assertEqual(first.words, '`send 0 7`, at 4: 1 moment too late, because the sentence allows up to 3')
 
     def test_the_first_point_at_which_chains_diverge(self) -> None:
         other = source(SCENARIO + '[[loss]]\nfrom = 0\nto = 1\nevery = 1\n',
@@ -738,8 +742,9 @@ class Runs(unittest.TestCase):
         missing = asker.about('mote 3 prints hops 2')
         assert isinstance(missing, Missing)
         words = [it.words for _, its in misses(asker, missing) for it in its]
-        self.assertIn('hops waits at line 19: `yield_until is(msg)` since 0, and nothing called it since; line 11: '
-                      '`synch hops msg data`, which calls it, was never reached, since wave waits at line 10: '
+        self.assertIn('hops has waited at line 19: `yield_until is(msg)` since 0, and nothing has called it '
+                      'since; line 11: '
+                      '`synch hops msg data`, which calls it, was never reached, because wave has waited at line 10: '
                       '`yield_until is(packet)` since 0', words)
 
     def test_the_if_that_led_to_a_statement(self) -> None:
@@ -802,7 +807,7 @@ class Runs(unittest.TestCase):
         self.assertEqual(self.why('examples/flooding.toml', '--short', 'mote 6 prints flood 1').stdout, shown.stdout)
         near = self.why('examples/flooding.toml', 'mote 1 prints flood 2 by 85').stdout
         self.assertIn('line 22 (flooding.toml:35): `print newest`', near)
-        self.assertIn('4 moments too late, since the sentence allows up to 85 (line 52 of the report)\n', near)
+        self.assertIn('4 moments too late, because the sentence allows up to 85 (line 52 of the report)\n', near)
         got = json.loads(self.why('examples/flooding.toml', 'mote 6 prints flood 1', '--json').stdout)
         self.assertEqual([it['at'] for it in got['chain']], [46] * 4 + [43] * 4 + [40] * 3 + [0, 0])
         self.assertEqual(got['path']['medium'], {'moments': 6, 'times': 2})

@@ -42,7 +42,7 @@ def code_lines(code: str, indent: str) -> list[str]:
         return [indent + code]
     words: list[str] = []
     for word in code.split(' '):
-        # (an operator stays with the word behind it)
+        # (an operator stays with the word after it)
         if words and words[-1] in OPERATORS:
             words[-1] += ' ' + word
         else:
@@ -60,7 +60,7 @@ def code_lines(code: str, indent: str) -> list[str]:
 
 
 def _further(lines: list[str], indent: str) -> str:
-    """The indentation of the line that continues a broken one: to behind the innermost open parenthesis."""
+    """The indentation of the line that continues a broken one: it begins after the innermost open parenthesis."""
     open_at: list[int] = []
     for line in lines:
         for place, sign in enumerate(line):

@@ -71,7 +71,7 @@ class Names:
             self._locals[process, name] = self._claim(*wished, '%s_%s' % (process, name))
 
     def _claim(self, *wished: str) -> str:
-        """The first of these names that isn't in use, or the last one with a number behind it."""
+        """The first of these names that isn't in use, or the last one with a number after it."""
         for name in wished:
             if name not in self._taken and not is_reserved(name):
                 self._taken.add(name)

@@ -51,7 +51,7 @@ NOT_IN_PAIRS = ('show', 'threshold', 'log_y')
 
 
 def table_path(picture: Path) -> Path:
-    """The file for the table behind a picture."""
+    """The file for the table of a picture."""
     return picture.with_suffix('.table.csv')
 
 

@@ -167,7 +167,7 @@ def tables_or_none(text: str) -> dict[str, Any] | None:
 
 
 def rule_of(line: str) -> str:
-    """The rule behind a fault's line, for any scenario."""
+    """The rule that a fault's line breaks, for any scenario."""
     program = PROGRAM.fullmatch(line)
     if program and int(program[2]) in program_faults.RULES:
         return '%s: %s' % program_faults.RULES[int(program[2])]

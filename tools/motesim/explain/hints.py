@@ -118,7 +118,7 @@ def of_program(text: str, fault: ProgramError) -> str | None:
 
 
 def _is_open(tokens: list[Token]) -> bool:
-    """Returns whether a block is open behind some tokens."""
+    """Returns whether a block is open after some tokens."""
     signs = [it.text for it in tokens]
     return signs.count('{') > signs.count('}')
 

@@ -250,7 +250,7 @@ def _is_inline(row: str, place: Place) -> bool:
 
 
 def _end_of_entry(row: str, place: Place) -> int:
-    """The column behind the value of a key."""
+    """The column after the value of a key."""
     found = VALUE_BEHIND.match(row, place.column + place.length)
     return found.end() if found else len(row)
 

@@ -1,7 +1,7 @@
-"""The ends of blocks that continue below the corrected lines: the texts in front of their braces, and behind them.
+"""The ends of blocks that continue below the corrected lines: the texts in front of their braces, and after them.
 
 A `for` over several lines needs its step at the end of its block; a statement without braces that gets braces, and has
-a block of several lines, needs one more brace behind that block.
+a block of several lines, needs one more brace after that block.
 """
 from __future__ import annotations
 
@@ -16,7 +16,7 @@ class Closing(NamedTuple):
     """The text that belongs to the brace of a block.
 
     inside  the last statements of the block
-    behind  the text behind the brace, or behind the `else` of an `if`
+    behind  the text after the brace, or after the `else` of an `if`
     is_if   whether the block is that of an `if`, so that an `else` may follow
     """
     inside: str = ''
@@ -81,7 +81,7 @@ def end_of_block(tokens: list[Token], begin: int) -> int | None:
 
 
 def end_of_chain(tokens: list[Token], end: int | None) -> int | None:
-    """The place of the brace that closes the last `else` behind the block of an `if`, which ends at `end`; None if such
+    """The place of the brace that closes the last `else` after the block of an `if`, which ends at `end`; None if such
     an `else` has no braces."""
     words = [it.text for it in tokens]
     while end is not None and words[end + 1:end + 2] == ['else']:

@@ -26,7 +26,7 @@ def ends_value(token: Token) -> bool:
 
 
 def begins_statement(token: Token) -> bool:
-    """Returns whether a token behind a value can only belong to what follows the value."""
+    """Returns whether a token after a value can only belong to what follows the value."""
     return token.kind in ('name', 'end') and token.text not in WORDS or token.text in (';', '{', '}', '++', '--')
 
 
@@ -41,7 +41,7 @@ class Control(Lines):
             self.why(reason + '.')
 
     def closing(self) -> str:
-        """A brace that closes a block from above these lines, with an `else` behind the brace."""
+        """A brace that closes a block from above these lines, with an `else` after the brace."""
         if self.ahead(self.token.text == '}').text in ELSE_IFS:
             self.split_else_if(self.at + (self.token.text == '}'))
         if not self.accept('}'):
@@ -57,7 +57,7 @@ class Control(Lines):
         self.tokens[at:at + 1] = [token._replace(text=it) for it in ('else', 'if')]
 
     def test_behind(self) -> str:
-        """The test behind a block whose `while` is above it."""
+        """The test after a block whose `while` is above it."""
         self.at += 1
         self.condition()
         if not self.accept(';'):
@@ -115,7 +115,7 @@ class Control(Lines):
         return '{ ' + text
 
     def close_behind(self, *texts: str) -> None:
-        """Notes texts behind the block that continues below these lines."""
+        """Notes texts after the block that continues below these lines."""
         inner = self.closings.pop()
         self.closings.append(inner._replace(behind=' '.join(filter(None, [inner.behind, *texts]))))
 
@@ -127,7 +127,7 @@ class Control(Lines):
             return '1'
         if self.accept('('):
             inner = self.expression()
-            # (an operator behind the parenthesis continues the test; a name or a brace begins the block)
+            # (an operator after the parenthesis continues the test; a name or a brace begins the block)
             self.close()
             if self.token.text in ('||', '&&', '==', '!=', '<', '<=', '>', '>=', '+', '-', '/', '%', 'and', 'or'):
                 self.go_back(begin)
@@ -166,7 +166,7 @@ class Control(Lines):
             self.writer.insist('There is no `break`: `%s;` already makes the test of the `while` false, so leave it '
                                'out. The rest of the block still runs once.' % before)
             return self.end('').removesuffix(';')
-        # (a flag rather than a count, which may be needed behind the loop)
+        # (a flag rather than a count, which may be needed after the loop)
         assigned = next((it for it in ends if it.endswith(' = 1')), ends[0] if len(ends) == 1 else '')
         if not assigned:
             raise NoCounterpart(NO_BREAK + self.of_flag(before))
@@ -217,7 +217,7 @@ class Control(Lines):
         return text
 
     def counting_loop(self, test: str) -> str:
-        """A `while` whose test has `++` or `--`: behind the name, the step is at the start of the block; in front of
+        """A `while` whose test has `++` or `--`: after the name, the step is at the start of the block; in front of
         it, above the loop and at the end of the block."""
         first, last = self.steps(self.after), self.steps(self.before)
         if ' || ' in test:
@@ -245,12 +245,12 @@ class Control(Lines):
         return ' '.join(filter(None, (self.steps(self.before), text, self.steps(self.after))))
 
     def is_empty_loop(self) -> bool:
-        """Returns whether a semicolon ends the loop directly behind its test."""
+        """Returns whether a semicolon ends the loop directly after its test."""
         at = self.end_of_test()
         return self.ahead(at).text == ';' and self.ahead(at + 1).text != '{'
 
     def end_of_test(self) -> int:
-        """The number of tokens of a test: a statement behind it begins with a word that can't continue the test."""
+        """The number of tokens of a test: a statement after it begins with a word that can't continue the test."""
         at = depth = 0
         while self.ahead(at).kind != 'end':
             token = self.ahead(at)
@@ -290,7 +290,7 @@ class Control(Lines):
         return test, undeclared
 
     def steps_of_loop(self) -> str:
-        """The steps of a `for`, behind which its block follows."""
+        """The steps of a `for`, which are followed by its block."""
         steps: list[str] = []
         while not self.accept(')'):
             steps.append(self.step_of_loop())

@@ -20,7 +20,7 @@ FROM_ABOVE = 'No number is below 0, so the count begins with one more, and the s
 NOT_BELOW = 'No number is below 0, so the last step goes to 0.'
 EXACTLY = 'No number is below 0, and 1 - 2 is 65,535: the loop ends only if `%s` is never less than %d before the step.'
 
-# The words before and behind a variable that is changed.
+# The words before and after a variable that is changed.
 BEFORE, BEHIND = ('++', '--', 'into'), ('=', '++', '--', '+=', '-=', '*=', '/=', '%=')
 
 

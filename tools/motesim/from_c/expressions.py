@@ -133,7 +133,7 @@ class Expressions:
     def __init__(self, tokens: list[Token], scope: Scope):
         self.tokens, self.scope, self.at = tokens, scope, 0
         self.depth = 0
-        # The variables with `++` or `--` in an expression, each with its sign: in front of the name, or behind it.
+        # The variables with `++` or `--` in an expression, each with its sign: in front of the name, or after it.
         self.before: list[tuple[str, str]] = []
         self.after: list[tuple[str, str]] = []
 
@@ -143,7 +143,7 @@ class Expressions:
         return self.at, len(self.before), len(self.after)
 
     def go_back(self, place: tuple[int, int, int]) -> None:
-        """Continues from an earlier place, so that each step behind this place is found only once."""
+        """Continues from an earlier place, so that each step after this place is found only once."""
         self.at = place[0]
         del self.before[place[1]:], self.after[place[2]:]
 
@@ -253,7 +253,7 @@ class Expressions:
                 node = Node('call', node.text, (*node.parts, *self.arguments()))
             elif node.kind == 'name' and node.text in TESTS and self.token.kind == 'name' and (
                     self.token.text not in WORDS):
-                self.why('The name behind `%s` is in parentheses: `%s(%s)`.' % (node.text, node.text, self.token.text))
+                self.why('The name after `%s` is in parentheses: `%s(%s)`.' % (node.text, node.text, self.token.text))
                 node = Node('call', node.text, (self.primary(),))
             elif node.kind == 'name' and self.token.text in ('++', '--'):
                 self.after.append((node.text, self.accept('++', '--')))
@@ -267,7 +267,7 @@ class Expressions:
                 return node
 
     def arguments(self) -> list[Node]:
-        """The arguments of a call, behind its parenthesis."""
+        """The arguments of a call, after its opening parenthesis."""
         found: list[Node] = []
         if self.accept(')'):
             return found

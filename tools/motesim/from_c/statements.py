@@ -123,10 +123,10 @@ class Statements(Declarations, Calls, Control):
             self.at += 1
             return self.directive(word)
         if self.accept(';'):
-            self.why('A `;` ends a statement; behind a `}` there is none.')
+            self.why('A `;` ends a statement; after a `}` there is none.')
             return ''
         if word == '{' and self.place.is_head and self.accept('{'):
-            self.why('The brace is there already, behind the name of the `code`.')
+            self.why('The brace is there already, after the name of the `code`.')
             return ''
         if word == '{':
             raise NoCounterpart('A block belongs to an `if`, a `while`, a `thread` or a `code`.')

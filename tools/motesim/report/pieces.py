@@ -230,7 +230,7 @@ def _check_order(spans: list[Span], counts: list[int], at: list[int], codes: byt
             raise Bad('rising moments')
         halted = codes.find(HALT, begin, end)
         if halted >= 0 and not (halted == end - 1 and span.is_last):
-            raise Bad('nothing behind halt')
+            raise Bad('nothing after halt')
         begin = end
 
 

@@ -251,7 +251,7 @@ class _Reader:
             self.fault(str(bad))
         self.at += 1
         if self.at == len(self.rows):
-            self.fault("a line end behind 'left'")
+            self.fault("a line end after 'left'")
         if self.at != len(self.rows) - 1 or self.rows[-1]:
             self.fault('nothing more')
         return left

@@ -341,7 +341,7 @@ def value_of(text: str, place: Place) -> Place:
 
 
 def _within(text: str, place: Place, path: Path, length: int) -> Place:
-    """The place of a table or a key in the inline array or table behind a key: a part of the path of some length leads
+    """The place of a table or a key in the inline array or table of a key: a part of the path of some length leads
     to this key. If it isn't there, the place of the nearest table around it, otherwise of the key."""
     rows = text.split('\n')
     begin = sum(len(it) + 1 for it in rows[:place.line - 1])

@@ -75,7 +75,7 @@ class _Walk:
 
 
 def _walks(text: str, key_ends: Mapping[Path, int]) -> Iterator[_Walk]:
-    """The walks through the inline values behind some keys, each at its end."""
+    """The walks through the inline values of some keys, each at its end."""
     for path, end in key_ends.items():
         opened = OPENED.match(text, end)
         if opened:

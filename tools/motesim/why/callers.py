@@ -55,7 +55,7 @@ class Callers:
         return [it for it in self.of.get(number, []) if it.holds is None]
 
     def reason(self, number: int, depth: int = 0) -> str:
-        """The reason for which a statement was not reached, as `, since ..`, or an empty text."""
+        """The reason for which a statement was not reached, as `, because ..`, or an empty text."""
         it = self.program.statement(number)
         tests = {around: [one for one in self.of.get(around.number, []) if one.holds is not None]
                  for around in it.around}
@@ -64,7 +64,7 @@ class Callers:
             for around, its in tests.items():
                 if its and is_it(one.holds == around.is_else for one in its):
                     words = way % ('false' if around.is_else else 'true', its[-1].at)
-                    return ', since %s was tested %s, and %s' % (
+                    return ', because %s was tested %s, and %s' % (
                         in_words(self.program, around.number), times(len(its)), words)
         return self.of_unit(it, depth) if depth < DEEPEST else ''
 
@@ -76,18 +76,18 @@ class Callers:
         process = self.program.processes[it.process]
         if kind == 'thread':
             thread = name.partition('_')[2]
-            return ', since nothing ran its thread %s%s' % (thread, self.sentence(
+            return ', because nothing ran its thread %s%s' % (thread, self.sentence(
                 self.numbered(('spawn', 'restart'), thread, it.process), depth))
         if kind == 'callback':
             timer = self.program.timers[int(name)].name
-            return ', since its timer %s was never due%s' % (timer, self.sentence(
+            return ', because its timer %s was never due%s' % (timer, self.sentence(
                 self.numbered(SETS, timer, it.process), depth))
         if kind == 'onpoll':
-            return ', since nothing polled %s%s' % (process.name, self.sentence(
+            return ', because nothing polled %s%s' % (process.name, self.sentence(
                 self.numbered(('poll',), process.name), depth))
         if kind == 'body' and it.process not in self.program.autostart:
             is_known = not depth and process.name == self.known
-            return ', since %s never started%s' % (process.name, '' if is_known else self.starts(process.name, depth))
+            return ', because %s never started%s' % (process.name, '' if is_known else self.starts(process.name, depth))
         return ''
 
     def starts(self, name: str, depth: int = 0) -> str:
@@ -147,7 +147,7 @@ class Callers:
             return ''
         waits = ends[-1].waits[-1]
         here = self.reached(waits)
-        return ', since %s waits at %s since %d' % (
+        return ', because %s has waited at %s since %d' % (
             self.program.processes[process].name, in_words(self.program, waits), here[-1].at if here else 0)
 
     def sentence(self, numbers: Sequence[int], depth: int) -> str:

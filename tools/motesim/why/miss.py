@@ -70,7 +70,7 @@ class _Misses:
         own = [it for it in self.missing.found if it.where.mote == self.mote]
         late = [it for it in own if it.at > self.end]
         for it in late[:1]:
-            yield Miss('late', '%s, at %d: %s too late, since the sentence allows up to %d' % (
+            yield Miss('late', '%s, at %d: %s too late, because the sentence allows up to %d' % (
                 self.deed(it), it.at, count(it.at - self.end, 'moment'), self.end),
                        self.source.traces.row(it.where), True)
         early = [it for it in own if it.at < self.begin]
@@ -262,7 +262,7 @@ class _Misses:
             right = [it for it in tests if it.holds != around.is_else]
             if tests and not right:
                 wanted = 'false' if around.is_else else 'true'
-                return Miss('condition', words + ', since %s was tested %s, and was never %s, the last time at %d' % (
+                return Miss('condition', words + ', because %s was tested %s, and was never %s, the last time at %d' % (
                     in_words(program, around.number), times(len(tests)), wanted, tests[-1].at))
             if not right:
                 break
@@ -288,12 +288,12 @@ class _Misses:
         here = [it for it in replay.reached if it.statement == waits and it.at <= self.end]
         came = max(place for place, it in enumerate(here) if it.holds is None)
         tests = len(here) - came - 1
-        words = '%s waits at %s since %d' % (program.processes[process].name, in_words(program, waits),
-                                             here[came].at)
+        words = '%s has waited at %s since %d' % (program.processes[process].name, in_words(program, waits),
+                                                  here[came].at)
         if tests:
-            words += '; its condition was tested %s since, and was never true' % times(tests)
+            words += '; its condition has been tested %s since then, and was never true' % times(tests)
         else:
-            words += ', and nothing called it since'
+            words += ', and nothing has called it since'
         words += self.callers(program).calls(process, waits, here[came].at)
         yield Miss('waits', words)
 

@@ -57,7 +57,7 @@ function putLabel(pane, text, x, y, colour) {
   if (x <= pane.width) pane.label = {text, x, y, colour, end: x + text.length * 6.4};
 }
 
-/** Draws the label that is kept if the next mark begins behind it, and drops it if that mark would cover it. */
+/** Draws the label that is kept if the next mark begins after it, and drops it if that mark would cover it. */
 function settleLabel(pane, x, y) {
   if (!pane.label) return;
   if (x >= pane.label.end) drawLabel(pane);
