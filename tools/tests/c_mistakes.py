@@ -29,6 +29,7 @@ RIGHT: list[tuple[str, str, str]] = [
     (BODY, 'print(n++);', 'print n; n = (n + 1);'),
     (BODY, 'send(++n);', 'n = (n + 1); send n;'),
     (BODY, 'while (n--) > 3 { print n; }', 'while (n > 3) { n = (n - 1); print n; }'),
+    (BODY, 'while (x > -1 && y) {\nyield;\n}', 'while ((x >= 0) && y) {\nyield;\n}'),
     (BODY, 'for (i = 0, n = 5; i < n; i++, n--) { print i; }',
      'i = 0; n = 5; while (i < n) { print i; i = (i + 1); n = (n - 1); }'),
     # Parentheses: too few.

@@ -35,7 +35,9 @@ class Loop(NamedTuple):
 
 
 def natural(test: Node) -> Node:
-    """A test in which nothing is compared with -1, if it is only one comparison."""
+    """A test in which no value is compared with -1, which is 65,535 here: `> -1` is `>= 0`."""
+    if test.kind == 'binary' and test.text in ('&&', '||'):
+        return Node('binary', test.text, tuple(map(natural, test.parts)))
     if test.kind == 'binary' and test.text == '>' and value_of(test.parts[1]) == -1:
         return Node('binary', '>=', (test.parts[0], Node('number', '0')))
     return test
