@@ -1208,7 +1208,9 @@ class Command(unittest.TestCase):
         for words, seen in (
                 (('--interval', 'bootstrap', *ONE), '--interval bootstrap is for intervals of means: add --show mean'),
                 (('--interval', 't', '--show', 'points', *ONE), 'add --show mean'),
-                (('--by', 'density', '--pair', 'density=thin,dense'), '--by density separates nothing')):
+                (('--by', 'density', '--pair', 'density=thin,dense'), '--by density separates nothing'),
+                (('--by', 'density', '--by', 'period'), '--by period separates nothing'),
+                (('--by', 'seed,density', '--pair', 'density=thin,dense'), '--by density separates nothing')):
             self.plot('--measure', 'sent', '--against', 'period', *words, status=2)
             self.assertIn(seen, self.seen)
         self.plot('--measure', 'sent', '--against', 'period', '--pair', 'density=thin,dense', '--interval', 't')

@@ -205,8 +205,6 @@ def compare(sides: Sides, wish: Wish, source: Source) -> bool:
     if wish.against == wish.pair.partition('=')[0]:
         raise Fault('--pair compares two values of %s, so --against needs another parameter: %s' % (
             wish.against, ', '.join(kept) or 'there is none'))
-    if wish.by and wish.by in (wish.against, wish.pair.partition('=')[0]):
-        raise Fault('--by %s separates nothing: name another parameter' % wish.by)
     for name in filter(None, [wish.against, wish.by]):
         if name not in kept:
             raise Fault('there is no parameter %s on both sides; there are: %s' % (name, ', '.join(kept)))
@@ -439,10 +437,20 @@ def sides_of(wish: Wish, rows: list[Row], results: Path, other: Path, where: Seq
     return Sides(one, two, shown, [it for it in parameters if it != name])
 
 
+def check_by(wish: Wish) -> None:
+    """Refuses a parameter of `by` that is on the horizontal axis, or that is compared, already. (A picture may have one
+    line for each point.)"""
+    names, used = wish.by.split(','), (wish.against, wish.pair.partition('=')[0])
+    for name in names if wish.pair or wish.compare or len(names) > 1 else ():
+        if name and name in used:
+            raise Fault('--by %s separates nothing: name another parameter' % name)
+
+
 def drawn(wish: Wish, asked: argparse.Namespace, read: dict[tuple[str, ...], list[Row]]) -> bool:
     """Shows a request; returns whether the output has the wanted form. `read` keeps the rows that were read."""
     results, where = Path(asked.results), (*asked.where, *wish.where)
     folder = results.parent if asked.plan else Path()
+    check_by(wish)
     apart = separated_by(wish)
     key = *where, *apart
     if key not in read:
