@@ -279,6 +279,31 @@ class Texts(unittest.TestCase):
         self.assertEqual(base.text(change_of([silent], base)), 'loss = [{ from = 0, to = 1, every = 1 }, '
                          '{ from = 0, to = 2, every = 1 }]\n' + DIAMOND)
 
+    def test_programs_are_added_before_losses_where_both_are_added_at_the_end(self) -> None:
+        head, _, _ = DIAMOND.partition('[[mote]]\n')
+        rows = ', '.join('{ x = %d, y = %d, program = "p" }' % at for at in ((0, 0), (6, 6), (6, -6), (12, 0)))
+        text = 'mote = [%s]\n' % rows + head
+        base = base_of(text)
+        found = faults_by_words(base, kinds=('links', 'motes', 'deaths', 'late', 'queues'), moments=(5,), queues=(4,))
+        for words in (['link 0 to 1 loses everything', 'mote 1 fails at 5'],
+                      ['link 0 to 1 loses everything', 'mote 2 starts at 5', 'the event queue of p has room for 4'],
+                      ['mote 0 is silent', 'mote 0 starts at 5', 'mote 1 fails at 5']):
+            change = change_of([found[it] for it in words], base)
+            changed = base.text(change)
+            read = Scenario.parse(changed)
+            self.assertEqual(read.losses, change.losses)
+            self.assertEqual(len(read.programs), 1 + len(change.added))
+            self.assertEqual(set(read.queue), set(read.programs) if change.queue else set())
+            self.assertEqual(lines_changed(text, changed)[0][1:], ['version = 1'] if change.queue else [])
+
+    def test_collisions_and_losses_are_added_to_a_table_medium_at_the_end(self) -> None:
+        medium = DIAMOND[DIAMOND.index('[medium]'):DIAMOND.index('[programs]')]
+        base = base_of(DIAMOND.replace(medium, '') + medium)
+        found = faults_by_words(base, kinds=('links', 'collisions'))
+        read = Scenario.parse(base.text(change_of([found[it] for it in ('link 0 to 1 loses everything',
+                                                                        'packets collide')], base)))
+        self.assertEqual((read.losses, read.collide), ({(0, 1): 1}, True))
+
     def test_scenario_with_a_fault(self) -> None:
         with self.assertRaisesRegex(Fault, 'diamond.toml has no report: motesim: scenario fault 2'):
             base_of('version = 1\n')

@@ -132,8 +132,12 @@ class Base:
             raise CannotChange(NOT_SO % self.name) from None
 
     def edits(self, change: Change) -> list[Edit]:
-        """The pieces of the text that a change replaces."""
-        found = self.of_losses(change)
+        """The pieces of the text that a change replaces.
+
+        Those that add tables of losses are the last ones: at the end of a text, the rows of other tables are added
+        before them.
+        """
+        found = list[Edit]()
         for name, number in change.numbers.items():
             found.append(self.value(('medium', name), str(number)))
         for mote, (x, y) in change.places.items():
@@ -142,7 +146,7 @@ class Base:
         found += self.of_added(change, queue)
         if change.collide or queue:
             found += self.second_version(change.collide)
-        return found + self.of_queue(queue)
+        return found + self.of_queue(queue) + self.of_losses(change)
 
     @cached_property
     def loss_index(self) -> dict[tuple[int, int], int]:
