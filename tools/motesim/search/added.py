@@ -16,7 +16,8 @@ DIES, LATE = 'fails', 'starts late'
 NAMES = {DIES: 'failing', LATE: 'starting'}
 # The longest wait of one timer, in moments.
 LONGEST_WAIT = 60_000
-# The words with which a program can do something after its processes were killed.
+# The words with which a program can do something after its processes were killed. The statement `exit;` isn't one of
+# them, but the event `exit` is, as in `is(exit)`.
 GOES_ON = frozenset(('ctimer', 'onexit', 'start', 'gone', 'exited', 'exit'))
 
 
@@ -26,7 +27,9 @@ class NoRoom(Fault):
 
 def halts(program: str) -> bool:
     """Returns whether a mote with this program fails by halting, because killing its processes might not silence it."""
-    return any(token.text in GOES_ON for token in tokens_of(program))
+    tokens = tokens_of(program)
+    return any(token.text in GOES_ON and not (token.text == 'exit' and after.text == ';')
+               for token, after in zip(tokens, tokens[1:]))
 
 
 def processes_of(tokens: list[Token]) -> list[str]:
