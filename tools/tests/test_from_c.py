@@ -488,6 +488,60 @@ class BelowTheProcesses(unittest.TestCase):
             self.assertEqual(self.corrected(thread), ('', (11, 'thread work { yield; }')))
 
 
+class Arguments(unittest.TestCase):
+    SOURCE = """process a;
+autostart a;
+code a {
+  var x = 0;
+  %s
+    print (d + v);
+  }
+  body {
+    %s
+  }
+}
+"""
+
+    def test_arguments_become_assignments_before_the_thread_runs(self) -> None:
+        for head in 'thread show(d, v) {', 'static void show(uint8_t d, int v) {':
+            fault = find_fault(self.SOURCE % (head, 'show(1, 7);'))
+            found = correction(self.SOURCE % (head, 'show(1, 7);'), fault) if fault else None
+            assert found
+            self.assertEqual((found.line, found.above),
+                             ('thread show { // parameters: d, v', (4, 'var d = 0; var v = 0;')))
+            called = repaired(found.applied(self.SOURCE % (head, 'show(1, 7);')))
+            assert called
+            self.assertIn('\nd = 1; v = 7; spawn show;\n', called)
+            self.assertIsNone(find_fault(called))
+
+    def corrected(self, call: str, comment: str = ' // parameters: d, v') -> tuple[str | None, str]:
+        source = self.SOURCE % ('var d = 0;\n  var v = 0;\n  thread show {' + comment, call)
+        fault = find_fault(source)
+        found = correction(source, fault) if fault else None
+        assert found
+        return found.line, ' '.join(found.reasons)
+
+    def test_an_assignment_changes_no_argument_of_a_later_one(self) -> None:
+        for call, line in (
+                ('show(x, d);', 'v = d; d = x; spawn show;'), ('show(v, x);', 'd = v; v = x; spawn show;'),
+                ('spawn show(d, 3);', 'v = 3; spawn show;'), ('PT_SPAWN(pt, &c, show(&c, 1, 2));',
+                                                              'd = 1; v = 2; spawn show;'),
+                ('if (x == 1) show(x, x + 1);', 'if (x == 1) { d = x; v = (x + 1); spawn show; }')):
+            with self.subTest(call):
+                self.assertEqual(self.corrected(call)[0], line)
+        line, hint = self.corrected('show(v, d);')
+        self.assertIsNone(line)
+        self.assertIn('keep one of them in a variable of its own', hint)
+
+    def test_arguments_are_never_dropped(self) -> None:
+        for call, comment in (('show(1);', ' // parameters: d, v'), ('show(1, 2);', ''), ('show(x);', ' // shows d'),
+                              ('PT_SPAWN(pt, &c, show(&c, 1));', ''), ('spawn show(1);', '')):
+            with self.subTest(call, comment=comment):
+                line, hint = self.corrected(call, comment)
+                self.assertIsNone(line)
+                self.assertIn('A `spawn` passes nothing: assign the arguments before it', hint)
+
+
 class Packets(unittest.TestCase):
     def test_a_value_that_leaves_no_room_for_an_address_has_no_line(self) -> None:
         for value, line in ('(512 + from)', None), ('300', None), ('(x + 255)', 'send ((from * 256) + (x + 255));'):

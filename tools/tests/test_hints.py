@@ -214,8 +214,8 @@ class Hints(unittest.TestCase):
         for head in 'thread t(struct pt *pt, uint8_t n) {', 'thread t(n) {', 'static void t(int n) {':
             with self.subTest(head):
                 self.assertEqual(' '.join(self.hint(lines % head).split()).partition('Write')[2],
-                                 ', as line 4 of the program: thread t { and insert below line 3 of the program: var n = '
-                                 '0;')
+                                 ', as line 4 of the program: thread t { // parameters: n and insert below line 3 of '
+                                 'the program: var n = 0;')
         for values in '(seq)', '(seq, 1)':
             self.assertIn('A `spawn` passes nothing', self.hint(code % ('', '1', values)))
 

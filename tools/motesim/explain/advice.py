@@ -80,7 +80,7 @@ def _indented(source: str, number: int, line: str) -> str:
     """A line that begins in the same column as a line of the program, or further right if that opens a block."""
     there = source.split('\n')[number - 1] if number and not line.startswith(OF_TOP) else ''
     indent = len(there) - len(there.lstrip(' '))
-    opens = there.rstrip().endswith('{') and not line.rstrip().endswith('{') and line.startswith(
+    opens = there.rstrip().endswith('{') and not line.partition('//')[0].rstrip().endswith('{') and line.startswith(
         ('var ', 'etimer ', 'ctimer ', 'thread ', '  '))
     return '  ' + ' ' * (indent + 2 * opens) + line.strip()
 

@@ -6,6 +6,7 @@ import re
 from motesim.from_c.declarations import OF_STRUCTURE
 from motesim.from_c.expressions import MOMENTS_OF_SECOND, TICKS, NoCounterpart, Node
 from motesim.from_c.lines import Lines
+from motesim.from_c.parameters import ASSIGNED, IN_CIRCLE, OF_ARGUMENTS, assignments
 from motesim.from_c.scope import allowed
 from motesim.from_c.structure import ONE_LINE
 
@@ -37,6 +38,11 @@ NO_PROCESS = ('`%s` is `%s;` here, but no process is named `%s`: this program ha
 OF_CALLBACK = ('The timer calls no function: it runs its block, `ctimer %s { .. }` at the head of the `code`, which '
                'needs the statements of `%s`.')
 BROADCAST = 'A packet is one number, and goes to all motes that hear it: `send x;`. There is no buffer to fill first.'
+
+
+def given(call: Node) -> list[Node]:
+    """The arguments of the call of a function, without the structure of a protothread, which a thread doesn't need."""
+    return [it for it in call.parts if (it.kind, it.text) not in (('unary', '&'), ('name', 'pt'))]
 
 
 class Calls(Lines):
@@ -204,6 +210,9 @@ class Calls(Lines):
         form = CALLS.get(name + '()' if not call.parts else name) or CALLS[name]
         if name == 'process_post' and call.parts and call.parts[0].text.lower() == 'process_broadcast':
             form = CALLS['process_broadcast']
+        spawns = form.startswith('spawn') and call.parts[-1:]
+        if spawns and given(spawns[0]):
+            return self.spawned(spawns[0])
         self.why('`%s` is `%s` here.' % (call.text, form.split()[0]))
         self.writer.of_timer = 'fired' if form.startswith('yield_until') else 'expired'
         # (a name can be declared only inside a code)
@@ -238,6 +247,17 @@ class Calls(Lines):
             self.declare(word, kind, its, '20' if form.startswith('set') else '0')
         self.writer.unknown = None
         return written
+
+    def spawned(self, call: Node) -> str:
+        """The call of a function that is a thread here: its arguments are assigned to the parameters before."""
+        thread, names, values = call.text, self.scope.parameters.get(call.text, ()), given(call)
+        if len(values) != len(names) or self.after and values:
+            raise NoCounterpart(OF_ARGUMENTS % thread)
+        assigned = assignments(tuple(map(self.variable, names)), [self.writer.text(it) for it in values])
+        if assigned is None:
+            raise NoCounterpart(IN_CIRCLE % (thread, thread))
+        self.why(ASSIGNED if values else 'A thread is run by `spawn`.')
+        return ' '.join([*assigned, 'spawn ' + thread])
 
     def check_processes(self, call: Node, written: str, names: list[str]) -> None:
         """Raises the advice on the first process of a call that the program doesn't have."""

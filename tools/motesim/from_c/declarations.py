@@ -7,6 +7,7 @@ from motesim.from_c.expressions import (
     MOST, NO_ARRAYS, NO_FIELDS, QUALIFIERS, TICKS, TOO_LARGE, TYPES, Expressions, NoCounterpart, number_of, value_of,
 )
 from motesim.from_c.lines import Lines
+from motesim.from_c.parameters import KEPT, OF_COMMENT
 from motesim.from_c.scope import allowed
 from motesim.from_c.tokens import tokens_of
 
@@ -211,10 +212,12 @@ class Declarations(Lines):
         names = [it for it in words if it.isidentifier() and it not in TYPES and it != 'pt']
         if not (of_thread and self.place.head):
             return
+        if names:
+            self.comments.insert(0, KEPT % ', '.join(allowed(it) for it in names))
         for name in names:
             found = self.new_name(name)
             if found not in self.place.variables:
-                self.why('A thread uses the variables of its process.')
+                self.why(OF_COMMENT)
                 self.declares.append('var %s = 0;' % found)
 
     def beginning(self) -> str:

@@ -7,6 +7,7 @@ from collections.abc import Iterable
 from dataclasses import dataclass, field
 
 from motesim.from_c.callbacks import Callbacks, callbacks_of
+from motesim.from_c.parameters import parameters_of
 from motesim.notation.faults import tokens_of
 from motesim.notation.keywords import RESERVED
 
@@ -55,6 +56,7 @@ class Scope:
     counts     the initial counts of the semaphores of Contiki
     values     the initial values of the variables
     callbacks  the callback timers
+    parameters for each thread that was a function, its parameters
     """
     kinds: dict[str, str] = field(default_factory=dict)
     codes: tuple[str, ...] = ()
@@ -64,6 +66,7 @@ class Scope:
     counts: dict[str, str] = field(default_factory=dict)
     values: dict[str, str] = field(default_factory=dict)
     callbacks: Callbacks = Callbacks()
+    parameters: dict[str, tuple[str, ...]] = field(default_factory=dict)
 
     @classmethod
     def of(cls, text: str) -> Scope:
@@ -86,7 +89,7 @@ class Scope:
             kinds.setdefault(name, 'process')
         return cls(kinds, codes, 'receiver' in words, named, tuple(dict.fromkeys([*codes, *named, *macros])),
                    {allowed(name): count for name, count in SEMAPHORE.findall(text)}, dict(VARIABLE.findall(text)),
-                   callbacks_of(text))
+                   callbacks_of(text), parameters_of(text))
 
     def of_kind(self, kind: str) -> list[str]:
         """The names of a kind."""

@@ -183,9 +183,7 @@ class Statements(Declarations, Calls, Control):
         if lower in OPENS and behind == '(':
             return self.of_open()
         if kind == 'thread' and behind in ('(', ';'):
-            self.expression()
-            self.why('A thread is run by `spawn`.')
-            return self.end('spawn ' + word)
+            return self.end(self.spawned(self.expression()))
         if lower in SENSORS and behind == '(':
             self.expression()
             self.why(NO_ACTIVATION)
@@ -346,6 +344,8 @@ class Statements(Declarations, Calls, Control):
             self.tokens[self.at] = self.token._replace(kind='name', text=meant)
             word = meant
         self.at += 1
+        if word == 'spawn' and kind == 'thread' and self.ahead(1).text == '(' and self.ahead(2).text != ')':
+            return self.end(self.spawned(self.expression()))
         if word in WITHOUT and self.token.text in (';', ''):
             reason, word = WITHOUT[word]
             self.why(reason)

@@ -1,0 +1,39 @@
+"""Parameters of a function that becomes a thread: variables of the process, which a caller assigns before `spawn`.
+
+A comment in the line of the thread, `thread t { // parameters: a, b`, keeps their names and their order.
+"""
+from __future__ import annotations
+
+import re
+
+from motesim.notation.faults import tokens_of
+
+OF_ARGUMENTS = ('A thread is run by `spawn %s;`. A `spawn` passes nothing: assign the arguments before it to variables '
+                'of the process, which the thread reads.')
+ASSIGNED = 'A thread is run by `spawn`. Its parameters are variables: assign the arguments to them before.'
+IN_CIRCLE = ('The arguments of `%s` are parameters of the thread in another order: keep one of them in a variable of '
+             'its own, and assign before `spawn %s;`.')
+KEPT = 'parameters: %s'
+OF_COMMENT = ('A thread uses the variables of its process. The comment keeps the order of the parameters for the lines '
+              'that call it.')
+NOTED = re.compile(r'\bthread\s+(\w+)\b(?:(?!\bthread\b).)*?//\s*parameters: (\w+(?:, \w+)*)')
+
+
+def parameters_of(text: str) -> dict[str, tuple[str, ...]]:
+    """The parameters of each thread whose line has a comment with them."""
+    return {it[1]: tuple(it[2].split(', ')) for it in NOTED.finditer(text)}
+
+
+def assignments(names: tuple[str, ...], values: list[str]) -> list[str] | None:
+    """The assignments of arguments to as many parameters, in an order in which none changes an argument of a later
+    one; None if there is no such order."""
+    left = [it for it in zip(names, values) if it[0] != it[1]]
+    found = []
+    while left:
+        read = [{it.text for it in tokens_of(value)} for _, value in left]
+        free = next((at for at, (name, _) in enumerate(left)
+                     if not any(name in words for other, words in enumerate(read) if other != at)), None)
+        if free is None:
+            return None
+        found.append('%s = %s;' % left.pop(free))
+    return found
