@@ -527,7 +527,7 @@ class Rows(unittest.TestCase):
             '3 of 4 runs have a warning in the column note of the results; the first (period = 1, seed = 1): in step'])
         rows[0]['note'] = 'warning: several motes print the same value as a source: motes 1 and 2 print 7'
         self.assertEqual(warnings_of(rows), [
-            '1 of 4 runs have a warning in the column note of the results; the first (period = 1, seed = 1): several '
+            '1 of 4 runs has a warning in the column note of the results; the first (period = 1, seed = 1): several '
             'motes print the same value as a source',
             '2 of 4 runs have a warning in the column note of the results; the first (period = 1, seed = 2): in step'])
 

@@ -504,7 +504,7 @@ class SweepTest(Bed):
         self.assertEqual((places[0], places[1]), (places[2], places[3]))
         self.assertNotEqual(places[0], places[1])
 
-    def test_losses_in_step_are_a_warning_of_a_treatment(self) -> None:
+    def test_losses_in_step_are_a_warning_of_each_run(self) -> None:
         need_program(self)
         (self.folder / 'net.plan.toml').write_text(PLAN.replace('name = "a"', 'name = "a"\nseed = 1\nevery = 2')
                                                    + '[[loss]]\nrule = "all"\nevery = "${every}"\n')
@@ -517,11 +517,36 @@ class SweepTest(Bed):
         warned = ('mote 1 loses the same packets on all of its 2 links: 20 of its 40 packets reach nobody (about 10 '
                   'would, if the links lost independently); give its links different periods, as the rule `primes` of '
                   'a plan does')
-        self.assertEqual([row['note'] for row in self.rows()], ['warning: ' + warned, '', '', '', '', ''])
-        self.assertEqual(done.stderr, 'sweep: 1 runs have a warning in the column note; the first (every = 2, seed = '
-                                      '1): %s\n' % warned)
+        self.assertEqual([row['note'] for row in self.rows()], 3 * ['warning: ' + warned] + 3 * [''])
+        self.assertEqual(done.stderr, 'sweep: 3 of 6 runs have a warning in the column note; the first (every = 2, '
+                                      'seed = 1): %s\n' % warned)
         self.assertIn(' 0 of them now', subprocess.run([*command, '--retry'], cwd=self.folder, capture_output=True,
                                                        text=True).stdout)
+
+    def test_warnings_do_not_depend_on_the_order_of_the_seeds_or_on_earlier_commands(self) -> None:
+        need_program(self)
+        (self.folder / 'net.plan.toml').write_text(PLAN.replace('name = "a"', 'name = "a"\nseed = 1') + (
+            '[[loss]]\nrule = "all"\nevery = 2\n'))
+        # (with an odd seed two kinds of packets alternate)
+        (self.folder / 'a.mote').write_text(
+            'process a; autostart a; code a { var n = 0; etimer t; body { while (self == 0) { set t 4; yield_until '
+            'fired(t); n = (n + 1); if ((${seed} % 2) && (n % 2)) { send 900; } else { send n; } } } }\n')
+        runs = {}
+        for name, orders in {'one': ['1..4'], 'two': ['3..4', '1..4'], 'three': ['4,2,1,3']}.items():
+            for order in orders:
+                done = subprocess.run([*self.command('--vary', 'seed=' + order, '--measure', 'sent'), '-o',
+                                       name + '.csv'], cwd=self.folder, capture_output=True, text=True)
+            self.assertIn('sweep: 2 of 4 runs have a warning in the column note; the first (seed = ', done.stderr)
+            runs[name] = (self.folder / (name + '.csv')).read_bytes()
+        self.assertEqual(runs['one'], runs['two'])
+        self.assertEqual(sorted(runs['one'].splitlines()), sorted(runs['three'].splitlines()))
+
+    def test_a_single_warned_run_has_its_message_in_the_singular(self) -> None:
+        need_program(self)
+        (self.folder / 'net.plan.toml').write_text(PLAN + '[[loss]]\nrule = "all"\nevery = 9\n')
+        (self.folder / 'a.mote').write_text('process a; autostart a; code a { body { if self { send 7; } } }\n')
+        done = subprocess.run(self.command('--measure', 'sent'), cwd=self.folder, capture_output=True, text=True)
+        self.assertIn('sweep: 1 of 1 runs has a warning in the column note; the first: no packet was lost', done.stderr)
 
     def test_runs_whose_losses_lose_nothing_are_counted(self) -> None:
         need_program(self)
@@ -533,8 +558,8 @@ class SweepTest(Bed):
         command = self.command('--vary', 'every=2..5', '--measure', 'sent')
         done = subprocess.run(command, cwd=self.folder, capture_output=True, text=True)
         self.assertEqual(done.stderr, (
-            'sweep: 2 runs have a warning in the column note; the first (every = 4): no packet was lost, though the '
-            'scenario has losses: a loss with `every = N` loses the packet N of its sender, but no mote with losses '
+            'sweep: 2 of 4 runs have a warning in the column note; the first (every = 4): no packet was lost, though '
+            'the scenario has losses: a loss with `every = N` loses the packet N of its sender, but no mote with losses '
             'sent more than 3 packets, and the least N is 4\n'), done)
         self.assertEqual([bool(row['note']) for row in self.rows()], [False, False, True, True])
 
@@ -547,8 +572,8 @@ class SweepTest(Bed):
         done = subprocess.run(command, cwd=self.folder, capture_output=True, text=True)
         self.assertEqual((done.returncode, done.stderr.count('\n')), (0, 1), done)
         self.assertTrue(done.stderr.startswith(
-            'sweep: 3 runs have a warning in the column note; the first (period = 1): several motes print the same '
-            'value as a source: motes 0 and 1 print 1. '), done)
+            'sweep: 3 of 3 runs have a warning in the column note; the first (period = 1): several motes print the '
+            'same value as a source: motes 0 and 1 print 1. '), done)
 
     def test_runs_with_packets_of_one_moment_are_counted(self) -> None:
         need_program(self)
@@ -559,8 +584,8 @@ class SweepTest(Bed):
         command = self.command('--vary', 'period=1', '--vary', 'seed=1..3', '--measure', 'sent')
         done = subprocess.run(command, cwd=self.folder, capture_output=True, text=True)
         self.assertEqual((done.returncode, done.stderr.count('\n')), (0, 1), done)
-        self.assertIn('sweep: 3 runs have a warning in the column note; the first (period = 1, seed = 1): packets of '
-                      'one moment collide with each other: mote 1 sent 2 packets at moment 0, ', done.stderr)
+        self.assertIn('sweep: 3 of 3 runs have a warning in the column note; the first (period = 1, seed = 1): '
+                      'packets of one moment collide with each other: mote 1 sent 2 packets at moment 0, ', done.stderr)
 
     def test_sqlite(self) -> None:
         done = self.sweep(*self.words, '-o', 'net.sqlite')

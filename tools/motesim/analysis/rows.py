@@ -10,7 +10,7 @@ from motesim.analysis.points import MOST_VALUES, NET, PLACES, PLAN, PROGRAM, RUN
 from motesim.analysis.points import Joint, Wish, changed_files, measures_of, name_of_net, names_of_nets, number_of
 from motesim.analysis.points import parameters_of, repeats_of
 from motesim.explain.synonyms import known
-from motesim.experiments.draws import lines_of, warnings_in
+from motesim.experiments.draws import lines_of, of_warned, warnings_in
 from motesim.experiments.measures import Cell
 from motesim.experiments.results import Row, text_of
 from motesim.faults import Fault
@@ -128,8 +128,9 @@ def _of_notes(rows: Sequence[Row]) -> list[str]:
             counts[kind] += 1
             firsts.setdefault(kind, (row, END_OF_HEAD.split(text)[0]))
     names = [name for name in (parameters_of(rows) if rows else ()) if len({row[name] for row in rows}) > 1]
-    return ['%d of %d runs have a warning in the column note of the results; the first%s: %s' % (
-        counts[kind], len(rows), ' (%s)' % shown_key(names, tuple(row[it] for it in names)) if names else '', head)
+    return ['%s in the column note of the results; the first%s: %s' % (
+        of_warned(counts[kind], len(rows)),
+        ' (%s)' % shown_key(names, tuple(row[it] for it in names)) if names else '', head)
         for kind, (row, head) in firsts.items()]
 
 

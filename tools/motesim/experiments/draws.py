@@ -13,13 +13,15 @@ from collections.abc import Iterable, Mapping
 from motesim.experiments.measures import OWN, Cell
 from motesim.experiments.results import Row
 from motesim.explain.idle import IDLE
+from motesim.explain.lint import SAME_DRAWS
 from motesim.explain.moments import SAME_MOMENT
+from motesim.explain.resonance import IN_STEP
 from motesim.summary.flows import SHARED
 
 # A note with this beginning is about a run that has all its measures.
 WARNING = 'warning: '
 # The beginnings of warnings that a sweep counts separately: for each, it reports the number of runs that have it.
-ONCE = (SHARED, OWN, SAME_MOMENT, IDLE)
+ONCE = (SHARED, OWN, SAME_MOMENT, IDLE, IN_STEP, SAME_DRAWS)
 # The column with the parameters that are seeds of the pattern; and the number of consecutive seeds that draw different
 # numbers.
 CHANCE, APART = 'chance_seeds', 257
@@ -100,6 +102,11 @@ def warnings_in(note: Cell) -> dict[str, str]:
     for text in without_alike(note).split(WARNING)[1:]:
         found.setdefault(next(filter(text.startswith, ONCE), ''), text.removesuffix('; '))
     return found
+
+
+def of_warned(count: int, runs: int) -> str:
+    """The words for the number of runs that have a warning."""
+    return '%d of %d runs %s a warning' % (count, runs, 'has' if count == 1 else 'have')
 
 
 class Notes:

@@ -58,15 +58,11 @@ class Work(NamedTuple):
 
 
 class Job(NamedTuple):
-    """A run: its place in the sweep, its parameters, and the files from which its scenario is made.
-
-    is_first  whether it is the first run of its treatment, whose losses are checked
-    """
+    """A run: its place in the sweep, its parameters, and the files from which its scenario is made."""
     place: int
     given: tuple[tuple[str, Value], ...]
     files: tuple[tuple[str, bytes], ...]
     work: Work
-    is_first: bool = False
 
 
 class Result(NamedTuple):
@@ -168,15 +164,13 @@ def measured(work: Work, bench: Bench, known: Scenario) -> tuple[dict[str, Cell]
     return found, '; '.join([*notes, *(WARNING + it for it in filter(None, doubts))])
 
 
-def warned(report: Report, known: Scenario, seconds: float, is_first: bool = True) -> list[str]:
-    """The warnings about packets that a mote sent at one moment, so that they collided, and about losses that lost
-    nothing; for the first run of a treatment, also the warnings about losses in step and about seeds. If finding them
-    lasts longer than a run may last, there are none."""
+def warned(report: Report, known: Scenario, seconds: float) -> list[str]:
+    """The warnings about losses in step, about seeds, about packets that a mote sent at one moment, so that they
+    collided, and about losses that lost nothing. If finding them lasts longer than a run may last, there are none."""
     try:
         with limited(seconds):
-            of_first = [*of_losses(known, report), *of_seeds(known, programs_of(known))] if is_first else []
-            found = [it.text for it in by_cause([*of_first, *of_moments(report)])]
-            return [WARNING + it for it in (*found, idle_losses(known, report)) if it]
+            its = [*of_losses(known, report), *of_seeds(known, programs_of(known)), *of_moments(report)]
+            return [WARNING + it for it in (*(it.text for it in by_cause(its)), idle_losses(known, report)) if it]
     except TimeoutError:
         return []
 
@@ -201,7 +195,7 @@ def run_job(job: Job) -> Result:
         known, read = Scenario.parse(text), Report.parse(got.report)
         places = digest(repr([(it.x, it.y) for it in known.places]).encode())
         measures, note = measured(work, Bench(Run(work.plan, read, known), plan.with_given(dict(job.given))), known)
-        found = warned(read, known, work.seconds, job.is_first)
+        found = warned(read, known, work.seconds)
         note = '; '.join(filter(None, [note, *map(one_line, found)]))
     except BaseException as failure:
         fault = reason_of(failure)

@@ -24,7 +24,7 @@ from motesim.runner.optimized import optimized_path
 from motesim.runner.programs import TOP
 from motesim.experiments.asked import Sweep, chance_seeds, columns_of, known_names, some_runs, sources_of, sweep_of
 from motesim.experiments.asked import unused
-from motesim.experiments.draws import CHANCE, WARNING, Notes, Seeds, warnings_in
+from motesim.experiments.draws import CHANCE, WARNING, Notes, Seeds, of_warned, warnings_in
 from motesim.experiments.plot import wishes_of
 from motesim.experiments.progress import Progress
 from motesim.experiments.runs import Stopped, longest, run_by_dask, run_here
@@ -161,11 +161,7 @@ class Sweeper:
                     self.sweep.seconds, self.sweep.most_bytes)
         for place in places:
             given = self.sweep.run_at(place)
-            yield Job(place, tuple(given.items()), self.files(given), work, self.is_first(given))
-
-    def is_first(self, given: Mapping[str, Value]) -> bool:
-        """Returns whether a run is the first of its treatment: the others differ from it only in seeds."""
-        return all(given[name] == values[0] for name, values in self.sweep.vary.items() if is_seed(name))
+            yield Job(place, tuple(given.items()), self.files(given), work)
 
     def files(self, given: Mapping[str, Value]) -> tuple[tuple[str, bytes], ...]:
         """The files that a run needs. One that can't be read is an error of the run, which reports it."""
@@ -282,10 +278,12 @@ def said(sweeper: Sweeper, ran: int) -> int:
         print('the first fault: %s' % firsts['fault']['fault'])
     for kind, (first, text) in texts.items():
         varied = ', '.join('%s = %s' % (name, text_of(first[name])) for name in sweeper.sweep.vary)
-        print('sweep: %d runs have a warning in the column note; the first (%s): %s' % (warned[kind], varied, text),
-              file=sys.stderr)
+        print('sweep: %s in the column note; the first%s: %s' % (
+            of_warned(warned[kind], counts['row'] - counts['fault']), ' (%s)' % varied if varied else '', text),
+            file=sys.stderr)
     if 'noted' in firsts:
-        print('%d runs lack a measure; the first: %s' % (counts['noted'], firsts['noted']['note']))
+        print('%d %s a measure; the first: %s' % (counts['noted'], 'runs lack' if counts['noted'] > 1 else 'run lacks',
+                                                  firsts['noted']['note']))
     return 1 if counts['fault'] or counts['noted'] else 0
 
 

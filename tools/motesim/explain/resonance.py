@@ -34,6 +34,8 @@ LEAST_PACKETS = 5
 RARE = 1e-3
 # A kind is hit if the lost part of it is this many times the part that the period implies.
 MORE = 1.8
+# The beginning of the warning about such a loss.
+IN_STEP = 'the loss from mote '
 PRIMES = (2, 3, 5, 7, 11, 13, 17, 19, 23, 29, 31, 37, 41, 43, 47)
 
 
@@ -68,10 +70,9 @@ class Resonance(NamedTuple):
         more = '; every = %d is not in step' % self.better if self.better else ''
         if self.is_by_primes:
             more = '; another `seed` of the rule `primes` changes the periods'
-        return ('the loss from mote %d to mote %d, every = %d, is in step with the rhythm of mote %d: it loses %s (1 '
-                'in '
-                '%d would be %d)%s' % (self.sender, self.to, self.every, self.sender, self.kind, self.every,
-                                       round(self.kind.packets / self.every), more))
+        return (IN_STEP + '%d to mote %d, every = %d, is in step with the rhythm of mote %d: it loses %s (1 in %d '
+                'would be %d)%s' % (self.sender, self.to, self.every, self.sender, self.kind, self.every,
+                                    round(self.kind.packets / self.every), more))
 
 
 class Together(NamedTuple):
@@ -159,7 +160,7 @@ def hit(values: Sequence[int], every: int, kinds: dict[tuple[int, ...], str], ra
 
 def all_at_once(scenario: Scenario, report: Report) -> Iterator[Together]:
     """The senders that lose the same packets on all their links, far more often than by chance."""
-    sent = Counter(packet.sender for packet in report.medium)
+    sent = Counter(report.log.sender)
     periods: dict[int, dict[int, int]] = defaultdict(dict)
     for place, (sender, to) in enumerate(scenario.losses):
         periods[sender][to] = place
@@ -177,11 +178,11 @@ def all_at_once(scenario: Scenario, report: Report) -> Iterator[Together]:
 def resonances(scenario: Scenario, report: Report) -> Iterator[Resonance]:
     """The losses that hit one kind of packet."""
     sent: dict[int, list[int]] = defaultdict(list)
-    for packet in report.medium:
-        sent[packet.sender].append(packet.value)
+    for sender, value in zip(report.log.sender, report.log.value):
+        sent[sender].append(value)
     losses = {place: (*link, every) for place, (link, every) in enumerate(scenario.losses.items())
               if scenario.hears(link[1], link[0])}
-    kinds = {sender: kinds_of(sent[sender]) for sender, _, _ in losses.values()}
+    kinds = {sender: kinds_of(sent[sender]) for sender in {sender for sender, _, _ in losses.values()}}
     rare = RARE / max(1, sum(len(kinds[sender]) for sender, _ in {(it[0], it[2]) for it in losses.values()}))
     periods = set(scenario.losses.values())
     is_by_primes = len(periods) > 2 and all(map(is_prime, periods))
