@@ -139,7 +139,7 @@ class Differences(unittest.TestCase):
 The first difference is at moment 5, in the trace of mote 2:
   A, line 17: 6 post 0 talker timer 1
   B, line 13: 5 post 0 talker timer 1
-Before it, the last packets and events of mote 2:
+The last packets and events of mote 2 before this difference:
   0 start etimer
 ''', text)
 
@@ -186,7 +186,7 @@ Lines that differ: 10 only in A, 6 only in B
 The first difference is at moment 6, in the log of the medium:
   A, line 23: 6 2 0 7 1@9
   B, line 20: 6 2 0 7 1@lost
-Before it, the last packets and events of mote 2:
+The last packets and events of mote 2 before this difference:
   0 start etimer
   6 post 0 talker timer 1
   6 take 0 talker

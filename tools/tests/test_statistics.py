@@ -854,7 +854,7 @@ class Command(unittest.TestCase):
     def test_a_picture_of_the_same_name_in_another_format_loses_its_table(self) -> None:
         interpreter_with(self, 'matplotlib')
         words = '--measure', 'sent', '--against', 'period', *ONE
-        line = 'plot: a.table.csv and a.origin.csv were those of a.svg, and are now those of a.png\n'
+        line = 'plot: a.table.csv and a.origin.csv belonged to a.svg, and now belong to a.png\n'
         for name, said in ('a.svg', ''), ('a.svg', ''), ('a.png', line):
             self.plot(*words, '-o', name)
             self.assertEqual(self.seen, said)

@@ -453,7 +453,7 @@ class SweepTest(Bed):
         self.assertEqual(anew.stdout, 'net.csv: 6 runs, 6 of them now, 0 with a fault\n')
         other = self.sweep(*self.words, '--measure', 'sent')
         self.assertEqual(other.returncode, 2)
-        self.assertIn('are not those of this sweep (it lacks sent): ', other.stderr)
+        self.assertIn('net.csv doesn\'t have the columns of this sweep (it lacks sent), because ', other.stderr)
 
     def test_rows_that_a_command_does_not_run_again_are_not_removed(self) -> None:
         words = '--measure', 'prints', '--measure', 'python: mine.py:wrong'

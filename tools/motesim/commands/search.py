@@ -4,7 +4,7 @@
 
 The tool tries all single faults, then all pairs, and so on, up to --at-most faults at once. For each minimal set of
 faults that breaks an expectation, it writes a scenario and its expectations into the folder NAME.search, or into the
-folder that -o names. The expectations are sentences of tools/expect; if no file is named, those of NAME.expect.toml
+folder that -o names. The expectations are sentences of tools/expect. If no file is named, they are in NAME.expect.toml
 next to the scenario NAME.toml.
 
 Kinds of faults, for --faults:
@@ -44,7 +44,7 @@ def arguments() -> argparse.ArgumentParser:
     words.add_argument('expectations', nargs='?', metavar='EXPECTATIONS',
                        help='the sentences (NAME.expect.toml next to the scenario)')
     words.add_argument('--expect', action='append', default=[], metavar='SENTENCE',
-                       help='an expectation, instead of those of a file')
+                       help='an expectation, instead of a file of expectations')
     words.add_argument('--faults', default='', metavar='KINDS',
                        help='the kinds of faults (links,motes; with --set: values, parameters or both, whichever '
                             '--set names)')

@@ -9,7 +9,7 @@ For a mote and for the net
   received    copies that it received
   lost        copies that the medium lost
   ring        copies that found eight packets waiting
-  collided    copies that arrived together with others; a line on standard error has the number of those that
+  collided    copies that arrived together with others; a line on standard error has the number of copies that
               collided with another packet of the same sender and moment
   halted      copies that arrived after it had halted
   late        copies that would have arrived after the end
@@ -27,9 +27,9 @@ For a link
 which began with the first packet of that value, at the mote that sent it. With `--flow "print source -> print sink"`
 messages begin with a print. For an origin, and for the net
   sent      messages that began there
-  delivered those that arrived at another mote at least once; ratio is their share
+  delivered messages that arrived at another mote at least once; ratio is their share
   reached   the number of motes that a message reached, on average
-  copies    deliveries in all; duplicates are those to a mote that had the message already
+  copies    all deliveries; duplicates are deliveries to a mote that had the message already
   hops      least hops to the motes reached, on average, if the scenario is known
   least, middle, most   moments from a message's beginning to its first delivery at a mote
 

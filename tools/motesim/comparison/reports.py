@@ -179,7 +179,8 @@ def led_to(reports: Pair, it: Difference) -> list[str]:
     if mote >= len(report.motes) or not index:
         return []
     kept = before(report.motes[mote].lines[:index])
-    return ['Before it, the last packets and events of mote %d:' % mote, *('  ' + str(line) for line in kept)]
+    head = 'The last packets and events of mote %d before this difference:' % mote
+    return [head, *('  ' + str(line) for line in kept)]
 
 
 def first_in_words(reports: Pair, found: list[Difference], which: str = 'The first difference') -> Iterator[str]:

@@ -21,7 +21,7 @@ DIFFERENCES: tuple[tuple[frozenset[str], str], ...] = (
      'compare them with the timer or process, as here.'),
     (frozenset({'/', '%'}), 'A division by 0 yields 0 here, by motesim_divide and motesim_modulo.'),
     (frozenset({'count', 'signal', 'acquire'}),
-     'The count of a semaphore has 16 bits in motesim, those of an unsigned int in Contiki.'),
+     'The count of a semaphore has 16 bits in motesim. In Contiki it is an unsigned int.'),
     (frozenset({'now'}), 'A moment is a tick of clock_time(), of which a second has CLOCK_SECOND.'),
     (frozenset({'send', 'from', 'self'}),
      'Motes are numbered from 0; motesim_radio.c makes numbers of Rime addresses. Nothing is lost or delayed by '

@@ -146,11 +146,11 @@ class Source(NamedTuple):
 
 def write_tables(picture: Path, made: Sequence[text.Row], source: Source, rows: Sequence[Row],
                  notes: Sequence[str]) -> None:
-    """Writes the table behind a picture, and its origin. They replace the table and the origin of a picture with the
+    """Writes the table of a picture, and its origin. They replace the table and the origin of a picture with the
     same name in another format; a line on standard error reports this."""
     for other in (picture.with_suffix(it) for it in FORMATS):
         if other != picture and other.exists() and origin_path(picture).exists():
-            print('plot: %s and %s were those of %s, and are now those of %s' % (
+            print('plot: %s and %s belonged to %s, and now belong to %s' % (
                 table_path(picture), origin_path(picture), other, picture), file=sys.stderr)
     for path, words in ((table_path(picture), text.csv_of(made)),
                         (origin_path(picture), origin_of(source.command, source.files, rows, notes))):

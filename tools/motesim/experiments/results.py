@@ -334,8 +334,8 @@ def open_results(path: Path, columns: Sequence[str]) -> CsvFile | SqliteFile:
         more, less = [[it for it in one if it not in other] for one, other in (
             (file.found, columns), (columns, file.found))]
         ways = ['it has %s' % ', '.join(more)] * bool(more) + ['it lacks %s' % ', '.join(less)] * bool(less)
-        raise Fault('the columns of %s are not those of this sweep (%s): another plan, other parameters or other '
-                    'measures made it. Name another file with -o' % (path, '; '.join(ways) or 'in another order'))
+        raise Fault('%s doesn\'t have the columns of this sweep (%s), because it was made with another plan, other '
+                    'parameters or other measures. Name another file with -o' % (path, '; '.join(ways) or 'in another order'))
     return file
 
 
