@@ -467,6 +467,35 @@ class Nets(Folder):
         self.grade('--net', 'task.toml', '-o', 'marks.html')
         self.assertIn(starts, self.page())
 
+    def test_programs_of_a_solution_that_are_not_used_are_named(self) -> None:
+        def with_program(text: str, name: str, program: str, mote: int = 0) -> str:
+            head, *motes = text.split('[[mote]]\n')
+            motes[mote] = motes[mote].replace('"task"', '"%s"' % name)
+            return '[[mote]]\n'.join([head + "%s = \'\'\'\n%s\'\'\'\n" % (name, program), *motes])
+
+        self.hand_in('ben.toml', with_program(net(PROGRAM % 4), 'root', PROGRAM % 3))
+        three = with_program(with_program(net(PROGRAM % 4, motes=3), 'root', PROGRAM % 3), 'far', PROGRAM % 3, 2)
+        self.hand_in('cem.toml', three)
+        self.hand_in('dan.toml', with_program(net(PROGRAM % 4), 'sink', PROGRAM % 8))
+        self.hand_in('eva.toml', with_program(net(PROGRAM % 3), 'root', PROGRAM % 4))
+        self.hand_in('fay.toml', net(PROGRAM % 4).replace('[[mote]]', "idle = \'\'\'\n%s\'\'\'\n[[mote]]" % PROGRAM, 1))
+        (self.top / 'two.toml').write_text(with_program(net(PROGRAM % 9), 'sink', PROGRAM % 8))
+        said = 'its program `root` (of mote 0) isn\'t used'
+        self.assertEqual(self.rows('--net', 'task.toml'), {
+            'anna.toml': '3 of 3', 'ben.toml': '1 of 3  broken: 1, 2; ' + said,
+            'cem.toml': '1 of 3  broken: 1, 2; its programs `root` (of mote 0), `far` (of mote 2) aren\'t used',
+            'dan.toml': '1 of 3  broken: 1, 2; its program `sink` (of mote 0) isn\'t used',
+            # (this mark isn't lower because of the other program, and no mote runs the last one)
+            'eva.toml': '3 of 3', 'fay.toml': '1 of 3  broken: 1, 2'})
+        rows = self.grade('--net', 'task.toml', '--why', 'ben').split('\n')
+        self.assertEqual(rows[-3:], [said, tables.UNUSED, ''])
+        self.assertNotIn('used', self.grade('--net', 'task.toml', '--why', 'fay'))
+        # (the net has the same program)
+        self.assertNotIn('used', self.rows('--net', 'two.toml', '--program', 'task')['dan.toml'])
+        self.assertNotIn('used', self.grade())
+        self.grade('--net', 'task.toml', '-o', 'marks.html')
+        self.assertEqual(self.page().count('its program `root` (of mote 0) isn&#x27;t used'), 1)
+
     def test_a_halt_is_in_the_row(self) -> None:
         need_program(self)
         self.stub = program_path()

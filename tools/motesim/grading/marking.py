@@ -12,7 +12,7 @@ from motesim.explain.lint import Program, of_start
 from motesim.faults import Fault
 from motesim.files import replace_whole
 from motesim.grading.entries import IN_C, Entry, data_of, without_program
-from motesim.grading.nets import NOT_UTF8, Net, NoProgram, program_of
+from motesim.grading.nets import NOT_UTF8, Net, NoProgram, program_of, unused_of
 from motesim.judge.expectations import (
     REFUSED, REQUIRED, Part, UnknownSentence, known_of, more_of, read_all, refused, same_report,
 )
@@ -81,6 +81,7 @@ class Marks:
     fix      for a refused scenario or program, the place of its error, and the correction
     halts    the first mote that halts in a net, if one does; and `shown_halts` in a net that isn't hidden
     warned   the warnings about its processes that never start, and about packets that no process gets
+    unused   its programs that no mote of the nets runs, in words
     """
     name: str
     marks: tuple[Mark, ...] = ()
@@ -94,6 +95,7 @@ class Marks:
     halts: str = ''
     shown_halts: str = ''
     warned: tuple[str, ...] = ()
+    unused: str = ''
 
     @property
     def has_mark(self) -> bool:
@@ -105,7 +107,7 @@ class Marks:
         marks = tuple(it._replace(more=lines_of(it.more), shown=lines_of(it.shown)) for it in self.marks)
         lacks = tuple(cut(one_line(it), LONGEST_WHY) for it in self.lacks)
         return replace(self, marks=marks, why=cut(one_line(self.why), LONGEST_WHY), lacks=lacks,
-                       fix=lines_of(self.fix))
+                       fix=lines_of(self.fix), unused=cut(one_line(self.unused), LONGEST_WHY))
 
     @property
     def short_name(self) -> str:
@@ -196,7 +198,8 @@ class Task:
             return Marks(entry.name, why=fault.which, fix=self.fix(entry, data))
         except Fault as fault:
             return Marks(entry.name, why=str(fault), fix=self.fix(entry, data))
-        marks = self.together(entry.name, found)
+        unused = unused_of(data, entry.path.name, self.nets[0]) if self.nets else ''
+        marks = replace(self.together(entry.name, found), unused=unused)
         if any(its.is_refused for its in found):
             return replace(marks, fix=self.fix(entry, data))
         picture, no_page = self.picture(number, marks, found)

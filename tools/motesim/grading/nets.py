@@ -159,8 +159,7 @@ def nets_with_cut_off(nets: Sequence[Net]) -> list[str]:
     found = []
     for net in nets:
         motes = cut_off(net.scenario)
-        shown = ', '.join(map(str, motes[:MOST_MOTES])) + (', ..' if len(motes) > MOST_MOTES else '')
-        found += ['%s (mote%s %s)' % (net.name, 's' * (len(motes) > 1), shown)] if motes else []
+        found += ['%s (mote%s %s)' % (net.name, 's' * (len(motes) > 1), _motes(motes))] if motes else []
     return found
 
 
@@ -200,3 +199,28 @@ def program_of(data: bytes, name: str, wanted: str) -> str:
     if type(found) is not str:
         raise Fault('the program `%s` is not a text' % wanted)
     return found
+
+
+def unused_of(data: bytes, name: str, net: Net) -> str:
+    """The programs that the motes of a solution run, but that a marking in this net doesn't use, in words; an empty
+    text if there are none. Programs that the net has too don't count."""
+    if name.endswith('.mote'):
+        return ''
+    tables = read_toml(data.decode('utf-8'))
+    programs, motes = tables['programs'], tables.get('mote')
+    used = net.program if net.program in programs else next(iter(programs))
+    running = [it.get('program') if type(it) is dict else None for it in motes] if type(motes) is list else []
+    found = [(it, [mote for mote, its in enumerate(running) if its == it]) for it, text in programs.items()
+             if it != used and text != net.scenario.programs.get(it)]
+    shown = ['`%s` (of mote%s %s)' % (cut(it, LONGEST_NAME), 's' * (len(its) > 1), _motes(its))
+             for it, its in found if its]
+    more = ' and {:,} more'.format(len(shown) - MOST_NAMES) if len(shown) > MOST_NAMES else ''
+    if not shown:
+        return ''
+    return 'its program%s %s%s %s used' % ('s' * (len(shown) > 1), ', '.join(shown[:MOST_NAMES]), more,
+                                           'aren\'t' if len(shown) > 1 else 'isn\'t')
+
+
+def _motes(motes: Sequence[int]) -> str:
+    """The first of these motes."""
+    return ', '.join(map(str, motes[:MOST_MOTES])) + (', ..' if len(motes) > MOST_MOTES else '')

@@ -46,7 +46,7 @@ def _first_failed(marks: Marks, folder: str) -> str:
     words = '%d. %s' % (place + 1, mark.words)
     link = '<a href="%s/%s">%s</a>' % (quote(folder), quote(marks.picture), escape(words)) if marks.picture \
         else escape(words)
-    rows = [*mark.shown, *marks.warned, *(it for it in (marks.shown_halts, marks.no_page) if it)]
+    rows = [*mark.shown, *marks.warned, *(it for it in (marks.shown_halts, marks.unused, marks.no_page) if it)]
     return link + ('<pre>%s</pre>' % escape('\n'.join(rows)) if rows else '')
 
 

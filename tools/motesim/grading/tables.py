@@ -17,6 +17,8 @@ MOST_NAMED = 3
 # Some spreadsheets treat a cell with this beginning as a formula.
 OF_FORMULA = ('=', '+', '-', '@', '\t', '\r', '|', '%')
 RENAMED = 'Hint: sentences use the names of the task: if a process was renamed, rename it back, and grade again'
+UNUSED = ('Hint: in a net of --net or --hidden the motes run only one program of a solution. Move the code of the other '
+          'motes into this program, below tests such as `if (self == 0)`, and grade again')
 ESCAPES = {'\\': '\\\\', '"': '\\"', '\n': '\\n', '\t': '\\t', '\r': '\\r'}
 
 
@@ -43,8 +45,8 @@ def table(marked: Sequence[Marks], sentences: Sequence[str]) -> list[str]:
         broken = ', '.join('%d%s' % (number, REQUIRED * one.is_required) for number, one in enumerate(it.marks, 1)
                            if not one.holds)
         count = count_of(it, len(sentences))
-        shown = it.why or '; '.join(one for one in (broken and 'broken: %s' % broken, it.fault, it.halts)
-                                      if one)
+        parts = broken and 'broken: %s' % broken, it.fault, it.halts, broken and it.unused
+        shown = it.why or '; '.join(one for one in parts if one)
         rows.append(('%s  %s  %s' % (it.short_name.ljust(width), count, shown)).rstrip())
     return rows
 
@@ -142,5 +144,6 @@ def why(marks: Marks) -> list[str]:
         nets = [in_nets(it.nets)] if it.nets else []
         lines += ['          ' + row for row in [*nets, *it.more]]
     lines += ['%s: it used up its work there, maybe in a loop without a wait' % marks.halts] if marks.halts else []
-    lines += marks.warned if marks.first_failed is not None else ()
+    if marks.first_failed is not None:
+        lines += [*marks.warned, *([marks.unused, UNUSED] if marks.unused else [])]
     return lines + [RENAMED] * any(marks.lacks)
