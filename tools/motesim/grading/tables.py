@@ -17,8 +17,8 @@ MOST_NAMED = 3
 # Some spreadsheets treat a cell with this beginning as a formula.
 OF_FORMULA = ('=', '+', '-', '@', '\t', '\r', '|', '%')
 RENAMED = 'Hint: sentences use the names of the task: if a process was renamed, rename it back, and grade again'
-UNUSED = ('Hint: in a net of --net or --hidden the motes run only one program of a solution. Move the code of the other '
-          'motes into this program, below tests such as `if (self == 0)`, and grade again')
+UNUSED = ('Hint: in a net of --net or --hidden the motes run only one program of a solution. Move the code of the '
+          'other motes into this program, below tests such as `if (self == 0)`, and grade again')
 ESCAPES = {'\\': '\\\\', '"': '\\"', '\n': '\\n', '\t': '\\t', '\r': '\\r'}
 
 
