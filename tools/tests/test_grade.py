@@ -255,7 +255,7 @@ class Nets(Folder):
     def test_a_program_alone_is_a_solution(self) -> None:
         self.hand_in('ben.mote', PROGRAM % 4)
         self.assertEqual(self.rows('--net', 'task.toml')['ben.mote'], '1 of 3  broken: 1, 2')
-        self.assertEqual(self.rows()['ben.mote'], '0 of 3  a program needs a net: name one by --net')
+        self.assertEqual(self.rows()['ben.mote'], '0 of 3  a program needs a net: name one with --net')
 
     def test_a_byte_order_mark_costs_no_mark(self) -> None:
         for name, text in ('ben.mote', PROGRAM % 3), ('cem.toml', net(PROGRAM % 3)):

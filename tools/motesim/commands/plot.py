@@ -9,13 +9,14 @@
   tools/plot net.csv --plan net.plan.toml                                    what the plan's `plot` describes
 
 RESULTS is a file that tools/sweep wrote. The runs of a point differ only in `seed`, in parameters whose names end in
-`_seed`, or in those that --over names instead. If runs differ in other parameters, the tool refuses to mix them.
---show selects the statistic: median (with quartiles), mean (with an interval by --interval auto, t, bootstrap or
-bootstrap-t), points (all runs), cdf (the share of the runs with at most this value) or heat (a map of --against and
---by). --where seed=3 selects some of the runs. A picture is SVG, PDF or PNG, by its name. Next to it the tool writes
-the table behind it, NAME.table.csv, and its origin, NAME.origin.csv: the command and the digests of what made the
-results. Pictures need matplotlib (on Debian: apt-get install python3-matplotlib); without it there is a table, and a
-line that says so. docs/use/EXPERIMENTS.md shows all of it at work.
+`_seed`, or in the parameters that --over names instead. If runs differ in other parameters, the tool refuses to mix
+them. --show selects the statistic: median (with quartiles), mean (with an interval), points (all runs), cdf (the share
+of the runs with at most this value) or heat (a map of --against and --by). --interval selects the method of the
+interval: auto, t, bootstrap or bootstrap-t. --where seed=3 selects some of the runs. The ending of a picture's name
+selects its format: SVG, PDF or PNG. Next to the picture the tool writes the picture's table, NAME.table.csv, and its
+origin, NAME.origin.csv: the command, and the digests of what made the results. Pictures need matplotlib (on Debian:
+apt-get install python3-matplotlib); without it there is a table, and a line that says so. docs/use/EXPERIMENTS.md
+explains all of this with examples.
 
 The tool ends with status 0, with 1 if there is a table instead of a picture, or with 2 if there is nothing to show.
 """

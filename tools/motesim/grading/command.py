@@ -98,7 +98,7 @@ def write(path: Path, marked: Sequence[Marks], sentences: Sequence[str], task: T
 def write_scenarios(folder: Path, entries: Sequence[Entry], task: Task) -> None:
     """Writes the program of each entry in each net as a scenario, for the studio and the other tools."""
     if not task.nets:
-        raise Fault('--write needs a net: name one by --net or --hidden')
+        raise Fault('--write needs a net: name one with --net or --hidden')
     folder.mkdir(parents=True, exist_ok=True)
     for number, entry in enumerate(entries, 1):
         for net in task.nets:

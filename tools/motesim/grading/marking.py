@@ -162,7 +162,7 @@ class Task:
         if entry.why:
             return Marks(entry.name, why=entry.why, is_solution=entry.is_solution)
         if entry.path.suffix == '.mote' and not self.nets:
-            return Marks(entry.name, why='a program needs a net: name one by --net')
+            return Marks(entry.name, why='a program needs a net: name one with --net')
         data = b''
         try:
             data = data_of(entry)

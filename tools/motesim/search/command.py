@@ -82,7 +82,7 @@ def sentences_of(words: argparse.Namespace, names: Names) -> tuple[list[str], li
     if not texts:
         path = Path(words.expectations) if words.expectations else beside(scenario)
         if not words.expectations and scenario.exists() and not path.exists():
-            raise Fault('there is no file %s next to %s: name another, or give sentences by --expect' % (path,
+            raise Fault('there is no file %s next to %s: name another, or give sentences with --expect' % (path,
                                                                                                          scenario))
         name, texts = str(path), parts_of(text_of(path), str(path))[0].sentences
     try:
@@ -175,7 +175,7 @@ def last_line(search: Search, found: list[Found], folder: Path, base: Base) -> s
     """The last line: how many expectations hold."""
     wanted, holding = (bin(mask).count('1') for mask in (search.known.wanted, search.holding))
     if not (search.runs or search.ended_by):
-        return ('no run was made, so nothing is known about %s: choose other kinds of faults by --faults'
+        return ('no run was made, so nothing is known about %s: choose other kinds of faults with --faults'
                 % counted(wanted, 'expectation', 'expectations'))
     broken = len({sentence for it in found for sentence in it.sentences})
     which = 'every run' if is_whole(search) else 'every run that was made'
