@@ -21,9 +21,10 @@ from motesim.analysis.drawing import lengths, ticks_between, with_gaps
 from motesim.analysis.origin import digest_of_tools, origin_of
 from motesim.analysis.paired import Pair, Paired, differences, pairs_of
 from motesim.analysis.estimates import Estimate
-from motesim.analysis.points import Point, Wish, is_seed, shown_of
+from motesim.analysis.points import Joint, Point, Wish, is_seed, order, shown_of
 from motesim.analysis.rows import by_net, once, warnings_of
 from motesim.analysis.text import columns_of_crossing, of_crossing, of_crossing_in_short, of_pairs, remarks
+from motesim.experiments.measures import Cell
 from motesim.experiments.results import Row, number_text, read_results
 from motesim.faults import Fault
 from motesim.plan.chance import Chance
@@ -758,6 +759,12 @@ class Command(unittest.TestCase):
         for shown in alike, programs:
             self.assertIn(shown, picture)
             self.assertIn(shown, (self.folder / 'a.origin.csv').read_text())
+
+    def test_lines_of_two_parameters_are_in_the_order_of_their_values(self) -> None:
+        parts: list[tuple[Cell, ...]] = [(-10, 'a'), (-2, 'a'), (1e-6, 'b'), (2e-6, 'a'), (3, 'a'), (3, 'b'), (20, 1),
+                                         (20, 'a'), (3e13, 'a'), ('a', 9), ('a', 10), ('b', None)]
+        its = [Joint.of(it) for it in parts]
+        self.assertEqual(sorted(reversed(its), key=order), its)
 
     def test_lines_of_two_parameters(self) -> None:
         words = '--measure', 'sent', '--against', 'seed', '--by', 'density', '--by', 'period'

@@ -16,8 +16,6 @@ SHOWS = (MEDIAN, 'mean', 'points', 'cdf', 'heat')
 # Runs that differ only in a parameter of this name, or in one that ends in `_seed`, repeat one another.
 SEED, SEEDS = 'seed', '_seed'
 MOST_VALUES = 4
-# The number that is added to the parts of joint values before they are sorted as texts, so that none is below 0.
-OFFSET = 1e12
 SELECTS = '--where %s=%s selects some'
 # A column about a run's net that can be shown like a measure.
 REJECTED = 'rejected'
@@ -232,12 +230,11 @@ def kinds_of(rows: Sequence[Row]) -> dict[str, Measured]:
             if its and not any(isinstance(it, str) for it in its)}
 
 
-def order(value: Cell) -> tuple[bool, float, str]:
-    """The key by which numbers are sorted by their size, before texts."""
+def order(value: Cell) -> tuple[bool, float, str, tuple[object, ...]]:
+    """The key by which numbers are sorted by their size, before texts; joint values are sorted by their parts."""
     if isinstance(value, Joint):
-        return True, 0.0, '\0'.join('%d%030.9f%s' % (is_text, number + OFFSET, text)
-                                    for is_text, number, text in map(order, value.parts))
-    return (True, 0.0, str(value)) if value is None or type(value) is str else (False, float(value), '')
+        return True, 0.0, '', tuple(map(order, value.parts))
+    return (True, 0.0, str(value), ()) if value is None or type(value) is str else (False, float(value), '', ())
 
 
 def _check(rows: Sequence[Row], wish: Wish) -> None:
