@@ -397,6 +397,33 @@ class SweepTest(Bed):
         self.assertEqual((done.returncode, done.stdout, (self.folder / 'none.csv').exists()), (2, '', False))
         self.assertIn('A plot has no key of this name.', done.stderr)
 
+    def test_wrong_names_and_values_in_a_picture_are_known_before_the_runs(self) -> None:
+        plan = self.folder / 'net.plan.toml'
+        before = plan.read_text()
+        picture = '[[plot]]\nfile = "a.svg"\nmeasure = "sent"\nagainst = "period"\n'
+        faults = {
+            picture.replace('"sent"', '"snet"'): 'The runs have no measure snet; did you mean sent?',
+            picture.replace('"period"', '"peroid"'): 'The runs have no parameter or measure peroid; did you mean '
+                                                     'period?',
+            picture + 'by = "motes,mote"\n': 'The runs have no parameter mote; did you mean motes?',
+            picture + 'over = "mote"\n': 'The runs have no parameter mote; did you mean motes?',
+            picture + 'where = { mote = 2 }\n': 'The runs have no parameter mote; did you mean motes?',
+            picture + 'where = { motes = "3,9" }\n': 'No run has motes = 9.',
+            picture + 'pair = "motes=3,9"\n': 'No run has motes = 9.',
+            picture + 'pair = "motes=2"\n': 'A pair is of two values of a parameter.',
+            picture + 'show = "heat"\n': 'A plot with this `show` needs the key `by`',
+        }
+        for words, said in faults.items():
+            with self.subTest(said, words=words):
+                plan.write_text(before + words)
+                done = self.sweep('--vary', 'period=1,2', '--measure', 'sent', '--plot')
+                self.assertEqual((done.returncode, done.stdout, (self.folder / 'net.csv').exists()), (2, '', False))
+                self.assertIn(said, done.stderr)
+        # (a value that only earlier rows of the file have)
+        plan.write_text(before + picture + 'where = { motes = 4 }\n')
+        self.sweep('--vary', 'period=1,2', '--vary', 'motes=4', '--measure', 'sent')
+        self.assertNotIn('No run has', self.sweep('--vary', 'period=1,2', '--measure', 'sent', '--plot').stderr)
+
     def test_more_seeds_than_draw_apart(self) -> None:
         source = 'process a;\ncode a { var dice = 0; body { dice = ((self * 257) + ${period}); print 3; } }\n'
         (self.folder / 'a.mote').write_text(source)
@@ -546,7 +573,7 @@ class SweepTest(Bed):
         (self.folder / 'net.plan.toml').write_text(PLAN + '[[loss]]\nrule = "all"\nevery = 9\n')
         (self.folder / 'a.mote').write_text('process a; autostart a; code a { body { if self { send 7; } } }\n')
         done = subprocess.run(self.command('--measure', 'sent'), cwd=self.folder, capture_output=True, text=True)
-        self.assertIn('sweep: 1 of 1 runs has a warning in the column note; the first: no packet was lost', done.stderr)
+        self.assertIn('sweep: 1 of 1 runs has a warning in the column note; the first: no packet', done.stderr)
 
     def test_runs_whose_losses_lose_nothing_are_counted(self) -> None:
         need_program(self)
@@ -559,8 +586,8 @@ class SweepTest(Bed):
         done = subprocess.run(command, cwd=self.folder, capture_output=True, text=True)
         self.assertEqual(done.stderr, (
             'sweep: 2 of 4 runs have a warning in the column note; the first (every = 4): no packet was lost, though '
-            'the scenario has losses: a loss with `every = N` loses the packet N of its sender, but no mote with losses '
-            'sent more than 3 packets, and the least N is 4\n'), done)
+            'the scenario has losses: a loss with `every = N` loses the packet N of its sender, but no mote with '
+            'losses sent more than 3 packets, and the least N is 4\n'), done)
         self.assertEqual([bool(row['note']) for row in self.rows()], [False, False, True, True])
 
     def test_sources_of_the_same_value_are_reported_once_with_the_number_of_runs(self) -> None:

@@ -38,7 +38,8 @@ PLOT = {'file': needed(str), 'measure': needed(str), 'against': optional(str, ''
         'threshold': any_kind('a number', False), 'over': optional(str, ''),
         'footer': optional(str, None), 'size': optional(str, ''), 'y_limits': optional(str, ''),
         'log_y': optional(bool, False), 'draws': optional(int, DRAWS),
-        'nets': optional(bool, False), 'count': optional(bool, False), 'pair': optional(str, ''), 'compare': optional(str, ''),
+        'nets': optional(bool, False), 'count': optional(bool, False), 'pair': optional(str, ''),
+        'compare': optional(str, ''),
         WHERE: optional(dict, {}), LABELS: optional(dict, {})}
 # The most values of a column in a message.
 MOST_SHOWN = 12
@@ -88,6 +89,9 @@ def wishes_of(plan: Plan) -> list[Wish]:
         if values['against'] and values['show'] == 'cdf':
             raise tables.fault(path + ('against',), 'A plot with this `show` has the measure on its horizontal axis.',
                                '`by` for several curves', False)
+        if values['show'] == 'heat' and not values['by']:
+            raise tables.fault(path, 'A plot with this `show` needs the key `by`: the parameter of the vertical axis.',
+                               '`by`: a text', False)
         if values['interval'] != AUTO and values['show'] != 'mean' and not is_paired:
             raise tables.fault(path + ('interval',), 'Only means have such intervals, and this plot shows none.',
                                '`show = "mean"` as well')
@@ -320,16 +324,16 @@ def chosen(rows: Sequence[Row], where: Sequence[str]) -> list[Row]:
             raise Fault('--where needs NAME=VALUE, not %r' % words)
         if rows and name not in rows[0]:
             raise Fault('there is no parameter %s; there are: %s' % (name, ', '.join(parameters_of(rows))))
-        values, having = _texts_of(value), {text_of(row[name]) for row in rows}
+        values, having = texts_of(value), {text_of(row[name]) for row in rows}
         for part in value.split(','):
-            if not having & _texts_of(part):
+            if not having & texts_of(part):
                 raise Fault('no runs of a sweep with these values: %s=%s; %s has: %s' % (name, part, name, some_of(
                     row[name] for row in rows)))
         found = [row for row in found if text_of(row[name]) in values]
     return found
 
 
-def _texts_of(words: str) -> set[str]:
+def texts_of(words: str) -> set[str]:
     """The selected values, as texts; no words are an empty value."""
     return {text_of_value(it) for it in values_of(words)} if words else {''}
 

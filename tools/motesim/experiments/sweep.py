@@ -19,7 +19,8 @@ from motesim.experiments.one_run import DIGITS, TOO_BUSY, Job, Result, Work, dig
 from motesim.output import beside
 from motesim.plan.plan import UNUSED, Plan
 from motesim.plan.tables import Value, text_of_value, value_of_text
-from motesim.experiments.results import PLAN_FILES, CsvFile, Row, SqliteFile, open_results, text_of
+from motesim.experiments.results import PLAN_FILES, CsvFile, Row, SqliteFile, open_results, read_results
+from motesim.experiments.results import text_of
 from motesim.runner.optimized import optimized_path
 from motesim.runner.programs import TOP
 from motesim.experiments.asked import Sweep, chance_seeds, columns_of, known_names, some_runs, sources_of, sweep_of
@@ -28,6 +29,7 @@ from motesim.experiments.draws import CHANCE, WARNING, Notes, Seeds, of_warned, 
 from motesim.experiments.plot import wishes_of
 from motesim.experiments.progress import Progress
 from motesim.experiments.runs import Stopped, longest, run_by_dask, run_here
+from motesim.experiments.wanted import Columns, check_pictures
 from motesim.runner.versions import kit_version, program_version
 
 # The place of a row whose values aren't those of the sweep.
@@ -37,9 +39,9 @@ MOST_VALUES = 5
 
 
 class Sweeper:
-    """A sweep with its results."""
+    """A sweep with its results. `is_shown` says whether the plan's pictures are to show them."""
 
-    def __init__(self, sweep: Sweep, path: Path) -> None:
+    def __init__(self, sweep: Sweep, path: Path, is_shown: bool = False) -> None:
         self.sweep, self.plan = sweep, sweep.plan
         self.sources = sources_of(self.plan, sweep.measures)
         self.columns = columns_of(sweep, known_names(sweep), self.sources)
@@ -61,6 +63,8 @@ class Sweeper:
         # (for each parameter that doesn't vary, except seeds, its values in the file)
         self.found: dict[str, dict[str, None]] = {name: {} for name in self.plan.parameters
                                                   if name not in sweep.vary and not is_seed(name)}
+        if is_shown:
+            check_pictures(self.plan, self.to_come())
         self.file: CsvFile | SqliteFile = open_results(path, self.columns)
 
     def place_of(self, row: Row) -> int | None:
@@ -133,6 +137,18 @@ class Sweeper:
                 self.others.append(spot)
             else:
                 self.spots[place] = spot
+
+    def values_of(self, name: str) -> Iterator[str]:
+        """The texts of the values of a parameter: those of the sweep, then others in the file."""
+        found = dict.fromkeys(map(text_of_value, self.sweep.vary.get(name) or [self.plan.parameters[name]]))
+        yield from found
+        rows = read_results(self.path)[1] if self.path.exists() else []
+        yield from dict.fromkeys(it for it in (text_of(row.get(name)) for row in rows) if it not in found)
+
+    def to_come(self) -> Columns:
+        """The columns that pictures can show."""
+        made, parameters = self.columns.index('fault'), [*self.plan.parameters]
+        return Columns(parameters, [*self.columns[len(parameters):made], 'rejected'], self.columns, self.values_of)
 
     def left(self) -> int:
         """The number of missing runs."""
@@ -298,7 +314,7 @@ def status_of(asked: argparse.Namespace) -> int:
         # (an error in a picture is reported before the runs, not after them)
         wishes_of(plan)
     sweep.most_bytes = asked.bytes
-    sweeper = Sweeper(sweep, Path(asked.output) if asked.output else default_output(asked.plan))
+    sweeper = Sweeper(sweep, Path(asked.output) if asked.output else default_output(asked.plan), asked.plot)
     sweeper.keep(asked.renew, asked.retry)
     for line in [*sweeper.of_defaults(), *sweeper.alike(), *(UNUSED % (it, it) for it in unused(sweep))]:
         print('sweep: warning: %s' % line, file=sys.stderr)
