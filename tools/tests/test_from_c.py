@@ -638,7 +638,7 @@ class Calls(unittest.TestCase):
                 self.assertTrue(hint.startswith('There is no `for`: a `while` with the first step above it'), hint)
 
     def test_no_reason_hides_one_that_says_what_else_to_do(self) -> None:
-        seed, step = 'At the start of `body`: `dice = ((self * 257) + 1);', '`tries = (tries + 1);` at the end of its'
+        seed, step = 'The statements at the start of `body` mix the seed', '`tries = (tries + 1);` at the end of its'
         second, choice = 'Decide how many moments', '`PERIOD` isn\'t declared: `var period = 20;`, with a value of your'
         for lines, line, said in (
                 ('for(tries = 0; tries < DONE; tries++) {\nprint 1;\n}', 'tries = 0; while (tries < done) {', [step]),
@@ -662,6 +662,32 @@ class Calls(unittest.TestCase):
                 self.assertEqual(found, line)
                 for it in said:
                     self.assertIn(it, hint)
+
+    def test_random_numbers_differ_by_mote(self) -> None:
+        mixed = ('dice = ((self * 257) + 1); dice = (dice * ((2 * dice) + 1)); dice = (dice + (dice / 256)); '
+                 'dice = (dice * ((2 * dice) + 1));')
+        in_thread = ('process p;\nautostart p;\ncode p {\n  etimer t;\n  thread f {\n    set t random_rand();\n  }\n'
+                     '  body {\n    spawn f;\n  }\n}\n')
+        for text, lines in (RETRY % ('1', 'set t random_rand() % 9;'), [8, 6]), (in_thread, [8, 3]):
+            fault = find_fault(text)
+            found = advice(text, fault) if fault else None
+            made = correction(text, fault) if fault else None
+            assert found and made
+            self.assertIsNone(find_fault(made.applied(text)))
+            self.assertIn('body {\n%s\n' % mixed, made.applied(text))
+            shown = found.shown(text, None)
+            self.assertIn('    ' + '  ' + mixed, shown)
+            # (an inserted line changes the numbers of the lines below it, so these come first)
+            numbers = [int(it.split('line ')[1].split()[0]) for it in shown if it.startswith('and insert')]
+            self.assertEqual(numbers, lines)
+        # (without a line of its own for the start of `body`, or with a generator of one's own, the hint has the lines)
+        for text in (RETRY.replace('body {\n', 'body {') % ('1', 'set t random_rand() % 9;'),
+                     RETRY.replace('var done', 'var dice') % ('1', 'set t random_rand() % 9;')):
+            fault = find_fault(text)
+            found = advice(text, fault) if fault else None
+            assert found
+            self.assertNotIn(mixed, ' '.join(found.shown(text, None)))
+            self.assertIn('At the start of `body`: `dice = ((self * 257) + 1);', found.hint)
 
     def test_protothreads_and_semaphores_that_are_not_declared(self) -> None:
         for call, line, declared in (

@@ -431,6 +431,10 @@ class Warnings(unittest.TestCase):
                       '`receiver a;`', self.seen(two % ('b', ''))[0])
         alone = CODE.replace('code', 'receiver a; code') % 'set t 1; yield_until fired(t);'
         self.assertIn('packets go to the process `a`, which never waits for them', self.seen(alone)[0])
+        self.assertIn('replace it by `yield_until (is(packet) || fired(t)); while is(packet) { .. yield_until '
+                      '(is(packet) || fired(t)); }`', self.seen(alone)[0])
+        self.assertIn('wait by `yield_until is(packet);`', self.seen(
+            'process a; autostart a; receiver a; code a { body { send 1; } }')[0])
 
     def test_one_warning_for_each_cause(self) -> None:
         loop = 'process a; autostart a; code a { body { while 1 { poll a; } } }'

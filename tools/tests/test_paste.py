@@ -68,6 +68,8 @@ code example_broadcas {
   var dice = 1;
   etimer et;
   body {
+    dice = ((self * 257) + 1); dice = (dice * ((2 * dice) + 1));
+    dice = (dice + (dice / 256)); dice = (dice * ((2 * dice) + 1));
     while 1 {
       dice = ((dice * 25173) + 13849); set et ((10 * 4) + ((dice / 256) % (10 * 4)));
       yield_until expired(et);

@@ -24,7 +24,7 @@ class Advice(NamedTuple):
     left out.
 
     above  another line to be inserted, usually further up, and the number of the line below which it belongs
-    below  other lines further down, to be inserted or replaced
+    below  other lines, mostly further down, to be inserted or replaced
     """
     hint: str
     line: str | None = None
@@ -47,8 +47,9 @@ class Advice(NamedTuple):
             return [inserted[0].replace('and insert', 'Insert'), inserted[1], 'and leave %s out.' % which]
         if not self.line:
             return ['Leave %s out%s' % (which, ',' if inserted else '.'), *inserted]
-        below = [line for it in self.below for line in _edited(source, it, offset)]
-        return ['Write, as %s:' % which, _indented(source, self.first, self.line), *inserted, *below]
+        # (a line that is inserted changes the numbers of those below it, which come first)
+        below = [line for it in reversed(self.below) for line in _edited(source, it, offset)]
+        return ['Write, as %s:' % which, _indented(source, self.first, self.line), *below, *inserted]
 
 
 def _which(first: int, last: int, offset: int | None) -> str:
@@ -71,9 +72,11 @@ def _edited(source: str, edit: Edit, offset: int | None) -> list[str]:
     """A line further down that is inserted or replaced."""
     if edit.last >= edit.first:
         return ['and write, as %s:' % _which(edit.first, edit.last, offset), _indented(source, edit.first, edit.line)]
-    # (the line below closes a block, in which the inserted line is the last one)
-    return ['and insert below %s:' % _which(edit.last, edit.last, offset), '  ' + _indented(source, edit.first,
-                                                                                          edit.line)]
+    # (if the next line closes a block, the inserted line is the last one in this block)
+    rows = source.split('\n')
+    below = next((it for it in range(edit.first, len(rows)) if rows[it - 1].strip()), edit.first)
+    return ['and insert below %s:' % _which(edit.last, edit.last, offset),
+            '  ' * rows[below - 1].lstrip().startswith('}') + _indented(source, below, edit.line)]
 
 
 def _indented(source: str, number: int, line: str) -> str:

@@ -43,7 +43,11 @@ SAME_DRAWS = ('in a net of more than 255 motes, mote k + 255 with one seed draws
 OTHER_RECEIVER = ('the process `%s` waits for packets, but they go to the `receiver`, which is `%s`; write `receiver '
                   '%s;` if `%s` is meant')
 NEVER_RECEIVES = ('packets go to the process `%s`, which never waits for them: the report calls them `busy` or drops '
-                  'them unseen; wait by `yield_until is(packet);`, or leave the `receiver` out')
+                  'them unseen; %s, or leave the `receiver` out')
+WAIT_FOR_PACKET = 'wait by `yield_until is(packet);`'
+WAIT_FOR_BOTH = ('it waits for the timer `%s`, too, and a packet must not end this wait, so replace it by `yield_until '
+                 '(is(packet) || fired(%s)); while is(packet) { .. yield_until (is(packet) || fired(%s)); }`, with the '
+                 'statements for a packet instead of the dots')
 NATURAL = 'no number is below 0, so this test is %s true: values are 0 to 65,535, and 0 - 1 is 65,535'
 COUNT_DOWN = '; write `while (x > 0)` to count down'
 NOBODY_SENDS = 'the program waits for packets, but no program of a mote sends one by `send`'
@@ -296,8 +300,11 @@ def of_receiver(program: Program) -> Iterator[Warned]:
                         for at, it in enumerate(words) if it == 'packet')
         if {'packet', 'yield', 'data', 'from'}.intersection(codes[receiver.text]) or is_posted:
             continue
+        code = codes[receiver.text]
+        timers = [code[at + 2] for at, it in enumerate(code[:-2]) if it in ('fired', 'expired')]
+        wait = WAIT_FOR_BOTH % (*timers[:1] * 3,) if timers else WAIT_FOR_PACKET
         text = OTHER_RECEIVER % (waits[0], receiver.text, waits[0], waits[0]) if waits else NEVER_RECEIVES % (
-            receiver.text)
+            receiver.text, wait)
         yield Warned(text, program.name, receiver, instead=''.join(waits[:1]))
 
 

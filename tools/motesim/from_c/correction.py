@@ -12,6 +12,7 @@ from motesim.from_c.expressions import NoCounterpart
 from motesim.from_c.heads import bare_body, end_of_body, process_block
 from motesim.from_c.scope import Scope
 from motesim.from_c.places import Surroundings, head_for, place_below, rest_of_loop
+from motesim.from_c.seed import reasons_with, seed_for
 from motesim.from_c.statements import Statements
 from motesim.from_c.structure import (
     ONE_LINE, begins_unnamed_code, extra_brace, process_line, process_lines, unclosed_block,
@@ -28,7 +29,7 @@ class Correction(NamedTuple):
     """The lines of a program (from 1) to be replaced; the new text, or None if none is known; and the reasons.
 
     above  a line that is to be inserted elsewhere, mostly further up, and the number of the line below which it belongs
-    below  the edits at the ends of blocks that continue below the lines
+    below  the edits at the ends of blocks that continue below the lines, and at the start of their `body`
     """
     first: int
     last: int
@@ -76,8 +77,9 @@ def _spans(text: str, fault: ProgramError) -> Iterator[tuple[int, int]]:
 def _rank(text: str, made: Correction) -> int:
     """2 if a text with a correction has no fault, 1 if its first one is further down, otherwise 0."""
     found = find_fault(made.applied(text))
-    return 2 if found is None else int(found.token.line > made.first + (
-        made.above is not None and made.above[0] < made.first))
+    inserted = [made.above[0]] if made.above else []
+    inserted += [it.last for it in made.below if it.last < it.first]
+    return 2 if found is None else int(found.token.line > made.first + sum(line < made.first for line in inserted))
 
 
 def _above_processes(text: str, declared: str) -> int:
@@ -193,7 +195,9 @@ def correction(text: str, fault: ProgramError) -> Correction | None:
             below = edits_of(text, last, reader.closings)
             if below is None or reader.hides_else and reader.lacks_else and tokens_of(rest)[0].text == 'else':
                 continue
-            made = Correction(first, last, written, reader.writer.shown(), below=below)
+            seed = seed_for(text, first, last, reader.declares)
+            reasons = reasons_with(seed, reader.writer.shown())
+            made = Correction(first, last, written, reasons, below=tuple(sorted((*seed, *below))))
             for above in _insertions(text, reader):
                 made = made._replace(above=above)
                 found.append((0 if _same(source, written) else _rank(text, made), made))

@@ -66,11 +66,17 @@ NO_CALLS = ('There are no functions: a `thread` without waits serves as one. It 
             'variables of its process.')
 # A generator of pseudo-random numbers: its variable, its step, and the number that it yields.
 DICE, STEP, DRAWN = 'dice', 'dice = ((dice * 25173) + 13849);', '(dice / 256)'
+# The declaration of its variable, and the statements that mix its seed.
+FIRST = 'var %s = 1;' % DICE
+MIXED = ('dice = ((self * 257) + 1); dice = (dice * ((2 * dice) + 1)); dice = (dice + (dice / 256)); '
+         'dice = (dice * ((2 * dice) + 1));')
+OF_DRAWN = 'Then `((dice / 256) % 10)` is one of 0 to 9, and `(dice < 6554)` is true 1 time in 10.'
 NO_CHANCE = ('A mote has no random numbers: each run is the same. Use a generator, as below, with a seed that '
-             'differs by mote, and mix the seed, so that motes don\'t draw in step. At the start of `body`: `dice = '
-             '((self * 257) + 1); dice = (dice * ((2 * dice) + 1)); dice = (dice + (dice / 256)); dice = (dice * ((2 * '
-             'dice) + 1));`, for at most 255 motes. Then `((dice / 256) % 10)` is one of 0 to 9, and `(dice < 6554)` '
-             'is true 1 time in 10.')
+             'differs by mote, and mix the seed, so that motes don\'t draw in step. At the start of `body`: `' + MIXED +
+             '`, for at most 255 motes. ' + OF_DRAWN)
+SEEDED = ('A mote has no random numbers: each run is the same. Use a generator, as below, with a seed that differs by '
+          'mote. The statements at the start of `body` mix the seed, so that motes don\'t draw in step, for at most 255 '
+          'motes. ' + OF_DRAWN)
 TOO_LARGE = ('Numbers have 16 bits, 0 to 65,535: a timer is set to 65535 moments at most. Count larger ones in parts, '
              'such as '
              'thousands in a second variable.')

@@ -12,7 +12,7 @@ from motesim.from_c.calls import BROADCAST, CALLS, Calls
 from motesim.from_c.control import Control
 from motesim.from_c.declarations import ABOVE, OF_PACKETS, Declarations
 from motesim.from_c.expressions import (
-    DICE, MOMENTS_OF_SECOND, NO_ARRAYS, NO_CALLS, NO_CHANCE, NO_FIELDS, QUALIFIERS, READ_ONLY, STEP, TYPES,
+    DICE, FIRST, MOMENTS_OF_SECOND, NO_ARRAYS, NO_CALLS, NO_CHANCE, NO_FIELDS, QUALIFIERS, READ_ONLY, STEP, TYPES,
     NoCounterpart, Node,
 )
 from motesim.from_c.scope import allowed, nearest
@@ -111,7 +111,7 @@ class Statements(Declarations, Calls, Control):
             if word in ('while', 'for', 'do') or not self.place.head:
                 raise NoCounterpart(NO_CHANCE)
             if DICE not in self.place.variables:
-                self.declares.append('var %s = 1;' % DICE)
+                self.declares.append(FIRST)
             text = '%s %s' % (STEP, text)
         self.writer.draws, self.begun = outside, begun
         return text
