@@ -221,6 +221,18 @@ class Sentences(unittest.TestCase):
                 read_sentence(sentence, Names(('flood',), 3))
             self.assertIn(hint, str(caught.exception))
 
+    def test_a_range_of_counts_is_two_sentences(self) -> None:
+        for words in 'between 3 and 7 times', '3 to 7 times', 'from 3 to 7 packets', '3-7 times':
+            with self.assertRaisesRegex(SentenceFault, 'Did you mean: two sentences, `mote 1 sends at least 3 times '
+                                        'by 60` and `mote 1 sends at most 7 times by 60`'):
+                read_sentence('mote 1 sends %s by 60' % words)
+        # (of two sentences one could hold for one mote, and the other for another mote)
+        for motes in 'no mote', 'some mote', 'at least 2 motes':
+            with self.assertRaises(SentenceFault) as caught:
+                read_sentence(motes + ' sends between 3 and 7 times')
+            self.assertNotIn('two sentences', str(caught.exception))
+        read_sentence('mote 1 sends between 3 and 7')
+
     def test_just_and_finally_have_neither_order_nor_count(self) -> None:
         for words, seen in (
                 ('finally prints a 1 after mote 0 sends 1', 'no order: .* `mote 3 prints a 1 after mote 0 sends 1`'),
@@ -398,6 +410,21 @@ class Files(unittest.TestCase):
             read_all(['mote 0 sends', 'mote 0 hops'], Names())
         self.assertEqual(raised.exception.which, 'sentence 2 is not known')
         self.assertEqual(str(raised.exception).split('\n')[0], 'sentence 2 is not known')
+
+    def test_all_sentences_that_cannot_be_read_are_shown(self) -> None:
+        text = 'expect = ["mote 0 hops", "mote 0 sends", "mote 0 sends twise"]'
+        err = self.said(text)[1].splitlines()
+        self.assertRegex(err[0], '^expect: /.*/a.expect.toml: sentence 1 is not known$')
+        self.assertIn('sentence 3 is not known', err)
+        self.assertEqual(err[-1].strip(), 'Did you mean: twice')
+        with self.assertRaises(UnknownSentence) as raised:
+            read_all(['mote 0 hops', 'mote 0 sends', 'mote 0 jumps'], Names())
+        self.assertEqual(raised.exception.which, 'sentences 1, 3 are not known')
+        for count, seen in (11, '1 more sentence is not known'), (15, '5 more sentences are not known'):
+            with self.assertRaises(UnknownSentence) as raised:
+                read_all(['mote 0 hops'] * count, Names())
+            self.assertEqual(str(raised.exception).split('\n')[-1], seen)
+            self.assertEqual(raised.exception.which, 'sentences 1, 2, 3, 4, 5, 6, 7, 8, 9, 10, .. are not known')
 
     def test_a_program_that_is_not_compiled_is_no_fault_of_the_expectations(self) -> None:
         with mock.patch.dict(os.environ), mock.patch.object(programs, 'program_of_sources', return_value=None):

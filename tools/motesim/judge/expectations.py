@@ -23,6 +23,8 @@ from motesim.judge.sentences import Names, Refused, Sentence, SentenceFault, lac
 from motesim.toml import NoToml, read_toml
 
 LONGEST_SHOWN = 150
+# The most sentences that can't be read which an error shows.
+MOST_UNKNOWN = 10
 REFUSED = 'the scenario is refused'
 WHOLE = 'the report is the expected one'
 KEYS = {'expect': list, 'required': list, 'report': str, 'change': list, 'about': str, 'replace': dict}
@@ -110,22 +112,30 @@ def changed(scenario: str, replace: dict[str, str]) -> str:
 
 
 class UnknownSentence(Fault):
-    """A sentence that can't be read. `which` names the sentence in one line; the text of the error also shows the place
-    in it."""
+    """Sentences that can't be read. `which` names them in one line; the text of the error also shows the place in each
+    of them."""
 
-    def __init__(self, number: int, explained: str):
-        self.which = 'sentence %d is not known' % number
-        super().__init__('%s\n%s' % (self.which, explained))
+    def __init__(self, unknown: Sequence[tuple[int, str]]):
+        numbers = [str(number) for number, _ in unknown[:MOST_UNKNOWN]]
+        left = len(unknown) - MOST_UNKNOWN
+        rows = ['sentence %s is not known\n%s' % (number, explained)
+                for number, (_, explained) in zip(numbers, unknown)]
+        rows += ['{:,} more {} not known'.format(left, 'sentence is' if left == 1 else 'sentences are')] * (left > 0)
+        self.which = ('sentence %s is not known' if len(unknown) == 1 else 'sentences %s are not known') % (
+            ', '.join(numbers) + ', ..' * (left > 0))
+        super().__init__('\n'.join(rows))
 
 
 def read_all(sentences: list[str], names: Names) -> list[Sentence]:
-    """The sentences of a part. Raises an `UnknownSentence` at the first one that can't be read."""
-    found = []
+    """The sentences of a part. Raises an `UnknownSentence` if some of them can't be read."""
+    found, unknown = list[Sentence](), list[tuple[int, str]]()
     for number, sentence in enumerate(sentences, 1):
         try:
             found.append(read_sentence(sentence, names))
         except SentenceFault as fault:
-            raise UnknownSentence(number, fault.explained) from None
+            unknown.append((number, fault.explained))
+    if unknown:
+        raise UnknownSentence(unknown) from None
     return found
 
 

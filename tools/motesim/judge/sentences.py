@@ -26,6 +26,9 @@ COMPARES = {
     'at least': operator.ge, 'at most': operator.le, 'exactly': operator.eq, 'more than': operator.gt,
     'fewer than': operator.lt,
 }
+# A range of counts, which sentences don't have.
+COUNT_RANGE = re.compile(r'\b(?:between |from )?(?P<least>\d+)(?: and | to | ?- ?)(?P<most>\d+) '
+                         r'(?:times|packets|messages)\b', re.I)
 # The greatest number of times that a sentence is read, each time with one more word respelled.
 MOST_READINGS = 4
 VERBS = ('print', 'send', 'receive', 'start', 'leave', 'halt', 'write')
@@ -728,8 +731,26 @@ def read_sentence(sentence: str, names: Names = Names()) -> Sentence:
     try:
         return _read(sentence, names)
     except SentenceFault as fault:
-        like = next((it for it in rewritten(sentence) if _is_read(it, names)), None) or _respelled(sentence, names)
+        like = (next((it for it in rewritten(sentence) if _is_read(it, names)), None) or _in_two(sentence, names)
+                or _respelled(sentence, names))
         raise SentenceFault(sentence, fault.place, fault.wanted, fault.hint, like) if like else fault from None
+
+
+def _in_two(sentence: str, names: Names) -> str | None:
+    """Two sentences that mean a range of counts, such as `between 3 and 7 times`. None if the sentence has none, or if
+    the two sentences could hold for different motes."""
+    found = COUNT_RANGE.search(sentence)
+    if not found:
+        return None
+    both = [''.join((sentence[:found.start()], bound, ' times', sentence[found.end():]))
+            for bound in ('at least ' + found['least'], 'at most ' + found['most'])]
+    for it in both:
+        if not _is_read(it, names):
+            return None
+        its = _read(it, names)
+        if not isinstance(its, Does) or its.motes.kind not in ('each', 'together'):
+            return None
+    return 'two sentences, `%s` and `%s`' % tuple(both)
 
 
 def _respelled(sentence: str, names: Names) -> str | None:
