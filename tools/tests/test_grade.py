@@ -455,6 +455,14 @@ class Nets(Folder):
         options = set(re.findall(r'^  (--?[a-z-]+)', self.grade('--help'), re.M)) - {'-h', '--version'}
         self.assertEqual(options - named, set())
 
+    def test_no_two_pages_fill_the_same_folder(self) -> None:
+        # (readers may follow several pages in one clone, and a folder of solutions has a row for each file)
+        pages = sorted((TOOLS.parent / 'docs/use').glob('*.md'))
+        filled = [folder for page in pages
+                  for folder in set(re.findall(r'mkdir (?:-p )?(\w+)', page.read_text('utf-8')))]
+        self.assertGreater(len(filled), 2)
+        self.assertEqual(len(filled), len(set(filled)), filled)
+
     def test_a_process_that_nothing_starts_is_named(self) -> None:
         need_program(self)
         self.stub = program_path()
