@@ -8,10 +8,10 @@ Its tools need Python 3.11 or newer. Nothing is installed, and nothing is fetche
 
 The archive has the files that git knows. To add folders and files of your own, such as an exercise and its worksheet,
 name them: tools/pack examples/mylab worksheet.pdf. Files from outside this tree are at the top of the archive. A
-file isn't packed if a word of its name, or of its folder's, begins with `solution`, `hidden`, `answer` or `marks`,
-even if you name it; nor are key.csv and docs/use/TEACH.md. With --for-teachers all these files are packed too.
+file isn't packed if a word of its name, or of its folder's name, begins with `solution`, `hidden`, `answer` or
+`marks`, even if you name it; nor are key.csv and docs/use/TEACH.md. With --for-teachers all these files are packed too.
 Files and folders whose names begin with a dot are never packed, and neither are copies that an editor made, NAME~.
-tools/pack lists the files that it adds to the repository's own files, and those that it leaves out.
+tools/pack lists the files that it adds to the repository's own files, and the files that it leaves out.
 
 The archive has the binary that the environment variable MOTESIM names, or without it the proved `motesim` of these
 sources, if ./prove has built it; the page PROVED.md then describes the proof and the kit. Otherwise it has a binary

@@ -2,9 +2,9 @@
 
 A and B are reports, or scenarios, which are run. The first difference is the difference at the earliest moment, not on
 the first line. It is shown with the mote, the moment, the line of each side, and the last packets and events of that
-mote before it. Differences between two scenarios are listed too. The tool also shows the first collision that only one
-of the two reports has, and the number of lines that differ, by mote and by kind. `--html FILE` writes a page with one
-timeline above the other.
+mote before the difference. Differences between two scenarios are listed too. The tool also shows the first collision
+that only one of the two reports has, and the number of lines that differ, for each mote and for each kind of line.
+`--html FILE` writes a page with one timeline above the other.
 
 The tool ends with status 0 if the reports are the same, 1 if they differ, and 2 if a report can't be read.
 """

@@ -44,9 +44,9 @@ def arguments() -> argparse.Namespace:
     words.add_argument('--hidden', action='append', default=[], metavar='NET', type=Path,
                        help='run the programs in this net too, but keep it out of a page of marks')
     words.add_argument('--vary', action='append', default=[], metavar='NAME=VALUES',
-                       help='values of a parameter of the plans of --net, such as seed=1..5')
+                       help='values of a parameter of the plans that --net names, such as seed=1..5')
     words.add_argument('--vary-hidden', action='append', default=[], metavar='NAME=VALUES',
-                       help='values of a parameter of the plans of --hidden, such as seed=77..79')
+                       help='values of a parameter of the plans that --hidden names, such as seed=77..79')
     words.add_argument('--program', metavar='NAME', help='the program that the students write, if a net has several')
     words.add_argument('--seconds', type=float, default=SECONDS, metavar='N',
                        help='the limit of a run, in seconds of processor time (20)')
@@ -65,7 +65,7 @@ def arguments() -> argparse.Namespace:
     words.add_argument('--write', metavar='FOLDER', type=Path,
                        help='also write each program in each net as a scenario, to look at it in the studio')
     words.add_argument('--excel', action='store_true',
-                       help='give NAME.csv a byte order mark, and `;` between its cells')
+                       help='write NAME.csv with a byte order mark, and with `;` between the cells')
     words.add_argument('--csv', action='store_true', help='print the marks in CSV')
     words.add_argument('--why', metavar='NAME', help='show what breaks the sentences in one solution')
     asked = words.parse_args()

@@ -23,7 +23,7 @@ def main() -> int:
     words.add_argument('--last-lines', metavar='N', type=int, help='show only the last N lines')
     words.add_argument('--first-lines', metavar='N', type=int, help='show only the first N lines')
     form = words.add_mutually_exclusive_group()
-    form.add_argument('--counts', action='store_true', help='show only the numbers of lines, by mote and kind')
+    form.add_argument('--counts', action='store_true', help='show only the number of lines of each mote and kind')
     form.add_argument('--csv', action='store_true', help='write a table in CSV, with a row for each line')
     form.add_argument('--json', action='store_true', help='write a JSON object for each line')
     asked = words.parse_intermixed_args()

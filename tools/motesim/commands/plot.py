@@ -52,15 +52,15 @@ def arguments() -> argparse.Namespace:
                        help='report where each curve crosses this value; with --show cdf, the share of runs with at '
                             'most this value')
     words.add_argument('--over', metavar='NAMES',
-                       help='the parameters in which runs of a point may differ (`seed` and those with the ending '
+                       help='the parameters in which runs of a point may differ (`seed`, and names with the ending '
                             '`_seed`)')
     words.add_argument('--nets', action='store_true', help='average the runs of each net first: each net counts once')
     words.add_argument('--compare', metavar='RESULTS', help='the other side of a comparison, run by run')
     words.add_argument('--pair', metavar='NAME=ONE,OTHER', help='compare two values of a parameter, run by run')
     words.add_argument('--where', action='append', default=[], metavar='NAME=VALUES',
                        help='use only runs with these values: 20, or 10,20, or 10..30')
-    words.add_argument('--title', metavar='TEXT', help="the title of the picture; '' is none")
-    words.add_argument('--footer', metavar='TEXT', help="the text below the picture; '' is none")
+    words.add_argument('--title', metavar='TEXT', help="the title of the picture; '' for no title")
+    words.add_argument('--footer', metavar='TEXT', help="the text below the picture; '' for no text")
     words.add_argument('--x', metavar='TEXT', default='', help='the text at the horizontal axis')
     words.add_argument('--y', metavar='TEXT', default='', help='the text at the vertical axis')
     words.add_argument('--label', action='append', default=[], metavar='VALUE=TEXT',

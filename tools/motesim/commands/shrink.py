@@ -29,13 +29,13 @@ def main() -> int:
     words = words_of(__doc__)
     words.add_argument('scenario', metavar='SCENARIO', help='a scenario, NAME.toml')
     words.add_argument('expectation', nargs='?', metavar='EXPECTATION',
-                       help='a sentence of tools/expect, or a file of them')
+                       help='a sentence of tools/expect, or a file of sentences')
     words.add_argument('-o', dest='output', metavar='FILE', help='the result; by default NAME.small.toml')
     words.add_argument('--keep', action='append', default=[], metavar='SENTENCE',
                        help='a sentence that has to hold throughout')
     words.add_argument('--fault', action='append', default=[], metavar='FAULT',
-                       help='a fault, such as `lose 0 1 1`: with it the expectation has to be broken, and without it '
-                            'to hold')
+                       help='a fault, such as `lose 0 1 1`: the expectation has to be broken with this fault, and to hold '
+                            'without it')
     words.add_argument('--steps', action='store_true', help='show each step')
     words.add_argument('--seconds', type=float, default=SECONDS, metavar='N',
                        help='the limit of a run, in seconds (10)')

@@ -1,11 +1,11 @@
-"""Counts what happened in a run, by mote, for the net, and by link: tools/summary REPORT [--scenario FILE]
+"""Counts what happened in a run, for each mote, the net and each link: tools/summary REPORT [--scenario FILE]
 
 REPORT is a report, or a scenario, which is run; `-` is standard input. `--scenario FILE` names the scenario of a
 report: then links that carried nothing are shown too.
 
 For a mote and for the net
   sent      packets that it sent
-  copies    copies of packets that were on their way to it, of which
+  copies    copies of packets that were on their way to it; of these:
   received    copies that it received
   lost        copies that the medium lost
   ring        copies that found eight packets waiting
@@ -13,7 +13,7 @@ For a mote and for the net
               collided with another packet of the same sender and moment
   halted      copies that arrived after it had halted
   late        copies that would have arrived after the end
-  ratio     the share of received copies in all that were not late
+  ratio     the share of received copies among all copies that weren't late
   posted    events that its queue accepted
   taken     events that reached a process; an event for all processes counts once for each process
   dropped   events whose process wasn't running
@@ -25,12 +25,12 @@ For a link
 
 `--flow "print sink"` shows flows from end to end instead: each line `print sink V` is a delivery of the message V,
 which began with the first packet of that value, at the mote that sent it. With `--flow "print source -> print sink"`
-messages begin with a print. For an origin, and for the net
+messages begin with a print. For each mote at which messages began (an origin), and for the net
   sent      messages that began there
   delivered messages that arrived at another mote at least once; ratio is their share
   reached   the number of motes that a message reached, on average
   copies    all deliveries; duplicates are deliveries to a mote that had the message already
-  hops      least hops to the motes reached, on average, if the scenario is known
+  hops      the least number of hops to the reached motes, on average, if the scenario is known
   least, middle, most   moments from a message's beginning to its first delivery at a mote
 
 `--by N` shows the counts for every N moments instead: docs/use/TOOLS.md describes the columns of this table.
@@ -59,7 +59,8 @@ def main() -> int:
     part.add_argument('--links', action='store_true', help='show only the table of links')
     part.add_argument('--flow', metavar='WORDS', help='show flows from end to end, such as "print sink"')
     words.add_argument('--by', metavar='N', type=int,
-                       help='show the counts for each interval of N moments; with --flow, of messages that began in it')
+                       help='show the counts for each interval of N moments; with --flow: for the messages that began '
+                            'in it')
     asked = words.parse_args()
     if asked.by is not None and (asked.motes or asked.links):
         words.error('--by is for the whole net: it can\'t be combined with --motes or --links')

@@ -54,7 +54,7 @@ def main() -> int:
     words.add_argument('--jobs', type=int, default=os.cpu_count() or 1, metavar='N',
                        help='the number of simultaneous runs (one for each processor)')
     words.add_argument('--seconds', type=float, metavar='N',
-                       help='the limit of a run, in seconds of processor time (that of the plan, or 60)')
+                       help='the limit of a run, in seconds of processor time (the plan\'s limit, or 60)')
     words.add_argument('--bytes', type=int, default=MOST_BYTES, metavar='N',
                        help='the limit of a report, in bytes (200,000,000)')
     words.add_argument('--dask', metavar='ADDRESS', help='send the runs to the Dask scheduler at this address')
