@@ -817,7 +817,13 @@ class Forms(Folder):
         self.hand_in('gus_never_ends.mote', PROGRAM % 4)
         words = '--net', 'task.toml', '--why'
         self.assertIn('broken  every mote prints a 3', self.grade(*words, 'gus'))
-        self.assertEqual(self.seen, 'grade: --why gus shows gus_never_ends.mote, the only entry that begins so\n')
+        self.assertEqual(self.seen, 'grade: --why gus shows gus_never_ends.mote, the only solution that begins so\n')
+        for notes in 'gus.txt', 'gus_never_ends.zip':
+            self.hand_in(notes, 'notes')
+        for name in 'gus', 'gus_never_ends':
+            self.assertIn('broken  every mote prints a 3', self.grade(*words, name))
+        self.assertIn('its name ends neither', self.grade(*words, 'gus_never_ends.z'))
+        self.assertIn('gus_never_ends.zip, the only file that begins so', self.seen)
         self.hand_in('gus_again.mote', PROGRAM % 3)
         self.grade(*words, 'gus', status=2)
         self.assertEqual(self.seen, 'grade: class has several solutions gus: --why needs the whole name of one: '

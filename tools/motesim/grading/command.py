@@ -127,14 +127,20 @@ def listed(names: Sequence[str]) -> str:
     return ', '.join([*names[:MOST_NAMES], *(['..'] if len(names) > MOST_NAMES else [])])
 
 
+def meant_by(name: str, entries: Sequence[Entry]) -> list[Entry]:
+    """The entries with this name and an ending or, if there are none, those whose names begin so."""
+    return [it for it in entries if it.name.rpartition('.')[0] == name] or [
+        it for it in entries if name and it.name.startswith(name)]
+
+
 def entry_of(name: str, entries: Sequence[Entry], folder: Path) -> Entry:
     """The solution that a name means: the whole name, the name without its ending, or the beginning of only one name.
-    Raises a `Fault` that lists the solutions if there is none or if there are several."""
+    Another file, such as notes, is meant only if no solution is. Raises a `Fault` that lists the solutions if there is
+    none or if there are several."""
     found = next((it for it in entries if it.name == name), None)
     if found:
         return found
-    meant = [it for it in entries if it.name.rpartition('.')[0] == name] or [
-        it for it in entries if name and it.name.startswith(name)]
+    meant = meant_by(name, [it for it in entries if it.is_solution]) or meant_by(name, entries)
     if len(meant) > 1:
         raise Fault('%s has several solutions %s: --why needs the whole name of one: %s' % (
             folder, name, listed([it.name for it in meant])))
@@ -150,7 +156,8 @@ def others_of(name: str, entry: Entry, entries: Sequence[Entry]) -> list[str]:
     """A line if a name may mean another solution: if it is only the beginning of the entry's name, or if other
     solutions have this name with an ending."""
     if name not in (entry.name, entry.name.rpartition('.')[0]):
-        return ['--why %s shows %s, the only entry that begins so' % (shlex.quote(name), entry.name)]
+        what = 'solution' if entry.is_solution else 'file'
+        return ['--why %s shows %s, the only %s that begins so' % (shlex.quote(name), entry.name, what)]
     others = [it.name for it in entries if it.name.rpartition('.')[0] == entry.name]
     return ['--why %s shows the entry %s; other entries are %s' % (
         shlex.quote(entry.name), entry.name, ', '.join(others))] if others else []
