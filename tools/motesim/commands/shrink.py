@@ -34,8 +34,8 @@ def main() -> int:
     words.add_argument('--keep', action='append', default=[], metavar='SENTENCE',
                        help='a sentence that has to hold throughout')
     words.add_argument('--fault', action='append', default=[], metavar='FAULT',
-                       help='a fault, such as `lose 0 1 1`: the expectation has to be broken with this fault, and to hold '
-                            'without it')
+                       help='a fault, such as `lose 0 1 1`: the expectation has to be broken with this fault, and to '
+                            'hold without it')
     words.add_argument('--steps', action='store_true', help='show each step')
     words.add_argument('--seconds', type=float, default=SECONDS, metavar='N',
                        help='the limit of a run, in seconds (10)')
