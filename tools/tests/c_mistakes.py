@@ -12,8 +12,8 @@ BODY, HEAD, TOP = 'body', 'head', 'top'
 RIGHT: list[tuple[str, str, str]] = [
     # Sensors, and connections over several hops.
     (BODY, 'SENSORS_ACTIVATE(button_sensor);', ''),
-    (BODY, 'x = sht11_sensor.value(SHT11_SENSOR_TEMP);', 'x = (20 + (now % 10));'),
-    (BODY, 'printf("%d\\n", light_sensor.value(0));', 'print (20 + (now % 10));'),
+    (BODY, 'x = sht11_sensor.value(SHT11_SENSOR_TEMP);', 'x = (20 + (((now / 10) + self) % 13));'),
+    (BODY, 'printf("%d\\n", light_sensor.value(0));', 'print (20 + (((now / 10) + self) % 13));'),
     (BODY, 'collect_open(&tc, 130, COLLECT_ROUTER, &callbacks);', ''),
     (BODY, 'send x;\nrunicast_send(&r, &to, 4);', 'send x;'),
     (BODY, 'send x;\ncollect_send(&tc, 15);', 'send x;'),

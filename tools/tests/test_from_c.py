@@ -4,6 +4,7 @@ import unittest
 import c_mistakes
 from here import TOP
 from motesim.explain.advice import advice
+from motesim.from_c.absent import READING
 from motesim.from_c.correction import correction
 from motesim.from_c.scope import Scope, allowed
 from motesim.from_c.places import Surroundings
@@ -486,6 +487,27 @@ class BelowTheProcesses(unittest.TestCase):
         for words in 'static PT_THREAD', 'PT_THREAD':
             thread = words + '(work(struct pt *pt))\n{\n  PT_BEGIN(pt);\n  PT_YIELD(pt);\n  PT_END(pt);\n}'
             self.assertEqual(self.corrected(thread), ('', (11, 'thread work { yield; }')))
+
+
+class Readings(unittest.TestCase):
+    """The value that a program computes instead of a sensor's."""
+
+    def test_it_differs_at_the_multiples_of_an_interval(self) -> None:
+        value = compile(READING.replace('/', '//'), 'reading', 'eval')
+        # (intervals of 0.1 to 100 seconds with 10 moments each, and with CLOCK_SECOND, 128)
+        for interval in (*range(1, 30), *range(30, 130, 5), *range(150, 601, 50), 128, 256, 512, 1000, 1280):
+            with self.subTest(interval):
+                read = {eval(value, {'now': at % 65_536, 'self': 0}) for at in range(0, 40 * interval, interval)}
+                self.assertGreater(len(read), 1)
+        motes = [eval(value, {'now': 40, 'self': mote}) for mote in range(13)]
+        self.assertEqual(sorted(motes), list(range(20, 33)))
+
+    def test_two_corrections_together_leave_a_value_that_changes(self) -> None:
+        lines = 'etimer_set(&t, 4 * CLOCK_SECOND);', 'x = sht11_sensor.value(0);'
+        written = [Statements(it, Scope({'x': 'variable', 't': 'timer'})).written() for it in lines]
+        self.assertEqual(written, ['set t (4 * 10);', 'x = %s;' % READING])
+        read = [eval(READING.replace('/', '//'), {'now': at, 'self': 1}) for at in range(0, 200, 40)]
+        self.assertEqual(read, [21, 25, 29, 20, 24])
 
 
 class Arguments(unittest.TestCase):

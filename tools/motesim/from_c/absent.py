@@ -1,12 +1,14 @@
 """Parts of Contiki that motes don't have, each with what a program does instead."""
 from __future__ import annotations
 
-# A value of a sensor, which changes with the moment.
-READING = '(20 + (now % 10))'
+# A value of a sensor, which changes with the moment. A process mostly reads it at multiples of an interval: 13 divides
+# no usual one, so these readings differ.
+READING = '(20 + (((now / 10) + self) % 13))'
 NO_SENSORS = ('A mote has no sensors and no buttons. A program computes its values, such as `%s`, and waits for a '
               'timer instead of a button: `set t 50; yield_until fired(t);`.' % READING)
 NO_ACTIVATION = 'A mote has no sensors, so nothing is activated: leave this line out.'
-OF_READING = 'A mote has no sensors: choose a value, such as `%s`, which changes with the moment.' % READING
+OF_READING = ('A mote has no sensors: choose a value, such as `%s`, which is 20 to 32, changes every 10 moments, and '
+              'differs between neighbouring motes. (A timer of 130 moments would always read the same value.)' % READING)
 UNICAST = ('A packet goes to all motes that hear it; its value may say for whom it is: `send ((dest * 256) + x);`, '
            'and the receiver tests `((data / 256) == self)`.')
 RUNICAST = UNICAST + (' No packet is acknowledged or sent again by itself: the receiver sends an answer, and the '
