@@ -253,12 +253,9 @@ class Texts(unittest.TestCase):
         program = changed_program(PROGRAM.replace('etimer t;', 'etimer t;\n  ctimer c { send 1; }'), DIES, 5)
         self.assertIn('while 1 {\n    }\n', program)
         self.assertNotIn('kill flood', program)
-
-    def test_mote_whose_processes_end_themselves_is_killed(self) -> None:
-        ends = PROGRAM.replace('send 7;', 'send 7;\n      exit;')
-        self.assertIn('kill flood', changed_program(ends, DIES, 5))
-        waits = PROGRAM.replace('is(packet)', '(is(packet) || is(exit))')
-        self.assertIn('while 1 {\n    }\n', changed_program(waits, DIES, 5))
+        # (a process that is killed runs once more, and after a plain `yield` it could send)
+        ends = changed_program(PROGRAM.replace('yield_until is(packet);', 'yield; send 1; exit;'), DIES, 5)
+        self.assertNotIn('kill flood', ends)
 
     def test_names_that_are_taken(self) -> None:
         text = PROGRAM.replace('flood', 'failing').replace('etimer t', 'etimer wait').replace(' t ', ' wait ')
@@ -482,17 +479,18 @@ class Searches(unittest.TestCase):
             self.assertNotIn('holds in', said)
 
     def test_expectation_about_halts_where_the_added_process_halts(self) -> None:
-        text = DIAMOND.replace('  etimer t;\n', '  etimer t;\n  ctimer c { print 9; }\n')
         early, late = 'no mote halts by 50', 'no mote halts after 50'
-        with folder_with(text, sentences=[REACHED, 'no mote halts', early, late]) as folder:
-            sets, found, said = minimal_sets(folder, '--faults', 'deaths', '--moments', '5,90')
-            self.assertEqual(sets, {REACHED: {frozenset(('mote %d fails at 5' % mote,)) for mote in (0, 3)}})
-            self.assertEqual([it.rpartition(': ')[2] for it in found['notes']], ['no mote halts', early, late])
-            self.assertEqual(found['holds'], [])
-        ends = DIAMOND.replace('send 7;', 'send 7;\n      exit;')
-        with folder_with(ends, sentences=['no mote halts']) as folder:
-            sets, found, said = minimal_sets(folder, '--faults', 'deaths', '--moments', '5,90')
-            self.assertEqual((sets, found['holds'], found['notes']), ({}, ['no mote halts'], []))
+        for old, text in ('  etimer t;\n', '  etimer t;\n  ctimer c { print 9; }\n'), ('send 7;', 'send 7; exit;'):
+            changed = DIAMOND.replace(old, text)
+            with folder_with(changed, sentences=[REACHED, 'no mote halts', early, late]) as folder:
+                sets, found, _ = minimal_sets(folder, '--faults', 'deaths', '--moments', '5,90')
+                self.assertEqual(sets, {REACHED: {frozenset(('mote %d fails at 5' % mote,)) for mote in (0, 3)}})
+                self.assertEqual([it.rpartition(': ')[2] for it in found['notes']], ['no mote halts', early, late])
+                self.assertEqual(found['holds'], [])
+                # (a sentence about other moments than that of the failure is judged)
+                for sentence, moment in (late, '5'), (early, '90'):
+                    _, found, _ = minimal_sets(folder, '--expect', sentence, '--faults', 'deaths', '--moments', moment)
+                    self.assertEqual((found['holds'], found['notes']), ([sentence], []))
 
     def test_copies_that_are_not_lost_alone_are_counted(self) -> None:
         # (mote 0 sends two packets, of which only the second can be lost alone; the others send one packet)

@@ -135,7 +135,7 @@ def read_all(sentences: list[str], names: Names) -> list[Sentence]:
         except SentenceFault as fault:
             unknown.append((number, fault.explained))
     if unknown:
-        raise UnknownSentence(unknown) from None
+        raise UnknownSentence(unknown)
     return found
 
 

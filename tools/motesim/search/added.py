@@ -3,7 +3,8 @@
 A program gets one more process, which waits for the moment. In a mote that fails, this process then kills the others.
 In a mote that starts late, it is the only process that starts at boot, and it then starts the others. If processes of
 the program could continue after a kill, by callback timers, by a block `onexit`, or by starting one another, an
-endless loop stops the program instead of kills: it halts the mote.
+endless loop stops the program instead of kills: it halts the mote. The loop also stops each program with the word
+`exit`, whether this is the event or the statement.
 """
 from __future__ import annotations
 
@@ -16,8 +17,7 @@ DIES, LATE = 'fails', 'starts late'
 NAMES = {DIES: 'failing', LATE: 'starting'}
 # The longest wait of one timer, in moments.
 LONGEST_WAIT = 60_000
-# The words with which a program can do something after its processes were killed. The statement `exit;` isn't one of
-# them, but the event `exit` is, as in `is(exit)`.
+# The words with which a program can do something after its processes were killed.
 GOES_ON = frozenset(('ctimer', 'onexit', 'start', 'gone', 'exited', 'exit'))
 
 
@@ -27,9 +27,7 @@ class NoRoom(Fault):
 
 def halts(program: str) -> bool:
     """Returns whether a mote with this program fails by halting, because killing its processes might not silence it."""
-    tokens = tokens_of(program)
-    return any(token.text in GOES_ON and not (token.text == 'exit' and after.text == ';')
-               for token, after in zip(tokens, tokens[1:]))
+    return any(token.text in GOES_ON for token in tokens_of(program))
 
 
 def processes_of(tokens: list[Token]) -> list[str]:
