@@ -634,8 +634,8 @@ class Command(unittest.TestCase):
 
     def test_means_with_intervals(self) -> None:
         rows = self.plot('--measure', 'sent', '--against', 'period', '--where', 'density=thin', '--show', 'mean')
-        self.assertEqual(' '.join(rows[0]), "sent against period, over seed: means with intervals of 95 % by "
-                                            "Student's t")
+        self.assertEqual(' '.join(rows[0]), "sent against period, only runs with density=thin, over seed: means with "
+                                            "intervals of 95 % by Student's t")
         # (the seeds 1 to 5 around 3: 2.776 * 0.7071 = 1.963)
         self.assertEqual(rows[1:3], [['period', 'runs', 'mean', 'low', 'high', 'interval'],
                                      ['1', '5', '13.000', '11.037', '14.963', 't']])
@@ -1188,6 +1188,34 @@ class Command(unittest.TestCase):
         for words in ('--show', 'median'), ('--threshold', '3'):
             self.plot('--measure', 'sent', '--against', 'period', '--pair', 'density=thin,dense', *words, status=2)
             self.assertIn('leave out %s' % words[0], self.seen)
+
+    def test_a_comparison_shows_means_so_that_they_can_be_named(self) -> None:
+        words = '--measure', 'sent', '--against', 'period', '--pair', 'density=thin,dense'
+        self.assertEqual(self.plot(*words, '--show', 'mean'), self.plot(*words))
+        interpreter_with(self, 'matplotlib')
+        picture = '[[plot]]\nfile = "a.svg"\nmeasure = "sent"\nagainst = "period"\npair = "density=thin,dense"\n'
+        for show in 'mean', 'median':
+            (self.folder / 'a.plan.toml').write_text('parameters = {}\n%sshow = "%s"\n' % (picture, show))
+            self.plot('--plan', 'a.plan.toml', status=2 * (show == 'median'))
+            self.assertEqual('A comparison run by run shows the means' in self.seen, show == 'median', self.seen)
+
+    def test_selected_runs_are_named_in_the_heading_the_table_and_below_a_title(self) -> None:
+        words = '--measure', 'sent', '--against', 'period', '--where', 'density=thin', '--where', 'seed=1..3'
+        named = 'only runs with density=thin and seed=1..3'
+        self.assertIn('sent against period, %s, over seed' % named, ' '.join(self.plot(*words)[0]))
+        pair = '--measure', 'sent', '--against', 'period', '--pair', 'density=thin,dense', '--where', 'seed=1..3'
+        self.assertIn('sent against period, only runs with seed=1..3: density dense less', ' '.join(
+            self.plot(*pair)[0]))
+        interpreter_with(self, 'matplotlib')
+        for title in (), ('--title', 'Sent'):
+            self.plot(*words, *title, '-o', 'a.svg')
+            self.assertEqual(' '.join((self.folder / 'a.svg').read_text().split()).count(named), 1)
+            with open(self.folder / 'a.table.csv', newline='') as file:
+                self.assertEqual({row['where'] for row in csv.DictReader(file)}, {'density=thin seed=1..3'})
+        self.plot(*pair, '--title', 'Sent', '-o', 'a.svg')
+        self.assertIn('only runs with seed=1..3', (self.folder / 'a.svg').read_text())
+        self.plot(*words[:4], '--by', 'density', '-o', 'a.svg')
+        self.assertNotIn('where', (self.folder / 'a.table.csv').read_text().splitlines()[0])
 
     def test_a_comparison_has_a_line_for_each_value(self) -> None:
         words = '--measure', 'sent', '--against', 'period', '--compare', 'more.csv', '--by', 'density'

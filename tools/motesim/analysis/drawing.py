@@ -14,7 +14,7 @@ from motesim.analysis.origin import origin_path
 from motesim.analysis.paired import Difference
 from motesim.analysis.points import Point, Shown, Wish, order
 from motesim.analysis.text import MOST_BELOW, by_methods, counted, crossings_in_short, crossings_of, heading, left_out
-from motesim.analysis.text import parts_at_most, remarks, threshold_of
+from motesim.analysis.text import parts_at_most, remarks, selected_below, threshold_of
 from motesim.experiments import packages
 from motesim.experiments.measures import Cell
 from motesim.experiments.results import number_text, text_of
@@ -311,7 +311,8 @@ def _note(shown: Shown, wish: Wish) -> str:
     what = {'median': 'median, and quartiles', 'points': 'all runs', 'cdf': 'part of the runs', 'heat': 'mean'}.get(
         wish.show, of_mean if shown.methods() else 'mean')
     note = '%s over %s (%s %s%s)' % (what, ', '.join(shown.over), runs, counted(wish), of_nets) if shown.over else ''
-    first = '; '.join(it for it in [note, *left_out(shown, wish, MOST_BELOW), *remarks(shown, wish)] if it)
+    lines = [note, *selected_below(wish), *left_out(shown, wish, MOST_BELOW), *remarks(shown, wish)]
+    first = '; '.join(filter(None, lines))
     return '\n'.join(it for it in [first, *crossings_in_short(shown, wish)] if it)
 
 

@@ -172,7 +172,17 @@ def heading(shown: Shown, wish: Wish) -> str:
     if shown.along and shown.is_ordered and wish.show in ('mean', 'median'):
         against += ', in the order of %s' % shown.along[0]
     nets = ', averaged by net first' if wish.nets else ''
-    return '%s%s%s%s%s' % (wish.measure, against, over, nets, how(shown, wish))
+    return '%s%s%s%s%s%s' % (wish.measure, against, selected(wish), over, nets, how(shown, wish))
+
+
+def selected(wish: Wish) -> str:
+    """The part of a heading that says which runs are shown, if not all are."""
+    return ', only runs with %s' % ' and '.join(wish.where) if wish.where else ''
+
+
+def selected_below(wish: Wish) -> list[str]:
+    """The same for the text below a picture whose title doesn't say it, because the user wrote the title."""
+    return [selected(wish).removeprefix(', ')] if wish.where and wish.title is not None else []
 
 
 def how(shown: Shown, wish: Wish) -> str:

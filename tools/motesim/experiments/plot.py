@@ -47,7 +47,7 @@ MOST_SHOWN = 12
 GENERAL: tuple[Measured, ...] = ('any', 'count', 'share', 'yes or no')
 # The views without a measure on the vertical axis.
 NOT_UPWARDS = ('cdf', 'heat')
-# Options that have no effect in a comparison run by run, and are refused.
+# Options that have no effect in a comparison run by run, and are refused; it shows means.
 NOT_IN_PAIRS = ('show', 'threshold', 'log_y')
 
 
@@ -77,7 +77,7 @@ def wishes_of(plan: Plan) -> list[Wish]:
         if values['pair'] and values['compare']:
             raise tables.fault(path + ('pair',), 'A plot has one comparison.', '`pair` or `compare`, not both', False)
         for key in NOT_IN_PAIRS if is_paired else ():
-            if key in given:
+            if key in given and (key, given[key]) != ('show', 'mean'):
                 raise tables.fault(path + (key,), 'A comparison run by run shows the means of the '
                                                   'differences.', 'a plot without `%s`' % key, False)
         if values['log_y'] and values['show'] in NOT_UPWARDS:
@@ -142,10 +142,12 @@ def _text_of_where(tables: Tables, path: tuple[str | int, ...], value: object) -
 
 
 class Source(NamedTuple):
-    """The source of the rows: the folder for pictures, the files, and the command for the origin of a picture."""
+    """The source of the rows: the folder for pictures, the files, the command for the origin of a picture, and which
+    runs were selected."""
     folder: Path
     files: tuple[Path, ...]
     command: str
+    where: tuple[str, ...] = ()
 
 
 def write_tables(picture: Path, made: Sequence[text.Row], source: Source, rows: Sequence[Row],
@@ -156,6 +158,8 @@ def write_tables(picture: Path, made: Sequence[text.Row], source: Source, rows: 
         if other != picture and other.exists() and origin_path(picture).exists():
             print('plot: %s and %s belonged to %s, and now belong to %s' % (
                 table_path(picture), origin_path(picture), other, picture), file=sys.stderr)
+    if source.where:
+        made = [{**row, WHERE: ' '.join(source.where)} for row in made]
     for path, words in ((table_path(picture), text.csv_of(made)),
                         (origin_path(picture), origin_of(source.command, source.files, rows, notes))):
         try:
@@ -227,8 +231,9 @@ def compare(sides: Sides, wish: Wish, source: Source) -> bool:
                     partial(wish.kind_of, wish.measure), wish.draws), key=lambda it: order(it.against))]
     text.check_log_of([it.against for it in found], wish)
     by = text.by_methods([it.difference.method for it in found])
-    words = '%s against %s: %s less %s, %s' % (wish.measure, wish.against, names[1], names[0],
-                                               'run by run, and averaged by net' if wish.nets else 'run by run')
+    words = '%s against %s%s: %s less %s, %s' % (
+        wish.measure, wish.against, text.selected(wish), names[1], names[0],
+        'run by run, and averaged by net' if wish.nets else 'run by run')
     words += ', with intervals of %g %% %s' % (wish.confidence, by) if by else ''
     made = text.rows_of_differences(found, wish, *names)
     good = [row for row in rows if not row['fault']]
@@ -241,7 +246,7 @@ def compare(sides: Sides, wish: Wish, source: Source) -> bool:
     warn(notes, shared, warnings)
     if wish.file and packages.is_here('matplotlib'):
         picture = source.folder / wish.file
-        below = of_groups(groups, found, wish, text.MOST_BELOW) + more
+        below = text.selected_below(wish) + of_groups(groups, found, wish, text.MOST_BELOW) + more
         has_room = drawing.draw_differences(found, wish, words, below, picture)
         for line in drawing.unused_labels([by for by, _ in groups], wish):
             print('plot: %s' % line, file=sys.stderr)
@@ -272,9 +277,10 @@ def wishes(asked: argparse.Namespace) -> list[Wish]:
                     'for each value')
     if asked.output and Path(asked.output).suffix not in FORMATS:
         raise Fault('%s: a picture is SVG, PDF or PNG: its name ends in .svg, .pdf or .png' % asked.output)
-    if (asked.pair or asked.compare) and (asked.show or asked.threshold):
+    is_other = asked.show not in (None, 'mean')
+    if (asked.pair or asked.compare) and (is_other or asked.threshold):
         raise Fault('a comparison run by run shows the mean of the differences: leave out %s' % (
-            '--show' if asked.show else '--threshold'))
+            '--show' if is_other else '--threshold'))
     if asked.interval != AUTO and asked.show != 'mean' and not (asked.pair or asked.compare):
         raise Fault('--interval %s is for intervals of means: add --show mean, or leave it out' % asked.interval)
     if asked.label and not asked.by:
@@ -461,8 +467,8 @@ def drawn(wish: Wish, asked: argparse.Namespace, read: dict[tuple[str, ...], lis
         read[key] = runs_of(results, where, apart)
     rows, other = joined(read[key], wish.by), folder / wish.compare
     files = (results, other) if wish.compare else (results,)
-    wish = wish._replace(kinds=kinds_in(files))
-    source = Source(folder, files, shlex.join(['tools/plot', *sys.argv[1:]]))
+    wish = wish._replace(kinds=kinds_in(files), where=where)
+    source = Source(folder, files, shlex.join(['tools/plot', *sys.argv[1:]]), where)
     if wish.pair or wish.compare:
         return compare(sides_of(wish, rows, results, other, where), wish, source)
     return show(rows, wish, source)
