@@ -51,6 +51,18 @@ class Headers(unittest.TestCase):
         fault = find_fault(text.encode())
         self.assertIsNone(repair(text, fault) if fault else None)
 
+    def test_another_line_is_not_left_out(self) -> None:
+        for header in '[extra.more]', '[motes.more]', '[medium.extra]', '["an extra"]':
+            text = RIGHT + header + '\na = 1\n'
+            fault = find_fault(text.encode())
+            with self.subTest(header):
+                self.assertEqual(fault and fault.message, 'scenario fault 3')
+                self.assertIsNone(repair(text, fault) if fault else None)
+        text = RIGHT.replace('end = 10', 'end = 10\nextra.more = 1')
+        fault = find_fault(text.encode())
+        found = repair(text, fault) if fault else None
+        self.assertEqual(found and found.applied(text), RIGHT)
+
 
 if __name__ == '__main__':
     unittest.main()

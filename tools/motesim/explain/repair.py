@@ -281,10 +281,12 @@ def _attempts_at_key(text: str, rows: list[str], tables: object, fault: Scenario
     known = {'medium': [*MEDIUM, 'collide'], 'loss': [*LOSS], 'mote': [*MOTE]}.get(table, [*TOP, 'queue'])
     like = synonyms.meant(name, known)
     header = HEADER.fullmatch(row)
-    if like:
+    # (a key of a table in another table may have no place of its own)
+    is_key = VALUE_BEHIND.match(row, place.column + place.length) is not None
+    if like and (header or is_key):
         line = ('[[%s]]' if like in ('mote', 'loss') else '[%s]') % like if header else _replaced(row, place, like)
         yield Repair('Did you mean `%s`?' % like, number, number, (line,))
-    if not header and name not in synonyms.CHANCE:
+    if is_key and name not in synonyms.CHANCE:
         reason = synonyms.LEFT_OUT.get(name, 'There is no key `%s` in this table.' % name)
         yield Repair(reason, number, number, (_without(row, place),) if _is_inline(row, place) else ())
 
