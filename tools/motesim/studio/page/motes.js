@@ -124,7 +124,7 @@ function wayOf(run, s, r) {
   const input = Object.assign(element('input'), {type: 'number', min: 0, max: 1000000, value: every || '',
     placeholder: 'none'});
   const label = element('label', '', ['loses 1 in ', input]);
-  input.setAttribute('aria-label', `Which packets are lost from mote ${s} to mote ${r}: 1 in so many; empty for none`);
+  input.setAttribute('aria-label', `Losses from mote ${s} to mote ${r}: one packet in this number; empty for no loss`);
   input.dataset.way = `${s} ${r}`;
   input.addEventListener('change',
     () => editText({what: 'lose', from: s, to: r, every: Math.floor(Number(input.value)) || 0}));

@@ -14,7 +14,7 @@ import {say, showState, unsay} from './notices.js';
 import {studio} from './state.js';
 
 /** Functions of other modules: `outdated` ones are called when the results that are shown become those of an earlier
-    text, since the text was changed or a run begins; the others when a run or its results are shown. */
+    text, because the text was changed or a run begins; the others when a run or its results are shown. */
 export const reactions = {outdated: [], shown: [], judged: []};
 
 /** Marks the results that are shown as those of an earlier text. */

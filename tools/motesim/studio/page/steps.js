@@ -126,7 +126,7 @@ export function beginSteps() {
     Object.assign(element('output'), {id: 'stopped'}));
   box.append(bar, Object.assign(element('p'), {id: 'step-at'}), Object.assign(element('div'), {id: 'cards'}));
   const note = Object.assign(element('p', 'Variables, waits, timers and the queue come from a replay of the mote, ' +
-    'which must write the same trace. Variables that change before the next line are marked.'), {className: 'note'});
+    'which has to write the same trace. Variables that change before the next line are marked.'), {className: 'note'});
   box.append(note);
   beginStates();
   overlays.push(pane => { if (!byId('steps').hidden) showStep(pane); });
