@@ -10,6 +10,7 @@ from motesim.from_c.scope import Scope, allowed
 from motesim.from_c.places import Surroundings
 from motesim.from_c.statements import Statements
 from motesim.notation.faults import find_fault, tokens_of
+from motesim.notation.parentheses import written as with_parentheses
 from motesim.scenario.scenario import Scenario
 
 PROGRAM = """event full;
@@ -487,6 +488,84 @@ class BelowTheProcesses(unittest.TestCase):
         for words in 'static PT_THREAD', 'PT_THREAD':
             thread = words + '(work(struct pt *pt))\n{\n  PT_BEGIN(pt);\n  PT_YIELD(pt);\n  PT_END(pt);\n}'
             self.assertEqual(self.corrected(thread), ('', (11, 'thread work { yield; }')))
+
+
+class OtherWords(unittest.TestCase):
+    """Words of other languages, for which the line or the hint says what the author meant."""
+    SOURCE = """process a;
+autostart a;
+receiver a;
+code a {
+  var n = 0;
+  etimer t;
+  body {
+    %s
+    yield;
+  }
+}
+"""
+
+    def corrected(self, line: str) -> tuple[str | None, str]:
+        source = self.SOURCE % line
+        fault = find_fault(source)
+        found = advice(source, fault) if fault else None
+        assert found
+        return found.line, found.hint
+
+    def test_a_random_number_has_its_limits(self) -> None:
+        step = 'dice = ((dice * 25173) + 13849); '
+        for call, value in (('random(5, 10)', '(5 + ((dice / 256) % 6))'), ('random(6)', '((dice / 256) % 6)'),
+                            ('rand(n)', '((dice / 256) % n)'), ('random_rand()', '(dice / 256)'),
+                            ('random(n, 9)', '(n + ((dice / 256) % ((9 - n) + 1)))')):
+            with self.subTest(call):
+                self.assertEqual(self.corrected('set t %s;' % call)[0], '%sset t %s;' % (step, value))
+
+    def test_a_test_with_another_name(self) -> None:
+        for typed, meant in (('timer(t)', 'fired(t)'), ('timeout(t)', 'fired(t)'), ('received(packet)', 'is(packet)'),
+                             ('arrived(packet)', 'is(packet)')):
+            with self.subTest(typed):
+                self.assertEqual(self.corrected('yield_until %s;' % typed)[0], 'yield_until %s;' % meant)
+        self.assertEqual(self.corrected('if timeout(t) { n = 1; }')[0], 'if expired(t) { n = 1; }')
+        self.assertIsNone(self.corrected('n = compute(t);')[0])
+
+    def test_a_block_for_packets(self) -> None:
+        for typed in 'on packet { print data; }', 'when packet { print data; }', 'on(packet) { print data; }':
+            with self.subTest(typed):
+                line, hint = self.corrected(typed)
+                self.assertIsNone(line)
+                self.assertIn('waits for each one by `yield_until is(packet);`', hint)
+
+    def test_a_send_that_names_its_receiver_first(self) -> None:
+        for typed in 'send to 1 5;', 'send to 1, 5;', 'send to 1: 5;':
+            with self.subTest(typed):
+                self.assertEqual(self.corrected(typed)[0], 'send ((1 * 256) + 5);')
+
+    def test_a_loop_with_do(self) -> None:
+        line, hint = self.corrected('while n <= 3 do\n    n = (n + 1);\n    end')
+        self.assertIsNone(line)
+        self.assertIn('write `while (n <= 3) {`, and `}` instead of the word that ends the block', hint)
+        self.assertEqual(self.corrected('do {\n    yield;\n    print n;\n    } while (1);')[0], 'while 1 {')
+        self.assertEqual(self.corrected('do { yield; } while (1);')[0], 'while 1 { yield; }')
+        self.assertIn('while (n < 3) {', self.corrected('do {\n yield;\n } while (n < 3);')[0] or '')
+
+    def test_the_values_of_an_expression_end_before_another_word(self) -> None:
+        tokens = tokens_of('process a; code a { body { while n <= 3 do } }')
+        at = next(at for at, it in enumerate(tokens) if it.text == '<=')
+        self.assertEqual(with_parentheses(tokens, at), '(n <= 3)')
+
+    def test_a_long_name_of_a_timer_is_shortened(self) -> None:
+        source = self.SOURCE.replace('etimer t;', 'etimer backoff_timer_long;') % 'set backoff_timer_long 5;'
+        fault = find_fault(source)
+        found = advice(source, fault) if fault else None
+        assert found
+        self.assertEqual((found.line, found.hint), ('etimer backoff_timer_lo;', 'A name has at most 16 characters.'))
+
+    def test_an_array_below_a_timer_leaves_no_line(self) -> None:
+        source = self.SOURCE.replace('etimer t;', 'etimer t;\n  var seen[3];') % 'set t 5;'
+        fault = find_fault(source)
+        found = advice(source, fault) if fault else None
+        assert found
+        self.assertEqual(found.shown(source, None)[0], 'Leave line 7 of the program out,')
 
 
 class Readings(unittest.TestCase):

@@ -17,6 +17,8 @@ OWN_STEP = 'There is no `%s`: the step is a statement of its own, `%s`.'
 WITHOUT_STEPS = ('yield_until', 'wait_until', 'wait_while')
 # The value of a limit that isn't declared.
 LIMIT = '10'
+NO_BRACES = 'A block is in braces: write `while %s {`, and `}` instead of the word that ends the block.'
+ENDLESS_DO = 'There is no `do`: `while 1 { .. }` repeats its block.'
 NO_BREAK = 'There is no `break`: let the test of the `while` become false.'
 
 
@@ -135,8 +137,10 @@ class Control(Lines):
         text = self.writer.text(natural(inner or self.expression()))
         while self.accept(')'):
             self.why(ONE_TOO_MANY)
-        if self.accept('then', ':'):
+        if self.accept('then', 'do', ':'):
             self.why('The block follows the test directly.')
+            if self.ahead(-1).text == 'do' and self.token.text != '{':
+                raise NoCounterpart(NO_BRACES % text)
         return text
 
     def of_switch(self) -> str:
@@ -332,12 +336,18 @@ class Control(Lines):
     def do_loop(self) -> str:
         self.at += 1
         body = self.body()
+        if self.is_cut and self.place.is_endless:
+            self.why(ENDLESS_DO)
+            return 'while 1 ' + body
         if self.is_cut:
             raise NoCounterpart('There is no `do`: a `while` tests before each round. Put the first round above it.')
         self.need('while')
         test = self.condition()
-        self.why('There is no `do`: a `while` tests before each round, so the first round is above it.')
         self.end('')
+        if test.isdigit() and test != '0':
+            self.why(ENDLESS_DO)
+            return 'while %s %s' % (test, body)
+        self.why('There is no `do`: a `while` tests before each round, so the first round is above it.')
         return '%s while %s %s' % (body.removeprefix('{').removesuffix('}').strip(), test, body)
 
     def of_return(self) -> str:

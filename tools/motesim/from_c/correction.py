@@ -11,7 +11,7 @@ from motesim.from_c.closings import Edit, edits_of
 from motesim.from_c.expressions import NoCounterpart
 from motesim.from_c.heads import bare_body, end_of_body, process_block
 from motesim.from_c.scope import Scope
-from motesim.from_c.places import Surroundings, head_for, place_below, rest_of_loop
+from motesim.from_c.places import Surroundings, head_for, opens_endless_do, place_below, rest_of_loop
 from motesim.from_c.seed import reasons_with, seed_for
 from motesim.from_c.statements import Statements
 from motesim.from_c.structure import (
@@ -183,7 +183,8 @@ def correction(text: str, fault: ProgramError) -> Correction | None:
             continue
         found: list[tuple[int, Correction]] = []
         place, rest = place_below(lines[:first - 1]), '\n'.join(lines[last:])
-        place = place._replace(rest=rest_of_loop(source, rest, place.levels))
+        place = place._replace(rest=rest_of_loop(source, rest, place.levels),
+                               is_endless=opens_endless_do(source, rest))
         for reader in _readings(source, scope, place, unclosed):
             try:
                 written = reader.written()

@@ -8,7 +8,7 @@ from motesim.from_c.expressions import (
 )
 from motesim.from_c.lines import Lines
 from motesim.from_c.parameters import KEPT, OF_COMMENT
-from motesim.from_c.scope import allowed
+from motesim.from_c.scope import LONGEST, allowed
 from motesim.from_c.tokens import tokens_of
 
 # The order of declarations, in a `code` and above it.
@@ -163,8 +163,8 @@ class Declarations(Lines):
         if self.accept(']') != ']' or not 0 < count <= MOST_MEMBERS or self.token.text not in (';', ''):
             raise NoCounterpart(NO_ARRAYS)
         self.why(NO_ARRAYS)
-        return ' '.join([self.declared(name, '0'), *(self.declared('%s%d' % (name, it), '0') for it in range(1,
-                                                                                                             count))])
+        found = [self.declared('%s%s' % (name, it or ''), '0') for it in range(count)]
+        return ' '.join(it for it in found if it)
 
     def of_function(self) -> str:
         """A function: a thread, without parameters."""
@@ -322,7 +322,8 @@ class Declarations(Lines):
                 self.why('`%s` has no parameters.' % words[0])
                 self.parameters(words[0] == 'thread')
                 continue
-            found.append(self.token.text)
+            is_long = self.token.kind == 'name' and len(self.token.text) > LONGEST
+            found.append(self.new_name(self.token.text) if is_long else self.token.text)
             self.at += 1
             if found[-1] in (';', '{'):
                 break

@@ -40,6 +40,9 @@ WORDS_OF_CALLS = {
     'packetbuf_dataptr': ('data', 'A packet is one number, and `data` is that number.'),
     'packetbuf_addr': ('from', 'The mote that sent a packet is `from`.'),
 }
+# Names of calls that ask for a timer, or for an event.
+OF_TIMER = ('timer', 'timeout', 'elapsed', 'done', 'ready', 'due', 'over', 'finished', 'expires', 'fire', 'is_expired')
+OF_ARRIVAL = ('received', 'receive', 'recv', 'got', 'arrived', 'event', 'on', 'has', 'happened', 'get')
 CLOCKS = ('clock_time', 'clock_seconds', 'rtimer_now')
 READ_ONLY = ('data', 'from', 'now', 'self')
 EVENTS = {'process_event_%s' % it: it for it in ('init', 'poll', 'exit', 'continue', 'msg', 'com', 'exited', 'timer')}
@@ -435,13 +438,13 @@ class Writer:
         if lower in ('random_rand', 'rand', 'random', 'rnd'):
             self.insist(NO_CHANCE)
             self.draws = True
-            return DRAWN
+            return self.drawn(parts)
         if parts and is_sensor(parts[0].text):
             self.insist(OF_READING)
             return READING
         if lower == 'runicast_is_transmitting':
             return self.refuse(RUNICAST)
-        test = node.text if node.text in TESTS else CALLS.get(lower, '')
+        test = node.text if node.text in TESTS else CALLS.get(lower, '') or self.test_meant(node)
         if not test or len(parts) != 1:
             return self.refuse(NO_CALLS)
         named = parts[0].text
@@ -460,6 +463,30 @@ class Writer:
         if self.unknown is not None and kind == 'timer' and self.scope.kinds.get(its) != 'timer':
             its = self.new_name(its, 'timer')
         return '%s(%s)' % (test, its)
+
+    def drawn(self, limits: tuple[Node, ...]) -> str:
+        """A random number; with two limits, one from the first to the second, and with one, below it."""
+        if len(limits) not in (1, 2):
+            return DRAWN
+        first, last = value_of(limits[0]), value_of(limits[-1])
+        low, high = self.text(limits[0]), self.text(limits[-1])
+        if len(limits) == 1:
+            return DRAWN if first == 0 else '(%s %% %s)' % (DRAWN, low)
+        count = '((%s - %s) + 1)' % (high, low)
+        if first is not None and last is not None and first <= last:
+            count = str(last - first + 1)
+        self.why('The number below is one of %s to %s.' % (low, high))
+        return '(%s + (%s %% %s))' % (low, DRAWN, count)
+
+    def test_meant(self, node: Node) -> str:
+        """The test of a timer or an event that a call with another name most likely means, or nothing."""
+        named = node.parts[0] if len(node.parts) == 1 else node
+        if named.kind != 'name':
+            return ''
+        if self.scope.kinds.get(named.text) == 'timer' and node.text.lower() in OF_TIMER:
+            return self.of_timer
+        is_event = named.text in OWN_EVENTS or self.scope.kinds.get(named.text) == 'event'
+        return 'is' if is_event and node.text.lower() in OF_ARRIVAL else ''
 
     def unary(self, sign: str, inner: Node) -> str:
         if sign == '!':

@@ -40,6 +40,7 @@ class Surroundings(NamedTuple):
     before   the complete text of this statement, without its semicolon
     levels   the number of braces that close the innermost `while` around the lines
     rest     the words of this `while` below the lines
+    is_endless  whether the lines open the block of a `do` that ends with `while (1)`
     """
     is_head: bool = False
     is_top: bool = False
@@ -54,6 +55,7 @@ class Surroundings(NamedTuple):
     lower: frozenset[str] = frozenset()
     levels: int = 0
     rest: tuple[str, ...] = ()
+    is_endless: bool = False
 
 
 def place_below(above: list[str]) -> Surroundings:
@@ -100,6 +102,19 @@ def rest_of_loop(lines: str, below: str, levels: int) -> tuple[str, ...]:
             break
         found.append(token.text)
     return tuple(found)
+
+
+def opens_endless_do(lines: str, below: str) -> bool:
+    """Returns whether lines end with a `do {` whose block ends below them with `while (1)`."""
+    if [it.text for it in tokens_of(lines) if it.text][-2:] != ['do', '{']:
+        return False
+    words, level = [it.text for it in tokens_of(below)], 1
+    for at, word in enumerate(words):
+        level += (word == '{') - (word == '}')
+        if not level:
+            test = [it for it in words[at + 1:at + 6] if it not in '()']
+            return test[:1] == ['while'] and test[1:2] in (['1'], ['true'], ['TRUE']) and test[2:3] == [';']
+    return False
 
 
 def head_for(text: str, declared: str, code: str = '') -> int:

@@ -32,6 +32,8 @@ CLOSES = re.compile(r'(broadcast|abc|unicast|runicast|mesh|collect|netflood|tric
 OF_STATEMENTS = ('Here, the statements are `%s`. If the process also waits for a timer, a packet must not end this '
                  'wait: write the wait as `yield_until (is(packet) || fired(t)); while is(packet) { .. yield_until '
                  '(is(packet) || fired(t)); }`, with these statements instead of the dots.')
+OF_ON = ('There is no block for a packet: a process waits for each one by `yield_until is(packet);`, and the '
+         'statements follow there, `while 1 { yield_until is(packet); .. }`.')
 OF_HANDLER = 'The handler is a block of the `code`, `%s { .. }`, below its timers and threads and above its `body`.'
 WAIT = ('A process waits by an event timer: `set t 5; yield_until fired(t);`, with `etimer t;` at the head of its '
         '`code`.')
@@ -216,6 +218,8 @@ class Statements(Declarations, Calls, Control):
             value = self.expression()
             self.why('`%s` is a variable, which `=` assigns to.' % word)
             return self.end('%s = %s' % (word, self.writer.text(value)))
+        if lower in ('on', 'when', 'upon') and behind in ('packet', '('):
+            raise NoCounterpart(OF_ON)
         if behind == '(':
             raise NoCounterpart(NO_CALLS)
         if behind == '[':
@@ -364,9 +368,10 @@ class Statements(Declarations, Calls, Control):
             return self.end(word)
         if word in OF_EXPRESSION:
             self.writer.of_timer = 'fired' if word == 'yield_until' else 'expired'
-            receiver = self.of_pair() if word == 'send' else ''
+            is_first = word == 'send' and self.token.text == 'to' and 'to' not in self.scope.kinds
+            receiver = self.of_first() if is_first else self.of_pair() if word == 'send' else ''
             value = self.value()
-            if receiver:
+            if receiver and not is_first:
                 self.need(')')
             if word == 'send' and (receiver or self.accept('to')):
                 self.why('A packet goes to all motes that hear it: its value may say for whom it is. The receiver '
@@ -382,6 +387,13 @@ class Statements(Declarations, Calls, Control):
         if has_brackets:
             self.need(')')
         return self.end(text)
+
+    def of_first(self) -> str:
+        """The receiver of a `send` that names it first, as in `send to 3 data`."""
+        self.accept('to')
+        named = self.writer.text(self.unary())
+        self.accept(',', ':')
+        return named
 
     def of_pair(self) -> str:
         """The first of two numbers in parentheses, as in `send(3, data)`; nothing if there are fewer."""

@@ -36,7 +36,7 @@ def _reach(tokens: Sequence[Token], at: int, step: int, opens: str, closes: str)
         there = tokens[at + step]
         if depth == 0 and (there.text == closes or _is_outside(there)):
             break
-        if depth == 0 and step < 0 and _are_two_values(there, tokens[at]):
+        if depth == 0 and _are_two_values(*((there, tokens[at]) if step < 0 else (tokens[at], there))):
             break
         depth += (there.text == opens) - (there.text == closes)
         at += step
