@@ -890,6 +890,19 @@ class Command(unittest.TestCase):
         self.assertIn('the median rises above 0.6 at period 5.628', ' '.join(rows[-3]))
         self.plot('--measure', 'ratio', '--against', 'density', '--by', 'period', '--threshold', '0.6', status=2)
 
+    def test_a_curve_that_does_not_cross_says_how_many_drawn_curves_do(self) -> None:
+        rows = 'period,seed,ratio,fault,note,parameters\n' + ''.join(
+            '%d,%d,%s,,,period seed\n' % (period, seed, ratio) for period, ratios in (
+                (1, (0.2, 0.4, 0.6, 0.8)), (2, (0.9, 0.9, 0.9, 0.9))) for seed, ratio in enumerate(ratios))
+        (self.folder / 'net.csv').write_text(rows)
+        words = '--measure', 'ratio', '--against', 'period', '--show', 'mean', '--threshold'
+        # (the mean of four draws of 0.2, 0.4, 0.6 and 0.8 is below 0.46 in 106 of 256 cases, 41 %)
+        for threshold, percentage in ('0.46', r'(39|4\d)'), ('0.95', '0'), ('0.1', '0'):
+            lines = [' '.join(row) for row in self.plot(*words, threshold)]
+            self.assertRegex('\n'.join(lines), 'the mean doesn\'t cross %s; %s %% of the drawn curves do\n' % (
+                threshold, percentage))
+            self.assertIn('\nbootstrap: 2,000 draws', '\n'.join(lines))
+
     def test_the_number_of_draws(self) -> None:
         words = '--measure', 'ratio', '--against', 'period', '--by', 'density', '--interval', 'bootstrap'
         for count, more in ((2000, ()), (2000, ('--draws', '2000')), (100, ('--draws', '100'))):
@@ -962,6 +975,9 @@ class Command(unittest.TestCase):
                 ['motes', 'cost'], ['10', '5.000'], ['20', '3.000'], ['30', '4.000']])
             # (a third of the way from 0.6 to 0.9, and from 3 to 4)
             self.assertIn('the %s rises above 0.7 at cost 3.333, between motes 20 and 30' % name, lines)
+            # (the line leads upwards to the left: in the picture, from left to right, it falls)
+            lines = [' '.join(row) for row in self.plot(*words[:-1], '0.4', '--show', how)]
+            self.assertIn('the %s falls below 0.4 at cost 4, between motes 10 and 20' % name, lines)
         interpreter_with(self, 'matplotlib')
         self.plot(*words, '--show', 'mean', '-o', 'a.svg')
         line = CURVE.search((self.folder / 'a.svg').read_text())

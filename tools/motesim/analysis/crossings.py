@@ -40,12 +40,19 @@ class Runs(NamedTuple):
 
 
 class Place(NamedTuple):
-    """A place at which a line crosses, its direction, the places of the neighbouring points between which it is, the
-    lesser one first, and the number of the earlier one of these points, from 0."""
+    """A place at which a line crosses, its direction in the order of the points, the places of the neighbouring points
+    between which it is, the lesser one first, the number of the earlier one of these points, from 0, and whether the
+    line leads to the left there."""
     at: float
     is_rising: bool
     gap: tuple[float, float]
     number: int = 0
+    is_leftwards: bool = False
+
+    @property
+    def rises(self) -> bool:
+        """Its direction in the picture, read from left to right."""
+        return self.is_rising != self.is_leftwards
 
 
 class Crossing(NamedTuple):
@@ -78,7 +85,7 @@ def places_of(line: Line, threshold: float, is_log: bool = False, is_log_y: bool
         if (y < threshold) != (next_y < threshold):
             part = math.log(threshold / y) / math.log(next_y / y) if is_log_y else (threshold - y) / (next_y - y)
             at = x * (next_x / x) ** part if is_log else x + (next_x - x) * part
-            found.append(Place(at, next_y > y, (min(x, next_x), max(x, next_x)), number))
+            found.append(Place(at, next_y > y, (min(x, next_x), max(x, next_x)), number, next_x < x))
     return found
 
 
@@ -142,8 +149,8 @@ def crossing(curve: Sequence[Runs], threshold: float, confidence: float, middle:
     places = tuple(places_of(line, threshold, is_log, is_log_y))
     if not places:
         return None
-    at, is_rising, gap, _ = places[0]
-    draws = len({key for it in curve for key in it.keys}) if by_key(curve) else min(len(it.ys) for it in curve)
+    at, is_rising, gap, *_ = places[0]
+    draws = drawn_from(curve)
     sizes = min(len(it.ys) for it in curve), max(len(it.ys) for it in curve)
     if draws < 2:
         return Crossing(at, is_rising, gap, None, None, 1.0, draws, places, sizes)
@@ -158,6 +165,19 @@ def crossing(curve: Sequence[Runs], threshold: float, confidence: float, middle:
     # (a drawn curve may lack the first crossing or the last one)
     share = sum(math.isfinite(one + other) for (one, _), (other, _) in zip(gaps, ends)) / len(gaps)
     return Crossing(at, is_rising, gap, low, high, share, draws, places, sizes, last)
+
+
+def drawn_from(curve: Sequence[Runs]) -> int:
+    """How many seeds, or runs of a point, the bootstrap draws from."""
+    return len({key for it in curve for key in it.keys}) if by_key(curve) else min(len(it.ys) for it in curve)
+
+
+def share_that_crosses(curve: Sequence[Runs], threshold: float, middle: Middle = statistics.fmean,
+                       count: int = DRAWS) -> float | None:
+    """The part of so many drawn curves that cross a threshold anywhere; None if a point has only one run."""
+    if drawn_from(curve) < 2:
+        return None
+    return statistics.fmean(bool(places_of(it, threshold)) for it in drawn_lines(curve, middle, count))
 
 
 def _around(gaps: Sequence[tuple[float, float]], gap: tuple[float, float], part: float) -> tuple[float, float]:

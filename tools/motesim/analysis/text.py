@@ -8,7 +8,7 @@ from collections.abc import Mapping, Sequence
 from functools import lru_cache
 from typing import Any
 
-from motesim.analysis.crossings import Crossing, Middle, Runs, crossing
+from motesim.analysis.crossings import Crossing, Middle, Runs, crossing, share_that_crosses
 from motesim.analysis.estimates import BOUNDED, DRAWS, ENOUGH_RUNS, LEAST_RUNS, NAMES, OF_ROW, RANGE
 from motesim.analysis.estimates import Estimate, is_skewed_near_an_end, words_of
 from motesim.analysis.paired import Difference, Paired, reasons
@@ -33,7 +33,7 @@ DRAWING = ('bootstrap', 'bootstrap-t', BOUNDED)
 # The methods whose intervals of few skewed runs are too narrow.
 NARROW = ('t', 'within', 'bootstrap')
 # (a picture, its table and the lines on the terminal need the same crossings)
-_crossing = lru_cache(maxsize=64)(crossing)
+_crossing, _share_that_crosses = lru_cache(maxsize=64)(crossing), lru_cache(maxsize=64)(share_that_crosses)
 
 
 def rows_of(shown: Shown, wish: Wish) -> list[Row]:
@@ -287,7 +287,8 @@ def check_log_y(shown: Shown, wish: Wish) -> None:
 
 def remarks(shown: Shown, wish: Wish) -> list[str]:
     """Notes on the limits of what the intervals mean."""
-    has_crossing = any(it and it.low is not None for it in crossings_of(shown, wish).values())
+    has_crossing = any(it and it.low is not None for it in crossings_of(shown, wish).values()) or any(
+        it is not None for it in shares_that_cross(shown, wish).values())
     found = of_nets(shown.shared) if wish.show == 'mean' or wish.threshold and wish.show != 'cdf' else []
     found += [*of_bars(shown, wish), *shown.warnings]
     if wish.show != 'mean':
@@ -376,12 +377,22 @@ def crossings_of(shown: Shown, wish: Wish) -> dict[Cell, Crossing | None]:
         return {}
     found: dict[Cell, Crossing | None] = {}
     for by in dict.fromkeys(point.by for point in shown.points):
-        its = [point for point in shown.points if point.by == by]
-        _check_order(shown, its, wish)
-        curve = tuple(Runs(it.others or (it.x,) * len(it.values), it.values, it.keys) for it in its)
-        found[by] = _crossing(curve, threshold, wish.part, middle_of(wish)[1], wish.log, wish.log_y,
+        _check_order(shown, [point for point in shown.points if point.by == by], wish)
+        found[by] = _crossing(_curve(shown, by), threshold, wish.part, middle_of(wish)[1], wish.log, wish.log_y,
                               wish.draws)
     return found
+
+
+def _curve(shown: Shown, by: Cell) -> tuple[Runs, ...]:
+    """The runs of the points of a curve."""
+    return tuple(Runs(it.others or (it.x,) * len(it.values), it.values, it.keys) for it in shown.points if it.by == by)
+
+
+def shares_that_cross(shown: Shown, wish: Wish) -> dict[Cell, float | None]:
+    """For each curve that doesn't cross the threshold, the part of the drawn curves that do; None without draws."""
+    threshold = threshold_of(wish)
+    return {by: _share_that_crosses(_curve(shown, by), threshold, middle_of(wish)[1], wish.draws)
+            for by, found in crossings_of(shown, wish).items() if found is None and threshold is not None}
 
 
 def _check_order(shown: Shown, points: Sequence[Point], wish: Wish) -> None:
@@ -409,28 +420,32 @@ def crossings(shown: Shown, wish: Wish) -> list[str]:
         for by, (count, runs) in parts_at_most(shown, wish).items()]
     if parts:
         return parts
-    return [('%s: ' % wish.name_of_by(by) if wish.by else '') + of_crossing(found, wish, neighbours(shown, by))
-            for by, found in crossings_of(shown, wish).items()]
+    shares = shares_that_cross(shown, wish)
+    return [('%s: ' % wish.name_of_by(by) if wish.by else '') + of_crossing(
+        found, wish, neighbours(shown, by), shares.get(by)) for by, found in crossings_of(shown, wish).items()]
 
 
 def crossings_in_short(shown: Shown, wish: Wish) -> list[str]:
     """The crossing of each curve in one line, for the text below a picture."""
-    return [('%s: ' % wish.name_of_by(by) if wish.by else '') + of_crossing_in_short(found, wish, neighbours(shown, by))
-            for by, found in crossings_of(shown, wish).items()] or crossings(shown, wish)
+    shares = shares_that_cross(shown, wish)
+    return [('%s: ' % wish.name_of_by(by) if wish.by else '') + of_crossing_in_short(
+        found, wish, neighbours(shown, by), shares.get(by)) for by, found in crossings_of(shown, wish).items()
+    ] or crossings(shown, wish)
 
 
-def of_crossing_in_short(found: Crossing | None, wish: Wish, between: Sequence[str] = ()) -> str:
+def of_crossing_in_short(found: Crossing | None, wish: Wish, between: Sequence[str] = (),
+                         share: float | None = None) -> str:
     """The crossing of a curve, with its interval, in a few words. If there are several crossings, the range from the
     first interval to the last."""
     if found is None or found.low is None or found.high is None:
-        return of_crossing(found, wish, between)
+        return of_crossing(found, wish, between, share)
     middle, threshold = middle_of(wish)[0], shown_threshold(wish)
     interval = '%g %%: %s to %s%s' % (wish.confidence, *_ends(*_range(found), between), _share(found))
     if found.last:
         return 'the %s crosses %s %d times (%s)' % (middle, threshold, len(found.places), interval)
     points = ', %s' % between[found.places[0].number] if between else ''
-    return 'the %s %s %s at %s %s%s (%s)' % (middle, 'rises above' if found.is_rising else 'falls below', threshold,
-                                             wish.against, number_text(found.at), points, interval)
+    return 'the %s %s %s at %s %s%s (%s)' % (middle, 'rises above' if found.places[0].rises else 'falls below',
+                                             threshold, wish.against, number_text(found.at), points, interval)
 
 
 def neighbours(shown: Shown, by: Cell) -> list[str]:
@@ -441,14 +456,19 @@ def neighbours(shown: Shown, by: Cell) -> list[str]:
             for one, other in itertools.pairwise(its)]
 
 
-def of_crossing(found: Crossing | None, wish: Wish, between: Sequence[str] = ()) -> str:
-    """The crossing of a curve, with its interval; `between` has the neighbouring points in words, if they have
-    names."""
+def of_crossing(found: Crossing | None, wish: Wish, between: Sequence[str] = (), share: float | None = None) -> str:
+    """The crossing of a curve, with its interval.
+
+    between  the neighbouring points in words, if they have names
+    share    for a curve that doesn't cross, the part of the drawn curves that do
+    """
     middle, threshold = middle_of(wish)[0], shown_threshold(wish)
     if found is None:
-        return 'the %s doesn\'t cross %s' % (middle, threshold)
+        more = '' if share is None else '; %s of the drawn curves do' % (
+            'fewer than 1 %' if 0 < share < 0.005 else '%d %%' % round(100 * share))
+        return 'the %s doesn\'t cross %s%s' % (middle, threshold, more)
     ways = ['%s %s at %s %s, %s' % (
-        'rises above' if it.is_rising else 'falls below', threshold, wish.against, number_text(it.at),
+        'rises above' if it.rises else 'falls below', threshold, wish.against, number_text(it.at),
         between[it.number] if between else 'between the points %s and %s' % tuple(map(number_text, it.gap)))
         for it in found.places]
     if found.low is None or found.high is None:
