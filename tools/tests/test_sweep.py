@@ -531,6 +531,19 @@ class SweepTest(Bed):
         self.assertEqual((places[0], places[1]), (places[2], places[3]))
         self.assertNotEqual(places[0], places[1])
 
+    def test_the_share_of_lost_copies(self) -> None:
+        need_program(self)
+        (self.folder / 'net.plan.toml').write_text(PLAN.replace('name = "a"', 'name = "a"\nevery = 2') + (
+            '[[loss]]\nrule = "all"\nevery = "${every}"\n'))
+        # (mote 1 sends 20 packets to two motes)
+        (self.folder / 'a.mote').write_text(
+            'process a; autostart a; code a { var n = 0; etimer t; body { while ((self == 1) && (n < 20)) { set t 4; '
+            'yield_until fired(t); send 7; n = (n + 1); } set t 1000; } }\n')
+        for every, share in (2, '0.5'), (5, '0.2'), (30, '0.0'):
+            subprocess.run(self.command('--vary', 'every=%d' % every, '--measure', 'loss', '-o', '%d.csv' % every),
+                           cwd=self.folder, capture_output=True)
+            self.assertEqual([row['loss'] for row in self.rows('%d.csv' % every)], [share])
+
     def test_losses_in_step_are_a_warning_of_each_run(self) -> None:
         need_program(self)
         (self.folder / 'net.plan.toml').write_text(PLAN.replace('name = "a"', 'name = "a"\nseed = 1\nevery = 2')

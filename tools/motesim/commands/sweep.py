@@ -11,6 +11,7 @@ plan's measures. --plot draws what the plan's `plot` describes.
 Values are 10,20,40 or 1..30 or 0..100..25 (in steps of 25). Measures are
   sent, ratio, collided, ..     the columns of tools/summary, for the net; `sent of mote 3`
   reachable                     the share of the motes that packets of mote 0 can reach, directly or through others
+  loss                          the share of the copies that are lost by the scenario's losses
   flow most: print sink         the columns of tools/summary --flow, for the net
   holds: no mote halts          1 if a sentence of tools/expect holds, otherwise 0
   moment: every mote prints flood 1

@@ -37,7 +37,7 @@ from motesim.judge.sentences import Copies, Does, Motes, Names, Packets, Refused
 Cell = int | float | str | None
 
 SUMMARY = ('sent', 'copies', *summary.BECAME.values(), 'ratio', *summary.COUNTED.values(), 'halt')
-REACHABLE = 'reachable'
+REACHABLE, LOSS = 'reachable', 'loss'
 FLOWS = tuple(FLOW_NAMES[1:])
 # Measures of one sentence, and those of two, `A -> B`.
 OF_TWO = ('delay', 'delivery')
@@ -119,6 +119,13 @@ def reachable(scenario: Scenario | None) -> float | None:
         reached.update(dict.fromkeys(near))
         left += near
     return len(reached) / scenario.motes
+
+
+def loss(bench: Bench) -> float | None:
+    """The share of the copies that the medium lost by the scenario's losses; copies on the way at the end don't
+    count."""
+    net = bench.summary[1]
+    return share(net['lost'], net['copies'] - net['late'])
 
 
 def _of_flow(name: str, words: str) -> Callable[[Bench], Cell]:
@@ -450,10 +457,12 @@ def read_measure(words: str, names: Names = Names(), sources: Mapping[str, str] 
         raise MeasureFault(str(fault)) from None
     if text == REACHABLE:
         return Measure(name, text, lambda bench: reachable(bench.run.scenario))
+    if text == LOSS:
+        return Measure(name, text, loss)
     plain = OF_SUMMARY.fullmatch(text)
     if plain and plain[1] in SUMMARY:
         return Measure(name, text, _of_summary(plain[1], plain[2]))
-    near = nearest(plain[1] if plain else text, [*SUMMARY, REACHABLE])
+    near = nearest(plain[1] if plain else text, [*SUMMARY, REACHABLE, LOSS])
     raise MeasureFault('%r is not a measure%s. A measure is one of %s, or begins with %s, python: or flow NAME:' % (
-        text, '; did you mean %s?' % near if near else '', ', '.join((*SUMMARY, REACHABLE)),
+        text, '; did you mean %s?' % near if near else '', ', '.join((*SUMMARY, REACHABLE, LOSS)),
         ', '.join(kind + ':' for kind in KINDS)))
