@@ -9,7 +9,7 @@ import unittest
 from collections import Counter
 from pathlib import Path
 
-from here import TOOLS
+from here import TOOLS, TOP
 from motesim.export import pcapng, perfetto, times, vcd
 from motesim.report import Report
 from skips import interpreter_with, need_command
@@ -180,6 +180,17 @@ class ExportTest(unittest.TestCase):
         some = self.run_it(*read, '-Y', 'motesim.sender == 2 && motesim.kind == 5')
         self.assertIn('came to a halted mote: packet 1 of mote 2, value 70', some.stdout)
         self.assertEqual(len(some.stdout.splitlines()), 1)
+
+    def test_the_page_says_how_to_select_records_without_a_receiver_or_an_arrival(self) -> None:
+        need_command(self, 'tshark', 'tshark')
+        page = (TOP / 'docs/use/EXPORTS.md').read_text('utf-8')
+        self.export('a.report', '--to', 'pcapng', '-o', 'b.pcapng')
+        read = ['tshark', '-X', 'lua_script:%s' % LUA, '-r', 'b.pcapng', '-Y']
+        # (these are the records whose bytes 4 and 5 are 65535, and those without a moment of arrival)
+        for words, count in ('motesim.kind == 0', 6), ('!motesim.arrival', 7):
+            self.assertIn('`%s`' % words, page)
+            self.assertEqual(len(self.run_it(*read, words).stdout.splitlines()), count)
+        self.assertEqual(self.run_it(*read, 'motesim.receiver == 65535').stdout, '')
 
     def test_the_header_of_packets(self) -> None:
         head = pcapng.header('received', 3, 258, 2 ** 40, 65_535, 1_000_000, 2 ** 33)
