@@ -436,6 +436,30 @@ class Warnings(unittest.TestCase):
         self.assertIn('wait by `yield_until is(packet);`', self.seen(
             'process a; autostart a; receiver a; code a { body { send 1; } }')[0])
 
+    def test_an_event_of_a_timer_that_is_taken_for_a_packet(self) -> None:
+        receives = CODE.replace('code a', 'receiver a; code a')
+        for body, wanted in (
+                ('yield_until is(packet); set t 1; yield_until fired(t); print data;',
+                 '`data` isn\'t that of a packet'),
+                ('yield_until is(packet); set t 1; yield_until expired(t); print data;',
+                 '`data` isn\'t that of a packet'),
+                ('set t 1; yield_until is(packet); yield_until expired(t); print data;', ''),
+                ('set t 1; yield_until expired(t); if is(packet) { print data; }', ''),
+                ('yield_until is(packet); set t 1; yield_until fired(t); if (seq == 0) { send from; }',
+                 '`from` isn\'t that of a packet'),
+                ('set t 1; while 1 { yield_until fired(t); send 1; reset t; if is(packet) { print data; } }',
+                 '`is(packet)` is never true here: the process has just waited for the timer `t`'),
+                ('set t 1; yield_until fired(t); while is(packet) { print data; yield; }', ''),
+                ('set t 1; yield_until fired(t); yield_until is(packet); print data;', ''),
+                ('set t 1; yield_until (fired(t) || is(packet)); print data;', ''),
+                ('yield_until is(packet); seq = data; set t 1; yield_until fired(t); print seq;', ''),
+                ('set t 1; if (seq == 0) { yield_until fired(t); } print data; yield_until is(packet);', ''),
+                ('set t 1; yield_until fired(t); while (seq < 3) { yield_until is(packet); print data; }', '')):
+            with self.subTest(body):
+                seen = [it for it in self.seen(receives % body) if 'has just waited' in it]
+                self.assertEqual(len(seen), 1 if wanted else 0, seen)
+                self.assertIn(wanted, ''.join(seen))
+
     def test_one_warning_for_each_cause(self) -> None:
         loop = 'process a; autostart a; code a { body { while 1 { poll a; } } }'
         text = scenario(program=loop) + ''.join('[[mote]]\nx = %d\ny = 0\nprogram = "source"\n' % it for it in (1, 2))

@@ -9,7 +9,7 @@ import re
 from collections.abc import Iterator, Sequence
 from typing import NamedTuple
 
-from motesim.explain import busy
+from motesim.explain import busy, event
 from motesim.explain.busy import OF_EVENT
 from motesim.explain.moments import bursts
 from motesim.explain.resonance import all_at_once, resonances
@@ -322,6 +322,8 @@ def of_program(program: Program, is_zero_given: bool) -> Iterator[Warned]:
     for token in program.waits_before_set():
         yield Warned(BEHIND % token.text, name, token)
     for text, token in program.unset_timers():
+        yield Warned(text, name, token)
+    for text, token in event.mistaken(program.words, program.tokens):
         yield Warned(text, name, token)
 
 
