@@ -615,6 +615,15 @@ code a {
             self.assertIn('\nd = 1; v = 7; spawn show;\n', called)
             self.assertIsNone(find_fault(called))
 
+    def test_a_parameter_with_the_name_of_something_else(self) -> None:
+        for parameter, said in (('data', '`data` has another meaning in a program, so write `my_data` for this'),
+                                ('x', 'The process has a variable `x` already, so each call would change it')):
+            source = self.SOURCE % ('thread show(%s) {' % parameter, 'show(1);')
+            fault = find_fault(source)
+            found = correction(source, fault) if fault else None
+            assert found
+            self.assertIn(said, ' '.join(found.reasons))
+
     def corrected(self, call: str, comment: str = ' // parameters: d, v') -> tuple[str | None, str]:
         source = self.SOURCE % ('var d = 0;\n  var v = 0;\n  thread show {' + comment, call)
         fault = find_fault(source)

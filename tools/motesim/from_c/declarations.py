@@ -4,10 +4,11 @@ from __future__ import annotations
 import re
 
 from motesim.from_c.expressions import (
-    MOST, NO_ARRAYS, NO_FIELDS, QUALIFIERS, TICKS, TOO_LARGE, TYPES, Expressions, NoCounterpart, number_of, value_of,
+    MOST, NO_ARRAYS, NO_FIELDS, QUALIFIERS, READ_ONLY, TICKS, TOO_LARGE, TYPES, Expressions, NoCounterpart, number_of,
+    value_of,
 )
 from motesim.from_c.lines import Lines
-from motesim.from_c.parameters import KEPT, OF_COMMENT
+from motesim.from_c.parameters import KEPT, OF_COMMENT, READ_BY_NAME, SHARED
 from motesim.from_c.scope import LONGEST, allowed
 from motesim.from_c.tokens import tokens_of
 
@@ -216,7 +217,11 @@ class Declarations(Lines):
             self.comments.insert(0, KEPT % ', '.join(allowed(it) for it in names))
         for name in names:
             found = self.new_name(name)
-            if found not in self.place.variables:
+            if name in READ_ONLY:
+                self.writer.insist(READ_BY_NAME % (name, found))
+            if found in self.place.variables:
+                self.writer.insist(SHARED % found)
+            else:
                 self.why(OF_COMMENT)
                 self.declares.append('var %s = 0;' % found)
 

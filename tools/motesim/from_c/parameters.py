@@ -16,6 +16,9 @@ IN_CIRCLE = ('The arguments of `%s` are parameters of the thread in another orde
 KEPT = 'parameters: %s'
 OF_COMMENT = ('A thread uses the variables of its process. The comment keeps the order of the parameters for the lines '
               'that call it.')
+READ_BY_NAME = '`%s` has another meaning in a program, so write `%s` for this parameter in the thread, too.'
+SHARED = ('The process has a variable `%s` already, so each call would change it: if its value is needed later, give '
+          'the parameter another name first.')
 NOTED = re.compile(r'\bthread\s+(\w+)\b(?:(?!\bthread\b).)*?//\s*parameters: (\w+(?:, \w+)*)')
 
 
