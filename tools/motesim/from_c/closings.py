@@ -18,10 +18,12 @@ class Closing(NamedTuple):
     inside  the last statements of the block
     behind  the text after the brace, or after the `else` of an `if`
     is_if   whether the block is that of an `if`, so that an `else` may follow
+    hides_else  whether the text closes an `if` to which an `else` behind it would belong
     """
     inside: str = ''
     behind: str = ''
     is_if: bool = False
+    hides_else: bool = False
 
 
 class Edit(NamedTuple):
@@ -48,6 +50,8 @@ def edits_of(text: str, last: int, closings: Sequence[Closing]) -> tuple[Edit, .
         end = end_of_block(tokens, at)
         behind = end_of_chain(tokens, end) if closing.is_if and closing.behind else end
         if end is None or behind is None:
+            return None
+        if closing.hides_else and [it.text for it in tokens[behind + 1:behind + 2]] == ['else']:
             return None
         if closing.inside and not has_statement(tokens[at:end], closing.inside):
             pieces.append(Piece(tokens[end].line, tokens[end].column, closing.inside + ' '))

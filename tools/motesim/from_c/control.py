@@ -75,7 +75,7 @@ class Control(Lines):
             return 'else ' + self.body()
         inner = self.statement()
         if self.is_cut:
-            self.close_behind('}')
+            self.close_behind('if', '}')
         self.hides_else = self.hides_else or self.lacks_else
         self.why_with_rest('There is no `else if`: open a block, `else {`, and put the `if` into it',
                            '; one more `}` closes it')
@@ -109,17 +109,20 @@ class Control(Lines):
     def braced(self, last: str) -> str:
         """A single statement with braces around it. If its own block continues below these lines, so does this one."""
         self.why('A block always has its braces.')
+        word = self.token.text
         text = self.statement()
         self.hides_else = self.hides_else or self.lacks_else
         if not self.is_cut:
             return ' '.join(['{', *filter(None, [text, last]), '}'])
-        self.close_behind(*filter(None, [last, '}']))
+        self.close_behind(word, *filter(None, [last, '}']))
         return '{ ' + text
 
-    def close_behind(self, *texts: str) -> None:
-        """Notes texts after the block that continues below these lines."""
+    def close_behind(self, word: str, *texts: str) -> None:
+        """Notes texts after the block that continues below these lines, at the end of a statement with a first word."""
         inner = self.closings.pop()
-        self.closings.append(inner._replace(behind=' '.join(filter(None, [inner.behind, *texts]))))
+        is_chain = inner.is_if and not inner.behind
+        self.closings.append(inner._replace(behind=' '.join(filter(None, [inner.behind, *texts])),
+                                            hides_else=inner.hides_else or word == 'if' and not is_chain))
 
     def condition(self) -> str:
         """The test of an `if` or a `while`, up to its block."""
