@@ -634,13 +634,13 @@ code a {
     def test_an_assignment_changes_no_argument_of_a_later_one(self) -> None:
         for call, line in (
                 ('show(x, d);', 'v = d; d = x; spawn show;'), ('show(v, x);', 'd = v; v = x; spawn show;'),
-                ('spawn show(d, 3);', 'v = 3; spawn show;'), ('PT_SPAWN(pt, &c, show(&c, 1, 2));',
-                                                              'd = 1; v = 2; spawn show;'),
+                ('spawn show(d, 3);', 'v = 3; spawn show;'),
+                ('PT_SPAWN(pt, &c, show(&c, 1, 2));', 'd = 1; v = 2; spawn show;'),
                 ('if (x == 1) show(x, x + 1);', 'if (x == 1) { d = x; v = (x + 1); spawn show; }')):
             with self.subTest(call):
                 self.assertEqual(self.corrected(call)[0], line)
-        line, hint = self.corrected('show(v, d);')
-        self.assertIsNone(line)
+        no_line, hint = self.corrected('show(v, d);')
+        self.assertIsNone(no_line)
         self.assertIn('keep one of them in a variable of its own', hint)
 
     def test_arguments_are_never_dropped(self) -> None:
@@ -786,10 +786,16 @@ class Calls(unittest.TestCase):
             self.assertIsNone(find_fault(made.applied(text)))
             self.assertIn('body {\n%s\n' % mixed, made.applied(text))
             shown = found.shown(text, None)
-            self.assertIn('    ' + '  ' + mixed, shown)
+            self.assertIn('      ' + mixed, shown)
             # (an inserted line changes the numbers of the lines below it, so these come first)
             numbers = [int(it.split('line ')[1].split()[0]) for it in shown if it.startswith('and insert')]
             self.assertEqual(numbers, lines)
+        # (a second one needs no other seed)
+        text = RETRY.replace('body {\n', 'body {\n    %s\n' % mixed).replace('var done', 'var dice')
+        fault = find_fault(text % ('1', 'set t random_rand() % 9;'))
+        found = advice(text % ('1', 'set t random_rand() % 9;'), fault) if fault else None
+        assert found
+        self.assertNotIn('self * 257', found.hint + ' '.join(found.shown(text, None)))
         # (without a line of its own for the start of `body`, or with a generator of one's own, the hint has the lines)
         for text in (RETRY.replace('body {\n', 'body {') % ('1', 'set t random_rand() % 9;'),
                      RETRY.replace('var done', 'var dice') % ('1', 'set t random_rand() % 9;')):

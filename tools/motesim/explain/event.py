@@ -27,7 +27,7 @@ def mistaken(words: Sequence[str], tokens: Sequence[Token]) -> Iterator[tuple[st
 
 def _is_set_before(words: Sequence[str], at: int, timer: str) -> bool:
     """Returns whether the statement before a place sets a timer."""
-    begin = max((it for it in range(at - 1) if words[it] in (';', '{', '}')), default=-1) + 1
+    begin = next((it for it in range(at - 2, -1, -1) if words[it] in (';', '{', '}')), -1) + 1
     return words[begin] in SETS and words[begin + 1] == timer
 
 

@@ -11,6 +11,7 @@ from typing import NamedTuple
 
 from motesim.explain import busy, event
 from motesim.explain.busy import OF_EVENT
+from motesim.explain.event import FOR_TIMER, SETS
 from motesim.explain.moments import bursts
 from motesim.explain.resonance import all_at_once, resonances
 from motesim.notation.faults import OPERATORS, WAITS, Token, tokens_of
@@ -59,7 +60,6 @@ BEHIND = 'the timer `%s` is set only after this wait for it, so the wait never e
 NEVER_SET = 'the timer `%s` is never set'
 # The results of tests of a timer that is never set.
 ALWAYS = {'expired': ', so `expired(%s)` is always true', 'fired': ', so `fired(%s)` is never true'}
-FOR_TIMER, SETS = ('yield_until', 'wait_until'), ('set', 'restart_timer', 'reset')
 # The most other places that a warning names.
 MOST_PLACES = 8
 

@@ -8,7 +8,7 @@ from collections.abc import Iterator
 from typing import NamedTuple
 
 from motesim.from_c.closings import Edit, edits_of
-from motesim.from_c.expressions import NoCounterpart
+from motesim.from_c.expressions import MIXED, NoCounterpart
 from motesim.from_c.heads import bare_body, end_of_body, process_block
 from motesim.from_c.scope import Scope
 from motesim.from_c.places import Surroundings, head_for, opens_endless_do, place_below, rest_of_loop
@@ -197,7 +197,7 @@ def correction(text: str, fault: ProgramError) -> Correction | None:
             if below is None or reader.hides_else and reader.lacks_else and tokens_of(rest)[0].text == 'else':
                 continue
             seed = seed_for(text, first, last, reader.declares)
-            reasons = reasons_with(seed, reader.writer.shown())
+            reasons = reasons_with(bool(seed) or MIXED in text, reader.writer.shown())
             made = Correction(first, last, written, reasons, below=tuple(sorted((*seed, *below))))
             for above in _insertions(text, reader):
                 made = made._replace(above=above)

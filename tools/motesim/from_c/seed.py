@@ -28,6 +28,6 @@ def seed_for(text: str, first: int, last: int, declares: list[str]) -> tuple[Edi
     return (Edit(line + 1, line, MIXED),)
 
 
-def reasons_with(seed: tuple[Edit, ...], reasons: tuple[str, ...]) -> tuple[str, ...]:
-    """The reasons of a correction: with a line for the seed, they don't repeat it."""
-    return tuple(SEEDED if it == NO_CHANCE and seed else it for it in reasons)
+def reasons_with(is_seeded: bool, reasons: tuple[str, ...]) -> tuple[str, ...]:
+    """The reasons of a correction: if the program has a line that mixes the seed, they don't repeat it."""
+    return tuple(SEEDED if it == NO_CHANCE and is_seeded else it for it in reasons)
