@@ -7,11 +7,11 @@ by its standard error. The draws come from a fixed seed, so the same runs give t
 part is a little larger than the confidence (`part_of_draws`), because a few runs spread less than the distribution
 from which they are drawn.
 
-The interval of a share is always within 0 and 1, and that of a count is never below 0. If each run is 0 or 1, it is
-Wilson's score interval. Otherwise, if the interval by Student's t would pass 0 or 1, it is cut there; if there are
-enough runs, the interval by the bootstrap replaces it. An interval by the bootstrap of Student's t is cut to Wilson's
-score interval for runs that lose up to twice as much as the worst run. Runs that are all the same have no interval:
-they don't show how far others would spread.
+Unless Student's t is requested, the interval of a share is within 0 and 1, and that of a count is never below 0. If
+each run is 0 or 1, it is Wilson's score interval. Otherwise, if the interval by Student's t would pass 0 or 1, it is
+cut there; if there are enough runs, the interval by the bootstrap replaces it. An interval by the bootstrap of
+Student's t is cut to Wilson's score interval for runs that lose up to twice as much as the worst run. Runs that are all
+the same have no interval: they don't show how far others would spread.
 """
 from __future__ import annotations
 
