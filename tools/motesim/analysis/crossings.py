@@ -168,7 +168,7 @@ def crossing(curve: Sequence[Runs], threshold: float, confidence: float, middle:
 
 
 def drawn_from(curve: Sequence[Runs]) -> int:
-    """How many seeds, or runs of a point, the bootstrap draws from."""
+    """The number of seeds, or of runs of a point, from which the bootstrap draws."""
     return len({key for it in curve for key in it.keys}) if by_key(curve) else min(len(it.ys) for it in curve)
 
 
