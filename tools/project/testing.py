@@ -37,7 +37,7 @@ def pytest(together: str) -> list[str]:
 
 def become(called: list[str], **environment: str) -> NoReturn:
     """Replaces this process by another command. The tools that it starts find this interpreter first: `python3` may be
-    a script that looks for the interpreter at each start, as pyenv's is, and needs as long for that as a tool itself."""
+    a script that looks for the interpreter at each start, as pyenv's is, and needs as long as a tool itself."""
     path = os.pathsep.join([str(Path(sys.executable).parent), os.environ.get('PATH', os.defpath)])
     os.execvpe(called[0], called, {**os.environ, 'PYTHONDONTWRITEBYTECODE': '1', 'PATH': path, **environment})
 

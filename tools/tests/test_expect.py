@@ -427,8 +427,11 @@ class Files(unittest.TestCase):
             self.assertEqual(raised.exception.which, 'sentences 1, 2, 3, 4, 5, 6, 7, 8, 9, 10, .. are not known')
 
     def test_a_program_that_is_not_compiled_is_no_fault_of_the_expectations(self) -> None:
-        with mock.patch.dict(os.environ), mock.patch.object(programs, 'program_of_sources', return_value=None):
-            del os.environ['MOTESIM']
+        # (an earlier test of this process may have found a program)
+        uncached = programs._program_here.__wrapped__
+        with mock.patch.dict(os.environ), mock.patch.multiple(
+                programs, program_of_sources=lambda: None, _program_here=uncached):
+            os.environ.pop('MOTESIM', None)
             out, err, code = self.said('expect = ["mote 0 sends"]')
         self.assertEqual((out, code), ('', 2))
         self.assertEqual(err, "expect: motesim isn't compiled yet: run ./run FILE.toml once, which compiles it within "
