@@ -230,7 +230,7 @@ def _program_here() -> Path:
     """The binary of these sources. A process uses the same one even if the sources change."""
     found = program_of_sources()
     if found is None:
-        raise ProgramFault('motesim isn\'t compiled yet: run ./run FILE.toml once, which compiles it within a minute '
+        raise ProgramFault('motesim isn\'t compiled yet: start ./run FILE.toml once, which compiles it within a minute '
                            'or so; or name a compiled motesim in the environment variable MOTESIM')
     if is_compiled(found):
         say_not_proved()
