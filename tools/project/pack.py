@@ -13,10 +13,10 @@ file isn't packed if a word of its name, or of its folder's name, begins with `s
 Files and folders whose names begin with a dot are never packed, and neither are copies that an editor made, NAME~.
 tools/pack lists the files that it adds to the repository's own files, and the files that it leaves out.
 
-The archive has the binary that the environment variable MOTESIM names, or without it the proved `motesim` of these
-sources, if ./prove has built it; the page PROVED.md then describes the proof and the kit. Otherwise it has a binary
-that is compiled without a proof, and tools/pack and the archive's ./run say so. The same tree and binary yield the
-same archive, byte for byte.
+The archive has the binary that the environment variable MOTESIM names. If MOTESIM isn't set, it has the proved
+`motesim` that ./prove has built from these sources, and a page PROVED.md about the proof and the kit. If there is no
+proved one, it has a binary that is compiled without a proof, and tools/pack and the archive's ./run say so. The same
+tree and binary yield the same archive, byte for byte.
 """
 from __future__ import annotations
 

@@ -75,7 +75,8 @@ def arguments() -> argparse.ArgumentParser:
                        help='write all results in JSON to this file; - is standard output')
     words.add_argument('--all', action='store_true', help='show all sets, not only ten for each expectation')
     words.add_argument('--shrink', action='store_true',
-                       help='make the smallest counter-example of each broken expectation as small as possible')
+                       help='reduce one counter-example of each broken expectation, the smallest that was found, as far '
+                            'as possible')
     words.add_argument('--progress', action='store_true', help='report progress in lines of JSON, on standard error')
     words.add_argument('--studies', nargs='+', metavar='FILE',
                        help='check that the searches in these files have the results that the files state')

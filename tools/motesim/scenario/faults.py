@@ -26,7 +26,7 @@ RULES: dict[str, str] = {
     'scenario is not UTF-8': 'A scenario is a text in UTF-8, and these bytes are not.',
     'scenario fault 1': 'A scenario is a TOML document, and this text is not.',
     'scenario fault 2': 'A table lacks a key that it needs.',
-    'scenario fault 3': 'A table has an unknown key, or the name of a program has another form.',
+    'scenario fault 3': 'A table has an unknown key, or a program has a name that is not allowed.',
     'scenario fault 4': 'A key has a value of the wrong kind.',
     'scenario fault 5': 'A number, or the count of motes, programs or losses, is out of range.',
     'scenario fault 6': 'A mote, or a key of `queue`, names a program that the scenario does not have.',
@@ -35,10 +35,10 @@ RULES: dict[str, str] = {
     'medium fault 3': '`per` is at least 1, as the squared distance is divided by it.',
     'medium fault 4': 'A loss is between two different existing motes, its `every` is at least 1, and there is '
                       'at most one for two motes in one direction.',
-    'run fault 5': 'The thread of a worker could not be started or run. The scenario may have no error.',
-    'run fault 6': 'A worker stopped because of another, which reported no fault. The scenario may have no error.',
-    'write fault': 'The report could not be written. The scenario may have no error.',
-    'out of memory': 'There was not enough memory. The scenario may have no error.',
+    'run fault 5': 'The thread of a worker could not be started or run. Perhaps the scenario has no error.',
+    'run fault 6': 'A worker stopped because of another, which reported no fault. Perhaps the scenario has no error.',
+    'write fault': 'The report could not be written. Perhaps the scenario has no error.',
+    'out of memory': 'There was not enough memory. Perhaps the scenario has no error.',
 }
 
 
@@ -66,7 +66,7 @@ class ScenarioError(Exception):
 
     @property
     def lacks(self) -> str | None:
-        """The key or the table that the scenario lacks at its top, which has no place."""
+        """The key or the table that is missing at the top of the scenario; it has no place in the text."""
         return self.missing if self.missing and not self.path else None
 
     def place(self, text: str) -> Place:
@@ -341,8 +341,9 @@ def value_of(text: str, place: Place) -> Place:
 
 
 def _within(text: str, place: Place, path: Path, length: int) -> Place:
-    """The place of a table or a key in the inline array or table of a key: a part of the path of some length leads
-    to this key. If it isn't there, the place of the nearest table around it, otherwise of the key."""
+    """The place of the table or key with this path inside an inline value. The first `length` parts of the path name
+    the key of this value, and `place` is the place of this key. If the path isn't in the value, the place of the
+    nearest inline table around it, or else `place`."""
     rows = text.split('\n')
     begin = sum(len(it) + 1 for it in rows[:place.line - 1])
     ends = {path[:length]: begin + place.column + place.length}
