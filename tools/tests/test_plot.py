@@ -55,7 +55,8 @@ class PlotTest(unittest.TestCase):
         found = done.returncode, ' '.join(done.stdout.split()), done.stderr
         self.assertEqual(found, (0, ' '.join(TABLE.split()), ''))
         one = self.plot('--measure', 'sent', '--against', 'period', '--where', 'density=thin', '--where', 'seed=2')
-        self.assertEqual(one.stdout.split('\n')[0], 'sent against period')
+        self.assertEqual(one.stdout.split('\n')[0],
+                         'sent against period, only runs with density=thin and seed=2')
 
     def test_empty_values_are_left_out(self) -> None:
         done = self.plot('--measure', 'late', '--against', 'density', '--over', 'seed,period')
@@ -182,9 +183,10 @@ class PlotTest(unittest.TestCase):
         self.assertEqual(found[0][1][:4], ['thin', '1', '3', '12.0'])
         self.assertIn('>sparse<', (self.folder / 'a.svg').read_text())
         self.assertEqual((found[1][0][1], found[1][1][1]), ('pairs', '2'))
-        self.assertIn('sent against period: other less net, run by run', (self.folder / 'c.svg').read_text())
+        self.assertIn('sent against period, only runs with density=thin: other less net, run by run',
+                      (self.folder / 'c.svg').read_text())
         for words, seen in (('pair = "a=1,2"\ncompare = "b.csv"\n', 'A plot has one comparison.'),
-                            ('pair = "a=1,2"\nshow = "mean"\n', 'a plot without `show`'),
+                            ('pair = "a=1,2"\nshow = "points"\n', 'a plot without `show`'),
                             ('labels = { thin = "a" }\n', 'Labels are the texts of the lines of `by`.'),
                             ('by = "density"\nlabels = { thin = 3 }\n', 'A label is a text.'),
                             ('where = { seed = 1.5 }\n', 'These are not values.'),

@@ -200,8 +200,8 @@ def curve_of(values: Sequence[tuple[float, Sequence[float]]], keys: Sequence[Seq
 
 class Crossings(unittest.TestCase):
     def test_the_place_by_hand(self) -> None:
-        self.assertEqual(place([(0, 0), (10, 5), (20, 10)], 7.5), (15, True, (10, 20), 1))
-        self.assertEqual(place([(0, 1), (4, 0)], 0.25), (3, False, (0, 4), 0))
+        self.assertEqual(place([(0, 0), (10, 5), (20, 10)], 7.5), (15, True, (10, 20), 1, False))
+        self.assertEqual(place([(0, 1), (4, 0)], 0.25), (3, False, (0, 4), 0, False))
         self.assertIsNone(place([(0, 1), (4, 2)], 3))
         self.assertIsNone(place([(0, 1), (4, 0)], 0.25, is_rising=True))
 
@@ -266,7 +266,7 @@ class Crossings(unittest.TestCase):
         found = place([(10, 0), (40, 1)], 0.5, is_log=True)
         assert found
         self.assertAlmostEqual(found[0], 20)
-        self.assertEqual(place([(10, 0), (40, 1)], 0.5), (25, True, (10, 40), 0))
+        self.assertEqual(place([(10, 0), (40, 1)], 0.5), (25, True, (10, 40), 0, False))
 
     def test_an_interval_is_never_narrower_than_the_gap_between_points(self) -> None:
         found = crossing(curve_of([(x, [x / 10] * 5) for x in range(11)]), 0.45, 0.95)
@@ -1346,7 +1346,7 @@ class Command(unittest.TestCase):
             self.assertIn(shown, picture)
         # (the footer may have it in two lines)
         self.assertIn(out, ' '.join(re.sub('<[^>]*>', ' ', picture).split()))
-        self.assertIn('dense,,0.0\n', (self.folder / 'a.table.csv').read_text().replace('\r', ''))
+        self.assertIn('dense,,0.0,period=1\n', (self.folder / 'a.table.csv').read_text().replace('\r', ''))
 
     def test_runs_that_share_a_net_are_not_independent(self) -> None:
         head = 'period,seed,chance_seed,sent,fault,places_sha256,parameters\n'
