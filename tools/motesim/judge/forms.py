@@ -38,14 +38,15 @@ MOTES = Table('MOTES', 'The sentence is about', ('%s sends', '%s send'), (
     (('every mote', 'each mote', 'all motes', 'every mote but 0', 'all motes but motes 0 and 1'),
      'each mote, except those after `but`'),
     (('motes 3 to 7 together', 'all motes together'),
-     'all lines of these motes, by moment and then by mote, as if the motes were one mote'),
+     'all lines of these motes, ordered by moment and then by mote, as if the motes were one mote'),
     (('no mote', 'no mote but 0'),
      'every mote, except those after `but`: the sentence holds if none of these motes does it'),
     (('some mote',), 'at least one mote'),
     (('exactly 1 mote', 'at least 5 motes', 'at most 3 motes but 0'),
      'that many motes, not counting those after `but`'),
     (('at least 90 % of motes', 'at most 10 % of the motes', 'exactly 50 percent of all motes but 0',
-      'at least 80 % of motes 3 to 20'), 'that share of the motes after `of`, except those after `but`'),
+      'at least 80 % of motes 3 to 20'), 'that share of the motes that are named '
+      'after `of`, not counting those after `but`'),
 ))
 DEED = Table('DEED', 'Lines of the report', ('mote 1 %s',), (
     (('prints', 'prints P', 'prints P VALUE'), '`print P V`'),
@@ -54,8 +55,8 @@ DEED = Table('DEED', 'Lines of the report', ('mote 1 %s',), (
     (('prints just P 1 to 29 in any order',),
      'all lines `print P V` together have just these values, in any order'),
     (('prints just P its distance from mote 0',),
-     'there is just one line `print P V`, and it has this value; after `prints just P` you can also write the other '
-     'values below that are in words'),
+     'there is just one line `print P V`, and it has this value; the other values in words, which the next table '
+     'lists, may also follow `prints just P`'),
     (('finally prints P VALUE',), 'the last line `print P V` has this value'),
     (('sends', 'sends VALUE'), '`send N V`'),
     (('receives', 'receives VALUE', 'receives VALUE from mote 2'), '`recv F N V`'),
@@ -72,8 +73,8 @@ VALUE = Table('VALUE', 'Is', ('mote 1 prints p %s',), (
     (('its distance from mote 0',),
      'the least number of hops from mote 0 to the mote, over links that don\'t lose every packet'),
     (('the set of motes that it hears', 'the set of motes that it hears but 5'),
-     'a number in which bit n is set for each mote n that the mote hears, except those after `but`; a program has '
-     'numbers of 16 bits, so this is for nets in which no mote above 15 is heard'),
+     'a number in which bit n is set for each mote n that the mote hears, except those after `but`; the numbers in a '
+     'program have 16 bits, so use this only in nets in which no mote above 15 is heard'),
     (('the set of motes linked with it',),
      'a number in which bit n is set for each mote n that the mote hears and that also hears the mote; it has 16 '
      'bits too'),
@@ -97,7 +98,7 @@ WHEN = Table('WHEN', 'Moments', ('mote 1 sends %s',), (
     (('between 60 and 90', 'from 60 to 90'), '60 to 90, both included'),
     (('at 40 plus 3 for each hop from mote 0',),
      'for each mote the moment 40 plus 3 times its distance from mote 0 in hops'),
-    (('in each 120 from 0 to 1199',), '0 to 119, 120 to 239, and so on, each by itself'),
+    (('in each 120 from 0 to 1199',), '0 to 119, 120 to 239, and so on; each of these periods is checked by itself'),
 ))
 ORDER = Table('ORDER', 'Each of the lines is', ('mote 1 sends 1 %s',), (
     (('after mote 0 sends 1', 'after mote 2'), 'after the first line of the event; `after mote 2` means after mote 2 '
@@ -111,10 +112,10 @@ ORDER = Table('ORDER', 'Each of the lines is', ('mote 1 sends 1 %s',), (
 ))
 OTHER = Table('Sentence', 'Is about', ('%s',), (
     (('no copy collides', 'some copy collides at mote 3'), 'lines `collide`'),
-    (('at most 2 copies overflow',), 'lines `lost`: eight packets were waiting'),
+    (('at most 2 copies overflow',), 'lines `lost`: copies that arrived while eight packets were waiting'),
     (('exactly 9 copies arrive at motes 1 to 3 by 60',), 'lines `recv`'),
     (('no copy is lost', 'exactly 1 copy is lost at mote 1'),
-     'copies that the medium loses; their moment is the moment of sending'),
+     'copies that the medium loses; the moment of such a copy is the moment at which its packet was sent'),
     (('at least 90 % of copies arrive', 'at most 5 % of the copies collide at motes 1 to 3', 'every copy arrives',
       'each copy arrives at mote 3', 'all copies arrive'), 'that share of the copies that are due by the end'),
     (('exactly 1 copy is left', 'exactly 2 copies are left'), 'the last line of the report'),
@@ -122,7 +123,7 @@ OTHER = Table('Sentence', 'Is about', ('%s',), (
     (("the medium writes '4 0 1 20 1@lost'",), 'a line of the medium that begins with this text'),
     (('the report has at most 2000 lines', 'the report has at least 1 line'), 'the length of the report'),
     (('mote 1 can hear mote 0', 'motes 2 and 3 cannot hear mote 0'),
-     'the scenario: within range, and not every packet is lost'),
+     'the scenario: the mote is within range, and the link doesn\'t lose every packet'),
     (("the scenario is refused with 'scenario fault 2'",), 'there is no report, only this fault'),
 ))
 TABLES = (MOTES, DEED, VALUE, TIMES, WHEN, ORDER, OTHER)
