@@ -761,8 +761,6 @@ class Calls(unittest.TestCase):
                 ('etimer_set(&t, PERIOD + CLOCK_SECOND * 4 + random_rand() % 40);',
                  'dice = ((dice * 25173) + 13849); set t ((period + (10 * 4)) + ((dice / 256) % 40));',
                  [choice, second, seed]),
-                ('while (tries < 3) { if(DONE) { break; } tries++; }',
-                 'while (tries < 3) { if done { tries = 3; } tries = (tries + 1); }', ['the rest of the block still']),
                 ('if (tries < 3) { tries++; tries = 0xA; return tries; }',
                  'if (tries < 3) { tries = (tries + 1); tries = 10; exit; }', ['An `exit` passes no value']),
                 ('while (tries < DONE) { for(tries = 0; tries < 3; tries++) {\nprint 1;\n} }',

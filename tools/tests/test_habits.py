@@ -16,6 +16,7 @@ from skips import need_program
 NAME = 'typed.toml'
 # Where no line can be known: a part of the hint from which it is written.
 SAID = {
+    'c-break': 'and here `done = 1;`',
     'c-switch': '`if (mode == 1) { .. } else {', 'c-case': '`if (x == 2) { print 2; }`',
     'c-continue': 'into the block of an `else`',
     'c-var-named-like-process': 'another name is needed here, such as `token2`',

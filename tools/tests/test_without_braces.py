@@ -189,16 +189,21 @@ class Loops(unittest.TestCase):
                      'if (n == 0)\n while (i < 4) {\n print i;\n i += 2;\n }\n else {\n print 5;\n }'):
             self.check(form, [0, 2])
 
-    def test_a_break_ends_the_loop(self) -> None:
-        for head in 'for (i = 5; i > 0; i--)', 'for (i = 5; i != 0; i--)', 'for (i = 5; i >= 0; i--)':
+    def test_a_break_of_a_count_has_advice(self) -> None:
+        """A count isn't set to its limit: its step would still follow, and it may be needed after the loop."""
+        for head in ('for (i = 5; i > 0; i--)', 'for (i = 5; i != 0; i--)', 'for (i = 5; i >= 0; i--)',
+                     'for (i = 0; i < 9; i++)'):
             text = PROGRAM % (head + ' {\n print i;\n if (i == 3) {\n break;\n }\n }')
             while (fault := find_fault(text)) and (found := correction(text, fault)) and found.line is not None:
                 text = found.applied(text)
-            if find_fault(text) is None:
-                self.assertEqual(printed(text), [5, 4, 3], text)
-            else:
-                self.assertIn('Instead of `while', str(found))
-        self.check('for (i = 0; i < 9; i++) {\n print i;\n if (i == 1) {\n break;\n }\n }', [0, 1])
+            self.assertIn('break', text)
+            said = ' '.join(str(found).split())
+            self.assertIn('Instead of `while', said)
+            self.assertIn('write it in an `else`', said)
+
+    def test_a_break_of_a_flag_has_a_line(self) -> None:
+        self.check('n = 0; i = 0;\n while (n == 0) {\n print i;\n if (i == 3) {\n break;\n }\n i = (i + 1);\n }',
+                   [0, 1, 2, 3])
 
     def test_a_count_below_0_has_no_line(self) -> None:
         for lines in ('while (n >= 0)\n n--;', 'while (n > -1)\n n = n - 1;', 'for (; n >= 0; n--) {\n print n;\n }',

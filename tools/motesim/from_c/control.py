@@ -1,6 +1,8 @@
 """The control flow of C, as the notation has it: blocks, tests and loops."""
 from __future__ import annotations
 
+import re
+
 from motesim.from_c.closings import Closing
 from motesim.from_c.counting import caution, is_changed, loop_of, natural, refuse_endless
 from motesim.from_c.expressions import ONE_TOO_MANY, QUALIFIERS, TYPES, WORDS, NoCounterpart, Node
@@ -20,6 +22,10 @@ LIMIT = '10'
 NO_BRACES = 'A block is in braces: write `while %s {`, and `}` instead of the word that ends the block.'
 ENDLESS_DO = 'There is no `do`: `while 1 { .. }` repeats its block.'
 NO_BREAK = 'There is no `break`: let the test of the `while` become false.'
+REST_RUNS = ('The rest of the block still runs once: write it in an `else` if it must not, as the step of a count '
+             'that is needed after the loop.')
+# The test of a flag: it is 0 until the loop ends.
+FLAG = re.compile(r'^!|== 0\b')
 
 
 def ends_value(token: Token) -> bool:
@@ -171,22 +177,22 @@ class Control(Lines):
         if before in ends:
             self.at += 1
             self.writer.insist('There is no `break`: `%s;` already makes the test of the `while` false, so leave it '
-                               'out. The rest of the block still runs once.' % before)
+                               'out. %s' % (before, REST_RUNS))
             return self.end('').removesuffix(';')
-        # (a flag rather than a count, which may be needed after the loop)
-        assigned = next((it for it in ends if it.endswith(' = 1')), ends[0] if len(ends) == 1 else '')
-        if not assigned:
+        if not ends:
             raise NoCounterpart(NO_BREAK + self.of_flag(before))
         self.at += 1
-        self.writer.insist('%s Here, `%s;` does it; the rest of the block still runs once.' % (NO_BREAK, assigned))
-        return self.end(assigned)
+        self.writer.insist('%s Here, `%s;` does it. %s' % (NO_BREAK, ends[0], REST_RUNS))
+        return self.end(ends[0])
 
     def ends_of_loop(self) -> list[str]:
-        """The assignments that make the test of the loop false, also after the rest of its block."""
+        """The assignments of flags that make the test of the loop false, also after the rest of its block.
+
+        A count isn't assigned: its step may still follow, and a test after the loop may need its value.
+        """
         rest = (*(it.text for it in self.tokens[self.at:]), *self.place.rest)
-        found = [(test, ends_loop(test)) for test in conjuncts(self.place.loop)]
-        return [it for test, it in found if it and (' < ' in test or ' <= ' in test or not is_changed(
-            it.partition(' ')[0], rest))]
+        found = [ends_loop(test) for test in conjuncts(self.place.loop) if FLAG.search(test)]
+        return [it for it in found if it and not is_changed(it.partition(' ')[0], rest)]
 
     def of_flag(self, before: str) -> str:
         """Advice to end a loop by a variable of its own, next to the test that it has."""
@@ -196,7 +202,7 @@ class Control(Lines):
         test = '(done == 0)' if loop in ('1', '(1 == 1)') else '(%s && (done == 0))' % loop
         here = 'leave `break` out' if before == 'done = 1' else 'here `done = 1;`'
         head = '' if 'done' in self.place.variables else ', with `var done = 0;` at the head of the `code`'
-        return ' Instead of `while %s`, write `while %s`, and %s%s.' % (loop, test, here, head)
+        return ' Instead of `while %s`, write `while %s`, and %s%s. %s' % (loop, test, here, head, REST_RUNS)
 
     def choice_or_loop(self, word: str) -> str:
         if word == 'while' and self.is_empty_loop():
