@@ -11,6 +11,9 @@ from motesim.search.change import Base, CannotChange
 from motesim.search.faults import FaultyPart, change_of
 
 LOSES_ALL = 1
+FROM = 'cuts mote %d off: no protocol can deliver from it'
+# (a silent mote that isn't needed as a relay)
+NO_OTHER = '; it cuts off no other mote'
 # The most motes that a line names.
 SHOWN = 8
 
@@ -39,22 +42,23 @@ def cut_of(faults: Sequence[FaultyPart], base: Base) -> str:
     before = base.scenario_itself
     if faulty.motes != before.motes:
         return ''
-    for sender in range(before.motes):
-        removed = set(links_from(before, sender)).difference(links_from(faulty, sender))
-        apart = removed - reached_from(faulty, sender) if removed else removed
-        if apart:
-            return _in_words(faulty, sender, min(apart))
-    return ''
+    silent = {it.effect[1] for it in faults if it.effect[0] == 'silent'}
+    changed = [it for it in range(before.motes) if links_from(faulty, it) != links_from(before, it)]
+    for sender in [*changed, *(it for it in range(before.motes) if it not in changed)] if changed else ():
+        apart = reached_from(before, sender) - reached_from(faulty, sender)
+        if apart and sender not in silent:
+            return _in_words(faulty, sender, apart)
+    return next((FROM % it + NO_OTHER for it in changed if it in silent), '')
 
 
-def _in_words(faulty: Scenario, sender: int, receiver: int) -> str:
-    """The cut between the two motes of a link."""
+def _in_words(faulty: Scenario, sender: int, apart: set[int]) -> str:
+    """The cut between a mote and those that its packets no longer reach."""
     if not links_from(faulty, sender):
-        return 'cuts mote %d off: no protocol can deliver from it' % sender
-    if not any(receiver in links_from(faulty, it) for it in faulty.hearers(receiver)):
-        return 'cuts mote %d off: no protocol can deliver to it' % receiver
-    behind = reached_from(faulty, receiver) - reached_from(faulty, sender)
-    return 'cuts the net: no path is left from mote %d to %s' % (sender, motes_in_words(behind))
+        return FROM % sender
+    alone = [it for it in sorted(apart) if not any(it in links_from(faulty, near) for near in faulty.hearers(it))]
+    if len(apart) == 1 and alone:
+        return 'cuts mote %d off: no protocol can deliver to it' % alone[0]
+    return 'cuts the net: no path is left from mote %d to %s' % (sender, motes_in_words(apart))
 
 
 def motes_in_words(motes: Iterable[int]) -> str:
