@@ -1,4 +1,5 @@
 """Plots: the table, the picture, and what there is without matplotlib."""
+import csv
 import os
 import subprocess
 import sys
@@ -93,6 +94,18 @@ class PlotTest(unittest.TestCase):
         wrong = self.plot('--measure', 'sent', '--against', 'density', '--by', 'period', '--log', '-o', 'a.png')
         self.assertEqual((wrong.returncode, wrong.stdout), (2, ''))
         self.assertIn('--log needs values above 0, and density is dense in some runs: leave out --log', wrong.stderr)
+
+    def test_runs_that_all_have_a_fault_are_no_picture(self) -> None:
+        with open(self.folder / 'net.csv', newline='') as file:
+            rows = list(csv.DictReader(file))
+        with open(self.folder / 'net.csv', 'w', newline='') as file:
+            writer = csv.DictWriter(file, list(rows[0]))
+            writer.writeheader()
+            writer.writerows({**row, 'fault': 'too long'} for row in rows)
+        done = self.plot('--measure', 'sent', '--against', 'period')
+        self.assertEqual((done.returncode, done.stdout), (2, ''))
+        self.assertRegex(done.stderr, '^plot: nothing to show: each of the [0-9]+ selected runs has a fault, the first '
+                                      'one: too long$')
 
     def test_a_package_that_only_the_interpreter_of_debian_has(self) -> None:
         with mock.patch.object(packages, 'is_here', return_value=False), mock.patch.object(packages, 'has') as has:

@@ -395,6 +395,9 @@ def shown_of(rows: Sequence[Row], wish: Wish) -> Shown:
     """The points that are to be shown."""
     _check(rows, wish)
     good = [row for row in rows if not row['fault']]
+    if not good:
+        raise Fault('nothing to show: each of the %d selected runs has a fault, the first one: %s' % (
+            len(rows), rows[0]['fault']))
     varying = [name for name in parameters_of(rows) if len({row[name] for row in good}) > 1]
     if wish.against in measures_of(rows):
         return _of_two_measures(rows, good, varying, wish)
