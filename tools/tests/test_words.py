@@ -25,7 +25,7 @@ PYTHON = ('tools/motesim/**/*.py', 'tools/project/**/*.py', 'tests/*.py')
 # (the pages of style quote what is not to be written)
 NO_PROSE = ('docs/dev/STYLE.md', 'tools/tests/test_words.py')
 UNWANTED = {
-    'stand': r'\b(stands?|stood|standing)\b(?!-)', 'where': r'(?<!--)\bwhere\b', 'takes': r'\btakes?\b',
+    'stand': r'\b(stands?|stood|standing)\b(?!-)', 'where': r'\bwhere\b', 'takes': r'\btakes?\b',
     'what': r'\bwhat (is|are|comes|came)\b',
     'gives, answers': r'\b(gives|answers)\b', 'goes on': r'\b(goes|going|go|went) on\b', 'alone': r'\balone\b',
     'puts': r'\bputs\b',
@@ -34,6 +34,8 @@ UNWANTED = {
     'is told': r'\b(is|are|be) (said|told|asked)\b', 'beside': r'\bbeside\b',
 }
 QUESTION = re.compile(r'(What|How|Whether|Why)\b')
+# The name of an option, such as --where, isn't a word of a sentence.
+OPTION = re.compile(r'--[a-z][a-z-]*')
 PUBLIC = re.compile(r' *pub (fn|struct|enum|trait|const) (\w+)')
 WEAK_CLAUSE = re.compile(r'^ *(requires|ensures)\*? ((here|there|some|few|early|whole) )?\{', re.M)
 # A place and its text.
@@ -199,7 +201,8 @@ COUNTS: dict[str, Callable[[], object]] = {
 
 def unwanted(word: str, area: str) -> list[str]:
     pattern = re.compile(UNWANTED[word], re.I)
-    return ['%s: %s' % (place, line.strip()[:90]) for place, line in prose(area) for _ in pattern.finditer(line)]
+    return ['%s: %s' % (place, line.strip()[:90]) for place, line in prose(area)
+            for _ in pattern.finditer(OPTION.sub('', line))]
 
 
 def counted() -> dict[str, list[str]]:
@@ -226,9 +229,9 @@ class Words(unittest.TestCase):
         for word, line in [('stand', 'it stands below'), ('where', 'Where it is'), ('goes on', 'it goes on'),
                            ('beside', 'beside it')]:
             self.assertTrue(re.search(UNWANTED[word], line, re.I))
-        for word, line in [('stand', 'a stand-in'), ('stand', 'understands'), ('where', 'with --where'),
-                           ('beside', 'besides')]:
+        for word, line in [('stand', 'a stand-in'), ('stand', 'understands'), ('beside', 'besides')]:
             self.assertFalse(re.search(UNWANTED[word], line, re.I))
+        self.assertEqual(OPTION.sub('', 'select by --where PLACE, where'), 'select by  PLACE, where')
 
 
 def main() -> None:
