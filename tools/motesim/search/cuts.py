@@ -44,7 +44,9 @@ def cut_of(faults: Sequence[FaultyPart], base: Base) -> str:
         return ''
     silent = {it.effect[1] for it in faults if it.effect[0] == 'silent'}
     changed = [it for it in range(before.motes) if links_from(faulty, it) != links_from(before, it)]
-    for sender in [*changed, *(it for it in range(before.motes) if it not in changed)] if changed else ():
+    # (a path through a silent mote leads through one of these neighbours)
+    near = [it for it in range(before.motes) if silent.intersection(links_from(before, it))] if silent else []
+    for sender in dict.fromkeys([*changed, *near]):
         apart = reached_from(before, sender) - reached_from(faulty, sender)
         if apart and sender not in silent:
             return _in_words(faulty, sender, apart)
