@@ -21,7 +21,7 @@ pub struct Endpoint {
     pub senders: Vec<Option<Sender>>,
 }
 
-/// Implemented by hand, so that the check of a function that owns an endpoint sees only one call for the drop.
+/// Implemented by hand: for the checker, each function that owns an endpoint then drops it with a single call.
 impl Drop for Endpoint {
     fn drop(self) {
         let Endpoint {

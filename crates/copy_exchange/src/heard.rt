@@ -33,7 +33,7 @@ pub fn all_past(marks: &[u64], window: u64) -> bool
     true
 }
 
-/// Returns the total number of marks after each sender that lacks the window's mark has pushed one more mark.
+/// Returns the sum of all senders' marks, plus one more mark for each sender whose mark of the window is missing.
 pub fn marks_wanted(marks: &[u64], window: u64) -> u64 {
     let mut wanted: u64 = 0;
     for count in marks {

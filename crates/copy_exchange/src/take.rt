@@ -73,8 +73,8 @@ fn is_expected(window_position: &WindowPosition<'_>, copy: RadioCopy) -> bool
     window_position.from <= copy.at
 }
 
-/// Receives an item that was taken. It counts a mark; it appends a copy to those that arrived, if the copy is
-/// expected.
+/// Handles an item that was taken. If the item is a mark, the function counts it. If the item is an expected copy, the
+/// function appends it to the copies that have arrived.
 fn hear(
     window_position: &WindowPosition<'_>,
     marks: &mut Vec<u64>,

@@ -104,7 +104,7 @@ TwoWindowsLieThere = (p : Plan) (w : MarkState) → IsReached p w → (v u : ℕ
     + ((length (p.sent v u (w.finished u)) + 1) + (length (p.sent v u (suc (w.finished u))) + 1))
 
 -- ---- with one queue for each worker
--- for each plan, the senders can have numbers that differ on each inbox
+-- for each plan, there are numbers for the senders such that no two senders on an inbox have the same number
 abbrev pub SendersAreThere : Type 0
 SendersAreThere = (p : Plan) → Senders p
 

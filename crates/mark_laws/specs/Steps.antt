@@ -5,8 +5,8 @@ use Rattle.copy_inbox.specs.Items.{HasPrefix}
 use Rattle.copy_exchange.specs.Pushes.{marks_in, pushes}
 use Rattle.mark_laws.specs.State.{Plan, MarkState, IsPair, set_at, set_pair, sum_below}
 
--- one step of one worker (the first argument): it pushes an item to another worker, takes an item from another worker,
--- or has finished its window and continues with the next one, or ends after the last
+-- One step of one worker, the first argument. The worker pushes an item to another worker; or it takes an item from
+-- another worker; or it has finished its window, and continues with the next window or, after the last one, ends.
 pub data Event : Type 0 where
   Push : (worker to : ℕ) → Carried → Event
   Take : (worker owners : ℕ) → Carried → Event

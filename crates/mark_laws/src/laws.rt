@@ -73,11 +73,12 @@ pub fn two_windows_lie_there()
     ensures two_windows_lie_there { TwoWindowsLieThere }
 {}
 
-/// The laws if each worker has one queue for the items of all others, and takes the oldest item. The senders on each
-/// queue can have different numbers. Each such run is one of the runs of the laws above. If a window is left, some
-/// worker can continue. A run that can't continue has made all its steps, and every queue is empty. Every run can
-/// continue to the end. Workers may also keep an order of their own among the steps that they may take, such as all
-/// copies of a window before its marks: then, too, a run that can't continue is at the end.
+/// The laws if each worker has one queue for the items of all others, and takes the oldest item. For each plan, there
+/// are numbers for the senders such that no two senders on a queue have the same number. Each such run is one of the
+/// runs of the laws above. If a window is left, some worker can continue. A run that can't continue has made all its
+/// steps, and every queue is empty. Every run can continue to the end. Workers may also keep an order of their own
+/// among the steps that they may take, such as all copies of a window before its marks: then, too, a run that can't
+/// continue is at the end.
 pub fn queues_do_not_stick()
     ensures senders { SendersAreThere }
     ensures runs { QueuedRunsAreRuns }

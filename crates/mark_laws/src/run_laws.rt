@@ -1,5 +1,5 @@
-//! Laws of the threads: by their promises, their actions end in the state in which the protocol ends. Each is a
-//! theorem, stated as the contract of an empty function.
+//! Laws of the threads: their promises imply that their actions end in the state in which the protocol ends. Each law
+//! is a theorem, stated as the contract of an empty function.
 
 ghost use Rattle.mark_laws.specs.RunLaws.{EachRunHasAll, RunsEndAtEnd, MarksLeadOn, SendersAreApart};
 ghost use Rattle.mark_laws.specs.RunLaws.{NoCopyIsUnexpected};

@@ -77,8 +77,8 @@ DueFromExpiration =
     → let t : TimerLists = timers_after_calls (set_timer s id owner interval now) calls in
     (moment : ℕ) → IsDue t id moment ↔ (expiration (timer_at t.timers id) ≤ moment)
 
--- if there is such a timer, and no later call set it again either, it is due from the moment at which it was set plus
--- the interval with which it was set on, and not before
+-- Suppose that a timer was set, and that no later call took it off the list or set it again. Add the moment and the
+-- interval with which it was set: the timer is due from the resulting moment on, and not before.
 abbrev pub DueFromSet : Type 0
 DueFromSet =
     (s : TimerLists) (id : ℕ) (owner : Proc) (interval now : ℕ) (calls : List TimerCall)

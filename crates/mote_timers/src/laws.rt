@@ -13,9 +13,9 @@ pub fn timers_stay()
     ensures keeps_timers { CallsKeepTimers }
 {}
 
-/// If a timer was set, and later not fired, stopped or purged, it is due from its start plus its interval on, and not
-/// before. If there is such a timer, and no later call set it again either, this moment is the one at which it was set
-/// plus the interval with which it was set.
+/// Suppose that a timer was set, and that no later call fired, stopped or purged it. Then the timer is due from its
+/// expiration (its start plus its interval) on, and not before. If no later call set the timer again either, its
+/// expiration is the moment at which it was set plus the interval with which it was set.
 pub fn due_from_expiration()
     ensures last_set { DueFromExpiration }
     ensures set_once { DueFromSet }

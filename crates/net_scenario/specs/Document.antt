@@ -89,8 +89,8 @@ abbrev pub program_fault : (programs mote : Members) → Option TableFault
 program_fault programs mote =
     if is_none (get_member (text_at (codes "program") mote) programs) then Some UnknownProgram else None
 
--- the first fault of a document: first the faults of its tables, one table after another, and then names that no
--- program has
+-- the first fault of a document: first the faults of its tables, one table after another; then, in `queue` or a mote,
+-- the name of a program that doesn't exist
 unfoldable pub document_fault : Members → Option TableFault
 document_fault top =
     option_or

@@ -1,4 +1,4 @@
--- The numbers of the faults, and the fault of the scenario for each fault of a part.
+-- The number of each fault of a scenario, and the fault that each fault of a part becomes.
 use Rattle.net_scenario.specs.declared.error.TableFault.{TableFault}
 use Rattle.net_scenario.specs.declared.error.TableFault.TheVariants as table
 use Rattle.net_scenario.specs.declared.error.ScenarioError.{ScenarioError}

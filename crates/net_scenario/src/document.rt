@@ -61,7 +61,7 @@ fn check_programs(programs: &Table, motes: &[Value]) -> Result<(), TableFault>
     Ok(())
 }
 
-/// Checks a document: first its tables, one after another, and then names that no program has.
+/// Checks a document: first its tables, one after another, and then the names of programs in `queue` and the motes.
 ///
 /// # Errors
 /// The first fault of the tables.

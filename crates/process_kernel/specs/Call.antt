@@ -21,7 +21,7 @@ has_ended Yielded = false
 has_ended Exited = true
 has_ended Ended = true
 
--- after its answer, a process is exited on its own behalf, or is running again
+-- A process has run and returned: if it has ended, it is exited on its own behalf. Otherwise it is running again.
 unfoldable pub answered : Calls → KernelState → Proc → (ended : Bool) → Went
 answered calls s p ended = if ended then exit_of calls s p p else Goes tt (with_state s p Running)
 

@@ -19,7 +19,7 @@ process_number Etimer = 256
 process_number Ctimer = 257
 process_number Radio = 258
 
--- The last run of a process that another process exits: it is run with EXIT, as in a call, and its answer is ignored.
+-- The last run of a process that another process exits. It runs with EXIT, as in a call; its result is ignored.
 unfoldable pub last_run_of : Calls → KernelState → Proc → Went
 last_run_of calls s p = spend_of s >>= λ _ s1. react_of calls s1 p (own_event Exit 0) >>= λ _ s2. Goes tt s2
 

@@ -9,9 +9,9 @@ use Rattle.process_kernel.specs.Calls.{Calls}
 use Rattle.process_kernel.specs.Call.{calls_of}
 use Rattle.process_kernel.specs.Views.{kernel_state_of, StepMatches, Spends, Grows}
 
--- A step follows a rule. Its result and the state after it are the outcome of the rule, with calls that may nest
--- deeper than there are units of work; if memory runs out, nothing is claimed of them. If the step succeeds, each start
--- is paid for by a unit. Everything that was written before is still there.
+-- A step follows a rule. The step's result and the state after it are the outcome of the rule, for every bound on the
+-- depth of calls that is greater than the number of units of work. If memory runs out, nothing is claimed about result
+-- and state. If the step succeeds, each start costs at least one unit. The lines written before the step remain.
 pub record Follows {A : Type 0} (program : Program) (old : Machine) (result : Result A Stop) (new : Machine)
     (rule : Calls → KernelState → Outcome A) : Type 0 where
   pub exact : (k : ℕ) → old.fuel < k

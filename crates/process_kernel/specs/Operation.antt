@@ -32,8 +32,8 @@ abbrev pub posted : ℕ → ℕ → Event
 posted number word = record { number = number; word = word; sender = 0 }
 
 -- An operation without a result, for the current process: the process whose body, handler or callback is being
--- executed. Only a post has a result, so `perform_of` performs it. Its line here is never used, and only makes the
--- definition total.
+-- executed. Only a post has a result, and `perform_of` performs it. The line for a post in this definition is never
+-- used; it only makes the definition total.
 unfoldable pub act_of : Calls → KernelState → (current : ℕ) → Op → Went
 act_of calls s current (op.Post t e w) = Goes tt s
 act_of calls s current (op.Synch p e w) = calls.call s p (posted e w)

@@ -87,7 +87,7 @@ impl Machine {
         }
     }
 
-    /// Runs the event's handler of a process of the program, and then resumes its body.
+    /// Runs the handler that a process of the program has for the event, and then resumes the body of this process.
     #[cycle(kernel)]
     #[inline(always)]
     #[tactic(auto, unfolding(crate::specs::Reaction::own_of))]
@@ -211,7 +211,7 @@ impl Machine {
         self.run_fresh(program, text, part, process, event)
     }
 
-    /// Runs a fresh thread of a part. The function is not inlined, because its frame contains the thread.
+    /// Runs a part in a new thread. The function isn't inlined, because its stack frame contains the thread.
     #[cycle(kernel)]
     #[inline(never)]
     fn run_fresh(

@@ -100,9 +100,9 @@ impl Machine {
         Ok(())
     }
 
-    /// Takes the turn of an incarnation in the walk of an event for all processes. First the polls run, if a poll is
-    /// requested. Then the incarnation's process gets the event; if the incarnation is no longer on the list, the
-    /// event is dropped.
+    /// Executes one incarnation's turn in the walk of an event for all processes. First the polls run, if a poll is
+    /// requested. Then, if the incarnation is still on the list, its process gets the event; otherwise, nothing
+    /// happens.
     #[inline(always)]
     #[tactic(auto, unfolding(crate::specs::Delivery::visit_of))]
     fn give_in_turn(

@@ -58,7 +58,7 @@ pub struct Kernel {
     machine: Machine,
 }
 
-/// Implemented by hand: for the checker, each function that owns a kernel then drops it with a single call.
+/// Implemented by hand: for the checker, a function that owns a kernel then drops it with a single call.
 impl Drop for Kernel {
     fn drop(self) {
         let Kernel {

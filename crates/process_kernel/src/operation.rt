@@ -121,8 +121,8 @@ impl Machine {
         }
     }
 
-    /// Kills a process that isn't busy: it is exited on behalf of the current process. If it is busy, only a line is
-    /// written.
+    /// Kills a process: if it isn't busy, it is exited on behalf of the current process. If it is busy, the kernel only
+    /// writes a line.
     #[cycle(kernel)]
     #[tactic(auto, unfolding(crate::specs::Kill::kill_of))]
     fn kill(&mut self, program: &Program, process: Proc, current: u8) -> Result<(), Stop>

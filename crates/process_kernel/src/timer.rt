@@ -64,9 +64,9 @@ impl Machine {
         self.poll(Proc::Etimer);
     }
 
-    /// Sets a timer to an interval in moments that begins now (`etimer_set` of `etimer.c`). The process `current`
-    /// becomes the timer's owner; for a callback timer, the ctimer process does. If the mote has no such timer,
-    /// nothing changes.
+    /// Sets a timer to an interval in moments that begins now (`etimer_set` of `etimer.c`). The owner of an event
+    /// timer is now the process `current`; the owner of a callback timer is the ctimer process. If the mote has no
+    /// timer with this number, nothing changes.
     #[tactic(auto, unfolding(crate::specs::TimerOperations::set_of))]
     pub fn set_timer(&mut self, program: &Program, timer: u16, interval: u16, current: u8)
         ensures exact { kernel_state_of (tree_of program.now) self.new

@@ -28,7 +28,7 @@ pub struct Medium {
     least_delay: Option<u64>,
 }
 
-/// Implemented by hand: for the checker, each function that owns a medium then drops it with a single call.
+/// Implemented by hand: for the checker, a function that owns a medium then drops it with a single call.
 impl Drop for Medium {
     fn drop(self) {
         let Medium {

@@ -21,7 +21,7 @@ EarlierStaysInFront = (window : Window) (last : LoneNode) → EndsAs window last
     → WindowRun (node_number window.mote.state) window.until window.copies (with_earlier lines sends window.mote)
     (with_earlier lines sends last)
 
--- if the wake in a window is the mote's own wake at the beginning, it is also the mote's own wake at the end
+-- if the wake recorded in a window is the mote's next wake at the beginning, it is also the mote's next wake at the end
 abbrev pub EndsWithItsWake : Type 0
 EndsWithItsWake = (window : Window) (last : LoneNode) → window.mote.wake ≡ wake_of window.mote.state
     → EndsAs window last → last.wake ≡ wake_of last.state

@@ -49,7 +49,7 @@ pub record TakesTrace (number : ℕ) (trace : Vec Line Global) (old new : List (
 abbrev pub IsWakeFrom : (until : ℕ) → LentMote → (wake : Option ℕ) → Type 0
 IsWakeFrom until lent_mote wake = (tree : Tree) → wake ≡ wake_from until (wake_in (node_in tree lent_mote.mote))
 
--- the motes that are called are lent, with their traces, and these are their wakes, without those before a moment
+-- the called motes are lent, with their traces; `wakes` are the motes' wakes, without the wakes before a moment
 pub record MotesAreLent (until : ℕ) (calls : CalledMotes) (old new : List (Option Mote))
     (traces left : List (Vec Line Global)) (lent_motes : List LentMote) (wakes : List (Option ℕ)) : Type 0 where
   pub different : are_different (numbers_of lent_motes) ≡ true

@@ -16,8 +16,8 @@ copies_to_come model owners worker from motes taken sender =
     let own = is_own owners worker in filter (is_to_come own from)
     (copies_seen (system_of model) own motes taken sender)
 
--- No event of a share at the moment `from` is pending before `next`, which isn't before `from`: the share is also valid
--- at each later moment up to `next`, and no copy arrives before `next`. Without a `next`, no event is pending.
+-- For a share at the moment `from`, no event is pending before `next`. `next` isn't before `from`, the share is still
+-- valid at each moment from `from` to `next`, and no copy arrives before `next`. Without a `next`, no event is pending.
 pub record IsNextFrom (model : NetModel) (owners : List ℕ) (worker from : ℕ) (motes : Motes) (taken : List RadioCopy)
     (share : Share) (next : Option ℕ) : Type 0 where
   pub wakes : NoneBefore from next

@@ -41,8 +41,8 @@ pub record IsOf {G : Type 0} (model : NetModel) (until : ℕ) (lent_mote : LentM
   pub gives : (out : WindowOut) → SlotGives slot out → LentMoteGives model until lent_mote out
   pub goes_on : LentMoteGoesOn model until lent_mote → SlotGoesOn slot
 
--- the motes that are called are lent, these are the slots of their windows and their wakes, and the rest of the share
--- is unchanged
+-- The called motes are lent. `slots` are the slots of their windows, and `wakes` are their wakes. The rest of the share
+-- is unchanged.
 pub record AreLent {G : Type 0} (model : NetModel) (until : ℕ) (calls : CalledMotes) (old new : Share)
     (slots : List (Slot G)) (wakes : List (Option ℕ)) : Type 0 where
   pub lent_motes : List LentMote

@@ -25,8 +25,8 @@ abbrev pub outgoing_by : NetModel → (own : ℕ → Bool) → Motes → (sender
 outgoing_by model own motes sender =
     if own sender then filter (is_for_others own) (copies_by (system_of model) motes sender) else []
 
--- The worker's motes after the window: each of them ran by itself, and all other motes are unchanged. The new share
--- keeps the motes at the window's end. The outgoing copies are, for each sender, the copies that it sent to other
+-- A worker has run a window: each of its motes ran by itself, and all other motes are unchanged. The new share contains
+-- the states of the motes at the window's end. The outgoing copies of each sender are the copies that it sent to other
 -- workers in the window; none of them arrives before the window's end.
 pub record RunsWindow (model : NetModel) (owners : List ℕ) (worker from until : ℕ) (motes : Motes)
     (taken : List RadioCopy)

@@ -8,13 +8,14 @@ pub fn one_window_run()
     ensures end_is_one { EndIsOne }
 {}
 
-/// Lines and packets from before a window stay in front of those that the window's run appends. Otherwise, the run
-/// doesn't depend on them.
+/// The run of a window appends its lines and packets after the earlier ones, and depends on the earlier ones in no
+/// other way.
 pub fn earlier_stays_in_front()
     ensures earlier_stays_in_front { EarlierStaysInFront }
 {}
 
-/// If the wake in a window is the mote's own wake at the beginning, it is also the mote's own wake at the end.
+/// If the wake recorded in a window is the mote's next wake at the beginning, it is the mote's next wake at the end,
+/// too.
 pub fn ends_with_its_wake()
     ensures ends_with_its_wake { EndsWithItsWake }
 {}
