@@ -46,6 +46,8 @@ BODIES = [
     ('print\u00a01;', 'U+00A0'), ('print \u201cx\u201d;', 'U+201C'), ('seq = [1];', 'arrays'),
     ('seen |= 1 << from;', '`bit = 1; k = 0; while (k < from) { bit = (bit * 2); k = (k + 1); }`'),
     ('if (seen & (1 << from)) { }', '`((flags / bit) % 2)`'), ('seq = (seq >> self);', 'bit = (bit / 2);'),
+    ('goto out;', '`again = 1; while again { again = 0;'), ('out: seq = 1;', 'There is no `goto`, and no labels'),
+    ('out:\n seq = 1;', '`if !c { .. }`'), ('if seq { goto out; }', 'There is no `goto`, and no labels'),
     ('seq = (seq & 1);', 'bits'), ('seq = 1.5;', 'whole'), ('seq = 01;', '`1`'),
 ]
 

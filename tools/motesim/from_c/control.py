@@ -115,8 +115,13 @@ class Control(Lines):
     def braced(self, last: str) -> str:
         """A single statement with braces around it. If its own block continues below these lines, so does this one."""
         self.why('A block always has its braces.')
-        word = self.token.text
-        text = self.statement()
+        word, begun = self.token.text, self.begun
+        try:
+            text = self.statement()
+        except NoCounterpart:
+            # (without braces, the statement is a part of the one above it)
+            self.begun = begun
+            raise
         self.hides_else = self.hides_else or self.lacks_else
         if not self.is_cut:
             return ' '.join(['{', *filter(None, [text, last]), '}'])

@@ -37,6 +37,9 @@ OF_ON = ('There is no block for a packet: a process waits for each one by `yield
 OF_HANDLER = 'The handler is a block of the `code`, `%s { .. }`, below its timers and threads and above its `body`.'
 WAIT = ('A process waits by an event timer: `set t 5; yield_until fired(t);`, with `etimer t;` at the head of its '
         '`code`.')
+NO_GOTO = ('There is no `goto`, and no labels. For a jump back up, write a `while` with a flag around the statements: '
+           '`again = 1; while again { again = 0; .. if c { again = 1; } }`. A jump down skips statements: write them in '
+           'the block of an `if` with the opposite test, `if !c { .. }`.')
 # Words without a counterpart, each with the advice what to do instead.
 ADVICE = {
     **SENDS, 'collect_set_sink': NO_SINK,
@@ -45,7 +48,7 @@ ADVICE = {
     'default': 'There is no `switch`: put the statements of `default` into the last `else { .. }`.',
     'continue': 'There is no `continue` in loops: put the statements that it would skip into the block of an '
     '`else`, `if .. { } else { .. }`.',
-    'goto': 'There is no `goto`: use `while`, `if`, or a `thread` that is run by `spawn`.',
+    'goto': NO_GOTO,
     'random_init': 'There is no generator to set up: a seed is a variable, `seed = self;`.',
     'srand': 'There is no generator to set up: a seed is a variable, `seed = self;`.',
     'struct': NO_FIELDS, 'typedef': 'There are no types: all values have 16 bits.', 'enum': 'There are no types: give '
@@ -213,6 +216,8 @@ class Statements(Declarations, Calls, Control):
         if behind in ('++', '--'):
             self.at += 2
             return self.end(self.stepped(word, behind))
+        if behind == ':':
+            raise NoCounterpart(NO_GOTO)
         if kind == 'variable' and (behind == '(' or self.ahead(1).kind in ('name', 'number')):
             self.at += 1
             value = self.expression()
