@@ -48,6 +48,12 @@ BODIES = [
     ('if (seen & (1 << from)) { }', '`((flags / bit) % 2)`'), ('seq = (seq >> self);', 'bit = (bit / 2);'),
     ('goto out;', '`again = 1; while again { again = 0;'), ('out: seq = 1;', 'There is no `goto`, and no labels'),
     ('out:\n seq = 1;', '`if !c { .. }`'), ('if seq { goto out; }', 'There is no `goto`, and no labels'),
+    ('seq = f(3);', 'write `a = 3; spawn f;`, and here `result` instead of `f(3)`'),
+    ('if (most(seq, 2) > 3) { }', 'write `a = seq; b = 2; spawn most;`, and here `result` instead of `most(seq, 2)`'),
+    ('seq = f(seq + 1) + 2;', '`a = (seq + 1); spawn f;`'), ('print level();', '`spawn level;`'),
+    ('return seq * 2;', '`result = (seq * 2);`'), ('if seq { return 3; }', '`exit;` ends'),
+    ('#define TWICE(v) ((v) * 2)\n', '`TWICE(v)`, which is `((v) * 2)`, at each place'),
+    ('#define TWICE(v) ((v) * 2)\n', '// TWICE(v) is ((v) * 2)'),
     ('seq = (seq & 1);', 'bits'), ('seq = 1.5;', 'whole'), ('seq = 01;', '`1`'),
 ]
 
@@ -125,6 +131,11 @@ class Hints(unittest.TestCase):
         self.assertIn('Did you mean `fired`?', self.hint(CODE % 'if fird(t) { }'))
         for body in 'print count;', 'if (count > 3) { }':
             self.assertIn('`count` is a word of the notation', self.hint(CODE % body))
+
+    def test_a_call_of_a_thread_whose_value_is_used(self) -> None:
+        text = 'process a;\nautostart a;\ncode a {\n  var v = 0;\n  thread f { // parameters: v\n    v = (v * 2);\n' \
+               '  }\n  body {\n    v = f(v + 1);\n  }\n}\n'
+        self.assertIn('write `v = (v + 1); spawn f;`, and here `result` instead of `f((v + 1))`', self.hint(text))
 
     def test_a_name_that_is_declared_twice_before_lines_of_contiki(self) -> None:
         for body in 'send 1;', 'packetbuf_copyfrom(&x, 2);\nbroadcast_send(&bc);':

@@ -369,5 +369,6 @@ class Control(Lines):
         value = Node('number') if self.token.text in (';', '}', '') else self.expression()
         self.why('There is no `return`: `exit;` ends the process or the thread.')
         if value.kind != 'number':
-            self.writer.insist('An `exit` passes no value: assign it to a variable of the process first.')
+            self.writer.insist('An `exit` passes no value: assign it to a variable of the process first, such as '
+                               '`result = %s;`.' % self.writer.text(value))
         return self.end('exit')

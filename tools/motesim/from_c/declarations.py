@@ -29,6 +29,10 @@ ABOVE = {'semaphore': 'A semaphore is declared above the `process` line, with it
 OF_STRUCTURE = 'A protothread needs no structure: `thread NAME { .. }` declares it, `spawn NAME;` runs it.'
 # A name with its value for the preprocessor; without a value, or with parameters, it is another kind of line.
 DEFINED = re.compile(r'#\s*define\s+([A-Za-z_]\w*)\s+([^\s/"].*)')
+# An expression with parameters, for the preprocessor.
+MACRO = re.compile(r'#\s*define\s+([A-Za-z_]\w*\([^()]*\))\s*(\S.*)')
+NO_MACROS = ('There is no preprocessor, and there are no macros: write the expression of `%s`, which is `%s`, at each '
+             'place of the macro. The comment keeps it.')
 NO_CONSTANTS = 'There are no constants: use a variable that is never assigned'
 MOST_MEMBERS = 8
 NO_PLACE = 'Variables are declared at the head of `code`, before its timers, threads and `body`: `var %s = 0;`.'
@@ -50,7 +54,11 @@ class Declarations(Lines):
 
     def directive(self, line: str) -> str:
         """A line for the preprocessor."""
-        defined = DEFINED.fullmatch(line)
+        defined, macro = DEFINED.fullmatch(line), MACRO.fullmatch(line)
+        if macro:
+            self.why(NO_MACROS % macro.groups())
+            self.comments.append('// %s is %s' % macro.groups())
+            return ''
         if not defined:
             self.why('Leave this line out: there is no preprocessor, and no file has to be included.')
             return ''

@@ -12,6 +12,7 @@ from dataclasses import dataclass, field
 from fractions import Fraction
 
 from motesim.from_c.absent import NO_SENSORS, OF_READING, READING, RUNICAST, is_sensor
+from motesim.from_c.parameters import of_value
 from motesim.from_c.scope import Scope, allowed
 from motesim.from_c.tokens import END, Token
 from motesim.notation.faults import MOST_LEVELS
@@ -446,7 +447,8 @@ class Writer:
             return self.refuse(RUNICAST)
         test = node.text if node.text in TESTS else CALLS.get(lower, '') or self.test_meant(node)
         if not test or len(parts) != 1:
-            return self.refuse(NO_CALLS)
+            return self.refuse(of_value(allowed(node.text), self.scope.parameters.get(node.text, ()),
+                                        [self.text(it) for it in parts]))
         named = parts[0].text
         if test in ('fired', 'expired') and (named in OWN_EVENTS or self.scope.kinds.get(named) == 'event'):
             self.why('`%s` is about a timer; `is(%s)` is true in a call with the event `%s`.' % (test, named, named))

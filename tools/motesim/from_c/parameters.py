@@ -14,6 +14,10 @@ ASSIGNED = 'A thread is run by `spawn`. Its parameters are variables: assign the
 IN_CIRCLE = ('The arguments of `%s` are parameters of the thread in another order: keep one of them in a variable of '
              'its own, and assign before `spawn %s;`.')
 KEPT = 'parameters: %s'
+OF_VALUE = ('A call has no value. A `thread` without waits serves as a function, and stores its result in a variable of '
+            'the process, such as `result`. Above this line write `%s`, and here `result` instead of `%s`.')
+# The parameters of a function that the text doesn't have.
+PARAMETERS = ('a', 'b', 'c', 'd')
 OF_COMMENT = ('A thread uses the variables of its process. The comment keeps the order of the parameters for the lines '
               'that call it.')
 READ_BY_NAME = '`%s` has another meaning in a program, so write `%s` for this parameter in the thread, too.'
@@ -25,6 +29,14 @@ NOTED = re.compile(r'\bthread\s+(\w+)\b(?:(?!\bthread\b).)*?//\s*parameters: (\w
 def parameters_of(text: str) -> dict[str, tuple[str, ...]]:
     """The parameters of each thread whose line has a comment with them."""
     return {it[1]: tuple(it[2].split(', ')) for it in NOTED.finditer(text)}
+
+
+def of_value(function: str, names: tuple[str, ...], values: list[str]) -> str:
+    """Advice on a call whose value is used, with the statements that call the thread."""
+    its = names if len(names) == len(values) else PARAMETERS
+    assigned = assignments(its, values) if len(values) <= len(its) else None
+    call = ' '.join([*(['..'] if assigned is None else assigned), 'spawn %s;' % function])
+    return OF_VALUE % (call, '%s(%s)' % (function, ', '.join(values)))
 
 
 def assignments(names: tuple[str, ...], values: list[str]) -> list[str] | None:
