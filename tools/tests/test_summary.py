@@ -15,7 +15,6 @@ from unittest import mock
 from here import TOOLS
 from motesim.summary import counts as summary
 from motesim.faults import Fault
-from motesim.summary import flows
 from motesim.summary.flows import flow_rows
 from motesim.explain.lint import of_moments
 from motesim.report import Report
@@ -206,7 +205,7 @@ from to copies received lost ring collided halted late ratio delay
         prints = ''.join('%d print hearer %d\n' % (at + 3, at) for at in range(30))
         medium = ''.join('%d 0 %d %d 1@%d\n' % (at, at, at, at + 3) for at in range(30))
         report = Report.parse('mote 0 talker\n%smote 1 hearer\n%smedium\n%sleft 0\n' % (sends, prints, medium))
-        with mock.patch('motesim.summary.flows.hops_from', wraps=flows.hops_from) as searched:
+        with mock.patch.object(Scenario, 'hops_from', autospec=True, side_effect=Scenario.hops_from) as searched:
             rows = flow_rows(report, Scenario.parse(SCENARIO.replace(
                 'hearer = ""', 'hearer = "process hearer; code hearer { body { } }"')), 'print hearer')
         self.assertEqual((rows[0]['sent'], rows[0]['copies'], searched.call_count), (30, 30, 2))

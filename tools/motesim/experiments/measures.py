@@ -32,6 +32,7 @@ from motesim.plan.tables import Value
 from motesim.report import Line
 from motesim.runner.run import Run
 from motesim.scenario import Scenario
+from motesim.scenario.scenario import hops_over
 from motesim.judge.sentences import Copies, Does, Motes, Names, Packets, Refused, Sentence, read_sentence
 
 Cell = int | float | str | None
@@ -112,13 +113,7 @@ def reachable(scenario: Scenario | None) -> float | None:
     reached."""
     if scenario is None:
         return None
-    reached = {0: None}
-    left = [0]
-    while left:
-        near = [it for it in scenario.hearers(left.pop()) if it not in reached]
-        reached.update(dict.fromkeys(near))
-        left += near
-    return len(reached) / scenario.motes
+    return len(hops_over(scenario.hearers, 0)) / scenario.motes
 
 
 def loss(bench: Bench) -> float | None:

@@ -20,6 +20,7 @@ from motesim.runner.run import read_file
 from motesim.scenario import Scenario
 from motesim.scenario.faults import LONGEST_TEXT, find_fault
 from motesim.scenario.kinds import has_plan
+from motesim.scenario.scenario import hops_over
 from motesim.search.quick_judge import Hops
 from motesim.terminal import cut
 from motesim.toml import MARK, NoToml, read_toml
@@ -140,17 +141,13 @@ def hidden_and_shown(nets: Sequence[Net]) -> list[str]:
 def cut_off(scenario: Scenario) -> list[int]:
     """The motes outside of the largest part of a net whose motes reach each other over links that don't lose
     everything; of parts of the same size, the one with the smallest number counts."""
+    def near(mote: int) -> list[int]:
+        return [it for it in scenario.hearers(mote) if scenario.is_open(mote, it) or scenario.is_open(it, mote)]
+
     left, parts = set(range(scenario.motes)), list[set[int]]()
     while left:
-        part, open_motes = set[int](), [min(left)]
-        while open_motes:
-            mote = open_motes.pop()
-            if mote not in part:
-                part.add(mote)
-                open_motes += [it for it in scenario.hearers(mote)
-                               if scenario.losses.get((mote, it)) != 1 or scenario.losses.get((it, mote)) != 1]
-        parts.append(part)
-        left -= part
+        parts.append(set(hops_over(near, min(left))))
+        left -= parts[-1]
     return sorted(set(range(scenario.motes)) - max(parts, key=len, default=set()))
 
 

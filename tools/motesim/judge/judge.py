@@ -94,7 +94,7 @@ class Judge:
 
     def hears(self, r: int, s: int) -> bool:
         """True if mote r hears mote s by a link that doesn't lose everything."""
-        return self.scenario.hears(r, s) and self.scenario.losses.get((s, r)) != 1
+        return self.scenario.is_open(s, r)
 
     def heard(self, r: int) -> set[int]:
         return {s for s in self.scenario.hearers(r) if self.hears(r, s)}
@@ -102,13 +102,7 @@ class Judge:
     def hops(self, root: int, mote: int) -> int:
         """The least number of hops from the root to a mote."""
         if root not in self.hops_from:
-            hops, front = {root: 0}, [root]
-            for s in front:
-                for r in self.scenario.hearers(s):
-                    if r not in hops and self.hears(r, s):
-                        hops[r] = hops[s] + 1
-                        front.append(r)
-            self.hops_from[root] = hops
+            self.hops_from[root] = self.scenario.hops_from(root)
         if mote not in self.hops_from[root]:
             raise _Apart('mote %d is not reached from mote %d' % (mote, root))
         return self.hops_from[root][mote]

@@ -1,8 +1,9 @@
 """Reads scenarios: docs/use/SCENARIO.md describes them. Any other text raises a `ScenarioFault`."""
 from __future__ import annotations
 
+from collections.abc import Callable, Iterable, Iterator
 from functools import cached_property
-from typing import Any, Iterator, NamedTuple
+from typing import Any, NamedTuple
 
 from motesim.faults import Fault
 from motesim.toml import NoToml, read_toml
@@ -30,6 +31,18 @@ def _get(table: dict[str, Any], key: str, kind: type, where: str) -> Any:
     if type(table[key]) is not kind:
         raise ScenarioFault('%s of %s is not %s' % (key, where, _KINDS[kind]))
     return table[key]
+
+
+def hops_over(near: Callable[[int], Iterable[int]], origin: int) -> dict[int, int]:
+    """The least number of hops from a mote to each mote that can be reached from it, itself included; `near` returns
+    the motes at one hop."""
+    hops, reached = {origin: 0}, [origin]
+    for mote in reached:
+        for it in near(mote):
+            if it not in hops:
+                hops[it] = hops[mote] + 1
+                reached.append(it)
+    return hops
 
 
 class Scenario:
@@ -109,6 +122,18 @@ class Scenario:
     def hearers(self, s: int) -> list[int]:
         """The motes that hear mote s, in rising order, whether or not links have losses."""
         return self._neighbours[s]
+
+    def is_open(self, s: int, r: int) -> bool:
+        """Returns whether mote r hears mote s by a link that doesn't lose everything."""
+        return self.hears(r, s) and self.losses.get((s, r)) != 1
+
+    def receivers(self, s: int) -> list[int]:
+        """The motes that hear mote s by links that don't lose everything, in rising order."""
+        return [r for r in self._neighbours[s] if self.losses.get((s, r)) != 1]
+
+    def hops_from(self, origin: int) -> dict[int, int]:
+        """The least number of hops from a mote to each mote that its packets can reach, itself included."""
+        return hops_over(self.receivers, origin)
 
     def links(self) -> Iterator[tuple[int, int]]:
         """Each pair of motes that hear each other, the lesser number first."""

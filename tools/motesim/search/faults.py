@@ -62,9 +62,8 @@ def _apart(change: Change, base: Base, one: int, other: int) -> None:
 
 
 def _silence(change: Change, base: Base, mote: int) -> None:
-    for receiver in base.scenario_itself.hearers(mote):
-        if base.scenario_itself.losses.get((mote, receiver)) != 1:
-            change.lose(mote, receiver, 1)
+    for receiver in base.scenario_itself.receivers(mote):
+        change.lose(mote, receiver, 1)
 
 
 def _die(change: Change, base: Base, mote: int, moment: int) -> None:
@@ -153,9 +152,8 @@ def _directed(base: Base) -> Iterator[tuple[int, int]]:
     """The links that don't lose everything already, in each direction."""
     scenario = base.scenario_itself
     for sender in range(scenario.motes):
-        for receiver in scenario.hearers(sender):
-            if scenario.losses.get((sender, receiver)) != 1:
-                yield sender, receiver
+        for receiver in scenario.receivers(sender):
+            yield sender, receiver
 
 
 def _links(base: Base, asked: Asked) -> Iterator[FaultyPart]:
@@ -165,9 +163,9 @@ def _links(base: Base, asked: Asked) -> Iterator[FaultyPart]:
 
 
 def _both_ways(base: Base, asked: Asked) -> Iterator[FaultyPart]:
-    losses = base.scenario_itself.losses
-    for one, other in base.scenario_itself.links():
-        if losses.get((one, other)) != 1 or losses.get((other, one)) != 1:
+    scenario = base.scenario_itself
+    for one, other in scenario.links():
+        if scenario.is_open(one, other) or scenario.is_open(other, one):
             yield FaultyPart('both-ways', 'link between %d and %d loses everything both ways' % (one, other),
                              ('both', one, other), ('apart', one, other))
 
@@ -211,7 +209,7 @@ def untried_copies(base: Base, asked: Asked) -> str:
 def _motes(base: Base, asked: Asked) -> Iterator[FaultyPart]:
     scenario = base.scenario_itself
     for mote in range(scenario.motes):
-        if any(scenario.losses.get((mote, it)) != 1 for it in scenario.hearers(mote)):
+        if scenario.receivers(mote):
             yield FaultyPart('motes', 'mote %d is silent' % mote, ('silent', mote), ('silent', mote))
 
 

@@ -37,7 +37,7 @@ class Hops:
         self.found: dict[int, dict[int, int]] = {}
 
     def hears(self, r: int, s: int) -> bool:
-        return self.scenario.hears(r, s) and self.scenario.losses.get((s, r)) != 1
+        return self.scenario.is_open(s, r)
 
     @cached_property
     def heard(self) -> list[set[int]]:
@@ -46,14 +46,7 @@ class Hops:
 
     def hops(self, root: int, mote: int) -> int:
         if root not in self.found:
-            losses, hearers = self.scenario.losses, self.scenario.hearers
-            hops, front = {root: 0}, [root]
-            for s in front:
-                for r in hearers(s):
-                    if r not in hops and losses.get((s, r)) != 1:
-                        hops[r] = hops[s] + 1
-                        front.append(r)
-            self.found[root] = hops
+            self.found[root] = self.scenario.hops_from(root)
         if mote not in self.found[root]:
             raise NotReached
         return self.found[root][mote]

@@ -144,20 +144,6 @@ def messages(report: Report, begin: Mark, end: Mark) -> dict[int, Message]:
     return found
 
 
-def hops_from(scenario: Scenario, origin: int) -> dict[int, int]:
-    """The least number of hops from a mote to each mote that its packets can reach."""
-    found, edge = {origin: 0}, [origin]
-    while edge:
-        reached = []
-        for s in edge:
-            for r in scenario.hearers(s):
-                if r not in found and scenario.losses.get((s, r)) != 1:
-                    found[r] = found[s] + 1
-                    reached.append(r)
-        edge = reached
-    return found
-
-
 def flow_rows(report: Report, scenario: Scenario | None, words: str) -> list[Row]:
     """A row for each origin of a flow, and one for the net.
 
@@ -181,7 +167,7 @@ def _row(origin: int | str, its: list[Message], scenario: Scenario | None) -> Ro
     delivered = [it for it in its if it.delivered]
     pairs = [(it, mote, moments) for it in its for mote, moments in it.delivered.items()]
     delays = sorted(moments[0] - it.at for it, _, moments in pairs)
-    far = {origin: hops_from(scenario, origin) for origin in {it.origin for it in its}} if scenario else {}
+    far = {origin: scenario.hops_from(origin) for origin in {it.origin for it in its}} if scenario else {}
     hops = [far[it.origin][mote] for it, mote, _ in pairs if scenario and mote in far[it.origin]]
     copies = sum(len(moments) for _, _, moments in pairs)
     return {
