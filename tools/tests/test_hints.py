@@ -48,6 +48,13 @@ BODIES = [
     ('if (seen & (1 << from)) { }', '`((flags / bit) % 2)`'), ('seq = (seq >> self);', 'bit = (bit / 2);'),
     ('goto out;', '`again = 1; while again { again = 0;'), ('out: seq = 1;', 'There is no `goto`, and no labels'),
     ('out:\n seq = 1;', '`if !c { .. }`'), ('if seq { goto out; }', 'There is no `goto`, and no labels'),
+    ('if (ev == PROCESS_EVENT_X) { }', 'no event is named `PROCESS_EVENT_X`: `is(x)` is possible if `event x;`'),
+    ('if (ev == found) { }', 'if `event found;` is above the `process` line'), ('if (ev == t) { }', 'if fired(t) { }'),
+    ('if (PROCESS_EVENT_TIMER) { }', 'if is(timer) { }'), ('print ev;', 'The event of a call has no number'),
+    ('switch (ev) { }', '`if is(timer) { .. } else { if is(packet) { .. } }`'),
+    ('seq = (uint8_t)(seq + 1);', 'seq = ((seq + 1) % 256);'), ('seq = (uint8_t)seen + 1;', '((seen % 256) + 1)'),
+    ('seq = (int8_t)seen;', 'seq = seen;'), ('seq = (int8_t)seen;', 'no sign, so the cast to `int8_t` is left out'),
+    ('seq = (uint8_t)5;', 'seq = 5;'), ('seq = (uint32_t)seen;', 'modulo 65,536'),
     ('seq = f(3);', 'write `a = 3; spawn f;`, and here `result` instead of `f(3)`'),
     ('if (most(seq, 2) > 3) { }', 'write `a = seq; b = 2; spawn most;`, and here `result` instead of `most(seq, 2)`'),
     ('seq = f(seq + 1) + 2;', '`a = (seq + 1); spawn f;`'), ('print level();', '`spawn level;`'),
@@ -131,6 +138,15 @@ class Hints(unittest.TestCase):
         self.assertIn('Did you mean `fired`?', self.hint(CODE % 'if fird(t) { }'))
         for body in 'print count;', 'if (count > 3) { }':
             self.assertIn('`count` is a word of the notation', self.hint(CODE % body))
+
+    def test_a_type_of_another_size(self) -> None:
+        for typed, wanted in (('uint8_t v = 3;', 'To keep 8 bits, write `% 256`'), ('int8_t v;', 'without a sign'),
+                              ('unsigned char v;', '`% 256`'), ('uint32_t v;', 'thousands in a second variable')):
+            for text in ('process a;\ncode a {\n  %s\n  body { }\n}\n',
+                         'process a;\ncode a {\n  body {\n    %s\n  }\n}'):
+                hint = self.hint(text % typed)
+                self.assertIn(wanted, hint)
+                self.assertIn('var v = ', hint)
 
     def test_a_call_of_a_thread_whose_value_is_used(self) -> None:
         text = 'process a;\nautostart a;\ncode a {\n  var v = 0;\n  thread f { // parameters: v\n    v = (v * 2);\n' \

@@ -17,7 +17,7 @@ DECLARES = {'event': 'event', 'semaphore': 'semaphore', 'process': 'process', 'v
 HEAD = {'variable': 'var %s = 0;', 'timer': 'etimer %s;'}
 # Words of other languages that name no variable.
 NO_VARIABLES = {'true', 'false', 'and', 'or', 'not', 'random', 'rand', 'rnd', 'sleep', 'printf', 'break', 'continue',
-                'return', 'goto', 'switch', 'case', 'for', 'do', 'struct', 'to', *ELSE_IFS, *LOOPS, *TYPES, *QUALIFIERS}
+                'return', 'goto', 'switch', 'case', 'for', 'do', 'struct', 'to', 'ev', *ELSE_IFS, *LOOPS, *TYPES, *QUALIFIERS}
 TOP = {'semaphore': 'semaphore %s = 0;', 'event': 'event %s;'}
 
 

@@ -13,6 +13,8 @@ from motesim.from_c.tokens import Token, tokens_of
 
 NO_SWITCH = ('There is no `switch`: each `case` is a test of its own, `if (%s == %s) { .. } else { if (%s == %s) { .. '
              '} }`.')
+NO_SWITCH_OF_EVENTS = ('There is no `switch`: each `case` is a test of its own, and `is(..)` tests the event of a call, '
+                       '`if is(timer) { .. } else { if is(packet) { .. } }`.')
 ELSE_IFS = ('elif', 'elseif', 'elsif')
 OWN_STEP = 'There is no `%s`: the step is a statement of its own, `%s`.'
 # Statements whose test is evaluated more than once, or in which a step has no place.
@@ -159,6 +161,8 @@ class Control(Lines):
 
     def of_switch(self) -> str:
         self.at += 1
+        if self.ahead(self.token.text == '(').text == 'ev' and 'ev' not in self.scope.kinds:
+            raise NoCounterpart(NO_SWITCH_OF_EVENTS)
         tested = self.condition()
         case = next((self.ahead(at + 1).text for at in range(12) if self.ahead(at).text == 'case'), '1')
         raise NoCounterpart(NO_SWITCH % (tested, case, tested, '2' if case == '1' else '..'))

@@ -4,8 +4,8 @@ from __future__ import annotations
 import re
 
 from motesim.from_c.expressions import (
-    MOST, NO_ARRAYS, NO_FIELDS, QUALIFIERS, READ_ONLY, TICKS, TOO_LARGE, TYPES, Expressions, NoCounterpart, number_of,
-    value_of,
+    BYTES, LONG, MOST, NO_ARRAYS, NO_FIELDS, QUALIFIERS, READ_ONLY, SMALL, TICKS, TOO_LARGE, TYPES, Expressions,
+    NoCounterpart, number_of, value_of,
 )
 from motesim.from_c.lines import Lines
 from motesim.from_c.parameters import KEPT, OF_COMMENT, READ_BY_NAME, SHARED
@@ -33,6 +33,10 @@ DEFINED = re.compile(r'#\s*define\s+([A-Za-z_]\w*)\s+([^\s/"].*)')
 MACRO = re.compile(r'#\s*define\s+([A-Za-z_]\w*\([^()]*\))\s*(\S.*)')
 NO_MACROS = ('There is no preprocessor, and there are no macros: write the expression of `%s`, which is `%s`, at each '
              'place of the macro. The comment keeps it.')
+OF_BYTES = ('A variable has 16 bits and no type: its values are 0 to 65,535, without a sign. To keep 8 bits, write `% '
+            '256`, such as `x = ((x + 1) % 256);`.')
+OF_PARTS = ('A variable has 16 bits and no type: its values are 0 to 65,535. Count larger ones in parts, such as thousands '
+            'in a second variable.')
 NO_CONSTANTS = 'There are no constants: use a variable that is never assigned'
 MOST_MEMBERS = 8
 NO_PLACE = 'Variables are declared at the head of `code`, before its timers, threads and `body`: `var %s = 0;`.'
@@ -139,8 +143,17 @@ class Declarations(Lines):
         if 'process_event_t' in words:
             return self.of_names('event', '%s')
         if words != ['var']:
-            self.why('A variable has 16 bits and no type.')
+            self.of_type(words)
         return self.variables()
+
+    def of_type(self, words: list[str]) -> None:
+        """Notes that a variable has no type, and what that means for its values."""
+        if (BYTES | SMALL).intersection(words):
+            self.writer.insist(OF_BYTES)
+        elif LONG.intersection(words):
+            self.writer.insist(OF_PARTS)
+        else:
+            self.why('A variable has 16 bits and no type.')
 
     def variables(self) -> str:
         """Variables with their initial values."""

@@ -27,6 +27,12 @@ TYPES = frozenset((
     'uint8_t', 'uint16_t', 'uint32_t', 'int8_t', 'int16_t', 'int32_t', 'u8_t', 'u16_t', 'process_event_t',
     'process_data_t', 'rimeaddr_t', 'linkaddr_t', 'let', 'auto'))
 QUALIFIERS = frozenset(('static', 'const', 'volatile', 'extern', 'register'))
+# Types of 8 bits without a sign, and with one (or without, by the compiler); and larger types than the notation has.
+BYTES, SMALL, LONG = frozenset(('uint8_t', 'u8_t')), frozenset(('int8_t', 'char')), frozenset((
+    'uint32_t', 'int32_t', 'long'))
+OF_LONG = 'Values have 16 bits, so the cast to `%s` is left out: larger results are modulo 65,536.'
+OF_BYTE = 'Values have 16 bits: `(x %% 256)` keeps the lower 8, as the cast to `%s` does.'
+OF_CAST = 'Values have 16 bits and no sign, so the cast to `%s` is left out; `(x %% 256)` would keep the lower 8 bits.'
 VALUES = {'true': '1', 'false': '0', 'null': '0', 'node_id': 'self', 'simmoteid': 'self', 'rtimer_now': 'now'}
 TESTS = ('is', 'fired', 'expired', 'gone', 'running', 'count')
 # The tests of a name of each kind.
@@ -48,6 +54,10 @@ CLOCKS = ('clock_time', 'clock_seconds', 'rtimer_now')
 READ_ONLY = ('data', 'from', 'now', 'self')
 EVENTS = {'process_event_%s' % it: it for it in ('init', 'poll', 'exit', 'continue', 'msg', 'com', 'exited', 'timer')}
 EVENTS.update({'process_event_none': 'continue', 'tcpip_event': 'packet', 'packet_received': 'packet'})
+NO_NUMBER = ('The event of a call has no number: `is(..)` tests it, such as `is(timer)`, `is(packet)` or `fired(t)` for a '
+             'timer `t`.')
+NO_EVENT = ('The event of a call is tested by `is(..)`, but no event is named `%s`: `%s` is possible if `event %s;` is '
+            'above the `process` line. The kernel\'s own events are `%s`.')
 OWN_EVENTS = ('init', 'poll', 'exit', 'continue', 'msg', 'com', 'packet', 'exited', 'timer')
 SUMS: dict[str, Callable[[int, int], int]] = {
     '+': operator.add, '-': operator.sub, '*': operator.mul, '/': lambda left, right: int(Fraction(left, right))}
@@ -232,9 +242,7 @@ class Expressions:
 
     def one_unary(self) -> Node:
         if self.is_cast():
-            while not self.accept(')'):
-                self.at += 1
-            return self.unary()
+            return self.cast()
         step = self.accept('++', '--')
         if step:
             self.before.append((self.token.text, step))
@@ -243,6 +251,23 @@ class Expressions:
         if sign:
             return Node('unary', '!' if sign == 'not' else sign, (self.unary(),))
         return self.postfix(self.primary())
+
+    def cast(self) -> Node:
+        """A value with a cast, which has no effect unless the type has 8 bits."""
+        words: list[str] = []
+        while not self.accept(')'):
+            words.append(self.token.text)
+            self.at += 1
+        value, kind = self.unary(), ' '.join(words[1:])
+        number = value_of(value)
+        if '*' in words or number is not None and 0 <= number < 128:
+            return value
+        is_byte = bool(BYTES.intersection(words)) or {'unsigned', 'char'} <= {*words}
+        if is_byte or SMALL.intersection(words):
+            self.why((OF_BYTE if is_byte else OF_CAST) % kind)
+        elif LONG.intersection(words):
+            self.why(OF_LONG % kind)
+        return Node('byte', '', (value,)) if is_byte else value
 
     def primary(self) -> Node:
         token = self.token
@@ -335,6 +360,8 @@ class Writer:
             return self.binary(node.text, *node.parts)
         if node.kind in ('index', 'member'):
             return self.part(node)
+        if node.kind == 'byte':
+            return '(%s %% 256)' % self.text(node.parts[0])
         reasons = {'real': NO_REALS, 'text': NO_TEXTS,
                    'choice': 'There is no `? :`: write `if .. { x = a; } else { x = b; }`.'}
         return self.refuse(reasons[node.kind])
@@ -383,9 +410,12 @@ class Writer:
         if kind == 'semaphore':
             self.why('A semaphore is not a value: `count(%s)` is its count.' % word)
             return 'count(%s)' % word
-        if kind == 'event' or word in OWN_EVENTS:
-            self.why('An event is not a value: `is(%s)` is true in a call with it.' % word)
-            return 'is(%s)' % word
+        if kind == 'event' or word in OWN_EVENTS or kind is None and lower in EVENTS:
+            event = word if kind == 'event' else EVENTS.get(lower, word)
+            self.why('An event is not a value: `is(%s)` is true in a call with it.' % event)
+            return 'is(%s)' % event
+        if word == 'ev' and kind is None:
+            return self.refuse(NO_NUMBER)
         found = self.scope.meant(word, 'variable')
         if self.unknown is not None and (self.scope.kinds.get(found) != 'variable' or found in self.foreign):
             return self.new_name(word, 'variable')
@@ -505,8 +535,7 @@ class Writer:
 
     def binary(self, sign: str, left: Node, right: Node) -> str:
         if sign in ('==', '!=') and Node('name', 'ev') in (left, right):
-            self.why('The event of a call is tested by `is(..)`.')
-            event = 'is(%s)' % self.event(right if left == Node('name', 'ev') else left)
+            event = self.of_ev(right if left == Node('name', 'ev') else left)
             return event if sign == '==' else '!' + event
         if sign in ('==', '!=') and self.is_of_timer(left, right):
             timer = 'fired(%s)' % self.of_kind(right, 'timer')
@@ -522,6 +551,19 @@ class Writer:
             return self.mask(sign, left, right)
         assert sign in PLAIN
         return '(%s %s %s)' % (self.text(left), sign, self.text(right))
+
+    def of_ev(self, node: Node) -> str:
+        """The test whether the event of a call is this one."""
+        named = node.parts[0] if node.kind == 'unary' and node.text == '&' else node
+        if named.kind == 'name' and self.scope.kinds.get(named.text) == 'timer':
+            self.why('`fired(%s)` is true in a call with the event of this timer.' % named.text)
+            return 'fired(%s)' % named.text
+        event = self.event(node)
+        if self.unknown is None and event not in OWN_EVENTS and self.scope.kinds.get(event) != 'event':
+            name = allowed(node.text.lower().removeprefix('process_event_'))
+            return self.refuse(NO_EVENT % (node.text, 'is(%s)' % name, name, '`, `'.join(OWN_EVENTS)))
+        self.why('The event of a call is tested by `is(..)`.')
+        return 'is(%s)' % event
 
     def scaled(self, sign: str, left: Node, right: Node) -> str:
         """A product with a number that isn't whole, by a fraction."""
