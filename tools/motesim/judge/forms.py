@@ -34,37 +34,38 @@ class Table(NamedTuple):
 
 MOTES = Table('MOTES', 'The sentence is about', ('%s sends', '%s send'), (
     (('mote 3', 'motes 3 to 7', 'motes 1, 3 and 5', 'each of motes 3 to 7', 'all of motes 1 and 3'),
-     'each mote that is named'),
+     'each named mote'),
     (('every mote', 'each mote', 'all motes', 'every mote but 0', 'all motes but motes 0 and 1'),
      'each mote, except those after `but`'),
     (('motes 3 to 7 together', 'all motes together'),
-     'all lines of these motes, ordered by moment and then by mote, as if the motes were one mote'),
+     'all lines of these motes, as if one mote had them; lines of one moment are ordered by mote'),
     (('no mote', 'no mote but 0'),
-     'every mote, except those after `but`: the sentence holds if none of these motes does it'),
-    (('some mote',), 'at least one mote'),
+     'all motes, except those after `but`; the rest of the sentence must hold for none of them'),
+    (('some mote',), 'all motes; the rest of the sentence must hold for at least one of them'),
     (('exactly 1 mote', 'at least 5 motes', 'at most 3 motes but 0'),
-     'that many motes, not counting those after `but`'),
+     'all motes, except those after `but`; the rest of the sentence must hold for this number of them'),
     (('at least 90 % of motes', 'at most 10 % of the motes', 'exactly 50 percent of all motes but 0',
-      'at least 80 % of motes 3 to 20'), 'that share of the motes that are named '
-      'after `of`, not counting those after `but`'),
+      'at least 80 % of motes 3 to 20'), 'the motes after `of`, except those after `but`; the rest of the sentence '
+      'must hold for this share of them'),
 ))
 DEED = Table('DEED', 'Lines of the report', ('mote 1 %s',), (
     (('prints', 'prints P', 'prints P VALUE'), '`print P V`'),
     (('prints just P 1, 2, 3',),
-     'all lines `print P V` together have just these values, in this order; `1 to 3` means `1, 2, 3`'),
+     'all lines `print P V`, which must have exactly these values, in this order; `1 to 3` means `1, 2, 3`'),
     (('prints just P 1 to 29 in any order',),
-     'all lines `print P V` together have just these values, in any order'),
+     'all lines `print P V`, which must have exactly these values, in any order'),
     (('prints just P its distance from mote 0',),
-     'there is just one line `print P V`, and it has this value; the other values in words, which the next table '
-     'lists, may also follow `prints just P`'),
-    (('finally prints P VALUE',), 'the last line `print P V` has this value'),
+     'all lines `print P V`: there must be exactly one, with this value; each other value in words from the next '
+     'table may also follow `prints just P`'),
+    (('finally prints P VALUE',), 'the last line `print P V`, which must have this value'),
     (('sends', 'sends VALUE'), '`send N V`'),
     (('receives', 'receives VALUE', 'receives VALUE from mote 2'), '`recv F N V`'),
     (('starts P', 'leaves P', 'halts'), '`start P`, `leave P`, `halt`'),
     (("writes 'full echo msg'",), 'lines that continue with this text after the moment'),
     (("writes 'collide' or 'lost'",), 'lines that continue with one of these texts after the moment'),
     (('never sends', 'never prints P VALUE'),
-     'there is no such line; allowed only if MOTES is `mote ..`, `motes ..` or `every mote ..`, also with `together`'),
+     'the lines of the deed after `never`, of which there must be none; allowed only if MOTES is `mote ..`, `motes ..` '
+     'or `every mote ..`, with or without `together`'),
 ))
 VALUE = Table('VALUE', 'Is', ('mote 1 prints p %s',), (
     (('7',), 'this number'),
@@ -73,23 +74,24 @@ VALUE = Table('VALUE', 'Is', ('mote 1 prints p %s',), (
     (('its distance from mote 0',),
      'the least number of hops from mote 0 to the mote, over links that don\'t lose every packet'),
     (('the set of motes that it hears', 'the set of motes that it hears but 5'),
-     'a number in which bit n is set for each mote n that the mote hears, except those after `but`; the numbers in a '
-     'program have 16 bits, so use this only in nets in which no mote above 15 is heard'),
+     'a number in which bit n is set for each mote n that the mote hears, except those after `but`. A number has 16 '
+     'bits, so the mote must hear only motes from 0 to 15'),
     (('the set of motes linked with it',),
-     'a number in which bit n is set for each mote n that the mote hears and that also hears the mote; it has 16 '
-     'bits too'),
-    (('a mote that it hears, one hop nearer to mote 0',), 'the number of such a mote'),
+     'a number in which bit n is set for each mote n that the mote hears and that hears the mote. A number has 16 '
+     'bits, so these motes must be from 0 to 15'),
+    (('a mote that it hears, one hop nearer to mote 0',),
+     'the number of any mote that the mote hears and that is one hop nearer to mote 0'),
 ))
 TIMES = Table('TIMES', 'How many lines', ('mote 1 sends %s',), (
     (('at least 3 times', 'at most 3', 'exactly 3', 'more than 3', 'fewer than 3'), 'that many'),
     (('once', 'twice', 'at most once', 'at least 1 time'), '1, 2, at most 1, at least 1'),
     (('more than 2 times as often as motes 0 to 9 together',),
-     'more than twice the number of the same lines of these motes'),
+     'more than twice as many as the same lines of these motes'),
     (('more than 2 times as often as from 300 to 399',),
-     'more than twice the number of its own lines in another period'),
+     'more than twice as many as the same lines of the same motes from 300 to 399'),
     (('at least 80 % as often as mote 0',), 'at least 80 % of the number of the same lines of mote 0'),
     (('at least 80 % as often as mote 0 prints P', 'exactly 1 times as often as it receives'),
-     'compared with other lines, of another mote or of the mote itself'),
+     'a multiple or a share of the number of lines of another deed, of mote 0 or of the mote itself (`it`)'),
 ))
 WHEN = Table('WHEN', 'Moments', ('mote 1 sends %s',), (
     (('at 60',), '60'),
@@ -97,18 +99,20 @@ WHEN = Table('WHEN', 'Moments', ('mote 1 sends %s',), (
     (('after 60', 'from 60 on'), 'from 61 on, from 60 on'),
     (('between 60 and 90', 'from 60 to 90'), '60 to 90, both included'),
     (('at 40 plus 3 for each hop from mote 0',),
-     'for each mote the moment 40 plus 3 times its distance from mote 0 in hops'),
-    (('in each 120 from 0 to 1199',), '0 to 119, 120 to 239, and so on; each of these periods is checked by itself'),
+     'for each mote, the moment 40 plus 3 times the number of hops from mote 0'),
+    (('in each 120 from 0 to 1199',),
+     'the periods 0 to 119, 120 to 239, and so on; the sentence must hold in each of them'),
 ))
-ORDER = Table('ORDER', 'Each of the lines is', ('mote 1 sends 1 %s',), (
-    (('after mote 0 sends 1', 'after mote 2'), 'after the first line of the event; `after mote 2` means after mote 2 '
-     'did the same'),
+ORDER = Table('ORDER', 'Meaning', ('mote 1 sends 1 %s',), (
+    (('after mote 0 sends 1', 'after mote 2'),
+     'each line is after the first line of the event; in `after mote 2` the event is the deed of the sentence, by '
+     'mote 2'),
     (('before mote 2 prints P', 'before printing P', 'before some mote'),
-     'before the first line of the event, if there is one'),
+     'each line is before the first line of the event, or there is no line of the event'),
     (('within 10 of receiving 1', 'within 10 moments of it receives 1', 'within 1 moment of mote 2 sending 5'),
-     'at most that many moments after a line of the event'),
+     'each line is at most that many moments after a line of the event'),
     (('within 10 of each time it receives 1', 'within 10 of every time mote 0 sends'),
-     'the other way around: after each line of the event there is such a line, at most that many moments later'),
+     'after each line of the event, at most that many moments later, there is a line of the sentence'),
 ))
 OTHER = Table('Sentence', 'Is about', ('%s',), (
     (('no copy collides', 'some copy collides at mote 3'), 'lines `collide`'),
@@ -117,14 +121,15 @@ OTHER = Table('Sentence', 'Is about', ('%s',), (
     (('no copy is lost', 'exactly 1 copy is lost at mote 1'),
      'copies that the medium loses; the moment of such a copy is the moment at which its packet was sent'),
     (('at least 90 % of copies arrive', 'at most 5 % of the copies collide at motes 1 to 3', 'every copy arrives',
-      'each copy arrives at mote 3', 'all copies arrive'), 'that share of the copies that are due by the end'),
-    (('exactly 1 copy is left', 'exactly 2 copies are left'), 'the last line of the report'),
+      'each copy arrives at mote 3', 'all copies arrive'), 'a share of the copies that are due by the end'),
+    (('exactly 1 copy is left', 'exactly 2 copies are left'),
+     'the last line of the report: the copies on the way at the end'),
     (('exactly 75 packets are sent', 'no packet is sent after 90'), 'lines of the medium'),
     (("the medium writes '4 0 1 20 1@lost'",), 'a line of the medium that begins with this text'),
     (('the report has at most 2000 lines', 'the report has at least 1 line'), 'the length of the report'),
     (('mote 1 can hear mote 0', 'motes 2 and 3 cannot hear mote 0'),
-     'the scenario: the mote is within range, and the link doesn\'t lose every packet'),
-    (("the scenario is refused with 'scenario fault 2'",), 'there is no report, only this fault'),
+     'the scenario: whether the two motes are in range, and the link doesn\'t lose every packet'),
+    (("the scenario is refused with 'scenario fault 2'",), 'the result of `motesim`: this fault instead of a report'),
 ))
 TABLES = (MOTES, DEED, VALUE, TIMES, WHEN, ORDER, OTHER)
 
