@@ -28,8 +28,8 @@ SAID = {
 }
 # Whose lines are right and mean something else than the writer of the corpus meant, as far as a line can tell.
 OTHERS = {
-    'c-var-in-body', 'c-print-string', 'contiki-pollhandler', 'contiki-ctimer-without-block', 'contiki-send-to',
-    'contiki-leds-toggle', 'contiki-random-rand', 'toml-end-seconds-float', 'toml-end-with-unit',
+    'c-for-counted', 'c-var-in-body', 'c-print-string', 'contiki-pollhandler', 'contiki-ctimer-without-block',
+    'contiki-send-to', 'contiki-leds-toggle', 'contiki-random-rand', 'toml-end-seconds-float', 'toml-end-with-unit',
 }
 # Whose line is right, and whose scenario lacks another line too: the typed text is at the place of a declaration.
 LACKING = {'c-define'}

@@ -154,6 +154,44 @@ class WithoutBraces(unittest.TestCase):
         self.check('while (!fired(t));', 'wait_while !fired(t);')
 
 
+class Assignments(unittest.TestCase):
+    """An assignment in parentheses whose value is compared or calculated with is a statement of its own."""
+    def check(self, lines: str, wanted: str) -> None:
+        with self.subTest(lines):
+            self.assertEqual(words(followed(PROGRAM % lines)), words(PROGRAM % wanted))
+
+    def test_a_test(self) -> None:
+        for lines, ours in (
+                ('while ((n = data) != 0) { yield; }', 'n = data; while (n != 0) { yield; n = data; }'),
+                ('while ((n = data) != 0) {\n yield;\n }', 'n = data; while (n != 0) { yield; n = data; }'),
+                ('if ((n = m + 1) > 3) { print n; }', 'n = (m + 1); if (n > 3) { print n; }'),
+                ('if ((n = m) > 3 && (i = j) < 2) { print n; }',
+                 'n = m; i = j; if ((n > 3) && (i < 2)) { print n; }'),
+                ('if (i) { print 1; } else if ((n = m) > 3) { print n; }',
+                 'if i { print 1; } else { n = m; if (n > 3) { print n; } }'),
+                ('i = (n = 3) + 1;', 'n = 3; i = (n + 1);')):
+            self.check(lines, ours)
+
+    def test_a_comparison_is_more_likely(self) -> None:
+        for lines, ours in (('if (n = 3) { }', 'if (n == 3) { }'), ('if ((n = m)) { }', 'if (n == m) { }'),
+                            ('if (n = 3 && i = 2) { }', 'if ((n == 3) && (i == 2)) { }'),
+                            ('while ((n = 3) && (i = 2)) { }', 'while ((n == 3) && (i == 2)) { }')):
+            self.check(lines, ours)
+            text = PROGRAM % lines
+            fault = find_fault(text)
+            found = advice(text, fault) if fault else None
+            assert found
+            self.assertTrue(found.hint.startswith('`=` assigns; `==` compares. If you want the assignment, it is a '
+                                                  'statement of its own, `n = '), found.hint)
+
+    def test_a_wait_has_advice(self) -> None:
+        text = PROGRAM % 'yield_until ((n = data) == 3);'
+        fault = find_fault(text)
+        found = advice(text, fault) if fault else None
+        self.assertEqual(found and found.hint, 'An assignment in a test is a statement of its own, `n = data;`, before '
+                                               'each place at which the test is evaluated.')
+
+
 class Loops(unittest.TestCase):
     """The numbers that a loop prints are those of C."""
     def setUp(self) -> None:
@@ -167,6 +205,19 @@ class Loops(unittest.TestCase):
         for parts, wanted in FOR.items():
             for form in FORMS:
                 self.check(form % parts, wanted)
+
+    def test_a_block_that_changes_its_count_keeps_the_step_of_the_for(self) -> None:
+        for form in ('{ print i; i = (i + 1); }', '{\n print i;\n i = (i + 1);\n }', '{\n print i;\n i++;\n }',
+                     '{\n i = (i + 1);\n print (i - 1);\n }', '{\n print i; i = i + 1;\n }',
+                     '{\n print i;\n if (n == 0) {\n i = (i + 1);\n }\n }'):
+            for head in 'for (i = 0; i < 5; i++) ', 'for (i = 0; i < 5; i = (i + 1))\n ':
+                self.check(head + form, [0, 2, 4])
+        for inner, is_said in ('i = (i + 1);', True), ('i = (i + 2);', False):
+            text = PROGRAM % ('for (i = 0; i < 5; i++) {\n print i;\n %s\n }' % inner)
+            fault = find_fault(text)
+            found = advice(text, fault) if fault else None
+            assert found
+            self.assertEqual('The block has `i = (i + 1);` already' in found.hint, is_said)
 
     def test_a_for_within_another(self) -> None:
         each = [10 * i + j for i in range(3) for j in (2, 1, 0)]

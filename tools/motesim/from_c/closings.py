@@ -53,12 +53,24 @@ def edits_of(text: str, last: int, closings: Sequence[Closing]) -> tuple[Edit, .
             return None
         if closing.hides_else and [it.text for it in tokens[behind + 1:behind + 2]] == ['else']:
             return None
-        if closing.inside and not has_statement(tokens[at:end], closing.inside):
+        if closing.inside:
             pieces.append(Piece(tokens[end].line, tokens[end].column, closing.inside + ' '))
         if closing.behind:
             pieces.append(Piece(tokens[behind].line, tokens[behind].column + 1, ' ' + closing.behind))
         at = end + 1
     return tuple(_edits(text.split('\n'), pieces))
+
+
+def repeated(text: str, last: int, closings: Sequence[Closing]) -> str:
+    """The last statement of a block below a line if the block already has this statement; otherwise nothing."""
+    tokens = [it for it in tokens_of(text) if it.text]
+    at = next((at for at, it in enumerate(tokens) if it.line > last), len(tokens))
+    for closing in closings:
+        end = end_of_block(tokens, at)
+        if end is not None and closing.inside and has_statement(tokens[at:end], closing.inside):
+            return closing.inside
+        at = at if end is None else end + 1
+    return ''
 
 
 def _edits(rows: list[str], pieces: list[Piece]) -> Iterator[Edit]:

@@ -13,15 +13,20 @@ from motesim.from_c.tokens import Token, tokens_of
 
 NO_SWITCH = ('There is no `switch`: each `case` is a test of its own, `if (%s == %s) { .. } else { if (%s == %s) { .. '
              '} }`.')
-NO_SWITCH_OF_EVENTS = ('There is no `switch`: each `case` is a test of its own, and `is(..)` tests the event of a call, '
-                       '`if is(timer) { .. } else { if is(packet) { .. } }`.')
+NO_SWITCH_OF_EVENTS = ('There is no `switch`: each `case` is a test of its own, and `is(..)` tests the event of a '
+                       'call, `if is(timer) { .. } else { if is(packet) { .. } }`.')
 ELSE_IFS = ('elif', 'elseif', 'elsif')
 OWN_STEP = 'There is no `%s`: the step is a statement of its own, `%s`.'
+OWN_ASSIGNMENT = ('An assignment in a test is a statement of its own, `%s`, before each place at which the test is '
+                  'evaluated.')
 # Statements whose test is evaluated more than once, or in which a step has no place.
 WITHOUT_STEPS = ('yield_until', 'wait_until', 'wait_while')
 # The value of a limit that isn't declared.
 LIMIT = '10'
-NO_BRACES = 'A block is in braces: write `while %s {`, and `}` instead of the word that ends the block.'
+NO_BRACES = 'A block is in braces: write `%s %s {`, and `}` instead of the word that ends the block.'
+BY_COLUMNS = 'A block is in braces: write `%s %s {`, and `}` below its last statement.'
+# Words of other languages that end a block.
+ENDS = ('end', 'endif', 'endwhile', 'fi', 'done')
 ENDLESS_DO = 'There is no `do`: `while 1 { .. }` repeats its block.'
 NO_BREAK = 'There is no `break`: let the test of the `while` become false.'
 REST_RUNS = ('The rest of the block still runs once: write it in an `else` if it must not, as the step of a count '
@@ -37,7 +42,7 @@ def ends_value(token: Token) -> bool:
 
 def begins_statement(token: Token) -> bool:
     """Returns whether a token after a value can only belong to what follows the value."""
-    return token.kind in ('name', 'end') and token.text not in WORDS or token.text in (';', '{', '}', '++', '--')
+    return token.kind in ('name', 'end') and token.text not in WORDS or token.text in (';', '{', '}', '++', '--', ':')
 
 
 class Control(Lines):
@@ -140,6 +145,8 @@ class Control(Lines):
     def condition(self) -> str:
         """The test of an `if` or a `while`, up to its block."""
         begin, inner = self.place_here, None
+        is_other = self.at > 1 and self.ahead(-2).text == 'else'
+        word = '} else { if' if is_other else self.ahead(-1).text
         if self.token.text == '{':
             self.why('A `while` has a test: `while 1` repeats its block, in which something has to wait.')
             return '1'
@@ -155,8 +162,9 @@ class Control(Lines):
             self.why(ONE_TOO_MANY)
         if self.accept('then', 'do', ':'):
             self.why('The block follows the test directly.')
-            if self.ahead(-1).text == 'do' and self.token.text != '{':
-                raise NoCounterpart(NO_BRACES % text)
+            last = self.ahead(-1)
+            if self.token.text != '{' and (last.text != ':' or self.token.line != last.line):
+                raise NoCounterpart((BY_COLUMNS if last.text == ':' else NO_BRACES) % (word, text))
         return text
 
     def of_switch(self) -> str:
@@ -255,8 +263,9 @@ class Control(Lines):
         return ('%s while %s %s' % (last, test, body)).strip()
 
     def refuse_steps(self) -> None:
-        name, sign = [*self.before, *self.after][0]
-        raise NoCounterpart(OWN_STEP % (sign, self.steps([(name, sign)])))
+        its = [*self.before, *self.after][0]
+        form = OWN_ASSIGNMENT if its.sign == '=' else OWN_STEP.replace('%s', its.sign, 1)
+        raise NoCounterpart(form % self.steps([its]))
 
     def with_steps(self, word: str, text: str) -> str:
         """A statement with the steps of `++` and `--` in its expressions."""

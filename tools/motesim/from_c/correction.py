@@ -7,7 +7,7 @@ from __future__ import annotations
 from collections.abc import Iterator
 from typing import NamedTuple
 
-from motesim.from_c.closings import Edit, edits_of
+from motesim.from_c.closings import Edit, edits_of, repeated
 from motesim.from_c.expressions import MIXED, NoCounterpart
 from motesim.from_c.heads import bare_body, end_of_body, process_block
 from motesim.from_c.scope import Scope
@@ -21,6 +21,8 @@ from motesim.notation.faults import ProgramError, find_fault, tokens_of
 
 MOST_LINES = 6
 OF_COMMENT = 'A comment begins with `//` and ends with its line, so each line of a long one needs its own `//`.'
+STEPS_TWICE = ('The block has `%s` already, and the `for` adds the same step once more: if you have written it for the '
+               '`for`, leave one of both out.')
 # No correction is tried in a longer text, or for longer lines.
 LONGEST_TEXT, LONGEST_LINES = 200_000, 2_000
 
@@ -197,6 +199,9 @@ def correction(text: str, fault: ProgramError) -> Correction | None:
             if below is None or reader.hides_else and reader.lacks_else and tokens_of(rest)[0].text == 'else':
                 continue
             seed = seed_for(text, first, last, reader.declares)
+            twice = repeated(text, last, reader.closings)
+            if twice:
+                reader.writer.insist(STEPS_TWICE % twice)
             reasons = reasons_with(bool(seed) or MIXED in text, reader.writer.shown())
             made = Correction(first, last, written, reasons, below=tuple(sorted((*seed, *below))))
             for above in _insertions(text, reader):

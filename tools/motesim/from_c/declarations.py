@@ -35,8 +35,8 @@ NO_MACROS = ('There is no preprocessor, and there are no macros: write the expre
              'place of the macro. The comment keeps it.')
 OF_BYTES = ('A variable has 16 bits and no type: its values are 0 to 65,535, without a sign. To keep 8 bits, write `% '
             '256`, such as `x = ((x + 1) % 256);`.')
-OF_PARTS = ('A variable has 16 bits and no type: its values are 0 to 65,535. Count larger ones in parts, such as thousands '
-            'in a second variable.')
+OF_PARTS = ('A variable has 16 bits and no type: its values are 0 to 65,535. Count larger ones in parts, such as '
+            'thousands in a second variable.')
 NO_CONSTANTS = 'There are no constants: use a variable that is never assigned'
 MOST_MEMBERS = 8
 NO_PLACE = 'Variables are declared at the head of `code`, before its timers, threads and `body`: `var %s = 0;`.'

@@ -10,6 +10,7 @@ import operator
 from collections.abc import Callable
 from dataclasses import dataclass, field
 from fractions import Fraction
+from typing import NamedTuple
 
 from motesim.from_c.absent import NO_SENSORS, OF_READING, READING, RUNICAST, is_sensor
 from motesim.from_c.parameters import of_value
@@ -54,8 +55,11 @@ CLOCKS = ('clock_time', 'clock_seconds', 'rtimer_now')
 READ_ONLY = ('data', 'from', 'now', 'self')
 EVENTS = {'process_event_%s' % it: it for it in ('init', 'poll', 'exit', 'continue', 'msg', 'com', 'exited', 'timer')}
 EVENTS.update({'process_event_none': 'continue', 'tcpip_event': 'packet', 'packet_received': 'packet'})
-NO_NUMBER = ('The event of a call has no number: `is(..)` tests it, such as `is(timer)`, `is(packet)` or `fired(t)` for a '
-             'timer `t`.')
+COMPARES = '`=` assigns; `==` compares.'
+OF_ASSIGNMENT = ('If you want the assignment, it is a statement of its own, `%s = %s;`, above this one, which then uses '
+                 '`%s`.')
+NO_NUMBER = ('The event of a call has no number: `is(..)` tests it, such as `is(timer)`, `is(packet)` or '
+             '`fired(t)` for a timer `t`.')
 NO_EVENT = ('The event of a call is tested by `is(..)`, but no event is named `%s`: `%s` is possible if `event %s;` is '
             'above the `process` line. The kernel\'s own events are `%s`.')
 OWN_EVENTS = ('init', 'poll', 'exit', 'continue', 'msg', 'com', 'packet', 'exited', 'timer')
@@ -116,9 +120,16 @@ class Node:
     parts: tuple[Node, ...] = ()
 
 
+class Step(NamedTuple):
+    """A variable that an expression changes: by `++` or `--`, or by `=` with a value."""
+    name: str
+    sign: str
+    value: Node = Node('number', '0')
+
+
 def is_test(node: Node) -> bool:
     """True if an expression compares two values, or joins or negates tests."""
-    return node.kind == 'binary' and node.text in ('==', '!=', '<', '<=', '>', '>=', '&&', '||') or (
+    return node.kind == 'binary' and node.text in ('==', '=', '!=', '<', '<=', '>', '>=', '&&', '||') or (
         node.kind == 'unary' and node.text in ('!', 'not'))
 
 
@@ -153,9 +164,10 @@ class Expressions:
     def __init__(self, tokens: list[Token], scope: Scope):
         self.tokens, self.scope, self.at = tokens, scope, 0
         self.depth = 0
-        # The variables with `++` or `--` in an expression, each with its sign: in front of the name, or after it.
-        self.before: list[tuple[str, str]] = []
-        self.after: list[tuple[str, str]] = []
+        # The variables with `++` or `--` in an expression, each with its sign: in front of the name, or after it. Those
+        # in front may also be assignments within an expression.
+        self.before: list[Step] = []
+        self.after: list[Step] = []
 
     @property
     def place_here(self) -> tuple[int, int, int]:
@@ -203,8 +215,18 @@ class Expressions:
         while self.token.kind in ('sign', 'name') and self.token.text in LEVELS[number]:
             sign = self.accept(*LEVELS[number])
             right = self.level(number + 1)
-            left = Node('binary', '==' if sign == '=' else WORDS.get(sign, sign), (left, right))
+            if sign not in ('=', '&&', '||', 'and', 'or'):
+                left, right = self.assigned(left), self.assigned(right)
+            left = Node('binary', WORDS.get(sign, sign), (left, right))
         return left
+
+    def assigned(self, node: Node) -> Node:
+        """The variable of an assignment in parentheses whose value is compared or calculated with; this assignment is
+        a statement of its own. Other values are unchanged."""
+        if node.kind != 'assigned':
+            return node
+        self.before.append(Step(node.parts[0].text, '=', node.parts[1]))
+        return node.parts[0]
 
     def why(self, reason: str) -> None:
         """Notes the reason why a line is written in another way."""
@@ -245,7 +267,7 @@ class Expressions:
             return self.cast()
         step = self.accept('++', '--')
         if step:
-            self.before.append((self.token.text, step))
+            self.before.append(Step(self.token.text, step))
             return self.primary()
         sign = self.accept('!', '-', '+', '~', '*', '&', 'not')
         if sign:
@@ -274,7 +296,8 @@ class Expressions:
         if self.accept('('):
             inner = self.expression()
             self.close()
-            return inner
+            is_assigned = inner.kind == 'binary' and inner.text == '=' and inner.parts[0].kind == 'name'
+            return Node('assigned', '=', inner.parts) if is_assigned else inner
         self.at += 1
         if token.kind in ('number', 'name', 'text', 'char', 'real'):
             return Node(token.kind, token.text)
@@ -291,7 +314,7 @@ class Expressions:
                 self.why('The name after `%s` is in parentheses: `%s(%s)`.' % (node.text, node.text, self.token.text))
                 node = Node('call', node.text, (self.primary(),))
             elif node.kind == 'name' and self.token.text in ('++', '--'):
-                self.after.append((node.text, self.accept('++', '--')))
+                self.after.append(Step(node.text, self.accept('++', '--')))
             elif self.accept('['):
                 node = Node('index', '', (node, self.expression()))
                 self.need(']')
@@ -356,7 +379,7 @@ class Writer:
             return self.call(node)
         if node.kind == 'unary':
             return self.unary(node.text, node.parts[0])
-        if node.kind == 'binary':
+        if node.kind in ('binary', 'assigned'):
             return self.binary(node.text, *node.parts)
         if node.kind in ('index', 'member'):
             return self.part(node)
@@ -534,6 +557,8 @@ class Writer:
         return self.text(inner)
 
     def binary(self, sign: str, left: Node, right: Node) -> str:
+        if sign == '=':
+            return self.compared(left, right)
         if sign in ('==', '!=') and Node('name', 'ev') in (left, right):
             event = self.of_ev(right if left == Node('name', 'ev') else left)
             return event if sign == '==' else '!' + event
@@ -551,6 +576,14 @@ class Writer:
             return self.mask(sign, left, right)
         assert sign in PLAIN
         return '(%s %s %s)' % (self.text(left), sign, self.text(right))
+
+    def compared(self, left: Node, right: Node) -> str:
+        """An assignment within an expression, where a comparison is most likely meant."""
+        self.why(COMPARES)
+        text = self.binary('==', left, right)
+        if left.kind == 'name' and self.scope.kinds.get(left.text) == 'variable':
+            self.insist(OF_ASSIGNMENT % (left.text, self.text(right), left.text))
+        return text
 
     def of_ev(self, node: Node) -> str:
         """The test whether the event of a call is this one."""
@@ -596,7 +629,7 @@ class Writer:
 
     def is_timer_event(self, node: Node) -> bool:
         names = {it.text.lower() for it in node.parts}
-        return node.kind == 'binary' and node.text == '==' and names == {'ev', 'process_event_timer'}
+        return node.kind == 'binary' and node.text in ('==', '=') and names == {'ev', 'process_event_timer'}
 
     def shift(self, sign: str, left: Node, right: Node) -> str:
         if right.kind != 'number':

@@ -2,7 +2,7 @@
 from __future__ import annotations
 
 from motesim.from_c.closings import Closing
-from motesim.from_c.expressions import ONE_TOO_MANY, READ_ONLY, Expressions, NoCounterpart, Node, Writer
+from motesim.from_c.expressions import ONE_TOO_MANY, READ_ONLY, Expressions, NoCounterpart, Node, Step, Writer
 from motesim.from_c.places import Surroundings
 from motesim.from_c.scope import Scope, allowed
 from motesim.from_c.tokens import tokens_of
@@ -61,9 +61,15 @@ class Lines(Expressions):
         self.why('There is no `%s`.' % sign)
         return '%s = (%s %s 1)' % (found, found, sign[0])
 
-    def steps(self, found: list[tuple[str, str]]) -> str:
-        """The statements for `++` and `--` in an expression."""
-        return ' '.join('%s;' % self.stepped(name, sign) for name, sign in found)
+    def steps(self, found: list[Step]) -> str:
+        """The statements for `++` and `--` in an expression, and for assignments in it."""
+        return ' '.join('%s;' % self.step(it) for it in found)
+
+    def step(self, its: Step) -> str:
+        if its.sign != '=':
+            return self.stepped(its.name, its.sign)
+        self.why('An assignment has no value: each is a statement of its own.')
+        return '%s = %s' % (self.variable(its.name), self.writer.text(its.value))
 
     def declare(self, word: str, kind: str, name: str, value: str) -> None:
         """Declares a name that is used without a declaration."""

@@ -14,8 +14,8 @@ ASSIGNED = 'A thread is run by `spawn`. Its parameters are variables: assign the
 IN_CIRCLE = ('The arguments of `%s` are parameters of the thread in another order: keep one of them in a variable of '
              'its own, and assign before `spawn %s;`.')
 KEPT = 'parameters: %s'
-OF_VALUE = ('A call has no value. A `thread` without waits serves as a function, and stores its result in a variable of '
-            'the process, such as `result`. Above this line write `%s`, and here `result` instead of `%s`.')
+OF_VALUE = ('A call has no value. A `thread` without waits serves as a function, and stores its result in a variable '
+            'of the process, such as `result`. Above this line write `%s`, and here `result` instead of `%s`.')
 # The parameters of a function that the text doesn't have.
 PARAMETERS = ('a', 'b', 'c', 'd')
 OF_COMMENT = ('A thread uses the variables of its process. The comment keeps the order of the parameters for the lines '

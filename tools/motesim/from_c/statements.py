@@ -9,7 +9,7 @@ import re
 
 from motesim.from_c.absent import NO_ACTIVATION, NO_SENSORS, NO_SINK, SENDS, SENSORS, SENT_ALREADY, is_sensor
 from motesim.from_c.calls import BROADCAST, CALLS, Calls
-from motesim.from_c.control import Control
+from motesim.from_c.control import ENDS, Control
 from motesim.from_c.declarations import ABOVE, OF_PACKETS, Declarations
 from motesim.from_c.expressions import (
     DICE, FIRST, MOMENTS_OF_SECOND, NO_ARRAYS, NO_CALLS, NO_CHANCE, NO_FIELDS, QUALIFIERS, READ_ONLY, STEP, TYPES,
@@ -37,9 +37,10 @@ OF_ON = ('There is no block for a packet: a process waits for each one by `yield
 OF_HANDLER = 'The handler is a block of the `code`, `%s { .. }`, below its timers and threads and above its `body`.'
 WAIT = ('A process waits by an event timer: `set t 5; yield_until fired(t);`, with `etimer t;` at the head of its '
         '`code`.')
+OF_END = 'There is no `%s`: a block ends with `}`.'
 NO_GOTO = ('There is no `goto`, and no labels. For a jump back up, write a `while` with a flag around the statements: '
-           '`again = 1; while again { again = 0; .. if c { again = 1; } }`. A jump down skips statements: write them in '
-           'the block of an `if` with the opposite test, `if !c { .. }`.')
+           '`again = 1; while again { again = 0; .. if c { again = 1; } }`. A jump down skips statements: write them '
+           'in the block of an `if` with the opposite test, `if !c { .. }`.')
 # Words without a counterpart, each with the advice what to do instead.
 ADVICE = {
     **SENDS, 'collect_set_sink': NO_SINK,
@@ -218,6 +219,8 @@ class Statements(Declarations, Calls, Control):
             return self.end(self.stepped(word, behind))
         if behind == ':':
             raise NoCounterpart(NO_GOTO)
+        if word in ENDS and kind is None:
+            return self.of_end()
         if kind == 'variable' and (behind == '(' or self.ahead(1).kind in ('name', 'number')):
             self.at += 1
             value = self.expression()
@@ -235,6 +238,15 @@ class Statements(Declarations, Calls, Control):
         self.why('Did you mean `%s`?' % like)
         self.tokens[self.at] = self.token._replace(kind='name', text=like)
         return self.statement()
+
+    def of_end(self) -> str:
+        """A word that ends a block in other languages."""
+        word = self.accept(*ENDS)
+        self.accept(';')
+        if self.nested > 1 or self.token.kind != 'end':
+            raise NoCounterpart(OF_END % word)
+        self.why(OF_END % word)
+        return '}'
 
     def of_handler(self, head: str) -> str:
         """A handler for polls or for the end of a process: a block of its code."""
