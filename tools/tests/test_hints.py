@@ -425,9 +425,40 @@ class Warnings(unittest.TestCase):
             seen = self.seen((CODE % ('set t 1; while 1 { %s }' % body)).replace('autostart', 'receiver a; autostart'))
             self.assertTrue(any('an endless loop in which only `wait_' in it for it in seen), body)
         for body in ('wait_until expired(t); reset t;', 'wait_until is(packet); yield;', 'yield_until is(packet);',
-                     'wait_until (is(packet) || (seq > 3)); seq = 0;', 'wait_until is(packet); wait_until fired(t);'):
+                     'wait_until ((seq > 3) || (seen > 3)); seq = 0;', 'wait_until (is(packet) && (seq > 3)); seq = 0;',
+                     'wait_until is(packet); wait_until fired(t); reset t;'):
             seen = self.seen((CODE % ('set t 1; while 1 { %s }' % body)).replace('autostart', 'receiver a; autostart'))
             self.assertEqual([it for it in seen if 'endless loop' in it], [])
+
+    def test_a_loop_that_waits_for_an_event_that_it_has_or_for_something_else(self) -> None:
+        for test, part in (('(expired(t) || is(packet))', 'is(packet)'), ('(is(packet) || (seq > 3))', 'is(packet)'),
+                           ('((seq > 3) || (expired(t) || fired(t)))', 'fired(t)')):
+            text = scenario(program=(CODE % ('set t 1; while 1 { wait_until %s; seq = 0; reset t; }' % test)).replace(
+                'autostart', 'receiver a; autostart'))
+            found = [it for it in warnings(Scenario.parse(text)) if it.instead]
+            self.assertEqual([it.text.split(': ')[1].split(',')[0] for it in found], ['`%s`' % part])
+            self.assertIn('yield_until %s' % test, explain.warned('a.toml', text, found[0])[-1])
+
+    def test_a_timer_that_is_set_only_above_a_loop(self) -> None:
+        once = 'the timer `t` is set only before this endless loop, so '
+        for body, said in (
+                ('set t 1; while 1 { yield_until fired(t); print 1; }', 'its event is posted once, and the second'),
+                ('set t 1; while 1 { wait_until fired(t); yield; }', 'its event is posted once, and the second wait'),
+                ('set t 1; while 1 { yield_until expired(t); print 1; }', '`expired(t)` stays true when it is due'),
+                ('set t 1; while 1 { yield_until (expired(t) || is(packet)); }', '`expired(t)` stays true'),
+                ('set t 1; while 1 { wait_until (expired(t) || seq); print 1; }', 'true when it is due. From then')):
+            seen = ' '.join(self.seen(CODE % body))
+            with self.subTest(body):
+                self.assertIn(once, seen)
+                self.assertIn(said, seen)
+        for body in ('set t 1; while 1 { yield_until fired(t); reset t; }',
+                     'while 1 { set t 1; yield_until fired(t); }',
+                     'set t 1; while 1 { yield_until (fired(t) || is(packet)); }',
+                     'set t 1; yield_until fired(t);',
+                     'set t 1; while 1 { if seq { yield_until fired(t); seq = 0; } yield; }',
+                     'set t 1; while 1 { yield_until fired(t); exit; }', 'while 1 { yield_until fired(t); }',
+                     'set t 1; while (seq < 3) { yield_until fired(t); seq = 3; }'):
+            self.assertNotIn(once, ' '.join(self.seen(CODE % body)), body)
 
     def test_a_loop_that_counts_or_changes_its_test_is_in_order(self) -> None:
         for body in ('while (seq < 3) { seq = (seq + 1); }', 'set t 4; while !expired(t) { pause; }',

@@ -9,7 +9,7 @@ import re
 from collections.abc import Iterator, Sequence
 from typing import NamedTuple
 
-from motesim.explain import busy, event
+from motesim.explain import busy, event, once
 from motesim.explain.busy import OF_EVENT
 from motesim.explain.event import FOR_TIMER, SETS
 from motesim.explain.moments import bursts
@@ -27,6 +27,9 @@ SAME = frozenset(('(', ')', '!', 'data', 'from', 'self', *OPERATORS))
 STILL = ('an endless loop in which only `%s` waits: its test is about the event of this call, so it stays %s until '
          'the next call. The loop repeats until the mote\'s work is used up, and then the mote halts. `%s`%s waits for '
          'the next call first')
+PART_TRUE = ('an endless loop in which only `%s` waits: `%s`, a part of its test, is about the event of this call, so '
+             'it stays true until the next call. The loop repeats until the mote\'s work is used up, and then the mote '
+             'halts. `%s` waits for the next call first')
 STILL_TRUE = STILL % (AT_ONCE, 'true', LATER, '')
 STILL_FALSE = STILL % (WHILE, 'false', LATER, ' and the opposite test')
 ONE_BRANCH = ('the `while` on line %d of the program waits in only one branch: if the test of the `if` on line %d is '
@@ -140,6 +143,8 @@ class Program:
                     yield ENDLESS, self.tokens[at]
                 elif wait in (AT_ONCE, WHILE) and is_of_event(test):
                     yield STILL_TRUE if wait == AT_ONCE else STILL_FALSE, self.tokens[at + 2 + waits[0]]
+                elif wait == AT_ONCE and (part := next(filter(is_of_event, once.parts_of(test)), None)):
+                    yield PART_TRUE % (AT_ONCE, ''.join(part), LATER), self.tokens[at + 2 + waits[0]]
             elif word == 'while' and self.is_busy(at):
                 test = self.words[at + 1:self.words.index('{', at)]
                 yield busy.warning(test, self.code_around(at)), self.tokens[at]
@@ -213,6 +218,14 @@ class Program:
                 for here in code:
                     if self.words[here] == 'body':
                         yield code, range(here + 1, self.end_of_block(here + 1))
+
+    def endless_waits(self) -> Iterator[tuple[str, Token]]:
+        """Each wait of an endless loop for a timer that is set only above the loop, with the warning."""
+        for code, body in self.bodies():
+            for at in body:
+                if self.words[at] == 'while' and self.tokens[at + 1].kind == 'number' and self.words[at + 1] != '0':
+                    loop = range(at + 2, self.end_of_block(at + 2))
+                    yield from once.set_once(self.words, self.tokens, code, body, loop)
 
     def waits_before_set(self) -> Iterator[Token]:
         """Each timer whose first wait can't be skipped, if the timer is only set after that wait."""
@@ -314,10 +327,12 @@ def of_program(program: Program, is_zero_given: bool) -> Iterator[Warned]:
     yield from of_start(program)
     yield from of_receiver(program)
     for text, token in program.endless_loops():
-        yield Warned(text, name, token, cause='loop', instead=LATER if text == STILL_TRUE else '')
+        yield Warned(text, name, token, cause='loop', instead=LATER if token.text == AT_ONCE else '')
     for token in program.awaited_ctimers():
         yield Warned(OF_CTIMER % (token.text, token.text), name, token)
     for text, token in () if is_zero_given else program.tests_of_sign():
+        yield Warned(text, name, token)
+    for text, token in program.endless_waits():
         yield Warned(text, name, token)
     for token in program.waits_before_set():
         yield Warned(BEHIND % token.text, name, token)

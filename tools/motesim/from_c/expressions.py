@@ -56,8 +56,8 @@ READ_ONLY = ('data', 'from', 'now', 'self')
 EVENTS = {'process_event_%s' % it: it for it in ('init', 'poll', 'exit', 'continue', 'msg', 'com', 'exited', 'timer')}
 EVENTS.update({'process_event_none': 'continue', 'tcpip_event': 'packet', 'packet_received': 'packet'})
 COMPARES = '`=` assigns; `==` compares.'
-OF_ASSIGNMENT = ('If you want the assignment, it is a statement of its own, `%s = %s;`, above this one, which then uses '
-                 '`%s`.')
+OF_ASSIGNMENT = ('If you want the assignment, it is a statement of its own, `%s = %s;`, above this one, which then '
+                 'uses `%s`.')
 NO_NUMBER = ('The event of a call has no number: `is(..)` tests it, such as `is(timer)`, `is(packet)` or '
              '`fired(t)` for a timer `t`.')
 NO_EVENT = ('The event of a call is tested by `is(..)`, but no event is named `%s`: `%s` is possible if `event %s;` is '
@@ -578,7 +578,7 @@ class Writer:
         return '(%s %s %s)' % (self.text(left), sign, self.text(right))
 
     def compared(self, left: Node, right: Node) -> str:
-        """An assignment within an expression, where a comparison is most likely meant."""
+        """An assignment within an expression; most likely a comparison is meant."""
         self.why(COMPARES)
         text = self.binary('==', left, right)
         if left.kind == 'name' and self.scope.kinds.get(left.text) == 'variable':
