@@ -10,6 +10,7 @@ from unittest import mock
 from xml.etree import ElementTree
 
 from here import TOOLS
+from motesim.analysis.estimates import quartiles
 from motesim.analysis.points import Wish, shown_of
 from motesim.experiments import packages, plot
 from motesim.faults import Fault
@@ -64,9 +65,9 @@ class PlotTest(unittest.TestCase):
         self.assertIn('left out: 6 runs without a value of late: 3 at density dense; 3 at density thin\n', done.stdout)
 
     def test_quartiles(self) -> None:
-        self.assertEqual(plot.quartiles([7.0]), (7.0, 7.0, 7.0))
-        self.assertEqual(plot.quartiles([1.0, 2.0]), (1.25, 1.5, 1.75))
-        self.assertEqual(plot.quartiles([5.0, 1.0, 3.0, 2.0, 4.0]), (2.0, 3.0, 4.0))
+        self.assertEqual(quartiles([7.0]), (7.0, 7.0, 7.0))
+        self.assertEqual(quartiles([1.0, 2.0]), (1.25, 1.5, 1.75))
+        self.assertEqual(quartiles([5.0, 1.0, 3.0, 2.0, 4.0]), (2.0, 3.0, 4.0))
 
     def test_a_picture_in_svg(self) -> None:
         interpreter_with(self, 'matplotlib')

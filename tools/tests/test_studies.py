@@ -11,7 +11,7 @@ from here import TOOLS, TOP
 from motesim.experiments import packages
 from motesim.analysis.origin import origin_path
 from motesim.plan.plan import Plan
-from motesim.experiments.plot import table_path, wishes_of
+from motesim.experiments.wishes import table_path, wishes_of
 from skips import need_program
 
 STUDIES = TOP / 'examples/studies'

@@ -26,7 +26,7 @@ from motesim.runner.programs import TOP
 from motesim.experiments.asked import Sweep, chance_seeds, columns_of, known_names, some_runs, sources_of, sweep_of
 from motesim.experiments.asked import unused
 from motesim.experiments.draws import CHANCE, WARNING, Notes, Seeds, of_warned, warnings_in
-from motesim.experiments.plot import wishes_of
+from motesim.experiments.wishes import wishes_of
 from motesim.experiments.progress import Progress
 from motesim.experiments.runs import Stopped, longest, run_by_dask, run_here
 from motesim.experiments.wanted import Columns, check_pictures

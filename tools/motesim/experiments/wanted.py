@@ -5,7 +5,8 @@ from collections.abc import Callable, Iterable, Sequence
 from typing import NamedTuple
 
 from motesim.analysis.points import SEPARATES, Wish
-from motesim.experiments.plot import WHERE, check_by, texts_of, wishes_of
+from motesim.experiments.selected import texts_of
+from motesim.experiments.wishes import WHERE, check_by, wishes_of
 from motesim.explain.synonyms import nearest
 from motesim.faults import Fault
 from motesim.plan.plan import Plan
