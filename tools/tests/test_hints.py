@@ -43,7 +43,12 @@ BODIES = [
     ('while true { }', '1 is true'), ('print Seq;', 'small letters'), ('sleep 3;', 'yield_until'),
     ('yield_untl fired(t);', '`yield_until`'), ('var z = 0;', 'head of `code`'), ('set tt 4;', '`t`'),
     ('seq == 1;', '`=` assigns'), ('send 1 to 2;', 'all motes that hear it'), ('yield_until is(packt);', '`packet`'),
-    ('print\u00a01;', 'U+00A0'), ('print \u201cx\u201d;', 'U+201C'), ('seq = [1];', 'arrays'),
+    ('print\u00a01;', 'U+00A0, no-break space'), ('print \u201cx\u201d;', 'U+201C, left double quotation mark'),
+    ('print \u2018x\u2019;', 'write `\'`. But a program has no texts'), ('seq = (seq \u2013 1);', 'write `-`'),
+    ('while 1 { \u2026 }', 'horizontal ellipsis'), ('if (seq \u2264 3) { }', 'write `<=`'),
+    ('seq\u200b = 3;', 'U+200B, zero width space. Word processors and web pages have such characters: leave it out'),
+    ('seq = 3\uff1b', 'write `;`'), ('seq = \u4e2d;', 'U+4E2D: was a plain letter or sign meant?'),
+    ('seq = [1];', 'arrays'),
     ('seen |= 1 << from;', '`bit = 1; k = 0; while (k < from) { bit = (bit * 2); k = (k + 1); }`'),
     ('if (seen & (1 << from)) { }', '`((flags / bit) % 2)`'), ('seq = (seq >> self);', 'bit = (bit / 2);'),
     ('goto out;', '`again = 1; while again { again = 0;'), ('out: seq = 1;', 'There is no `goto`, and no labels'),
@@ -226,6 +231,19 @@ class Hints(unittest.TestCase):
         assert fault
         lines = explain.explanation('a.toml', text.encode(), 'motesim: ' + fault.message)
         return lines[next(at for at, it in enumerate(lines) if it.startswith('Hint: ')):]
+
+    def test_characters_of_word_processors_in_a_scenario(self) -> None:
+        for plain, typed, hint, line in (
+                ('end = 9', 'end\u00a0= 9', 'U+00A0, a no-break space', '  end = 9'),
+                ('end = 9', '\u2003end = 9', 'A space of another kind', '   end = 9'),
+                ('end = 9', 'end = 9\u200b', 'U+200B, a zero width space', '  end = 9'),
+                ('base = 1', 'base = 1 # \u2013 ok\nx \u2013 1', '', '')):
+            shown = self.shown(scenario().replace(plain, typed, 1))
+            if hint:
+                self.assertIn(hint, ' '.join(shown))
+                self.assertIn(line, shown)
+        self.assertIn('U+2013, en dash', hint_of(scenario().replace('base = 1', 'base = \u2013 1')))
+        self.assertIn('write `...`', hint_of(scenario().replace('base = 1', 'base = 1\u2026')))
 
     def test_the_hint_is_above_all_that_is_allowed(self) -> None:
         mistake = "'''\n%s\n'''" % (CODE % '\nseq = seq + 1;\n')

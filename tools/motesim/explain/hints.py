@@ -10,7 +10,7 @@ import re
 
 from motesim.from_c.declarations import NO_CONSTANTS
 from motesim.from_c.expressions import TOO_LARGE
-from motesim.explain import quotes
+from motesim.explain import characters, quotes
 from motesim.explain.synonyms import CHANCE, at, like_of_missing, nearest
 from motesim.notation.keywords import RESERVED
 from motesim.notation.parentheses import written
@@ -85,7 +85,7 @@ OF_C = ('A scenario is a TOML document, with the text of its programs under `[pr
         'between three single quotes, `p = \'\'\' .. \'\'\'`: tools/explain then shows the lines to change, one after '
         'the other. docs/use/FROM_CONTIKI.md lists the forms of Contiki and C with their counterparts.')
 OF_PLAN = '%s is a plan, not a scenario: tools/scenario %s -o NAME.toml makes a scenario of it.'
-QUOTES = '\u2018\u2019\u201a\u201b\u201c\u201d\u201e\u201f\u00ab\u00bb\u00b4`'
+OF_TEXTS = ' But a program has no texts: it prints numbers, `print 1;`.'
 OF_QUOTES = 'These are quotes of another kind, as word processors make them: write plain ones, `"` or `\'`.'
 OF_WORD = '`%s` is a word of the notation%s. A variable needs another name, such as `my_%s`, declared at the head of ' \
           'its `code`.'
@@ -161,8 +161,11 @@ def _of_sign(here: Token, behind: Token) -> str | None:
     if word[:1].isdigit() and word.isdigit():
         return 'Write it without the zeros in front: `%s`.' % (word.lstrip('0') or '0')
     if word and ord(word[0]) > 127:
+        hint = characters.hint_of(word[0])
+        if hint:
+            return hint + (OF_TEXTS if characters.plain(word[0]) in ('"', "'") else '')
         return 'The notation doesn\'t have this character, U+%04X: was a plain %s meant?' % (
-            ord(word[0]), 'space' if word[0].isspace() else 'letter, quote or dash')
+            ord(word[0]), 'letter or sign')
     return None
 
 
@@ -258,8 +261,10 @@ def _of_unknown(before: list[Token], here: Token, behind: Token, may: list[str])
 def _of_no_toml(text: str, fault: ScenarioError, place: tuple[int, int]) -> str | None:
     """A hint on a text that is not TOML; `place` is the place up to which the text is TOML."""
     row = text.split('\n')[place[0] - 1]
-    if row[place[1]:place[1] + 1] in QUOTES and place[1] < len(row):
+    if row[place[1]:place[1] + 1] in characters.QUOTES and place[1] < len(row):
         return OF_QUOTES
+    if not row[place[1]:place[1] + 1].isascii() and (hint := characters.hint_of(row[place[1]])):
+        return hint
     opened = quotes.unclosed(text, fault.may)
     if opened:
         return 'The text that begins on line %d has no end: the three quotes that close it are missing.' % opened

@@ -10,7 +10,7 @@ from collections.abc import Callable, Iterator
 from fractions import Fraction
 from typing import NamedTuple
 
-from motesim.explain import arrays, quotes, synonyms
+from motesim.explain import arrays, characters, quotes, synonyms
 from motesim.explain.change import Repair as Repair
 from motesim.explain.kept import keeps_others
 from motesim.scenario.faults import LOSS, MEDIUM, MOTE, TOP, Place, Rule, ScenarioError, find_fault, place_of
@@ -19,10 +19,13 @@ from motesim.toml import NoToml, read_toml
 # A longer text isn't read again for each attempt.
 LONGEST = 200_000
 MOST_ATTEMPTS = 24
-QUOTES = re.compile('[\u2018\u2019\u201a\u201b\u201c\u201d\u201e\u201f\u00ab\u00bb\u00b4`]')
+QUOTES = re.compile('[%s]' % characters.QUOTES)
 DIGITS = str.maketrans('OoIl', '0011')
 
 OF_QUOTES = 'These are quotes of another kind, as word processors make them: write plain ones, `"` or `\'`.'
+OF_SPACE = 'A space of another kind is in this line (such as U+00A0, a no-break space): write a plain one.'
+OF_DASH = 'A dash of another kind is in this line (such as U+2013, an en dash): write a plain `-`.'
+OF_INVISIBLE = 'An invisible character is in this line (such as U+200B, a zero width space): leave it out.'
 OF_COMMENT = 'In a scenario, a comment begins with `#`; `//` begins one in a program.'
 OF_UNIT = 'Times are whole numbers of moments, and distances whole numbers: without a unit.'
 WHOLE = 'Places, times and distances are whole numbers, without a point and without quotes.'
@@ -45,7 +48,8 @@ def _header_of(found: re.Match[str]) -> str:
 
 
 FORMS = [
-    Form(QUOTES, '"', OF_QUOTES),
+    Form(QUOTES, '"', OF_QUOTES), Form(characters.SPACE, ' ', OF_SPACE), Form(characters.DASH, '-', OF_DASH),
+    Form(characters.INVISIBLE, '', OF_INVISIBLE),
     _form(r'^(\s*)//', r'\1#', OF_COMMENT), _form(r'^(\s*)/\*(.*?)\*/\s*$', r'\1#\2', OF_COMMENT),
     _form(r'^(\s*)(?:--|;|%)', r'\1#', OF_COMMENT), _form(r'\s+//', '  #', OF_COMMENT),
     _form(r'\s*[;,]\s*$', '', 'A line ends without a `;` or a comma.'),
