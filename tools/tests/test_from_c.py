@@ -553,6 +553,23 @@ code a {
         at = next(at for at, it in enumerate(tokens) if it.text == '<=')
         self.assertEqual(with_parentheses(tokens, at), '(n <= 3)')
 
+    def test_long_names_with_the_same_beginning_stay_different(self) -> None:
+        for first, second, shorter in (
+                ('temperature_sensor_one', 'temperature_sensor_two', ('tempe_senso_one', 'tempe_senso_two')),
+                ('temperaturesensor1', 'temperaturesensor2', ('temperaturessor1', 'temperaturessor2')),
+                ('temperature_sensor_one', 'humidity_sensor_one', ('temperature_sens', 'humidity_sensor'))):
+            text = 'process a;\nautostart a;\ncode a {\n  uint16_t %s;\n  uint16_t %s;\n  body {\n    %s = 1;\n    ' \
+                   '%s = 2;\n    print %s;\n    print %s;\n  }\n}\n' % (*2 * (first, second), first, second)
+            for _ in range(12):
+                fault = find_fault(text)
+                found = correction(text, fault) if fault else None
+                text = found.applied(text) if found else text
+            with self.subTest(first):
+                self.assertIsNone(find_fault(text), text)
+                its = [line.split()[1].rstrip(';') for line in text.split('\n') if 'print' in line]
+                self.assertEqual(tuple(its), shorter)
+                self.assertEqual([line.split()[0] for line in text.split('\n') if line.endswith((' 1;', ' 2;'))], its)
+
     def test_a_long_name_of_a_timer_is_shortened(self) -> None:
         source = self.SOURCE.replace('etimer t;', 'etimer backoff_timer_long;') % 'set backoff_timer_long 5;'
         fault = find_fault(source)

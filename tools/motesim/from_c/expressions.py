@@ -14,7 +14,7 @@ from typing import NamedTuple
 
 from motesim.from_c.absent import NO_SENSORS, OF_READING, READING, RUNICAST, is_sensor
 from motesim.from_c.parameters import of_value
-from motesim.from_c.scope import Scope, allowed
+from motesim.from_c.scope import Scope, abbreviated, allowed
 from motesim.from_c.tokens import END, Token
 from motesim.notation.faults import MOST_LEVELS
 
@@ -444,7 +444,8 @@ class Writer:
             return self.new_name(word, 'variable')
         if found != word:
             self.why(SMALL_LETTERS + ': `%s`.' % found if found == lower else
-                     'The name is `%s` here.' % found if found == allowed(word) else 'Did you mean `%s`?' % found)
+                     'The name is `%s` here.' % found if found in (allowed(word), abbreviated(word)) else
+                     'Did you mean `%s`?' % found)
         return found
 
     def new_name(self, word: str, kind: str) -> str:

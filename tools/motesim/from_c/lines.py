@@ -94,7 +94,7 @@ class Lines(Expressions):
 
     def new_name(self, name: str) -> str:
         """A name that is declared."""
-        found = allowed(name)
+        found = self.scope.short(name)
         if found != name.lower():
             self.why('`%s` is a word of the notation, so the name is changed.' % name if found.startswith('my_') else
                      'A name has at most 16 characters.')

@@ -19,12 +19,24 @@ SEMAPHORE = re.compile(r'\bPT_SEM_INIT\s*\(\s*&?\s*(\w+)\s*,\s*([0-9]{1,5})\s*\)
 VARIABLE = re.compile(r'^[ \t]*var\s+(\w+)\s*=\s*([0-9]+)\s*;', re.M)
 MACRO = re.compile(r'^[ \t]*PROCESS(?:_NAME)?[ \t]*\([ \t]*(\w+)', re.M)
 LONGEST = 16
+LONG = re.compile(r'\b[A-Za-z]\w{%d,}' % LONGEST)
 
 
 def allowed(name: str) -> str:
     """A name that may be declared, as similar to this one as possible: small letters, at most 16, not reserved."""
     name = name.lower().lstrip('_') or 'x'
     return ('my_' + name if name in RESERVED else name)[:LONGEST].rstrip('_')
+
+
+def abbreviated(name: str) -> str:
+    """A name of at most 16 letters for a longer one, with the beginnings of all its words: so it differs from the names
+    that have the same first letters."""
+    whole = name.lower().strip('_')
+    for most in range(LONGEST, 0, -1):
+        found = '_'.join(it[:most] for it in whole.split('_'))
+        if '_' in whole and len(found) <= LONGEST:
+            return found
+    return whole[:LONGEST - 4] + whole[-4:]
 
 
 def _process(name: str, known: Iterable[str]) -> str:
@@ -57,6 +69,7 @@ class Scope:
     values     the initial values of the variables
     callbacks  the callback timers
     parameters for each thread that was a function, its parameters
+    long       the names that are longer than the notation allows
     """
     kinds: dict[str, str] = field(default_factory=dict)
     codes: tuple[str, ...] = ()
@@ -67,6 +80,7 @@ class Scope:
     values: dict[str, str] = field(default_factory=dict)
     callbacks: Callbacks = Callbacks()
     parameters: dict[str, tuple[str, ...]] = field(default_factory=dict)
+    long: frozenset[str] = frozenset()
 
     @classmethod
     def of(cls, text: str) -> Scope:
@@ -89,15 +103,21 @@ class Scope:
             kinds.setdefault(name, 'process')
         return cls(kinds, codes, 'receiver' in words, named, tuple(dict.fromkeys([*codes, *named, *macros])),
                    {allowed(name): count for name, count in SEMAPHORE.findall(text)}, dict(VARIABLE.findall(text)),
-                   callbacks_of(text), parameters_of(text))
+                   callbacks_of(text), parameters_of(text), frozenset(LONG.findall(text)))
 
     def of_kind(self, kind: str) -> list[str]:
         """The names of a kind."""
         return [name for name, its in self.kinds.items() if its == kind]
 
+    def short(self, name: str) -> str:
+        """The name that may be declared for this one, which differs from that of another long name of the text."""
+        its = allowed(name)
+        is_shared = any(it.lower() != name.lower() and allowed(it) == its for it in self.long)
+        return abbreviated(name) if len(name) > LONGEST and is_shared else its
+
     def meant(self, name: str, kind: str) -> str:
         """The name of this kind that was most likely meant: the name itself if no other is similar."""
-        for its in name, name.lower(), allowed(name):
+        for its in name, name.lower(), *([abbreviated(name)] if len(name) > LONGEST else []), allowed(name):
             if self.kinds.get(its) == kind:
                 return its
         # (a name that is known as something else isn't a misspelling)
