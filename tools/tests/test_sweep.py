@@ -603,6 +603,21 @@ class SweepTest(Bed):
             'losses sent more than 3 packets, and the least N is 4\n'), done)
         self.assertEqual([bool(row['note']) for row in self.rows()], [False, False, True, True])
 
+    def test_runs_in_which_all_motes_halt_are_counted(self) -> None:
+        need_program(self)
+        (self.folder / 'net.plan.toml').write_text(PLAN)
+        # (with period 1 all motes run away, and with period 2 all motes except mote 0)
+        (self.folder / 'a.mote').write_text(
+            'process a; autostart a; code a { etimer t; body { set t 5; yield_until fired(t); while ((self + 2) > '
+            '${period}) { } } }')
+        done = subprocess.run(self.command('--vary', 'period=1..2', '--measure', 'halt'), cwd=self.folder,
+                              capture_output=True, text=True)
+        self.assertEqual((done.returncode, done.stderr), (0, (
+            'sweep: 1 of 2 runs has a warning in the column note; the first (period = 1): all motes halted, the last '
+            'of them at 5, because a kernel run of each mote used up its 10,000 units of work: make the scenario of '
+            'this row with tools/scenario, and tools/explain names the loops\n')), done)
+        self.assertEqual([(row['halt'], bool(row['note'])) for row in self.rows()], [('3', True), ('2', False)])
+
     def test_sources_of_the_same_value_are_reported_once_with_the_number_of_runs(self) -> None:
         need_program(self)
         (self.folder / 'net.plan.toml').write_text(PLAN)

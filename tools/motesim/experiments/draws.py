@@ -12,6 +12,7 @@ from collections.abc import Iterable, Mapping
 
 from motesim.experiments.measures import OWN, Cell
 from motesim.experiments.results import Row
+from motesim.explain.halted import ALL_HALTED
 from motesim.explain.idle import IDLE
 from motesim.explain.lint import SAME_DRAWS
 from motesim.explain.moments import SAME_MOMENT
@@ -21,7 +22,7 @@ from motesim.summary.flows import SHARED
 # A note with this beginning is about a run that has all its measures.
 WARNING = 'warning: '
 # The beginnings of warnings that a sweep counts separately: for each, it reports the number of runs that have it.
-ONCE = (SHARED, OWN, SAME_MOMENT, IDLE, IN_STEP, SAME_DRAWS)
+ONCE = (SHARED, OWN, SAME_MOMENT, IDLE, ALL_HALTED, IN_STEP, SAME_DRAWS)
 # The column with the parameters that are seeds of the pattern; and the number of consecutive seeds that draw different
 # numbers.
 CHANCE, APART = 'chance_seeds', 257

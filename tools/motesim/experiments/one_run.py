@@ -15,6 +15,7 @@ from pathlib import Path
 from types import FrameType
 from typing import NamedTuple
 
+from motesim.explain.halted import all_halted
 from motesim.explain.idle import idle_losses
 from motesim.explain.lint import by_cause, of_losses, of_moments, of_seeds, programs_of
 from motesim.faults import Fault
@@ -166,11 +167,13 @@ def measured(work: Work, bench: Bench, known: Scenario) -> tuple[dict[str, Cell]
 
 def warned(report: Report, known: Scenario, seconds: float) -> list[str]:
     """The warnings about losses in step, about seeds, about packets that a mote sent at one moment, so that they
-    collided, and about losses that lost nothing. If finding them lasts longer than a run may last, there are none."""
+    collided, about losses that lost nothing, and about a run in which all motes halt. If finding them lasts longer
+    than a run may last, there are none."""
     try:
         with limited(seconds):
             its = [*of_losses(known, report), *of_seeds(known, programs_of(known)), *of_moments(report)]
-            return [WARNING + it for it in (*(it.text for it in by_cause(its)), idle_losses(known, report)) if it]
+            of_run = idle_losses(known, report), all_halted(report)
+            return [WARNING + it for it in (*(it.text for it in by_cause(its)), *of_run) if it]
     except TimeoutError:
         return []
 
