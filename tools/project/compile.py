@@ -13,7 +13,7 @@ import time
 from pathlib import Path
 
 from motesim.faults import Fault
-from motesim.runner.programs import PARTS, PROGRAMS, TOP, compiled_kept, is_program
+from motesim.runner.programs import COMPILES, PARTS, PROGRAMS, TOP, compiled_kept, is_program
 from project import kit
 from project.running import end_on_signals, locked
 
@@ -45,7 +45,7 @@ def compile_program() -> Path:
     """Compiles the binary of these sources, unless it is compiled already, and returns its path."""
     end_on_signals()
     kept = compiled_kept()
-    with locked(PROGRAMS / 'compiling.lock', 'motesim: ' + WAITING):
+    with locked(COMPILES, 'motesim: ' + WAITING):
         if not is_program(kept):
             for line in (COMPILING, *kit.warnings()):
                 print('motesim: %s' % line, file=sys.stderr, flush=True)

@@ -8,17 +8,16 @@ of a sweep tell them apart.
 from __future__ import annotations
 
 import contextlib
-import fcntl
 import os
-import sys
 import time
 from pathlib import Path
-from typing import IO
 
+from motesim.runner import waiting
 from motesim.runner.programs import PARTS, is_program, keep_whole, optimize, optimizer_of, program_path
+from motesim.runner.waiting import clock, ends, say
 
-# The seconds between two lines of a tool that waits, and those of the compilation on four idle processors.
-SAID_EVERY, USUAL = 60, 30
+# The seconds of the compilation on four idle processors.
+USUAL = 30
 SLOW = 'MOTESIM_SLOW'
 WAITING = 'waiting for the fast motesim, which is compiled in the background (%s so far; usually about %s on four ' \
           'idle processors, more on a busy machine)'
@@ -26,25 +25,6 @@ STILL = 'still waiting for the fast motesim (%s so far)'
 INSTEAD = '%s=1 before the command begins at once, with the slow motesim; rows of a sweep that are made by the slow ' \
           'one and rows made by the fast one can\'t be in one file' % SLOW
 FAILED = 'the fast motesim was not made, as %s says: the slow one is used'
-
-
-def say(line: str) -> None:
-    print('motesim: %s' % line, file=sys.stderr, flush=True)
-
-
-def clock(seconds: float) -> str:
-    return '%d:%02d' % divmod(max(0, int(seconds)), 60)
-
-
-def ends(held: IO[bytes], seconds: float) -> bool:
-    """Returns whether the process that has the lock ends within so many seconds."""
-    end = time.monotonic() + seconds
-    while time.monotonic() < end:
-        with contextlib.suppress(BlockingIOError):
-            fcntl.flock(held, fcntl.LOCK_SH | fcntl.LOCK_NB)
-            return True
-        time.sleep(0.1)
-    return False
 
 
 def wait_for_optimized(program: Path, instead: str = '') -> None:
@@ -59,7 +39,7 @@ def wait_for_optimized(program: Path, instead: str = '') -> None:
         say(WAITING % (clock(time.time() - began), clock(USUAL)))
         if instead:
             say(instead)
-        while not ends(held, SAID_EVERY):
+        while not ends(held, waiting.SAID_EVERY):
             say(STILL % clock(time.time() - began))
     if script.exists():
         say(FAILED % script.with_name('said'))

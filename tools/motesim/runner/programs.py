@@ -25,12 +25,16 @@ from collections.abc import Sequence
 from pathlib import Path
 
 from motesim.faults import Fault
+from motesim.runner import waiting
+from motesim.runner.waiting import clock, ends, is_free, say
 
 TOP = Path(__file__).resolve().parents[3]
 # The binary that a proof builds; the next proof replaces it.
 PROVED = TOP / 'crates/motesim/out/motesim'
 DAY = 86_400
 PROGRAMS = TOP / 'out/programs'
+# The file that the process which compiles a binary has locked.
+COMPILES = PROGRAMS / 'compiling.lock'
 # The folder next to a binary that isn't optimized yet, with the inputs of the linker.
 PARTS = 'parts'
 # The least niceness of the process that optimizes a binary: the user's other work goes first, but doesn't starve it.
@@ -42,6 +46,8 @@ CODE, ALL_PARTS = ('src',), ('src', 'specs', 'proofs')
 # (./run has this line too, for machines without Python)
 COMPILED = 'this program is compiled, not proved'
 NOT_PROVED = COMPILED + '; ./prove proves it here'
+WAITING = 'waiting for motesim, which another command is compiling; this usually needs about a minute'
+STILL = 'still waiting for the motesim that another command is compiling (%s so far)'
 
 
 class ProgramFault(Fault):
@@ -225,10 +231,25 @@ def program_path() -> Path:
     return _program_here()
 
 
+def wait_for_compiled() -> None:
+    """If another process compiles a binary of this tree, returns once this process ends. Lines say for how long this
+    lasts."""
+    began = time.monotonic()
+    with contextlib.suppress(FileNotFoundError), open(COMPILES, 'rb') as held:
+        if is_free(held):
+            return
+        say(WAITING)
+        while not ends(held, waiting.SAID_EVERY):
+            say(STILL % clock(time.monotonic() - began))
+
+
 @functools.cache
 def _program_here() -> Path:
     """The binary of these sources. A process uses the same one even if the sources change."""
     found = program_of_sources()
+    if found is None:
+        wait_for_compiled()
+        found = program_of_sources()
     if found is None:
         raise ProgramFault('motesim isn\'t compiled yet: start ./run FILE.toml once, which compiles it within a minute '
                            'or so; or name a compiled motesim in the environment variable MOTESIM')
