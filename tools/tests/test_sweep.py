@@ -419,6 +419,18 @@ class SweepTest(Bed):
                 done = self.sweep('--vary', 'period=1,2', '--measure', 'sent', '--plot')
                 self.assertEqual((done.returncode, done.stdout, (self.folder / 'net.csv').exists()), (2, '', False))
                 self.assertIn(said, done.stderr)
+        # (without --plot, a wrong name is a warning)
+        warned = 'sweep: warning: a picture of the plan can\'t be drawn from these results, and --plot would be ' \
+                 'refused:\n'
+        for number, (words, said) in enumerate(faults.items()):
+            with self.subTest('without --plot', words=words):
+                plan.write_text(before + words)
+                done = self.sweep('--vary', 'period=1,2', '--measure', 'sent', '-o', '%d.csv' % number)
+                self.assertEqual((done.returncode, len(self.rows('%d.csv' % number))), (0, 2), done)
+                is_value = said.startswith(('No run', 'A pair')) or 'where' in words
+                self.assertEqual((done.stderr.startswith(warned), said in done.stderr), 2 * (not is_value,), done)
+        plan.write_text(before + picture)
+        self.assertEqual(self.sweep('--vary', 'period=1,2', '--measure', 'sent', '-o', 'right.csv').stderr, '')
         # (a value that only earlier rows of the file have)
         plan.write_text(before + picture + 'where = { motes = 4 }\n')
         self.sweep('--vary', 'period=1,2', '--vary', 'motes=4', '--measure', 'sent')

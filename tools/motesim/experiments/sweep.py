@@ -29,7 +29,7 @@ from motesim.experiments.draws import CHANCE, WARNING, Notes, Seeds, of_warned, 
 from motesim.experiments.wishes import wishes_of
 from motesim.experiments.progress import Progress
 from motesim.experiments.runs import Stopped, longest, run_by_dask, run_here
-from motesim.experiments.wanted import Columns, check_pictures
+from motesim.experiments.wanted import Columns, check_pictures, warnings_of_names
 from motesim.runner.versions import kit_version, program_version
 
 # The place of a row whose values aren't those of the sweep.
@@ -316,7 +316,8 @@ def status_of(asked: argparse.Namespace) -> int:
     sweep.most_bytes = asked.bytes
     sweeper = Sweeper(sweep, Path(asked.output) if asked.output else default_output(asked.plan), asked.plot)
     sweeper.keep(asked.renew, asked.retry)
-    for line in [*sweeper.of_defaults(), *sweeper.alike(), *(UNUSED % (it, it) for it in unused(sweep))]:
+    of_pictures = [] if asked.plot else warnings_of_names(plan, sweeper.to_come())
+    for line in [*sweeper.of_defaults(), *sweeper.alike(), *(UNUSED % (it, it) for it in unused(sweep)), *of_pictures]:
         print('sweep: warning: %s' % line, file=sys.stderr)
     try:
         status = said(sweeper, sweeper.run(asked.jobs, asked.dask))

@@ -25,14 +25,30 @@ class Columns(NamedTuple):
     values: Callable[[str], Iterable[str]]
 
 
-def check_pictures(plan: Plan, columns: Columns) -> None:
-    """Refuses a picture with a name that the results won't have, or with a value that no run will have."""
+def check_names(plan: Plan, columns: Columns) -> None:
+    """Refuses a picture with a name that the results won't have."""
     for (path, _), wish in zip(plan.tables.array('plot'), wishes_of(plan)):
         try:
             check_by(wish)
         except Fault as fault:
             raise plan.tables.fault((*path, 'by'), str(fault)) from None
         _check_names(plan, path, wish, columns)
+
+
+def warnings_of_names(plan: Plan, columns: Columns) -> list[str]:
+    """A warning with the first error in a picture, such as a name that the results won't have."""
+    try:
+        if plan.tables.array('plot'):
+            check_names(plan, columns)
+    except Fault as fault:
+        return ['a picture of the plan can\'t be drawn from these results, and --plot would be refused:\n%s' % fault]
+    return []
+
+
+def check_pictures(plan: Plan, columns: Columns) -> None:
+    """Refuses a picture with a name that the results won't have, or with a value that no run will have."""
+    check_names(plan, columns)
+    for (path, _), wish in zip(plan.tables.array('plot'), wishes_of(plan)):
         for words in wish.where:
             name, _, value = words.partition('=')
             _check_values(plan, (*path, WHERE, name), name, value.split(','), columns)
