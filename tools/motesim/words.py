@@ -2,9 +2,9 @@
 from __future__ import annotations
 
 import argparse
-from typing import Any
+from typing import Any, NoReturn
 
-from motesim.faults import version_line
+from motesim.faults import FAILED, version_line
 
 
 class Version(argparse.Action):
@@ -13,6 +13,13 @@ class Version(argparse.Action):
     def __call__(self, parser: argparse.ArgumentParser, *_: Any) -> None:
         print(version_line())
         parser.exit()
+
+
+class Words(argparse.ArgumentParser):
+    """A parser that reports an error in one line, without all options."""
+
+    def error(self, message: str) -> NoReturn:
+        self.exit(FAILED, '%s: %s (--help lists the options)\n' % (self.prog, message))
 
 
 def add_limits(words: argparse.ArgumentParser, seconds: float = 120, memory: int = 2048, report: int = 256) -> None:
@@ -26,6 +33,6 @@ def add_limits(words: argparse.ArgumentParser, seconds: float = 120, memory: int
 
 def words_of(about: str | None, prog: str | None = None) -> argparse.ArgumentParser:
     """The parser of a tool's arguments; its help begins with the docstring of the tool's module."""
-    words = argparse.ArgumentParser(prog=prog, description=about, formatter_class=argparse.RawDescriptionHelpFormatter)
+    words = Words(prog=prog, description=about, formatter_class=argparse.RawDescriptionHelpFormatter)
     words.add_argument('--version', action=Version, nargs=0, help='print the version, and exit')
     return words

@@ -40,6 +40,16 @@ class Commands(unittest.TestCase):
                 imported = re.split(r'\nimported ', done.stdout)[1].split()
                 self.assertFalse(set(HEAVY) & set(imported), name)
 
+    def test_an_error_in_an_option_is_one_line(self) -> None:
+        for words, said in ((('plot', 'a.csv', '--confidence', '100'), '--confidence is 50 to 99.9, not 100'),
+                            (('plot', 'a.csv', '--draws', 'x'), "argument --draws: invalid int value: 'x'"),
+                            (('search', 'a.toml', '--step', 'x'), "argument --step: invalid int value: 'x'"),
+                            (('sweep', 'a.toml', '--jobs', '0'), '--jobs is 1 or more, and --seconds more than 0'),
+                            (('summary',), 'the following arguments are required: REPORT')):
+            done = subprocess.run([sys.executable, '-B', TOOLS / words[0], *words[1:]], capture_output=True, text=True)
+            line = '%s: %s (--help lists the options)\n' % (words[0], said)
+            self.assertEqual((done.returncode, done.stdout, done.stderr), (2, '', line))
+
     def test_defaults_are_those_of_the_libraries(self) -> None:
         usual = one_program.Limits()
         self.assertEqual((search.SECONDS, search.BYTES, shrink.SECONDS), (usual.seconds, usual.report, usual.seconds))

@@ -75,7 +75,7 @@ def arguments() -> argparse.Namespace:
     words.add_argument('-o', dest='output', metavar='FILE', help='the picture, NAME.svg, NAME.pdf or NAME.png')
     asked = words.parse_args()
     if not 50 <= asked.confidence <= 99.9:
-        words.error('--confidence is 50 to 99.9')
+        words.error('--confidence is 50 to 99.9, not %g' % asked.confidence)
     return asked
 
 
