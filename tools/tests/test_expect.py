@@ -405,6 +405,13 @@ class Files(unittest.TestCase):
         self.assertRegex(err[0], '^expect: /.*/a.expect.toml: sentence 2 is not known$')
         self.assertEqual(err[1].index('hops'), err[2].index('^'))
 
+    def test_a_sentence_of_a_change_that_cannot_be_read_is_at_its_change(self) -> None:
+        change = '[[change]]\n%sexpect = ["mote 0 %s"]\nreplace = { "end" = "end" }\n'
+        for about, place in ('', 'change 2 of /.*/a.expect.toml'), (
+                'about = "a late end"\n', r'change 2 of /.*/a.expect.toml \(a late end\)'):
+            text = 'expect = ["mote 0 sends"]\n' + change % ('', 'sends') + change % (about, 'hops')
+            self.assertRegex(self.said(text)[1].splitlines()[0], '^expect: %s: sentence 1 is not known$' % place)
+
     def test_a_sentence_that_cannot_be_read_is_known_by_its_number(self) -> None:
         with self.assertRaises(UnknownSentence) as raised:
             read_all(['mote 0 sends', 'mote 0 hops'], Names())

@@ -103,6 +103,14 @@ def parts_of(text: str, name: str) -> list[Part]:
     return parts
 
 
+def place_of_part(number: int, part: Part, name: str) -> str:
+    """The place of a part in its file, in a message: the file, or the number of the change with its description."""
+    if not number:
+        return name
+    place = 'change %d of %s' % (number, name)
+    return place if part.name == place else '%s (%s)' % (place, part.name)
+
+
 def changed(scenario: str, replace: dict[str, str]) -> str:
     for old, new in replace.items():
         if old not in scenario:
@@ -221,7 +229,7 @@ def expect(scenario: Path, expectations: Path, is_quiet: bool = False,
     passed = failed = 0
     has_fault = False
     name = str(expectations)
-    for part in parts_of(text_of(expectations), name):
+    for count, part in enumerate(parts_of(text_of(expectations), name)):
         try:
             verdicts = judged(text, part, run)
         except LimitMet as fault:
@@ -230,7 +238,7 @@ def expect(scenario: Path, expectations: Path, is_quiet: bool = False,
             # (this error isn't in the expectations, so the message doesn't name their file)
             raise
         except Fault as fault:
-            raise Fault('%s: %s' % (part.name, fault)) from None
+            raise Fault('%s: %s' % (place_of_part(count, part, name), fault)) from None
         if part.replace and not (is_quiet and all(it.holds for it in verdicts)):
             print('with %s:' % (part.name if part.name != name else 'a change'))
         for number, it in enumerate(verdicts):

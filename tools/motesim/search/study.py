@@ -100,11 +100,12 @@ def check_studies(path: Path, processes: int) -> tuple[int, int]:
     others."""
     scenario, studies = studies_of(path)
     passed = failed = 0
-    for study in studies:
+    for number, study in enumerate(studies, 1):
         try:
             asking = asking_of(study, scenario)
         except Fault as fault:
-            raise Fault('%s, `%s`: %s' % (path, study.get('about', 'a study'), fault)) from None
+            about = ' (%s)' % study['about'] if 'about' in study else ''
+            raise Fault('study %d of %s%s: %s' % (number, path, about, fault)) from None
         wrong = wrong_with(study, asking, processes)
         passed, failed = passed + (not wrong), failed + bool(wrong)
         print('%s %s: %s' % ('wrong  ' if wrong else 'holds  ', path.name, study.get('about', 'a study')))
