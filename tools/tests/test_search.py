@@ -426,7 +426,9 @@ class Searches(unittest.TestCase):
             self.assertIn('broken: mote 3 prints flood 7\n  mote 0 is silent\n    cuts mote 0 off: no protocol', said)
             rows = list(csv.DictReader((folder / 'found.csv').read_text().splitlines()))
             self.assertEqual(rows, [{'expectation': REACHED, 'size': '1', 'faults': 'mote 0 is silent',
-                                     'file': 'here/diamond_silent_0.toml'}])
+                                     'file': 'here/diamond_silent_0.toml', 'cut': 'cuts mote 0 off: no protocol can '
+                                     'deliver from it; it cuts off no other mote'}])
+            self.assertEqual((folder / 'here/found.csv').read_text(), (folder / 'found.csv').read_text())
             text = (folder / 'here/diamond_silent_0.toml').read_text()
             self.assertTrue(text.startswith('# diamond.toml with a fault: mote 0 is silent.\n# This breaks:\n'), text)
             done = subprocess.run([sys.executable, '-B', str(TOOLS / 'expect'), 'here/diamond_silent_0.toml'],

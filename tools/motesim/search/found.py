@@ -160,13 +160,13 @@ def verdict_lines(search: Search, found: list[Found], sentences: list[str], show
 
 
 def row_of(it: Found, sentence: str) -> dict[str, Any]:
-    return {'expectation': sentence, 'size': len(it.faults), 'faults': it.words, 'file': it.file}
+    return {'expectation': sentence, 'size': len(it.faults), 'faults': it.words, 'file': it.file, 'cut': it.cut}
 
 
 def as_csv(found: list[Found]) -> str:
     """A row for each minimal set and expectation that it breaks."""
     text = io.StringIO()
-    rows = csv.DictWriter(text, ['expectation', 'size', 'faults', 'file'], lineterminator='\n')
+    rows = csv.DictWriter(text, ['expectation', 'size', 'faults', 'file', 'cut'], lineterminator='\n')
     rows.writeheader()
     for it in found:
         rows.writerows(row_of(it, sentence) for sentence in it.sentences)
