@@ -3,7 +3,7 @@ import assert from 'node:assert/strict';
 import {test} from 'node:test';
 import {differenceInWords} from '../../motesim/studio/page/difference.js';
 import {lineAndColumn, offsetOf, oneLine, replacements} from '../../motesim/studio/page/text.js';
-import {count} from '../../motesim/timeline/page/words.js';
+import {count, headInWords} from '../../motesim/timeline/page/words.js';
 
 const TEXT = 'one\ntwo one\n\none';
 
@@ -34,6 +34,10 @@ test('a piece of a program is shown on one line', () => {
 test('numbers have their nouns', () => assert.deepEqual(
   [[0, 'packet'], [1, 'copy'], [2, 'copy'], [1234, 'line']].map(it => count(...it)),
   ['0 packets', '1 copy', '2 copies', '1,234 lines']));
+
+test('the head of an island has its packets and silences', () => assert.deepEqual(
+  [[12, 0, false], [1, 0, true], [0, 1, true], [2, 1234, true]].map(it => headInWords(...it)),
+  ['12 packets sent', '1 packet sent, 0 silences', '0 packets sent, 1 silence', '2 packets sent, 1,234 silences']));
 
 test('a difference is one sentence', () => {
   const of = difference =>

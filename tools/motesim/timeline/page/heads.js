@@ -2,7 +2,7 @@
 import {colours} from './forms.js';
 import {AXIS, HEAD} from './layout.js';
 import {niceStep, time} from './time.js';
-import {count} from './words.js';
+import {count, headInWords} from './words.js';
 
 /** Draws a head: the sends and silences of its motes in each bin of moments. */
 function drawHead(pane, g, most, bin) {
@@ -34,8 +34,7 @@ function drawHead(pane, g, most, bin) {
   const from = 6 + c.measureText(group.name).width + 10;
   c.font = '12.5px system-ui, "DejaVu Sans", sans-serif';
   c.fillStyle = colours.quiet;
-  const anySilent = run.groups.some(one => one.quiet), words = `${count(group.sent, 'packet')} sent` +
-    (!anySilent ? '' : group.quiet ? `, ${count(group.quiet, 'time')} silent instead` : ', never silent instead');
+  const words = headInWords(group.sent, group.quiet, run.groups.some(one => one.quiet));
   const moments = Math.round(bin * run.piece), bars = ` (bars: in ${count(moments, 'moment')})`;
   const room = pane.width - from - 6;
   c.fillText(c.measureText(words + bars).width < room ? words + bars : words, from, y + 10, Math.max(10, room));
