@@ -1,10 +1,10 @@
 """Writes the lists of definitions into their pages: tools/dev/spec_lists
 
 docs/dev/SPECS.md lists all files of specs/, in the order of crates.txt. docs/proof/HEADLINE.md lists the files on
-which the theorem rests: the contract of `simulate`, in crates/simulation/specs/Simulation*.antt, each file of specs/
-that this file imports, each file that those import, and so on. This list is in order from the top down: the crates
-from the last of crates.txt to the first, and within a crate a file before the files that it imports. Each file is
-listed with the first sentence of its own first comment. `./test` checks that both pages are up to date.
+which the theorem rests: the contract of `simulate` (crates/simulation/specs/Simulation*.antt), the files of specs/
+that this contract imports, the files that these import, and so on. The second list is in order from the top down: the
+crates from the last of crates.txt to the first, and within a crate a file before the files that it imports. Both lists
+have the first sentence of each file's first comment. `./test` checks that both pages are up to date.
 """
 from __future__ import annotations
 
@@ -37,16 +37,16 @@ def crate_of(top: Path, path: Path) -> str:
 
 
 def about(path: Path) -> str:
-    """The first sentence of a file's own first comment."""
+    """The first sentence of a file's first comment."""
     comment = re.match(r'(?:--.*\n)+', path.read_text('utf-8'))
     if not comment:
-        raise Fault('%s begins with no comment' % path)
+        raise Fault('%s: the file has to begin with a comment; the lists show its first sentence' % path)
     text = ' '.join(it[2:].strip() for it in comment[0].splitlines())
     return re.split(r'(?<=[.])\s+(?=[A-Z])', text, maxsplit=1)[0]
 
 
 def item(text: str) -> str:
-    """One item of a list, in lines that are not too long."""
+    """One item of a list, in lines of at most 112 characters."""
     return textwrap.fill('- ' + text, 112, subsequent_indent='  ', break_long_words=False, break_on_hyphens=False)
 
 
@@ -69,7 +69,7 @@ def index(top: Path) -> str:
 # The definitions of the headline.
 
 def modules_of(top: Path) -> dict[str, Path]:
-    """The files of specs/ and src/ of all crates, by the names under which a file of specs/ imports them."""
+    """The files of specs/ and src/ of all crates. The key of a file is the name by which files of specs/ import it."""
     found = {}
     for path in [*top.glob('crates/*/specs/**/*.antt'), *top.glob('crates/*/src/**/*.rt')]:
         crate, folder, *words = path.relative_to(top / 'crates').with_suffix('').parts
@@ -79,8 +79,8 @@ def modules_of(top: Path) -> dict[str, Path]:
 
 
 class Rests:
-    """The files on which the headline rests, each with the files that it imports; libraries; the types of each
-    source."""
+    """The files on which the headline rests, each with the files that it imports. Also the libraries that these files
+    import, and for each source the types that they name."""
 
     def __init__(self, top: Path):
         self.crates, self.modules = crates_of(top), modules_of(top)
@@ -89,7 +89,7 @@ class Rests:
         self.types: dict[Path, set[str]] = defaultdict(set)
         left = sorted(top.glob(HEADLINE))
         if not left:
-            raise Fault('there is no %s' % HEADLINE)
+            raise Fault('there is no file %s, which has the contract of `simulate`' % HEADLINE)
         while left:
             path = left.pop()
             if path not in self.files:
@@ -101,16 +101,16 @@ class Rests:
     def note_import(self, path: Path, name: str) -> None:
         """Notes an import of a file: another file of specs/, a type of a source, or a library."""
         if not name:
-            raise Fault('%s has an import of a form that is not known' % path)
+            raise Fault('%s: an import has a form that this tool doesn\'t know' % path)
         library, *words = name.split('.')
         if library != 'Rattle' or words[0] not in self.crates:
             self.libraries.add(words[0] if library == 'Rattle' else library)
             return
-        # (the last words may name parts of the file)
+        # (the last words may name parts of a file)
         prefixes = ['.'.join(['Rattle', *words[:end]]) for end in range(len(words), 0, -1)]
         module = next((it for it in prefixes if it in self.modules), None)
         if module is None:
-            raise Fault('%s imports %s, of which there is no file' % (path, name))
+            raise Fault('%s: there is no file for the import %s' % (path, name))
         file, part = self.modules[module], name[len(module) + 1:].partition('.')[0]
         if file.suffix == '.rt':
             self.types[file].add(part)
@@ -168,7 +168,8 @@ def outdated(top: Path) -> dict[Path, str]:
     for name, listed in LISTS.items():
         page, text = (top / name).read_text('utf-8'), listed(top)
         if not BETWEEN.search(page):
-            raise Fault('%s lacks the marks around the list' % name)
+            raise Fault('%s: the list needs the lines `<!-- written by tools/dev/spec_lists -->` and `<!-- end -->` '
+                        'around it' % name)
         found[top / name] = BETWEEN.sub(lambda _: text, page)
     return {page: text for page, text in found.items() if page.read_text('utf-8') != text}
 

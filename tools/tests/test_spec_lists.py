@@ -109,19 +109,19 @@ class Lists(unittest.TestCase):
 
     def test_an_import_of_no_file_is_told(self) -> None:
         self.put('crates/low/specs/Near.antt', '-- What is near.\nuse Rattle.low.specs.Gone.{x}\n')
-        self.assertIn('imports Rattle.low.specs.Gone, of which there is no file', self.run_it())
+        self.assertIn('there is no file for the import Rattle.low.specs.Gone', self.run_it())
 
     def test_an_import_of_another_form_is_told(self) -> None:
         self.put('crates/low/specs/Near.antt', '-- What is near.\nuse {x} from Rattle\n')
-        self.assertIn('an import of a form', self.run_it())
+        self.assertIn('an import has a form', self.run_it())
 
     def test_a_file_without_a_comment_is_told(self) -> None:
         self.put('crates/low/specs/Near.antt', 'abbrev near : Type 0\n')
-        self.assertIn('begins with no comment', self.run_it())
+        self.assertIn('has to begin with a comment', self.run_it())
 
     def test_a_page_without_marks_is_told(self) -> None:
         self.put('docs/proof/HEADLINE.md', 'a page\n')
-        self.assertIn('lacks the marks', self.run_it())
+        self.assertIn('the list needs the lines', self.run_it())
 
 
 class ThisTree(unittest.TestCase):
