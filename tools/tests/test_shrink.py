@@ -235,7 +235,8 @@ class Shrinks(unittest.TestCase):
             (Path(folder) / 'others.toml').write_text('expect = ["mote 0 sends", "mote 3 halts"]')
             done = subprocess.run([*words, 'others.toml'], cwd=folder, capture_output=True, text=True)
             self.assertEqual(done.returncode, 0, done.stderr)
-            self.assertRegex(done.stdout, r'\ns\.toml breaks: mote \d halts\n$')
+            self.assertTrue(done.stdout.endswith('\ns.toml breaks: mote 1 halts\n  in diamond.toml, mote 0 was 2, mote '
+                                                 '1 was 3\n'), done.stdout)
 
     def test_the_command_with_a_fault(self) -> None:
         with folder_with() as folder:
@@ -249,6 +250,21 @@ class Shrinks(unittest.TestCase):
                 done = subprocess.run([*words, fault], cwd=folder, capture_output=True, text=True)
                 self.assertEqual((done.returncode, done.stdout), (2, ''))
                 self.assertIn(wanted, done.stderr)
+
+    def test_motes_with_other_numbers_are_mapped_to_those_of_the_scenario(self) -> None:
+        with folder_with() as folder:
+            words = [sys.executable, '-B', str(TOOLS / 'shrink'), 'diamond.toml', REACHED, '--fault', 'silent 0']
+            done = subprocess.run(words, cwd=folder, capture_output=True, text=True)
+            self.assertRegex(done.stdout, r'small.toml breaks: mote 1 prints flood 7\n  in diamond.toml, mote 1 was 3'
+                                          r'\n')
+            text = (Path(folder) / 'diamond.small.toml').read_text()
+            self.assertIn('\n# Mote 0 is mote 0 of diamond.toml, at 0, 0 there.\n'
+                          '# Mote 1 is mote 3 of diamond.toml, at 12, 0 there.\nversion', text)
+            # (the mote that is left has the number that it had)
+            done = subprocess.run([*words[:4], 'mote 0 halts'], cwd=folder, capture_output=True, text=True)
+            self.assertTrue(done.stdout.endswith('breaks: mote 0 halts\n'), done.stdout)
+            text = (Path(folder) / 'diamond.small.toml').read_text()
+            self.assertIn('\n# Mote 0 is mote 0 of diamond.toml, at 0, 0 there.\nversion', text)
 
     def test_an_explanation_with_other_numbers_is_shown(self) -> None:
         with folder_with() as folder:

@@ -154,10 +154,12 @@ def shrink_each(asking: Asking, found: list[Found], folder: Path, is_quiet: bool
             shrinking = Shrinking(program, case, partial(getattr, stop, 'is_asked'))
             shrinking.run()
         path = folder / ('small_%d.toml' % number)
-        write_result(shrinking, Path(asking.base.name).name, path)
+        write_result(shrinking, case.net, Path(asking.base.name).name, path)
         if not is_quiet:
             print('%s breaks: %s\n  %s\n  %s' % (path, shrinking.case.sentence, chosen(first, sets),
                                                 sizes(shrinking.text)))
+            if shrinking.renumbered:
+                print('  in %s, %s' % (Path(asking.base.name).name, shrinking.renumbered))
         if not shrinking.is_whole:
             break
     program.close()

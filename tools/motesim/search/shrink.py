@@ -104,12 +104,15 @@ class Shrinking:
     is_whole: bool = True
     last: int = 0
     longest: int | None = None
+    # The numbers that the present motes had at first.
+    motes: list[int] = field(default_factory=list)
     # The explanations for the first report, for the present one, and for the last one that was judged.
     first: str = ''
     now: str = ''
     tried: str = ''
 
     def __post_init__(self) -> None:
+        self.motes = list(range(len(self.case.net.motes)))
         self.way = self.way_now(self.case)
         self.longest = self.last
         self.first = self.now = self.tried
@@ -182,6 +185,7 @@ class Shrinking:
                 case = self.after(tried[index])
                 if case is not None and self.way_now(case) == self.way:
                     self.case, self.now, found, at = case, self.tried, True, index
+                    self.motes = [it for mote, it in enumerate(self.motes) if mote not in tried[index].removed]
                     self.taken.append(tried[index].words)
                     break
             else:
@@ -192,6 +196,11 @@ class Shrinking:
     def may_differ(self) -> bool:
         """Returns whether the explanation has other numbers than at first, apart from those of motes."""
         return MOTE.sub('', self.first) != MOTE.sub('', self.now)
+
+    @property
+    def renumbered(self) -> str:
+        """The motes that have other numbers than at first, as in `mote 0 was 3, mote 1 was 4`, or an empty text."""
+        return ', '.join('mote %d was %d' % it for it in enumerate(self.motes) if it[0] != it[1])
 
     @property
     def text(self) -> str:

@@ -15,7 +15,7 @@ from motesim.scenario.scenario import Scenario
 from motesim.search.change import Base
 from motesim.search.faults import effect_of
 from motesim.search.found import toml_text, write_whole
-from motesim.search.net import net_of
+from motesim.search.net import Net, net_of
 from motesim.search.one_program import Limits, OneProgram
 from motesim.search.shrink import Shrinking, case_of
 from motesim.search.smaller import statements_in
@@ -44,10 +44,19 @@ def sizes(text: str) -> str:
     return '%s, end = %d' % (', '.join('%d %s' % (it[0], it[1 if it[0] == 1 else 2]) for it in parts), net.end)
 
 
-def write_result(shrinking: Shrinking, name: str, path: Path) -> None:
-    """Writes the scenario with its expectation."""
+def motes_before(shrinking: Shrinking, net: Net, name: str) -> str:
+    """If motes were removed, comments with the number and the place that each mote had before."""
+    if len(shrinking.motes) == len(net.motes):
+        return ''
+    return ''.join('# Mote %d is mote %d of %s, at %d, %d there.\n' % (
+        mote, before, name, net.motes[before].x, net.motes[before].y) for mote, before in enumerate(shrinking.motes))
+
+
+def write_result(shrinking: Shrinking, net: Net, name: str, path: Path) -> None:
+    """Writes the scenario with its expectation. `net` is the one from which it was made."""
     case = shrinking.case
     head = '# Made small by tools/shrink from %s. It still breaks: %s\n' % (name, ' '.join(case.sentence.split()))
+    head += motes_before(shrinking, net, name)
     rows = ''.join('  %s,\n' % toml_text(it) for it in (case.sentence, *case.keeps))
     write_whole(path, head + shrinking.text)
     write_whole(beside(path), 'expect = [\n%s]\n' % rows)
@@ -64,12 +73,12 @@ def status_of(asked: argparse.Namespace) -> int:
     read_all([sentence, *asked.keep], names_of(base.scenario_itself))
     effects = tuple(effect_of(it, base.scenario_itself.motes) for it in asked.fault)
     with Break() as stop:
-        shrinking = Shrinking(program, case_of(base.source, sentence, effects, tuple(asked.keep)),
-                              lambda: stop.is_asked)
+        case = case_of(base.source, sentence, effects, tuple(asked.keep))
+        shrinking = Shrinking(program, case, lambda: stop.is_asked)
         before = shrinking.text
         shrinking.run()
     output = Path(asked.output) if asked.output else Path(path.name.removesuffix('.toml') + '.small.toml')
-    write_result(shrinking, path.name, output)
+    write_result(shrinking, case.net, path.name, output)
     if asked.steps:
         for number, it in enumerate(shrinking.taken, 1):
             print('%3d %s' % (number, it))
@@ -79,6 +88,8 @@ def status_of(asked: argparse.Namespace) -> int:
         len(shrinking.taken), shrinking.runs,
         'no further step is possible' if shrinking.is_whole else 'STOPPED: more steps may be possible'))
     print('%s breaks: %s' % (output, shrinking.case.sentence))
+    if shrinking.renumbered:
+        print('  in %s, %s' % (path.name, shrinking.renumbered))
     if shrinking.may_differ:
         print('The explanation has other numbers now, so the cause may be another one:')
         print('  before: %s' % shrinking.first)
