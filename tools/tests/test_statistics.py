@@ -752,6 +752,15 @@ class Command(unittest.TestCase):
         (self.folder / 'net.csv').write_text(text.replace('\n2,', '\n1,'))
         pairs = self.plot('--measure', 'sent', '--against', 'period', '--pair', 'program_sha256=aa,bb')
         self.assertEqual((pairs[2][1], self.seen.count(programs)), ('3', 0))
+        # (two columns with --by, one of them a digest)
+        (self.folder / 'net.csv').write_text('period,density,seed,sent,fault,program_sha256,parameters\n' + ''.join(
+            '1,thin,%d,%d,,%s,period density seed\n' % (seed, seed, digest) for digest in ('aa', 'bb')
+            for seed in (1, 2)))
+        for by in ('density', 'program_sha256'), ('program_sha256', 'density'):
+            lines = self.plot(*words, '--by', by[0], '--by', by[1])
+            its = [{'density': 'thin', 'program_sha256': digest} for digest in ('aa', 'bb')]
+            self.assertEqual([it[:4] for it in lines[2:]], [[*(it[name] for name in by), '1', '2'] for it in its])
+            self.assertNotIn(programs, self.seen)
         interpreter_with(self, 'matplotlib')
         (self.folder / 'net.csv').write_text(text)
         self.plot(*words, '-o', 'a.svg')

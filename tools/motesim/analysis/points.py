@@ -290,7 +290,7 @@ def is_repeat(name: str, over: str) -> bool:
 
 def separated_by(wish: Wish) -> list[str]:
     """The digests by which a request separates runs."""
-    return [it for it in SEPARATES if it in (wish.by, wish.pair.partition('=')[0])]
+    return [it for it in SEPARATES if it in (*wish.by.split(','), wish.pair.partition('=')[0])]
 
 
 def changed_files(rows: Sequence[Row]) -> list[str] | None:

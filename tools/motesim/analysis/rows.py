@@ -63,18 +63,19 @@ def once(rows: Sequence[Row], file: str, apart: Sequence[str] = ()) -> tuple[lis
 
 
 def joined(rows: Sequence[Row], by: str) -> list[Row]:
-    """The rows with one parameter instead of the several that `by` names, if it names several."""
+    """The rows with one parameter instead of the several that `by` names, if it names several; some of these may be
+    columns with digests."""
     names, parameters = by.split(','), parameters_of(rows)
     if len(names) == 1:
         return list(rows)
     for number, name in enumerate(names):
-        if name not in parameters:
+        if name not in [*parameters, *(it for it in SEPARATES if it in rows[0])]:
             raise Fault('there is no parameter %s; %s' % (name, known(name, parameters)))
         if name in names[:number]:
             raise Fault('--by names %s twice' % name)
     left = ' '.join([*(it for it in parameters if it not in names), by])
-    return [{**{name: value for name, value in row.items() if name not in names}, 'parameters': left,
-             by: Joint.of([row[name] for name in names])} for row in rows]
+    return [{**{name: value for name, value in row.items() if name not in names or name in SEPARATES},
+             'parameters': left, by: Joint.of([row[name] for name in names])} for row in rows]
 
 
 def by_net(rows: Sequence[Row], wish: Wish) -> list[Row]:
