@@ -2,6 +2,7 @@
 import itertools
 import re
 import unittest
+from math import comb
 from pathlib import Path
 from statistics import correlation, fmean
 from typing import NamedTuple
@@ -11,7 +12,7 @@ from motesim.analysis.estimates import mean_by_t
 from motesim.explain.hints import WISHES
 from motesim.experiments.one_run import warned
 from motesim.explain.lint import SAME_DRAWS, warnings
-from motesim.explain.resonance import RARE, Together, all_at_once, hit, kinds_of, resonances
+from motesim.explain.resonance import RARE, Together, all_at_once, at_least, hit, kinds_of, resonances
 from motesim.from_c.expressions import NO_CHANCE
 from motesim.plan.files import Files
 from motesim.plan.plan import Plan
@@ -125,6 +126,32 @@ class Resonances(unittest.TestCase):
         self.assertEqual(list(all_at_once(Scenario.parse(net.partition('[[loss]]\nfrom = 0\nto = 2')[0] % 2),
                                           report([7] * 20, 2))), [])
         self.assertEqual(list(all_at_once(Scenario.parse(net % (2, 2)), report([7] * 8, 2))), [])
+
+    def test_few_packets_that_many_links_lose_at_once(self) -> None:
+        # (two packets: so improbable on independent links that they are enough)
+        def found(packets: int, *every: int) -> list[str]:
+            net = SCENARIO % every[0] + ''.join(
+                '[[mote]]\nx = %d\ny = 1\nprogram = "p"\n[[loss]]\nfrom = 0\nto = %d\nevery = %d\n' % (it, it, period)
+                for it, period in enumerate(every[1:], 2))
+            return [str(it) for it in all_at_once(Scenario.parse(net), report([7] * packets, every[0]))]
+
+        self.assertEqual(found(10, *[5] * 6), [
+            'mote 0 loses the same packets on all of its 6 links: 2 of its 10 packets reach nobody (about 0 would, if '
+            'the links lost independently); give its links different periods, as the rule `primes` of a plan does'])
+        for packets, every, count in (
+                (9, [5] * 6, 0), (10, [5] * 4, 1), (10, [5] * 3, 0), (10, [3] * 4, 1), (10, [3] * 3, 0),
+                (20, [10] * 3, 1), (20, [10] * 2, 0), (4, [2] * 7, 1), (4, [2] * 6, 0), (10, [5] * 9, 1),
+                (60, [2, 3, 5], 0), (62, [2, 3, 5, 31], 0), (2_000, [5, 7, 11], 0), (24, [2, 3, 4], 0)):
+            with self.subTest(packets=packets, every=every):
+                self.assertEqual(len(found(packets, *every)), count)
+
+    def test_the_probability_of_packets_lost_on_all_links(self) -> None:
+        for count, of, share in (2, 10, 1 / 16), (5, 20, 1 / 8), (3, 400, 1 / 625), (10, 20, 1 / 4):
+            exact = 1 - sum(comb(of, it) * share ** it * (1 - share) ** (of - it) for it in range(count))
+            self.assertAlmostEqual(at_least(count, of, share), exact, places=9)
+        self.assertAlmostEqual(at_least(2, 10, 5.0 ** -6) * 1e7, 1.84, places=2)
+        self.assertEqual((at_least(0, 10, 0.5), at_least(5, 10, 0.5), at_least(10, 10, 1.0)), (1, 1, 1))
+        self.assertEqual(at_least(2, 10, 1 / 5 ** 500), 0)
 
     def test_the_period_that_it_names_is_not_in_step(self) -> None:
         for every in 2, 4, 6:

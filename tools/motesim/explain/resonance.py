@@ -19,7 +19,7 @@ from __future__ import annotations
 
 from collections import Counter, defaultdict
 from collections.abc import Iterator, Sequence
-from math import comb, lcm, prod
+from math import comb, exp, lcm, lgamma, log, log1p, prod
 from typing import NamedTuple
 
 from motesim.report import Report
@@ -34,6 +34,8 @@ LEAST_PACKETS = 5
 RARE = 1e-3
 # A kind is hit if the lost part of it is this many times the part that the period implies.
 MORE = 1.8
+# The least number of packets that a mote loses on all its links, if so many are improbable for independent links.
+LEAST_TOGETHER = 2
 # The beginning of the warning about such a loss.
 IN_STEP = 'the loss from mote '
 PRIMES = (2, 3, 5, 7, 11, 13, 17, 19, 23, 29, 31, 37, 41, 43, 47)
@@ -158,6 +160,29 @@ def hit(values: Sequence[int], every: int, kinds: dict[tuple[int, ...], str], ra
     return min(found, key=lambda it: it[0])[1] if found else None
 
 
+def at_least(count: int, of: int, share: float) -> float:
+    """The probability that at least `count` of some independent trials succeed, each with the probability `share`:
+    the upper tail of a binomial distribution. The sum stops at a term that no longer changes it."""
+    if count <= of * share or share == 0:
+        return 1.0 if share else 0.0
+    term = exp(lgamma(of + 1) - lgamma(count + 1) - lgamma(of - count + 1) + count * log(share)
+               + (of - count) * log1p(-share))
+    total = 0.0
+    while total + term > total:
+        total += term
+        term *= (of - count) / (count + 1) * share / (1 - share)
+        count += 1
+    return total
+
+
+def is_together(lost: int, packets: int, share: float) -> bool:
+    """Returns whether so many packets are lost on all links far more often than on independent links, which lose each
+    packet together with the probability `share`."""
+    if lost >= LEAST_PACKETS and lost >= MORE * packets * share:
+        return True
+    return lost >= LEAST_TOGETHER and at_least(lost, packets, share) < RARE
+
+
 def all_at_once(scenario: Scenario, report: Report) -> Iterator[Together]:
     """The senders that lose the same packets on all their links, far more often than by chance."""
     sent = Counter(report.log.sender)
@@ -170,9 +195,9 @@ def all_at_once(scenario: Scenario, report: Report) -> Iterator[Together]:
         if len(hearers) < 2 or not set(hearers) <= places.keys():
             continue
         its = [every[places[to]] for to in hearers]
-        lost, expected = sent[sender] // lcm(*its), sent[sender] / prod(its)
-        if lost >= LEAST_PACKETS and lost >= MORE * expected:
-            yield Together(min(places[to] for to in hearers), sender, len(hearers), sent[sender], lost, expected)
+        packets, lost, share = sent[sender], sent[sender] // lcm(*its), 1 / prod(its)
+        if is_together(lost, packets, share):
+            yield Together(min(places[to] for to in hearers), sender, len(hearers), packets, lost, packets * share)
 
 
 def resonances(scenario: Scenario, report: Report) -> Iterator[Resonance]:
