@@ -55,8 +55,8 @@ DEED = Table('DEED', 'Lines of the report', ('mote 1 %s',), (
     (('prints just P 1 to 29 in any order',),
      'all lines `print P V`, which must have exactly these values, in any order'),
     (('prints just P its distance from mote 0',),
-     'all lines `print P V`: there must be exactly one, with this value; each other value in words from the next '
-     'table may also follow `prints just P`'),
+     'all lines `print P V`: there must be exactly one, with this value; all other values in words from the next table '
+     'may also follow `prints just P`'),
     (('finally prints P VALUE',), 'the last line `print P V`, which must have this value'),
     (('sends', 'sends VALUE'), '`send N V`'),
     (('receives', 'receives VALUE', 'receives VALUE from mote 2'), '`recv F N V`'),
@@ -86,12 +86,12 @@ TIMES = Table('TIMES', 'How many lines', ('mote 1 sends %s',), (
     (('at least 3 times', 'at most 3', 'exactly 3', 'more than 3', 'fewer than 3'), 'that many'),
     (('once', 'twice', 'at most once', 'at least 1 time'), '1, 2, at most 1, at least 1'),
     (('more than 2 times as often as motes 0 to 9 together',),
-     'more than twice as many as the same lines of these motes'),
+     'more than twice as many lines of the same deed as these motes have'),
     (('more than 2 times as often as from 300 to 399',),
-     'more than twice as many as the same lines of the same motes from 300 to 399'),
-    (('at least 80 % as often as mote 0',), 'at least 80 % of the number of the same lines of mote 0'),
+     'more than twice as many lines of the same deed as the same motes have from 300 to 399'),
+    (('at least 80 % as often as mote 0',), 'at least 80 % as many lines of the same deed as mote 0 has'),
     (('at least 80 % as often as mote 0 prints P', 'exactly 1 times as often as it receives'),
-     'a multiple or a share of the number of lines of another deed, of mote 0 or of the mote itself (`it`)'),
+     'a multiple or a share of the number of lines of another deed, by mote 0 or by the mote itself (`it`)'),
 ))
 WHEN = Table('WHEN', 'Moments', ('mote 1 sends %s',), (
     (('at 60',), '60'),
@@ -99,7 +99,7 @@ WHEN = Table('WHEN', 'Moments', ('mote 1 sends %s',), (
     (('after 60', 'from 60 on'), 'from 61 on, from 60 on'),
     (('between 60 and 90', 'from 60 to 90'), '60 to 90, both included'),
     (('at 40 plus 3 for each hop from mote 0',),
-     'for each mote, the moment 40 plus 3 times the number of hops from mote 0'),
+     'for each mote, the moment 40 + 3 h, if the mote is h hops from mote 0'),
     (('in each 120 from 0 to 1199',),
      'the periods 0 to 119, 120 to 239, and so on; the sentence must hold in each of them'),
 ))
