@@ -3,7 +3,7 @@ from __future__ import annotations
 
 from typing import NamedTuple
 
-from motesim.explain import forms, hints, names
+from motesim.explain import capitals, forms, hints, names
 from motesim.from_c.closings import Edit
 from motesim.from_c.correction import correction
 from motesim.from_c.expressions import SMALL_LETTERS
@@ -91,6 +91,8 @@ def _indented(source: str, number: int, line: str) -> str:
 def advice(source: str, fault: ProgramError) -> Advice | None:
     """Advice on the first fault of a program's text; None if nothing better than the rule is known."""
     found = correction(source, fault)
+    if found is None or found.line is None:
+        found = capitals.undeclared(source, fault) or found
     hint = hints.of_program(source, fault) or names.of_name(source, fault) or forms.of_statement(source, fault)
     small = forms.of_capitals(source, fault)
     if found and found.line and small and small[1] in found.line and found.reasons != (ONE_LINE,):
@@ -122,7 +124,8 @@ def _is_assigned(source: str, fault: ProgramError) -> bool:
 def _declared(source: str, fault: ProgramError) -> Advice | None:
     """Advice on a name that isn't declared."""
     found = names.undeclared(source, fault)
-    if found is None:
+    if found is None or forms.of_capitals(source, fault):
+        # (the token of a name with capitals is only the part before the first one)
         return None
     hint, made = found
     return Advice(hint, above=made.above) if made else Advice(hint)

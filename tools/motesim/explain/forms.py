@@ -9,7 +9,7 @@ from motesim.notation.faults import ProgramError, tokens_of
 # Two words that are one in the notation.
 SPLIT = {('yield', 'until'): 'yield_until', ('wait', 'until'): 'wait_until', ('wait', 'while'): 'wait_while',
          ('restart', 'timer'): 'restart_timer'}
-CAPITALS = re.compile(r'[A-Za-z_]*[A-Z]\w*')
+CAPITALS = re.compile(r'\b[A-Za-z_]\w*[A-Z]\w*|\b[A-Z]\w*')
 
 
 def of_statement(text: str, fault: ProgramError) -> str | None:
@@ -47,7 +47,8 @@ def _of_post(words: list[str], kinds: dict[str, str]) -> str | None:
 
 def of_capitals(text: str, fault: ProgramError) -> tuple[str, str] | None:
     """A hint on a name with capitals at the place of an error, and how it is written without them."""
-    found = CAPITALS.match(text.split('\n')[fault.token.line - 1], fault.token.column)
+    row, at = text.split('\n')[fault.token.line - 1], fault.token.column
+    found = next((it for it in CAPITALS.finditer(row) if it.start() <= at < it.end()), None)
     if found is None:
         return None
     name = found[0].lower()

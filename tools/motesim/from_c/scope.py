@@ -19,6 +19,8 @@ SEMAPHORE = re.compile(r'\bPT_SEM_INIT\s*\(\s*&?\s*(\w+)\s*,\s*([0-9]{1,5})\s*\)
 VARIABLE = re.compile(r'^[ \t]*var\s+(\w+)\s*=\s*([0-9]+)\s*;', re.M)
 MACRO = re.compile(r'^[ \t]*PROCESS(?:_NAME)?[ \t]*\([ \t]*(\w+)', re.M)
 LONGEST = 16
+# The least similarity of a misspelt name to the name of a variable.
+MISSPELT = 0.8
 LONG = re.compile(r'\b[A-Za-z]\w{%d,}' % LONGEST)
 
 
@@ -54,6 +56,21 @@ def nearest(word: str, known: Iterable[str]) -> str | None:
     """The known word that is most similar to this one, if one is similar."""
     found = difflib.get_close_matches(word.lower(), sorted(known), 1, 0.65)
     return found[0] if found else None
+
+
+def words_of(name: str) -> list[str]:
+    """The words of a name, `last` and `seq` of `last_seq` and of `lastSeq`."""
+    return re.sub(r'(?<=[a-z0-9])(?=[A-Z])', '_', name).lower().split('_')
+
+
+def is_misspelt(word: str, name: str) -> bool:
+    """Returns whether a word is so similar to a name that it is this name with a mistake. A word with a number or with
+    words more or less is another name."""
+    its, others = words_of(word), words_of(name)
+    if re.sub(r'\D', '', word) != re.sub(r'\D', '', name) or set(its) < set(others) or set(others) < set(its):
+        return ''.join(its) == ''.join(others)
+    ratio = difflib.SequenceMatcher(None, word.lower(), name).ratio()
+    return ratio >= MISSPELT or sorted(word.lower()) == sorted(name)
 
 
 @dataclass
@@ -121,4 +138,5 @@ class Scope:
             if self.kinds.get(its) == kind:
                 return its
         # (a name that is known as something else isn't a misspelling)
-        return name if name in self.kinds else nearest(name, self.of_kind(kind)) or name
+        found = None if name in self.kinds else nearest(name, self.of_kind(kind))
+        return found if found and (kind != 'variable' or is_misspelt(name, found)) else name
