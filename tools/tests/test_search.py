@@ -184,6 +184,10 @@ class Texts(unittest.TestCase):
         lost = {(it.slot[1:], it.effect[3]) for it in found}
         self.assertEqual(lost, {((0, 1), 3), ((0, 1), 4), ((0, 1), 5), ((0, 2), 3), ((0, 2), 4), ((0, 2), 5),
                                 ((3, 1), 2), ((3, 2), 2)})
+        # (of four packets every = 2 loses 1 and 3)
+        found = [it for it in faults_of(base, Asked(('packets',), sent=(4, 0, 0, 0)))]
+        self.assertEqual({(it.slot[1:], it.effect[3]) for it in found}, {((0, 1), 3), ((0, 1), 4), ((0, 2), 3),
+                                                                        ((0, 2), 4)})
 
     def test_silent_mote(self) -> None:
         self.assertEqual(self.one('mote 3 is silent', kinds=('motes',))[2].losses, {(3, 1): 1, (3, 2): 1})
@@ -313,6 +317,100 @@ class Texts(unittest.TestCase):
     def test_scenario_with_a_fault(self) -> None:
         with self.assertRaisesRegex(Fault, 'diamond.toml has no report: motesim: scenario fault 2'):
             base_of('version = 1\n')
+
+
+# Mote 0 sends packets, and mote 1 answers each of them.
+ANSWERED = """version = 1
+end = 400
+[medium]
+range = 10
+base = 2
+per = 100
+[programs]
+p = '''
+process a;
+autostart a;
+receiver a;
+code a {
+  var n = 0;
+  etimer t;
+  body {
+    if (self == 0) {
+      while (n < %d) {
+        send n;
+        set t 10;
+        %s
+        set t 10;
+        yield_until fired(t);
+      }
+    } else {
+      while 1 { yield_until is(packet); print data; send data; }
+    }
+  }
+}
+'''
+[[mote]]
+x = 0
+y = 0
+program = "p"
+[[mote]]
+x = 5
+y = 0
+program = "p"
+"""
+# (the first one doesn't wait for answers, and the second one repeats a packet that has no answer)
+NO_WAIT = 'yield_until fired(t); n = (n + 1);'
+WAIT = 'yield_until (fired(t) || is(packet)); if is(packet) { n = (n + 1); }'
+
+
+class SinglePackets(unittest.TestCase):
+    """A fault of the kind `packets` loses one packet, in the run that is made."""
+
+    def setUp(self) -> None:
+        need_program(self)
+
+    def lost(self, text: str) -> list[tuple[int, int, int]]:
+        """The copies that the medium loses."""
+        return [(it.packet.sender, it.copy.to, it.packet.number) for it in Report.parse(answer(text.encode()).report)
+                .outcomes() if it.what == 'lost']
+
+    def results(self, text: str, *words: str) -> tuple[dict[str, int], dict[tuple[str, ...], list[Any]], str]:
+        """The tally of the single faults; for each set of faults that breaks a sentence of all of them, the copies that
+        are lost; and the output."""
+        with folder_with(text) as folder:
+            _, said, seen = search(folder, '--expect', 'no copy is lost', *words, '--json', 'f.json')
+            found = json.loads((folder / 'f.json').read_text())
+            return found['covered']['1'], {tuple(it['faults']): self.lost((folder / it['file']).read_text())
+                                           for it in found['found']}, said
+
+    def test_one_packet_is_lost_for_each_number_of_packets(self) -> None:
+        for sent in range(2, 10):
+            tally, lost, said = self.results(ANSWERED % (sent, NO_WAIT), '--faults', 'packets')
+            numbers = range(max(1, sent // 2), sent)
+            self.assertEqual(lost, {('link %d to %d loses packet %d' % (*link, number),): [(*link, number)]
+                                    for link in ((0, 1), (1, 0)) for number in numbers})
+            self.assertEqual((tally['run'], tally['all']), (2 * len(numbers), True))
+            self.assertIn('left out: %d of %d copies' % (2 * (sent - len(numbers)), 2 * sent), said)
+
+    def test_a_set_is_left_out_if_its_run_loses_more(self) -> None:
+        # (of three packets every = 2 loses only packet 1, but mote 0 sends a fourth one instead)
+        tally, lost, said = self.results(ANSWERED % (3, WAIT), '--faults', 'packets')
+        self.assertEqual(lost, {('link %d to %d loses packet 2' % link,): [(*link, 2)] for link in ((0, 1), (1, 0))})
+        self.assertEqual((tally['run'], tally['more'], tally['all']), (2, 2, False))
+        self.assertIn('4 single faults: 2 run, 2 LEFT OUT because a link would lose more than its one packet\n', said)
+        self.assertIn('broken: no copy is lost\n  link 0 to 1 loses packet 2\n  link 1 to 0 loses packet 2\n\n', said)
+
+    def test_a_loss_that_loses_nothing_is_replaced(self) -> None:
+        loss = '[[loss]]\nfrom = 0\nto = 1\nevery = 4\n'
+        self.assertEqual(len(self.results(ANSWERED % (3, NO_WAIT) + loss, '--faults', 'packets')[1]), 4)
+        # (if mote 0 sends a fourth packet, that loss would lose it)
+        tally, lost, _ = self.results(ANSWERED % (3, WAIT) + loss, '--faults', 'packets')
+        self.assertEqual((tally['run'], tally['more'], tally['sets']), (1, 3, 4))
+        # (this one loses packet 2)
+        tally, _, _ = self.results(ANSWERED % (3, NO_WAIT) + loss.replace('4', '3'), '--faults', 'packets',
+                                   '--expect', 'mote 0 sends')
+        # (so mote 1 sends two packets, of which packet 1 can be lost)
+        self.assertEqual(tally['sets'], 1)
 
 
 class Counts(unittest.TestCase):

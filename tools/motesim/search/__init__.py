@@ -9,6 +9,7 @@
     added.py           the process that makes a mote fail, or start late
     prepare.py         the checks before a search
     work.py            one run of a set of faults
+    single_packets.py  whether the link of a lost packet loses only this packet in the run
     one_program.py     runs of `motesim`, one after the other, at little cost
     quick_judge.py     which sentences hold for a report: the results of motesim.judge in a fraction of its time
     runner.py          many runs by several processes; by_dask.py by a cluster

@@ -181,13 +181,16 @@ def _every(base: Base, asked: Asked) -> Iterator[FaultyPart]:
 
 
 def _packets(base: Base, asked: Asked) -> Iterator[FaultyPart]:
-    """Links that lose packet n: they lose 1 packet in n + 1, which is only packet n if fewer than 2n + 2 are sent."""
+    """Links that lose packet n: they lose 1 packet in n + 1, which is only packet n if fewer than 2n + 2 are sent.
+
+    These are the packets of the run without a fault: `single_packets.py` counts those of each run."""
     losses = base.scenario_itself.losses
     for sender, receiver in _directed(base):
-        if (sender, receiver) in losses:
-            continue
         sent = asked.sent[sender]
-        for number in range(max(1, (sent - 1) // 2), sent):
+        # (a loss that loses no packet can be replaced)
+        if losses.get((sender, receiver), sent + 1) <= sent:
+            continue
+        for number in range(max(1, sent // 2), sent):
             yield FaultyPart('packets', 'link %d to %d loses packet %d' % (sender, receiver, number),
                              ('link', sender, receiver), ('lose', sender, receiver, number + 1))
 

@@ -127,6 +127,8 @@ def covered_line(name: str, tally: Tally) -> str:
         parts.append('{:,} NOT MADE, of which nothing is known'.format(tally.unmade))
     if tally.unjudged:
         parts.append('{:,} NOT JUDGED by the undecided expectations'.format(tally.unjudged))
+    if tally.more:
+        parts.append('{:,} LEFT OUT because a link would lose more than its one packet'.format(tally.more))
     if tally.done < tally.sets:
         parts.append('{:,} NOT TRIED'.format(tally.sets - tally.done))
     amount = 'all {:,}' if tally.is_whole else '{:,}'

@@ -6,9 +6,9 @@ from typing import IO
 
 from motesim.faults import Fault
 from motesim.search.sets import Set
-from motesim.search.work import RUN, SAME, STOPPED, UNMADE, Outcome
+from motesim.search.work import MORE, RUN, SAME, STOPPED, UNMADE, Outcome
 
-LETTERS = {RUN: 'r', SAME: 's', STOPPED: 'x', UNMADE: 'u'}
+LETTERS = {RUN: 'r', SAME: 's', STOPPED: 'x', UNMADE: 'u', MORE: 'm'}
 NAMES = {letter: name for name, letter in LETTERS.items()}
 
 

@@ -14,7 +14,7 @@ from motesim.faults import Fault
 from motesim.search.kept import Kept
 from motesim.search.runner import Runner
 from motesim.search.sets import Known, Set, Tally, count_of, draws
-from motesim.search.work import RUN, SAME, STOPPED, UNMADE, Outcome, Task
+from motesim.search.work import MORE, RUN, SAME, STOPPED, UNMADE, Outcome, Task
 
 # The greatest number of faults that a random set has in addition to the exhaustive bound.
 LARGER = 3
@@ -163,5 +163,6 @@ class Search:
         tally.same += outcome.became == SAME
         tally.stopped += outcome.became == STOPPED
         tally.unmade += outcome.became == UNMADE
+        tally.more += outcome.became == MORE
         if outcome.why:
             self.why[outcome.why] += 1

@@ -27,6 +27,7 @@ class Tally:
     stopped   reached a limit, so nothing is known about them
     unmade    can't be made in the text, or are refused by `motesim`
     unjudged  have a fault with which the undecided expectations can't be judged
+    more      lost more than one packet on a link that should lose only one
     """
     sets: int = 0
     run: int = 0
@@ -35,15 +36,21 @@ class Tally:
     stopped: int = 0
     unmade: int = 0
     unjudged: int = 0
+    more: int = 0
 
     @property
     def done(self) -> int:
-        return self.run + self.decided + self.same + self.stopped + self.unmade + self.unjudged
+        return self.run + self.decided + self.same + self.stopped + self.unmade + self.unjudged + self.more
+
+    @property
+    def is_done(self) -> bool:
+        """Returns whether each of the sets that do only what their faults say is decided."""
+        return self.done == self.sets and not (self.stopped or self.unmade or self.unjudged)
 
     @property
     def is_whole(self) -> bool:
         """Returns whether each of the sets is decided."""
-        return self.done == self.sets and not (self.stopped or self.unmade or self.unjudged)
+        return self.is_done and not self.more
 
 
 def count_of(faults: Sequence[FaultyPart], size: int) -> int:

@@ -25,7 +25,7 @@ from motesim.judge.sentences import names_of
 from motesim.search.asking import Asking
 from motesim.search.change import Base
 from motesim.search.faults import Asked
-from motesim.search.found import covered_lines, found_by, is_whole
+from motesim.search.found import covered_lines, found_by
 from motesim.search.kept import Kept
 from motesim.search.search import Bounds
 from motesim.toml import NoToml, read_toml
@@ -83,7 +83,7 @@ def wrong_with(study: dict[str, Any], asking: Asking, processes: int) -> list[st
     search = asking.search(processes, Kept())
     found = found_by(search, asking.texts)
     rows = asking.notes
-    if not is_whole(search):
+    if not all(tally.is_done for tally in search.tallies.values()):
         rows += covered_lines(search)
     if 'counts' in study:
         counts = Counter(len(it.faults) for it in found)

@@ -10,9 +10,10 @@ from motesim.search.faults import FaultyPart, change_of
 from motesim.search.one_program import Answer, Limits, OneProgram
 from motesim.search.quick_judge import QuickJudge
 from motesim.search.sets import Set
+from motesim.search.single_packets import loses_more
 from motesim.judge.sentences import Sentence
 
-RUN, SAME, STOPPED, UNMADE = 'run', 'same', 'stopped', 'unmade'
+RUN, SAME, STOPPED, UNMADE, MORE = 'run', 'same', 'stopped', 'unmade', 'more'
 
 
 class Task(NamedTuple):
@@ -22,8 +23,8 @@ class Task(NamedTuple):
 
 
 class Outcome(NamedTuple):
-    """The result of a set: how it ended (run, same, stopped or unmade), which expectations it breaks, and the reason
-    if it wasn't run."""
+    """The result of a set: how it ended (run, same, stopped, unmade, or more if a link lost more than its one packet),
+    which expectations it breaks, and the reason if it wasn't run."""
     faults: Set
     became: str
     broken: int = 0
@@ -88,6 +89,8 @@ class Bench:
             return Outcome(found, STOPPED, 0, answer.stopped)
         if answer.status:
             return Outcome(found, UNMADE, 0, answer.fault or 'status %d' % answer.status)
+        if loses_more([self.faults[number] for number in found], answer.report, self.base.scenario_itself.losses):
+            return Outcome(found, MORE)
         broken = self.judge.broken(answer.report, self.base.scenario(change), numbers_of(task.wanted))
         return Outcome(found, RUN, mask_of(broken))
 
