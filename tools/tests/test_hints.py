@@ -528,7 +528,16 @@ class Warnings(unittest.TestCase):
                 ('yield_until is(packet); set t 1; yield_until expired(t); print data;',
                  '`data` isn\'t that of a packet'),
                 ('set t 1; yield_until is(packet); yield_until expired(t); print data;', ''),
-                ('set t 1; yield_until expired(t); if is(packet) { print data; }', ''),
+                ('set t 1; yield_until is(packet); yield_until expired(t); if is(packet) { print data; }', ''),
+                ('set t 1; if (seq == 0) { yield; } yield_until expired(t); if is(packet) { print data; }', ''),
+                ('set t 1; yield_until expired(t); if is(packet) { print 1; }',
+                 '`is(packet)` is hardly ever true here: the process has just set the timer `t`'),
+                ('set t 1; send seq; wait_while !expired(t); if is(packet) { print 1; }', 'hardly ever true'),
+                ('set t 1; wait_until expired(t); if is(packet) { print 1; }', 'hardly ever true'),
+                ('set t 1; while !expired(t) { yield; } if is(packet) { print 1; }', 'hardly ever true'),
+                ('set t 1; while !expired(t) { yield; if is(packet) { print 1; } }', ''),
+                ('set t 1; wait_while !fired(t); if is(packet) { print 1; }', 'is never true'),
+                ('set t 1; wait_while !expired(t); print data;', '`data` isn\'t that of a packet'),
                 ('yield_until is(packet); set t 1; yield_until fired(t); if (seq == 0) { send from; }',
                  '`from` isn\'t that of a packet'),
                 ('set t 1; while 1 { yield_until fired(t); send 1; reset t; if is(packet) { print data; } }',
@@ -540,7 +549,7 @@ class Warnings(unittest.TestCase):
                 ('set t 1; if (seq == 0) { yield_until fired(t); } print data; yield_until is(packet);', ''),
                 ('set t 1; yield_until fired(t); while (seq < 3) { yield_until is(packet); print data; }', '')):
             with self.subTest(body):
-                seen = [it for it in self.seen(receives % body) if 'has just waited' in it]
+                seen = [it for it in self.seen(receives % body) if 'has just' in it]
                 self.assertEqual(len(seen), 1 if wanted else 0, seen)
                 self.assertIn(wanted, ''.join(seen))
 

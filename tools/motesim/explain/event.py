@@ -3,6 +3,7 @@ for the timer."""
 from __future__ import annotations
 
 from collections.abc import Iterator, Sequence
+from typing import NamedTuple
 
 from motesim.notation.faults import WAITS, Token
 
@@ -11,36 +12,57 @@ OF_VALUE = ('`%s` isn\'t that of a packet here: the process has just waited for 
             'Keep the value of a packet in a variable before this wait, `x = %s;`')
 NEVER = ('`is(%s)` is never true here: the process has just waited for the timer `%s`, and has its event now. To wait '
          'for both, write `yield_until (fired(%s) || is(%s));`')
+# (the event may be in the queue before that of the timer if both are of the same moment)
+HARDLY = ('`is(%s)` is hardly ever true here: the process has just set the timer `%s` and has waited until the timer is '
+          'due. An event in between doesn\'t end this wait, and is gone then. To wait for both, write `yield_until '
+          '(fired(%s) || is(%s));`')
+
+
+class Wait(NamedTuple):
+    """A wait for a timer: the test, `fired` or `expired`, the timer, and the place behind the wait."""
+    test: str
+    timer: str
+    end: int
 
 
 def mistaken(words: Sequence[str], tokens: Sequence[Token]) -> Iterator[tuple[str, Token]]:
     """Each value or test of an event that is about that of a timer instead, with the warning."""
-    for at, word in enumerate(words):
-        if word not in FOR_TIMER or words[at + 1] not in ('fired', 'expired') or words[at + 5] != ';':
-            continue
-        timer, is_sure = words[at + 3], words[at + 1] == 'fired'
-        for text, token in _after(words, tokens, at + 6, timer):
-            # (a timer that was due long ago is still expired when a packet arrives)
-            if is_sure or word == 'yield_until' and token.text != 'is' and _is_set_before(words, at, timer):
-                yield text, token
+    for at in range(len(words)):
+        wait = _wait(words, at)
+        # (a timer that was due long ago is still expired when a packet arrives)
+        if wait and (wait.test == 'fired' or _is_set_before(words, at, wait.timer)):
+            yield from _after(words, tokens, wait)
+
+
+def _wait(words: Sequence[str], at: int) -> Wait | None:
+    """The wait for a timer that begins at a place, if there is one."""
+    begin = ' '.join(words[at:at + 2])
+    here = at + 2 if begin in ('wait_while !', 'while !') else at + 1 if words[at] in FOR_TIMER else 0
+    test, behind = words[here], list(words[here + 4:here + 8])
+    ends = behind if words[at] == 'while' else behind[:1]
+    if not here or test not in ('fired', 'expired') or ends not in ([';'], ['{', 'yield', ';', '}']):
+        return None
+    return Wait(test, words[here + 2], here + 4 + len(ends))
 
 
 def _is_set_before(words: Sequence[str], at: int, timer: str) -> bool:
-    """Returns whether the statement before a place sets a timer."""
-    begin = next((it for it in range(at - 2, -1, -1) if words[it] in (';', '{', '}')), -1) + 1
-    return words[begin] in SETS and words[begin + 1] == timer
+    """Returns whether a statement before a place sets a timer, in the same block and behind the last wait."""
+    begin = next((it for it in range(at - 1, -1, -1) if words[it] in ('{', '}') or words[it] in WAITS), 0)
+    return any(words[it] in SETS and words[it + 1] == timer for it in range(begin, at))
 
 
-def _after(words: Sequence[str], tokens: Sequence[Token], begin: int, timer: str) -> Iterator[tuple[str, Token]]:
-    """The warning about the first mistake from a place up to the next wait, or to the end of the block."""
-    level = 0
-    for at in range(begin, len(words)):
+def _after(words: Sequence[str], tokens: Sequence[Token], wait: Wait) -> Iterator[tuple[str, Token]]:
+    """The warning about the first mistake from a wait up to the next wait, or to the end of the block."""
+    level, timer = 0, wait.timer
+    for at in range(wait.end, len(words)):
         word = words[at]
         level += (word == '{') - (word == '}')
         if level < 0 or word in WAITS or word == 'while' and _waits(words, at):
             return
         if word == 'is' and words[at + 2] != 'timer':
-            yield NEVER % (words[at + 2], timer, timer, words[at + 2]), tokens[at]
+            event = words[at + 2]
+            what = NEVER if wait.test == 'fired' else HARDLY
+            yield what % (event, timer, timer, event), tokens[at]
             return
         if word in ('data', 'from'):
             yield OF_VALUE % (word, timer, word), tokens[at]
