@@ -13,8 +13,8 @@ OF_VALUE = ('`%s` isn\'t that of a packet here: the process has just waited for 
 NEVER = ('`is(%s)` is never true here: the process has just waited for the timer `%s`, and has its event now. To wait '
          'for both, write `yield_until (fired(%s) || is(%s));`')
 # (the event may be in the queue before that of the timer if both are of the same moment)
-HARDLY = ('`is(%s)` is hardly ever true here: the process has just set the timer `%s` and has waited until the timer is '
-          'due. An event in between doesn\'t end this wait, and is gone then. To wait for both, write `yield_until '
+HARDLY = ('`is(%s)` is hardly ever true here: the process has just set the timer `%s` and has waited until the timer '
+          'is due. An event in between doesn\'t end this wait, and is gone then. To wait for both, write `yield_until '
           '(fired(%s) || is(%s));`')
 
 
