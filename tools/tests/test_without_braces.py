@@ -166,7 +166,7 @@ class Assignments(unittest.TestCase):
                 ('while ((n = data) != 0) {\n yield;\n }', 'n = data; while (n != 0) { yield; n = data; }'),
                 ('if ((n = m + 1) > 3) { print n; }', 'n = (m + 1); if (n > 3) { print n; }'),
                 ('if ((n = m) > 3 && (i = j) < 2) { print n; }',
-                 'n = m; i = j; if ((n > 3) && (i < 2)) { print n; }'),
+                 'n = m; if (n > 3) { i = j; } if ((n > 3) && (i < 2)) { print n; }'),
                 ('if (i) { print 1; } else if ((n = m) > 3) { print n; }',
                  'if i { print 1; } else { n = m; if (n > 3) { print n; } }'),
                 ('i = (n = 3) + 1;', 'n = 3; i = (n + 1);')):

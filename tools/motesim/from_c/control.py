@@ -227,7 +227,8 @@ class Control(Lines):
             self.accept(';')
             self.why('A loop without a block would run forever: `wait_while` lets other events in while it waits.')
             return 'wait_while %s;' % test
-        test, outside = self.condition(), self.place
+        self.is_if = word == 'if'
+        test, outside, self.is_if = self.condition(), self.place, False
         if word == 'while' and (self.before or self.after):
             return self.counting_loop(test)
         if word == 'while':
@@ -249,9 +250,11 @@ class Control(Lines):
     def counting_loop(self, test: str) -> str:
         """A `while` whose test has `++` or `--`: after the name, the step is at the start of the block; in front of
         it, above the loop and at the end of the block."""
-        first, last = self.steps(self.after), self.steps(self.before)
-        if ' || ' in test:
+        # (in the block, the sides to the left of a step are true, if it isn't within another test)
+        if ' || ' in test or any(' && ' in it for it in conjuncts(test)) and any(it.only for it in self.after):
             self.refuse_steps()
+        first = self.steps([it._replace(only=None) for it in self.after])
+        last = self.steps(self.before)
         self.before, self.after = [], []
         body = self.body(last)
         if first:
@@ -271,7 +274,8 @@ class Control(Lines):
         """A statement with the steps of `++` and `--` in its expressions."""
         if not (self.before or self.after):
             return text
-        if word in ('for', 'do') or text.startswith(WITHOUT_STEPS) or text.startswith('if ') and self.after:
+        if word in ('for', 'do') or text.startswith(WITHOUT_STEPS) or text.startswith('if ') and self.after or (
+                any(it.only for it in self.after)):
             self.refuse_steps()
         return ' '.join(filter(None, (self.steps(self.before), text, self.steps(self.after))))
 

@@ -33,6 +33,13 @@ BYTES, SMALL, LONG = frozenset(('uint8_t', 'u8_t')), frozenset(('int8_t', 'char'
     'uint32_t', 'int32_t', 'long'))
 OF_LONG = 'Values have 16 bits, so the cast to `%s` is left out: larger results are modulo 65,536.'
 OF_BYTE = 'Values have 16 bits: `(x %% 256)` keeps the lower 8, as the cast to `%s` does.'
+OF_BOOL = 'A cast to `bool` is the test `(x != 0)`.'
+REALS, SIGNED = frozenset(('float', 'double')), frozenset(('int16_t', 'short', 'signed'))
+OF_SIGNED = ('Values have 16 bits and no sign, so the cast to `%s` is left out: a value that is below 0 in C is above '
+             '32,767 here.')
+COMPARED = ('Values have 16 bits and no sign. Add 32768 to both sides of a comparison, and its result is that of C '
+            'for `%s`.')
+HALF = 32_768
 OF_CAST = 'Values have 16 bits and no sign, so the cast to `%s` is left out; `(x %% 256)` would keep the lower 8 bits.'
 VALUES = {'true': '1', 'false': '0', 'null': '0', 'node_id': 'self', 'simmoteid': 'self', 'rtimer_now': 'now'}
 TESTS = ('is', 'fired', 'expired', 'gone', 'running', 'count')
@@ -67,6 +74,9 @@ SUMS: dict[str, Callable[[int, int], int]] = {
     '+': operator.add, '-': operator.sub, '*': operator.mul, '/': lambda left, right: int(Fraction(left, right))}
 MOST = 65_535
 MOST_REASONS = 2
+OF_ADDRESS = 'An address is one number: `from` of the sender, `self` of the mote itself.'
+UPPER_BYTE = 'This number replaces `u8[0]`, and 0 replaces the other bytes.'
+NO_UPPER_BYTE = 'This number replaces `u8[0]`, and the other bytes need no test.'
 ADDRESSES = ('linkaddr_node_addr', 'rimeaddr_node_addr')
 
 NO_BITS = ('There are no operators on bits: `(x % 256)` is the low byte, `(x / 256)` the high one, and flags are '
@@ -121,16 +131,40 @@ class Node:
 
 
 class Step(NamedTuple):
-    """A variable that an expression changes: by `++` or `--`, or by `=` with a value."""
+    """A variable that an expression changes: by `++` or `--`, or by `=` with a value. `only` is the test that has to be
+    true for this step: in C, the right side of `&&` is evaluated only if the left one is true."""
     name: str
     sign: str
     value: Node = Node('number', '0')
+    only: Node | None = None
+
+    def under(self, test: Node) -> Step:
+        """The step, which is done only if this test is true, too."""
+        return self._replace(only=test if self.only is None else Node('binary', '&&', (test, self.only)))
+
+
+class Choice(NamedTuple):
+    """A sign of C after a test, with the value that is evaluated only if the test requires it."""
+    sign: str
+    test: Node
+    value: Node
 
 
 def is_test(node: Node) -> bool:
     """True if an expression compares two values, or joins or negates tests."""
     return node.kind == 'binary' and node.text in ('==', '=', '!=', '<', '<=', '>', '>=', '&&', '||') or (
         node.kind == 'unary' and node.text in ('!', 'not'))
+
+
+def opposite(test: Node) -> Node:
+    """The test that is true if this one is false."""
+    return test.parts[0] if test.kind == 'unary' and test.text == '!' else Node('unary', '!', (test,))
+
+
+def names_of(node: Node) -> set[str]:
+    """The names in an expression."""
+    own = {node.text} if node.kind == 'name' else set()
+    return own.union(*map(names_of, node.parts))
 
 
 def number_of(text: str) -> int | None:
@@ -142,6 +176,36 @@ def number_of(text: str) -> int | None:
         return int(plain.translate(str.maketrans('oi', '01')))
     except ValueError:
         return None
+
+
+def address_of(node: Node) -> str:
+    """The word for the address of which a node is a byte, or nothing if it is something else."""
+    words: list[str] = []
+    at = node
+    while at.kind in ('index', 'member'):
+        words.append(at.text)
+        at = at.parts[0]
+    if 'u8' not in words or at.text not in ('from', 'sender', *ADDRESSES):
+        return ''
+    return 'self' if at.text in ADDRESSES else 'from'
+
+
+def is_upper_byte(node: Node) -> bool:
+    """Returns whether a byte of an address is another one than the first."""
+    return node.kind == 'index' and value_of(node.parts[1]) != 0
+
+
+def is_of_no_mote(sign: str, node: Node) -> bool:
+    """Returns whether one side of `&&` or `||` only says that the upper byte of an address is 0, or isn't."""
+    if node.kind != 'binary' or node.text != {'&&': '==', '||': '!='}[sign]:
+        return False
+    sides = [(it, other) for it, other in (node.parts, node.parts[::-1]) if value_of(other) == 0]
+    return any(address_of(it) != '' and is_upper_byte(it) for it, _ in sides)
+
+
+def has_difference(node: Node) -> bool:
+    """Returns whether an expression subtracts."""
+    return node.text == '-' and node.kind in ('unary', 'binary') or any(map(has_difference, node.parts))
 
 
 def value_of(node: Node) -> int | None:
@@ -201,20 +265,45 @@ class Expressions:
 
     def expression(self) -> Node:
         """An expression, with `?` and `:`."""
+        begin = self.place_here
         test = self.level(0)
         if not self.accept('?'):
             return test
+        first = self.place_here
         yes = self.expression()
+        self.only_if(test, Choice('?', test, yes), begin, first)
         self.need(':')
-        return Node('choice', '', (test, yes, self.expression()))
+        second = self.place_here
+        no = self.expression()
+        self.only_if(opposite(test), Choice(':', test, no), begin, second)
+        return Node('choice', '', (test, yes, no))
+
+    def only_if(self, test: Node, choice: Choice, begin: tuple[int, int, int], place: tuple[int, int, int]) -> None:
+        """Notes that the steps that were found from a place on are done only if a test is true. In C this test is
+        evaluated before them; here it is evaluated again, so they mustn't change it."""
+        before, after = self.before[place[1]:], self.after[place[2]:]
+        above = {it.name for it in self.after[begin[2]:place[2]]}
+        if {it.name for it in before} & names_of(choice.test) or above & names_of(choice.value):
+            self.refuse_order(choice, before)
+        self.before[place[1]:] = [it.under(test) for it in before]
+        self.after[place[2]:] = [it.under(test) for it in after]
+
+    def refuse_order(self, choice: Choice, steps: list[Step]) -> None:
+        """Refuses an expression whose sides can't be evaluated at once."""
+        raise NoCounterpart
 
     def level(self, number: int) -> Node:
         if number == len(LEVELS):
             return self.unary()
+        begin = self.place_here
         left = self.level(number + 1)
         while self.token.kind in ('sign', 'name') and self.token.text in LEVELS[number]:
             sign = self.accept(*LEVELS[number])
+            place = self.place_here
             right = self.level(number + 1)
+            if WORDS.get(sign, sign) in ('&&', '||'):
+                choice = Choice(WORDS.get(sign, sign), left, right)
+                self.only_if(left if choice.sign == '&&' else opposite(left), choice, begin, place)
             if sign not in ('=', '&&', '||', 'and', 'or'):
                 left, right = self.assigned(left), self.assigned(right)
             left = Node('binary', WORDS.get(sign, sign), (left, right))
@@ -230,6 +319,9 @@ class Expressions:
 
     def why(self, reason: str) -> None:
         """Notes the reason why a line is written in another way."""
+
+    def insist(self, reason: str) -> None:
+        """Notes a reason that is always shown."""
 
     def close(self) -> None:
         """A closing parenthesis, which may be missing at the end of a statement or before a block."""
@@ -286,9 +378,16 @@ class Expressions:
             return value
         is_byte = bool(BYTES.intersection(words)) or {'unsigned', 'char'} <= {*words}
         if is_byte or SMALL.intersection(words):
-            self.why((OF_BYTE if is_byte else OF_CAST) % kind)
+            self.insist((OF_BYTE if is_byte else OF_CAST) % kind)
         elif LONG.intersection(words):
-            self.why(OF_LONG % kind)
+            self.insist(OF_LONG % kind)
+        elif REALS.intersection(words):
+            self.insist(NO_REALS)
+        elif 'bool' in words and not is_test(value):
+            self.why(OF_BOOL)
+            return Node('binary', '!=', (value, Node('number', '0')))
+        elif SIGNED.intersection(words) or 'int' in words and 'unsigned' not in words and has_difference(value):
+            return Node('signed', kind, (value,))
         return Node('byte', '', (value,)) if is_byte else value
 
     def primary(self) -> Node:
@@ -385,6 +484,9 @@ class Writer:
             return self.part(node)
         if node.kind == 'byte':
             return '(%s %% 256)' % self.text(node.parts[0])
+        if node.kind == 'signed':
+            self.insist(OF_SIGNED % node.text)
+            return self.text(node.parts[0])
         reasons = {'real': NO_REALS, 'text': NO_TEXTS,
                    'choice': 'There is no `? :`: write `if .. { x = a; } else { x = b; }`.'}
         return self.refuse(reasons[node.kind])
@@ -569,14 +671,36 @@ class Writer:
         if sign == '&&' and self.is_timer_event(left) and right.kind == 'binary' and self.is_of_timer(*right.parts):
             self.why('`fired(..)` tests both: the event is that of a timer, and the timer is this one.')
             return self.text(right)
+        if 'signed' in (left.kind, right.kind) and sign in PLAIN:
+            return self.with_sign(sign, left, right)
         if sign in ('*', '/') and 'real' in (left.kind, right.kind):
             return self.scaled(sign, left, right)
         if sign in ('<<', '>>'):
             return self.shift(sign, left, right)
         if sign in ('&', '|', '^'):
             return self.mask(sign, left, right)
+        if sign in ('&&', '||') and (is_of_no_mote(sign, left) or is_of_no_mote(sign, right)):
+            self.why(OF_ADDRESS)
+            self.why(NO_UPPER_BYTE)
+            return self.text(left if is_of_no_mote(sign, right) else right)
         assert sign in PLAIN
         return '(%s %s %s)' % (self.text(left), sign, self.text(right))
+
+    def with_sign(self, sign: str, left: Node, right: Node) -> str:
+        """An operation on values of which a cast makes one signed."""
+        kind = left.text if left.kind == 'signed' else right.text
+        plain = [it.parts[0] if it.kind == 'signed' else it for it in (left, right)]
+        if sign in ('<', '<=', '>', '>='):
+            self.insist(COMPARED % kind)
+            return '(%s %s %s)' % (self.shifted(plain[0]), sign, self.shifted(plain[1]))
+        if sign not in ('==', '!=', '+', '-', '*'):
+            self.insist(OF_SIGNED % kind)
+        return self.binary(sign, plain[0], plain[1])
+
+    def shifted(self, node: Node) -> str:
+        """A value with a sign, plus 32,768: the least one is 0."""
+        number = value_of(node)
+        return '(%s + %d)' % (self.text(node), HALF) if number is None else str((number + HALF) % (MOST + 1))
 
     def compared(self, left: Node, right: Node) -> str:
         """An assignment within an expression; most likely a comparison is meant."""
@@ -659,15 +783,20 @@ class Writer:
 
     def part(self, node: Node) -> str:
         """The number of a mote instead of a part of its address. Other arrays and fields are refused."""
-        words: list[str] = []
-        at = node
-        while at.kind in ('index', 'member'):
-            words.append(at.text)
-            at = at.parts[0]
-        if 'u8' in words and at.text in ('from', 'sender', *ADDRESSES):
-            self.why('An address is one number: `from` of the sender, `self` of the mote itself.')
-            return 'self' if at.text in ADDRESSES else 'from'
+        address = address_of(node)
+        if address:
+            return self.byte_of(address, node)
         return self.refuse(NO_ARRAYS) if node.kind == 'index' else self.field(node)
+
+    def byte_of(self, address: str, node: Node) -> str:
+        """A byte of an address: the address itself is the first one."""
+        if node.kind == 'index' and value_of(node.parts[1]) is None:
+            return self.refuse(OF_ADDRESS)
+        self.why(OF_ADDRESS)
+        if not is_upper_byte(node):
+            return address
+        self.insist(UPPER_BYTE)
+        return '0'
 
     def field(self, node: Node) -> str:
         """A test of a timer, a process or a semaphore that is written as its field. Other fields are refused."""

@@ -2,10 +2,18 @@
 from __future__ import annotations
 
 from motesim.from_c.closings import Closing
-from motesim.from_c.expressions import ONE_TOO_MANY, READ_ONLY, Expressions, NoCounterpart, Node, Step, Writer
+from motesim.from_c.expressions import (
+    ONE_TOO_MANY, READ_ONLY, Choice, Expressions, NoCounterpart, Node, Step, Writer,
+)
 from motesim.from_c.places import Surroundings
 from motesim.from_c.scope import Scope, allowed
 from motesim.from_c.tokens import tokens_of
+
+ONLY_IF = 'In C, `%s` is done only if `%s` is true, so it is in the block of an `if`.'
+IN_TURN = ('Here, both sides of a test are evaluated at once, and in C one after the other: write the steps as '
+           'statements of their own, and the sides as two tests.')
+IN_TURN_AS = ('In C, the right side of `%s` is evaluated after the left one, and only if it is needed. Write the sides '
+              'as two tests, with the step between them: `%s`.')
 
 
 class Lines(Expressions):
@@ -26,6 +34,8 @@ class Lines(Expressions):
         # would belong to another statement.
         self.lacks_else = self.hides_else = False
         self.nested = 0
+        # Whether the test of an `if` is being read.
+        self.is_if = False
         # The line (from 1 among these lines) on which the innermost of the statements that are being read begins.
         self.begun = 1
         self.end_of_process = end
@@ -36,6 +46,17 @@ class Lines(Expressions):
 
     def why(self, reason: str) -> None:
         self.writer.why(reason)
+
+    def insist(self, reason: str) -> None:
+        self.writer.insist(reason)
+
+    def refuse_order(self, choice: Choice, steps: list[Step]) -> None:
+        test, value = self.writer.text(choice.test), self.writer.text(choice.value)
+        if choice.sign not in ('&&', '||') or not steps or not self.is_if:
+            raise NoCounterpart(IN_TURN)
+        inner = '%s if %s { .. }' % (self.steps(steps), value)
+        raise NoCounterpart(IN_TURN_AS % (choice.sign, 'if %s { %s }' % (
+            test, inner if choice.sign == '&&' else '.. } else { ' + inner)))
 
     def end(self, statement: str) -> str:
         """A statement with its semicolon."""
@@ -63,13 +84,19 @@ class Lines(Expressions):
 
     def steps(self, found: list[Step]) -> str:
         """The statements for `++` and `--` in an expression, and for assignments in it."""
-        return ' '.join('%s;' % self.step(it) for it in found)
+        return ' '.join(map(self.step, found))
 
     def step(self, its: Step) -> str:
         if its.sign != '=':
-            return self.stepped(its.name, its.sign)
-        self.why('An assignment has no value: each is a statement of its own.')
-        return '%s = %s' % (self.variable(its.name), self.writer.text(its.value))
+            text = self.stepped(its.name, its.sign)
+        else:
+            self.why('An assignment has no value: each is a statement of its own.')
+            text = '%s = %s' % (self.variable(its.name), self.writer.text(its.value))
+        if its.only is None:
+            return text + ';'
+        test = self.writer.text(its.only)
+        self.insist(ONLY_IF % (text + ';', test))
+        return 'if %s { %s; }' % (test, text)
 
     def declare(self, word: str, kind: str, name: str, value: str) -> None:
         """Declares a name that is used without a declaration."""

@@ -1,0 +1,141 @@
+"""Values of C: with all corrections, a program prints the numbers that C prints, or a hint says what differs."""
+import unittest
+
+from motesim.explain.advice import Advice, advice
+from motesim.notation.faults import find_fault, tokens_of
+from skips import need_program
+from test_without_braces import PROGRAM, followed, printed
+
+
+def of_lines(lines: str) -> Advice:
+    """The advice on the first fault of lines of C."""
+    text = PROGRAM % lines
+    fault = find_fault(text)
+    found = advice(text, fault) if fault else None
+    assert found, lines
+    return found
+
+
+def words(text: str) -> list[str]:
+    return [it.text for it in tokens_of(text)]
+
+
+class OfC(unittest.TestCase):
+    """The expected numbers are those that gcc's programs print. At the start `m` is 3, and `n`, `i` and `j` are 0."""
+    def setUp(self) -> None:
+        need_program(self)
+
+    def check(self, lines: str, wanted: list[int]) -> None:
+        with self.subTest(lines):
+            self.assertEqual(printed(followed(PROGRAM % lines)), wanted)
+
+    def says(self, lines: str, wanted: str, has_line: bool = False) -> None:
+        found = of_lines(lines)
+        with self.subTest(lines):
+            self.assertIn(wanted, found.hint)
+            self.assertEqual(found.line is not None, has_line, found.line)
+
+
+class Sides(OfC):
+    """A step on the right side of `&&`, `||` or `?` is done only if the left side requires it."""
+    def test_the_right_side(self) -> None:
+        for lines, wanted in (
+                ('if (n && --m == 0) { print 1; } print m;', [3]),
+                ('if (!n && --m == 2) { print 1; } print m;', [1, 2]),
+                ('if (m || ++n == 1) { print 1; } print n;', [1, 0]),
+                ('if (i || ++n == 1) { print 1; } print n;', [1, 1]),
+                ('n = i && ++m > 0; print n; print m;', [0, 3]), ('n = m && ++i; print n; print i;', [1, 1]),
+                ('print(n && --m); print m;', [0, 3]), ('print(!n && --m); print m;', [1, 2]),
+                ('if (n && (i = m) == 3) { print 1; } print i;', [0]),
+                ('if (!n && (i = m) == 3) { print 1; } print i;', [1, 3]),
+                ('if (is(packet) && (i = m) == 3) { print 1; } print i;', [0]),
+                ('if (m && (n || ++i == 1)) { print i; } else { print 7; } print i;', [1, 1]),
+                ('if (m && (!n || ++i == 1)) { print i; } else { print 7; } print i;', [0, 0]),
+                ('if (!m && (n || ++i == 1)) { print i; } else { print 7; } print i;', [7, 0]),
+                ('n = i ? ++m : --m; print m;', [2]), ('n = m ? ++i : --j; print n; print i; print j;', [1, 1, 0])):
+            self.check(lines, wanted)
+
+    def test_lines_below(self) -> None:
+        for test, wanted in (('n && --m', [5, 3]), ('!n && --m', [2, 2]), ('!n || --m', [3, 3]),
+                             ('n || --m', [2, 2])):
+            for form in ('if (%s)\n print m;\n else\n print 5;', 'if (%s) {\n print m;\n } else {\n print 5;\n }',
+                         'if (n == 1) {\n print 4;\n } else if (%s) {\n print m;\n } else {\n print 5;\n }'):
+                self.check(form % test + '\n print m;', wanted)
+
+    def test_a_loop(self) -> None:
+        for lines, wanted in (
+                ('while (n < 3 && --m > 0) { print n; n++; } print m;', [0, 1, 0]),
+                ('while (i < 3 && (j = n * 2) < 6) {\n print j;\n n = n + 1;\n i++;\n } print j;', [0, 2, 4, 4]),
+                ('while (n && --m) {\n print m;\n } print m;', [3]),
+                ('while (!n && m--) { print m; }', [2, 1, 0])):
+            self.check(lines, wanted)
+
+    def test_sides_that_depend_on_each_other_have_advice(self) -> None:
+        self.says('if (m > 0 && --m == 0) { print 1; }',
+                  'with the step between them: `if (m > 0) { m = (m - 1); if (m == 0) { .. } }`')
+        self.says('if (m == 0 || --m == 0) { print 1; }',
+                  '`if (m == 0) { .. } else { m = (m - 1); if (m == 0) { .. } }`')
+        for lines in ('while (m > 0 && --m) { print m; }', 'while (m-- && m > 0) { print m; }', 'n = m-- && m;',
+                      'n = m > 2 ? --m : m;', 'while (m > 0 && (m = n) == 0) { }'):
+            self.says(lines, 'write the steps as statements of their own')
+
+    def test_a_step_behind_has_advice(self) -> None:
+        for lines in 'n = i && m--;', 'if (i && m--) { }', 'while (!(n && m--)) { n = 1; }':
+            self.says(lines, 'There is no `--`: the step is a statement of its own, `if ')
+        self.says('yield_until (is(packet) && ++n > 3);', '`if is(packet) { n = (n + 1); }`')
+
+
+class Casts(OfC):
+    def test_the_lower_bits(self) -> None:
+        for lines, wanted in (
+                ('n = 250; n = (uint8_t)(n + 10); print n;', [4]), ('n = 259; if ((uint8_t)n == m) { print 1; }', [1]),
+                ('n = 259; i = (unsigned char)n; print i;', [3]), ('n = (bool)m; print n;', [1]),
+                ('if ((bool)m == 1) { print 1; }', [1]), ('n = (bool)(m == 3); print n;', [1])):
+            self.check(lines, wanted)
+
+    def test_a_comparison_with_a_sign(self) -> None:
+        for n, i in ((3, 5), (5, 3), (4, 4), (65_530, 4), (4, 65_530), (2, 3), (3, 2), (40_000, 9_000)):
+            difference = (n - i + 32_768) % 65_536 - 32_768
+            for sign, is_so in (('<', difference < 0), ('<=', difference <= 0), ('>', difference > 0),
+                                ('>=', difference >= 0), ('> -1 +', difference > -1), ('< 2 +', difference < 2)):
+                self.check('n = %d; i = %d; if ((int16_t)(n - i) %s 0) { print 1; } else { print 2; }' % (n, i, sign),
+                           [1 if is_so else 2])
+        for lines, wanted in (('n = 65535; if ((short)n < m) { print 1; }', [1]),
+                              ('n = 65535; if (m > (int16_t)n) { print 1; }', [1]),
+                              ('n = 65535; if ((int16_t)n < (int16_t)m) { print 1; }', [1]),
+                              ('if ((int)(n - m) < -2) { print 1; }', [1]),
+                              ('if ((int16_t)(n - m) == -3) { print 1; }', [1]),
+                              ('if ((int)m > n) { print 1; }', [1])):
+            self.check(lines, wanted)
+
+    def test_what_is_lost_is_said(self) -> None:
+        for lines, wanted in (('n = 0x1ff; i = 0x10; j = (int8_t)(n + i);', 'the cast to `int8_t` is left out'),
+                              ('n = 0x1ff; i = 0x10; j = (long)n * i;', 'the cast to `long` is left out'),
+                              ('n = (int16_t)(m - i) / 2;', 'a value that is below 0 in C is above 32,767 here'),
+                              ('print((int)(n - m));', 'a value that is below 0 in C is above 32,767 here'),
+                              ('n = (float)m / 2;', 'Numbers are whole')):
+            self.says(lines, wanted, True)
+        self.assertNotIn('sign', of_lines('print((int)n);').hint)
+
+
+class Addresses(OfC):
+    """The bytes of an address: mote 0 runs the program, and no packet arrives."""
+    def test_a_test_of_the_mote(self) -> None:
+        for name, word in ('linkaddr_node_addr.', 'self'), ('rimeaddr_node_addr.', 'self'), ('from->', 'from'):
+            for lines, ours in (('if (%su8[0] == 1 && %su8[1] == 0) { print 1; }', 'if (%s == 1) { print 1; }'),
+                                ('if (%su8[0] == 1 &&\n %su8[1] == 0) { print 1; }', 'if (%s == 1) { print 1; }'),
+                                ('if (%su8[1] == 0 && %su8[0] == 0) { print 1; }', 'if (%s == 0) { print 1; }'),
+                                ('if (%su8[0] != 1 || 0 != %su8[1]) { print 1; }', 'if (%s != 1) { print 1; }'),
+                                ('n = %su8[0] + %su8[1] * 256;', 'n = (%s + (0 * 256));')):
+                with self.subTest(lines):
+                    self.assertEqual(words(followed(PROGRAM % (lines % (name, name)))), words(PROGRAM % (ours % word)))
+        self.check('if (linkaddr_node_addr.u8[0] == 0 && linkaddr_node_addr.u8[1] == 0) { print 1; } '
+                   'else { print 2; }', [1])
+
+    def test_another_byte_is_said(self) -> None:
+        self.says('n = 0x10; i = from->u8[1];', '0 replaces the other bytes', True)
+        self.says('n = linkaddr_node_addr.u8[n];', 'An address is one number')
+
+
+if __name__ == '__main__':
+    unittest.main()
