@@ -11,6 +11,7 @@ from here import TOP
 from motesim.analysis.estimates import mean_by_t
 from motesim.explain.hints import WISHES
 from motesim.experiments.one_run import warned
+from motesim.explain import resonance
 from motesim.explain.lint import SAME_DRAWS, warnings
 from motesim.explain.resonance import RARE, Together, all_at_once, at_least, hit, kinds_of, resonances
 from motesim.from_c.expressions import NO_CHANCE
@@ -158,6 +159,25 @@ class Resonances(unittest.TestCase):
             values = [900 if n % every else n for n in range(1, 120)]
             found = next(resonances(Scenario.parse(SCENARIO % every), report(values, every)))
             self.assertIsNone(hit(values, found.better or 0, kinds_of(values), RARE))
+
+    def test_the_page_has_the_numbers_of_the_criteria(self) -> None:
+        text = ' '.join((TOP / 'docs/use/EXPERIMENTS.md').read_text().split())
+        self.assertEqual((resonance.REPEATED, resonance.FREQUENT, resonance.LEAST_PACKETS, resonance.RARE,
+                          resonance.MORE, resonance.LEAST_TOGETHER), (3, 1 / 8, 5, 0.001, 1.8, 2))
+        for words in ('A value that the mote sends at least 3 times is a kind', 'at least an eighth of the packets',
+                      'A kind counts if it has at least 5 packets', 'the sender sends at least 10 packets in the run',
+                      'with a probability below 0.001 / m', 'at least 1.8 times as many packets of the kind',
+                      'k is at least 2, and', 'k is at least 5, and at least 1.8 times the expected number n * p'):
+            self.assertIn(words, text)
+
+    def test_the_page_says_from_where_on_a_loss_is_in_step(self) -> None:
+        # (9 of the 20 packets of a kind are lost at every = 4, then 8 of them)
+        kinds = {tuple(range(3, 40, 4))[:9] + tuple(range(0, 40, 4))[:10] + (1,): 'packets'}
+        values = list(range(40))
+        self.assertIsNotNone(resonance.hit(values, 4, kinds, 1.0))
+        fewer = {tuple(range(3, 40, 4))[:8] + tuple(range(0, 40, 4))[:10] + (1, 2): 'packets'}
+        self.assertIsNone(resonance.hit(values, 4, fewer, 1.0))
+        self.assertIsNone(resonance.hit(values[:9], 4, kinds, 1.0))
 
     def test_the_more_is_looked_at_the_rarer_it_must_be(self) -> None:
         # (all of 6 packets are among the 10 lost ones of 30 with a probability of 1 in 2,800, and there are 2 kinds)
