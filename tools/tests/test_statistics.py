@@ -805,6 +805,26 @@ class Command(unittest.TestCase):
             self.plot(*words, *more, '-o', 'a.svg', '--y-limits', '100:500')
             self.assertIn('>%s<' % top, (self.folder / 'a.svg').read_text())
 
+    def test_marks_at_the_ends_of_an_axis_are_whole(self) -> None:
+        interpreter_with(self, 'matplotlib')
+        text = 'period,seed,share,fault,parameters\n' + ''.join(
+            '%d,%d,%s,,period seed\n' % (period, seed, share) for period, share in enumerate((0, 0.5, 1, 1.5), 1)
+            for seed in (1, 2))
+        (self.folder / 'net.csv').write_text(text)
+        words = '--measure', 'share', '--against', 'period', '-o', 'a.svg', '--y-limits'
+        marks: dict[tuple[str, ...], list[int]] = {}
+        for more in (), ('--show', 'mean'), ('--show', 'points'):
+            for limits in '0:1', '0:2':
+                self.plot(*words, limits, *more)
+                picture = (self.folder / 'a.svg').read_text()
+                # (a band of quartiles has no strokes)
+                mark = r'<use [^>]*style="fill: #0072b2[^"]*; stroke: #0072b2'
+                self.assertIsNone(re.search(r'<g clip-path="[^"]*">\s*' + mark, picture), (more, limits))
+                marks.setdefault(more, []).append(len(re.findall(mark, picture)))
+        # (marks beyond the ends aren't drawn)
+        self.assertEqual(marks[()], [3, 4])
+        self.assertEqual(marks['--show', 'points'], [6, 8])
+
     def test_a_logarithmic_axis_upwards(self) -> None:
         words = '--measure', 'ratio', '--against', 'period', '--by', 'density', '--log-y'
         rows = self.plot(*words, '--show', 'mean', '--threshold', '0.6')

@@ -35,6 +35,9 @@ OF_AXES, MOST_MARKS = 0.85, 60
 OF_HEIGHT = 0.6
 # The thickness, in points, of the bar for the interval of a crossing: with one curve, and with several.
 THICK, THIN = 5, 3
+# The place of lines in the order of drawing: above the two axes, which matplotlib draws at 2.5. And the part of an axis
+# that is so near to its end that the axes would cut marks there.
+ABOVE_AXES, NEAR_END = 3, 0.03
 # The angle of labels that don't fit next to each other.
 ANGLE = 30
 # The texts of the legend about a threshold. They follow the texts of the curves.
@@ -96,6 +99,26 @@ def _limit(axes: Any, wish: Wish) -> None:
         axes.set_yticks(ticks, [number_text(it, 6) for it in ticks])
     if limits:
         axes.set_ylim(limits)
+
+
+def _draw_whole(axes: Any) -> None:
+    """Draws marks near an end of an axis whole, and above the axis: it would cut off or hide their outer part. Marks
+    beyond the ends still aren't drawn."""
+    for line in [it for it in axes.lines if it.get_marker() not in (None, '', 'None')]:
+        places = list(zip(line.get_xdata(), line.get_ydata()))
+        # (the places in the axes, of which 0 and 1 are the ends)
+        parts = axes.transAxes.inverted().transform(axes.transData.transform(places)) if places else []
+        inside = [place for place, part in zip(places, parts) if all(0 <= round(it, 9) <= 1 for it in part)]
+        if not any(it <= NEAR_END or it >= 1 - NEAR_END for part in parts for it in part):
+            continue
+        line.set_zorder(ABOVE_AXES)
+        if len(inside) == sum(not math.isnan(x + y) for x, y in places):
+            line.set_clip_on(False)
+        elif inside:
+            axes.plot(*zip(*inside), linestyle='', clip_on=False, color=line.get_color(), marker=line.get_marker(),
+                      markersize=line.get_markersize(), alpha=line.get_alpha(), transform=line.get_transform(),
+                      zorder=ABOVE_AXES)
+            line.set_marker('')
 
 
 def _figure(pyplot: Any, wish: Wish) -> tuple[Any, Any]:
@@ -385,6 +408,7 @@ def _draw_curves(axes: Any, shown: Shown, wish: Wish) -> None:
     axes.grid(True, color='#dddddd', linewidth=0.6)
     axes.spines[['top', 'right']].set_visible(False)
     _legend(axes)
+    _draw_whole(axes)
 
 
 def _name_axes(axes: Any, across: str, up: str) -> None:
@@ -482,5 +506,6 @@ def draw_differences(found: Sequence[Difference], wish: Wish, words: str, notes:
                             _place_of_notes(path, False))
     axes.grid(True, color='#dddddd', linewidth=0.6)
     axes.spines[['top', 'right']].set_visible(False)
+    _draw_whole(axes)
     _save(figure, pyplot, path)
     return has_room
