@@ -382,6 +382,10 @@ class Warnings(unittest.TestCase):
             (CODE % 'set t 1; while (seq >= 0) { pause; }', 5, 'no number is below 0, so this test is always true'),
             (CODE % 'set t 1; if (0 <= seq) { pause; }', 5, 'this test is always true'),
             (CODE % 'set t 1; if (seq < 0) { pause; }', 5, 'this test is never true'),
+            (CODE % 'set t 1; if ((self == 1) && (self == 0)) { pause; }', 5,
+             '`self` can\'t be 1 and 0 at once, so this test is never true'),
+            (CODE % 'set t 1; if ((seq != 1) || (seq != 2)) { pause; }', 5,
+             '`seq` can\'t be 1 and 2 at once, so this test is always true'),
             (CODE % 'yield_until fired(t); set t 4;', 5, '`t` is set only after this wait for it'),
             (CODE % 'while 1 { yield_until fired(t); print 1; reset t; }', 5, '`t` is set only after this wait'),
         ]:
@@ -395,6 +399,11 @@ class Warnings(unittest.TestCase):
         for comment, count in ('limit = 0', 0), ('a = 10, limit = 0, seed = 1', 0), ('limit = 10', 1), ('a = 0.5', 1):
             found = warnings(Scenario.parse(scenario(program=branch, x=5)), text='# Parameters: %s\n' % comment)
             self.assertEqual(len(found), count, comment)
+
+    def test_a_test_of_two_values_that_may_be_true_or_false(self) -> None:
+        for test in ('((seq == 1) || (seq == 2))', '((seq != 1) && (seq != 2))', '((seq == 1) && (seen == 2))',
+                     '((seq == 1) && (seq == 1))', '((seq == 1) && (seq != 2))', '((1 == 1) && (seq == 2))'):
+            self.assertEqual(self.seen(CODE % ('set t 1; if %s { pause; }' % test)), [], test)
 
     def test_a_timer_that_something_else_may_set(self) -> None:
         for body in ('set t 4; yield_until fired(t); set t 4;', 'yield_until (fired(t) || (seq > 3)); set t 4;',

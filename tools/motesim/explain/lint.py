@@ -54,6 +54,11 @@ WAIT_FOR_BOTH = ('it waits for the timer `%s`, too, and a packet must not end th
                  'statements for a packet instead of the dots')
 NATURAL = 'no number is below 0, so this test is %s true: values are 0 to 65,535, and 0 - 1 is 65,535'
 COUNT_DOWN = '; write `while (x > 0)` to count down'
+OF_TWO_VALUES = '`%s` can\'t be %s and %s at once, so this test is %s true'
+# The words of a test of one value by two numbers, such as `((x == 1) && (x == 2))`; and the results of such tests if
+# the numbers differ.
+TWO_VALUES = re.compile(r'\( \( ([a-z]\w*) (==|!=) ([0-9]+) \) (&&|\|\|) \( \1 \2 ([0-9]+) \) \)')
+RESULTS = {'==&&': 'never', '!=||': 'always'}
 NOBODY_SENDS = 'the program waits for packets, but no program of a mote sends one by `send`'
 OF_BROADCAST = ('; this `broadcast` posts an event to the processes of its own mote, and `send %s;` sends a packet by '
                 'radio')
@@ -206,6 +211,13 @@ class Program:
                 advice = COUNT_DOWN if self.statement_of(at) == 'while' else ''
                 yield NATURAL % ('always' if sign in ('>=', '<=') else 'never') + advice, self.tokens[at]
 
+    def tests_of_two_values(self) -> Iterator[tuple[str, Token]]:
+        """Each test whether a value equals two different numbers, or differs from one of them, with the warning."""
+        for at in range(len(self.words)):
+            found = TWO_VALUES.fullmatch(' '.join(self.words[at:at + 13]))
+            if found and found[3] != found[5] and found[2] + found[4] in RESULTS:
+                yield OF_TWO_VALUES % (*found.group(1, 3, 5), RESULTS[found[2] + found[4]]), self.tokens[at + 6]
+
     def statement_of(self, at: int) -> str:
         """The first word of the statement that a place is in."""
         return self.words[next((it for it in range(at, 0, -1) if self.words[it - 1] in ('{', '}', ';')), 0)]
@@ -332,7 +344,7 @@ def of_program(program: Program, is_zero_given: bool) -> Iterator[Warned]:
         yield Warned(OF_CTIMER % (token.text, token.text), name, token)
     for text, token in () if is_zero_given else program.tests_of_sign():
         yield Warned(text, name, token)
-    for text, token in program.endless_waits():
+    for text, token in (*program.tests_of_two_values(), *program.endless_waits()):
         yield Warned(text, name, token)
     for token in program.waits_before_set():
         yield Warned(BEHIND % token.text, name, token)
