@@ -595,6 +595,41 @@ class Searches(unittest.TestCase):
                     _, found, _ = minimal_sets(folder, '--expect', sentence, '--faults', 'deaths', '--moments', moment)
                     self.assertEqual((found['holds'], found['notes']), ([sentence], []))
 
+    def test_expectations_on_shares_of_copies_are_checked_for_motes_that_halt(self) -> None:
+        # (these motes fail by halting; the first sentence has other lines of such a mote after its failure)
+        changed = DIAMOND.replace('  etimer t;\n', '  etimer t;\n  ctimer c { print 9; }\n')
+        shares = ['at least 90 % of copies arrive', 'no copy is lost', 'at least 90 % of the motes send']
+        halts = "mote 3 writes 'halt' or 'send' at most once"
+        with folder_with(changed, sentences=[*shares, halts]) as folder:
+            sets, found, _ = minimal_sets(folder, '--faults', 'links,deaths', '--moments', '5,90')
+            self.assertEqual(found['covered']['1']['run'], 16)
+            fails = {frozenset(('mote %d fails at 5' % mote,)) for mote in range(1, 4)}
+            self.assertLessEqual(fails, sets[shares[0]])
+            self.assertFalse(any('fails' in ''.join(it) for it in sets[shares[1]]))
+            self.assertLessEqual(fails, sets[shares[2]])
+            self.assertEqual([it.rpartition(': ')[2] for it in found['notes']], [halts])
+
+    def test_a_mote_that_halted_before_it_fails_has_no_other_halt(self) -> None:
+        # (mote 1 halts by itself at moment 30)
+        wait = 'while 1 {\n      yield_until is(packet);'
+        changed = DIAMOND.replace(wait, 'if (self == 1) { set t 30; yield_until fired(t); while 1 { } }\n    ' + wait)
+        changed = changed.replace('  etimer t;\n', '  etimer t;\n  ctimer c { print 9; }\n')
+        with folder_with(changed, sentences=['mote 1 halts exactly once']) as folder:
+            sets, found, said = minimal_sets(folder, '--faults', 'deaths', '--moments', '30,31')
+            self.assertEqual((sets, found['notes'], found['covered']['1']['run']), ({}, [], 8), said)
+
+    def test_moments_after_the_end_are_refused(self) -> None:
+        with folder_with() as folder:
+            for kind in 'deaths', 'late':
+                status, said, seen = search(folder, '--faults', kind, '--moments', '100,101')
+                self.assertEqual((status, said), (2, ''))
+                self.assertIn('diamond.toml ends at moment 100, so no mote can fail or start at moment 101', seen)
+                status, said, _ = search(folder, '--faults', kind, '--moments', '100')
+                self.assertIn('all 4 single faults: 4 run', said)
+        with folder_with(DIAMOND.replace('end = 100', 'end = 0'), ['mote 0 never sends']) as folder:
+            status, said, _ = search(folder, '--faults', 'deaths')
+            self.assertIn('there is no fault of the kind deaths in this scenario', said)
+
     def test_copies_that_are_not_lost_alone_are_counted(self) -> None:
         # (mote 0 sends two packets, of which only the second can be lost alone; the others send one packet)
         program = PROGRAM.replace('send 7', 'send 7; send 7')

@@ -217,9 +217,13 @@ def _motes(base: Base, asked: Asked) -> Iterator[FaultyPart]:
 
 
 def moments_of(base: Base, asked: Asked) -> tuple[int, ...]:
-    """The moments at which motes fail or start late."""
+    """The moments at which motes fail or start late, up to the end of the scenario."""
     end = base.scenario_itself.end
-    return asked.moments or tuple(sorted({max(1, end * quarter // 4) for quarter in (1, 2, 3)}))
+    if max(asked.moments, default=0) > end:
+        raise Fault('%s ends at moment %d, so no mote can fail or start at moment %d: choose moments up to the end'
+                    % (base.name, end, max(asked.moments)))
+    usual = sorted({max(1, end * quarter // 4) for quarter in (1, 2, 3)})
+    return asked.moments or tuple(it for it in usual if it <= end)
 
 
 def _deaths(base: Base, asked: Asked) -> Iterator[FaultyPart]:
@@ -318,5 +322,7 @@ def change_of(faults: Sequence[FaultyPart], base: Base) -> Change:
             motes = [int(fault.effect[at]) for at in MOTES_OF.get(str(fault.effect[0]), ())]
             if max(motes, default=0) >= made.scenario_itself.motes:
                 raise CannotChange('there is no mote %d with these parameters' % max(motes))
+            if fault.effect[0] in ('fails', 'late') and int(fault.effect[2]) > made.scenario_itself.end:
+                raise CannotChange('with these parameters the scenario ends before moment %s' % fault.effect[2])
             fault.put_into(change, made)
     return change

@@ -15,6 +15,7 @@ from motesim.faults import Fault
 from motesim.search.added import DIES, LATE, NoRoom, added_name, halts
 from motesim.search.change import Base, CannotChange, Change
 from motesim.search.faults import FaultyPart
+from motesim.search.halting import HaltLines
 from motesim.search.one_program import OneProgram
 from motesim.search.quick_judge import QuickJudge
 from motesim.search.sets import Set
@@ -75,15 +76,6 @@ def difference(base: Base, plain: Plain, program: OneProgram, mote: int, kind: s
     return 'the process that is added changes the run: %s for %s' % (one.decode(), other.decode()), b''
 
 
-def with_halt(report: bytes, mote: int, moment: int) -> bytes:
-    """The report with a line `halt` of a mote, after its lines up to this moment."""
-    rows = report.split(b'\n')
-    head = next(at for at, row in enumerate(rows) if row.startswith(b'mote %d ' % mote))
-    after = next(at for at in range(head + 1, len(rows))
-                 if not rows[at][:1].isdigit() or int(rows[at].split(b' ', 1)[0]) > moment)
-    return b'\n'.join([*rows[:after], b'%d halt' % moment, *rows[after:]])
-
-
 class Prepared(NamedTuple):
     """The faults for the search; those that can't be made, with the reasons; and those that hide some expectations.
 
@@ -109,6 +101,8 @@ def prepare(base: Base, plain: Plain, program: OneProgram, sentences: list[Sente
             faults: list[FaultyPart]) -> Prepared:
     """Leaves out the faults that can't be made, and notes the reasons."""
     judge, seen = QuickJudge(sentences), dict[tuple[int, str], tuple[str, int]]()
+    halt_lines = HaltLines(base.scenario_itself, plain.report,
+                           {number: it for number, it in enumerate(sentences) if number not in plain.broken})
     kept: list[FaultyPart] = []
     left_out, blind = dict[tuple[int, str], list[str]](), dict[int, int]()
     for fault in faults:
@@ -122,7 +116,8 @@ def prepare(base: Base, plain: Plain, program: OneProgram, sentences: list[Sente
                 kinds = left_out.setdefault((mote, why), [])
                 kinds += [INTO[kind]] if INTO[kind] not in kinds else []
                 continue
-            mask |= _hidden_by_halt(base, plain, judge, mote, int(fault.effect[2])) if kind == DIES else 0
+            if kind == DIES and halts(base.tables['programs'][base.scenario_itself.places[mote].program]):
+                mask |= mask_of(halt_lines.hidden(mote, int(fault.effect[2])))
             if mask:
                 blind[len(kept)] = mask
         kept.append(fault)
@@ -147,12 +142,3 @@ def _tried(base: Base, plain: Plain, program: OneProgram, judge: QuickJudge, mot
         return why, 0
     broken = set(judge.broken(report, base.scenario_itself)) - set(plain.broken)
     return '', mask_of(sorted(broken))
-
-
-def _hidden_by_halt(base: Base, plain: Plain, judge: QuickJudge, mote: int, moment: int) -> int:
-    """The expectations that a mote which fails by halting breaks by its line `halt` only."""
-    itself = base.scenario_itself
-    if moment > itself.end or not halts(base.tables['programs'][itself.places[mote].program]):
-        return 0
-    broken = set(judge.broken(with_halt(plain.report, mote, moment), itself)) - set(plain.broken)
-    return mask_of(sorted(broken))
