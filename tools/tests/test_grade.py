@@ -638,6 +638,15 @@ class LimitsOfRuns(Folder):
             'anna.toml': '3 of 3', 'long.toml': '0 of 3  the run was ended: the report is longer than 1,048,576 bytes',
             'burn.toml': '0 of 3  the run was ended: no answer in 2 seconds of processor time'})
 
+    def test_a_loop_that_pauses_is_named(self) -> None:
+        need_program(self)
+        self.stub = program_path()
+        program = 'process a;\nautostart a;\ncode a {\n  etimer t;\n  body {\n    while 1 {\n      set t 9;\n'
+        self.hand_in('slow.toml', net(program + 'while !expired(t) { pause; }\n} } }\n').replace('60', '20000'))
+        row = self.rows('--report', '1')['slow.toml']
+        self.assertIn('the report is longer than 1,048,576 bytes. Up to moment', row)
+        self.assertIn('(line 8 of program task): a loop that only pauses', row)
+
     def test_a_run_that_waits_for_a_busy_machine_has_no_mark(self) -> None:
         self.hand_in('wait.toml', net('// wait\n' + PROGRAM % 3))
         why = ('not marked, run it again: no answer in 5 seconds, though the program had used less processor time than '

@@ -492,6 +492,15 @@ class Warnings(unittest.TestCase):
                      'while (seq < 3) { post a msg 1 into seq; }', 'set t 1; while !expired(t) { stop t; set t 0; }'):
             self.assertEqual([it for it in self.seen(CODE % body) if 'waits for nothing' in it], [], body)
 
+    def test_a_loop_that_only_pauses(self) -> None:
+        for body, wanted in (('set t 4; while !expired(t) { pause; }', '`wait_while` and the same test'),
+                             ('while !is(packet) { pause; }', '`yield_until` and the opposite test'),
+                             ('set t 4; while !expired(t) { seq = (seq + 1); pause; }', ''),
+                             ('while (seq < 3) { pause; }', ''), ('while 1 { pause; }', '')):
+            seen = [it for it in self.seen(CODE % body) if 'only pauses' in it]
+            self.assertEqual(len(seen), 1 if wanted else 0, body)
+            self.assertIn(wanted, ''.join(seen))
+
     def test_the_examples_have_none(self) -> None:
         for path in sorted((TOP / 'examples').glob('*.toml')):
             if path.name.endswith('.expect.toml') or path.name in ('wrong.toml', 'runaway.toml', 'processes.toml'):

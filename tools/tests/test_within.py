@@ -1,4 +1,4 @@
-"""Runs of tools/explain and tools/expect that reach a limit: the message names the process that prints most."""
+"""Runs of tools/explain and tools/expect that reach a limit: the message names the process that prints, pauses or posts most."""
 import os
 import subprocess
 import sys
@@ -7,6 +7,8 @@ import unittest
 from pathlib import Path
 
 from here import TOOLS
+from motesim.explain.within import answer_within, busiest
+from motesim.runner import Limits, ProgramFault
 from skips import need_program
 
 PROGRAM = """process loud;
@@ -22,6 +24,24 @@ code loud {
       }
       pause;
     }
+  }
+}
+"""
+# (line 6 of the program, which is line 15 of the scenario)
+PAUSES = """process idle;
+autostart idle;
+code idle {
+  etimer t;
+  body {
+    while 1 { set t 9; while !expired(t) { pause; } }
+  }
+}
+"""
+POSTS = """process echo;
+autostart echo;
+code echo {
+  body {
+    while 1 { post echo msg 1; yield; }
   }
 }
 """
@@ -68,6 +88,21 @@ class Endless(unittest.TestCase):
     def test_the_message_names_the_mote_that_sends(self) -> None:
         self.assertRegex(self.said('explain', 'send', '--seconds', '0.3'),
                          r'Up to moment \d+, mote 0 sends [\d,]+ packets: .* A larger --seconds raises the limit\n$')
+
+    def test_the_message_names_the_process_that_pauses(self) -> None:
+        text = (NET % PAUSES).replace('1000000', '20000')
+        with self.assertRaises(ProgramFault) as caught:
+            answer_within('net.toml', text.encode(), Limits(60, 1 << 30, 1 << 20))
+        self.assertRegex(str(caught.exception), (
+            r'^net\.toml: the run was ended: the report is longer than 1,048,576 bytes\. Up to moment \d+, process idle '
+            r'of mote 0 pauses [\d,]+ times \(line 15\): a loop that only pauses repeats many times in each moment, so '
+            r'let it wait, such as by `yield_until`\. A larger --report raises the limit$'))
+
+    def test_the_message_names_the_process_to_which_events_are_posted(self) -> None:
+        data = (NET % POSTS).encode()
+        self.assertRegex(busiest(data), r'^ Up to moment \d+, mote 0 posts [\d,]+ events to process echo: does a loop')
+        self.assertRegex(busiest((NET % PAUSES).encode(), False), r'\(line 6 of program p\)')
+        self.assertEqual(busiest((NET % POSTS.replace('while 1', 'if 1')).replace('1000000', '100').encode()), '')
 
     def test_limits_are_greater_than_0(self) -> None:
         self.assertEqual(self.said('explain', 'print', '--memory', '0'), 'explain: limits are greater than 0\n')

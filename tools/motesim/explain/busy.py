@@ -11,6 +11,10 @@ BUSY = ('a loop that waits for nothing: its test can\'t change before the next c
         'loop repeats until the mote\'s work is used up, and then the mote halts; ')
 FOR_STATE = BUSY + '`wait_while` and the same test, without a block, lets the mote wait'
 FOR_EVENT = BUSY + '`yield_until` and the opposite test, without a block, waits for the next call first'
+# (without the values that may change without an event)
+AWAITED = frozenset(('expired', 'running', 'count', *OF_EVENT))
+PAUSED = ('a loop that only pauses: it repeats dozens of times in each moment, so the report grows quickly, and a '
+          '`pause` resumes only at its own event, so the process doesn\'t notice other events, such as a packet; %s')
 ENDLESS = ('a loop that never ends once its test is true: nothing changes `%s`. The loop repeats until the mote\'s '
            'work is used up, and then the mote halts; %s at the end of its block')
 CONSTANT = ('a loop whose test never changes: once the test is true, the loop repeats until the mote\'s work is used '
@@ -26,6 +30,16 @@ def warning(test: Sequence[str], code: Sequence[str]) -> str:
         return FOR_STATE
     counted = next((it for it in test if it in variables), '')
     return ENDLESS % (counted, _step(counted, test)) if counted else CONSTANT
+
+
+def paused(words: Sequence[str], at: int) -> str:
+    """The warning about the `while` at a place if its block has only a `pause`, although an event ends it; otherwise an
+    empty text."""
+    begin = words.index('{', at)
+    test = AWAITED.intersection(words[at + 1:begin])
+    if not test or list(words[begin + 1:begin + 4]) != ['pause', ';', '}']:
+        return ''
+    return PAUSED % (FOR_EVENT if test & set(OF_EVENT) else FOR_STATE).removeprefix(BUSY)
 
 
 def _step(name: str, test: Sequence[str]) -> str:

@@ -154,6 +154,13 @@ class Program:
                 test = self.words[at + 1:self.words.index('{', at)]
                 yield busy.warning(test, self.code_around(at)), self.tokens[at]
 
+    def paused_loops(self) -> Iterator[tuple[str, Token]]:
+        """Each `while` whose block has only a `pause`, although an event ends it, with the warning."""
+        for at, word in enumerate(self.words):
+            text = busy.paused(self.words, at) if word == 'while' else ''
+            if text:
+                yield text, self.tokens[at]
+
     def waiting_branches(self) -> Iterator[tuple[str, Token]]:
         """Each `while` that waits in one branch of an `if`, and in the other one repeats without a wait."""
         for at, word in enumerate(self.words):
@@ -340,6 +347,8 @@ def of_program(program: Program, is_zero_given: bool) -> Iterator[Warned]:
     yield from of_receiver(program)
     for text, token in program.endless_loops():
         yield Warned(text, name, token, cause='loop', instead=LATER if token.text == AT_ONCE else '')
+    for text, token in program.paused_loops():
+        yield Warned(text, name, token)
     for token in program.awaited_ctimers():
         yield Warned(OF_CTIMER % (token.text, token.text), name, token)
     for text, token in () if is_zero_given else program.tests_of_sign():

@@ -1,10 +1,12 @@
-"""Runs a scenario within limits. If the run reaches one, the message names the process that writes most lines."""
+"""Runs a scenario within limits. If the run reaches one, the message names the process that writes most lines: those
+of `print` and `send`, otherwise those of `pause` and other events."""
 from __future__ import annotations
 
 import argparse
 import re
 from collections import Counter
 from collections.abc import Callable
+from typing import NamedTuple
 
 from motesim.explain.explanation import place_of_token
 from motesim.explain.lint import Program
@@ -13,6 +15,7 @@ from motesim.report import Report
 from motesim.runner import LimitMet, Limits, ProgramFault, Runner
 from motesim.runner.cache import Answer
 from motesim.scenario import Scenario
+from motesim.terminal import one_line
 
 MEGABYTE = 1 << 20
 # A run also ends if its time on the clock reaches this many times its limit of processor time.
@@ -24,7 +27,18 @@ ENDS = (0, *(4 ** it for it in range(10)))
 END = re.compile(rb'^([ \t]*end[ \t]*=[ \t]*)([0-9_]+)', re.M)
 # The number of lines of a process in each moment from which a loop without end is likely.
 MANY = 20
-DOES = {'print': 'process %s of mote %d prints {:,} times', 'send': 'mote %d sends {:,} packets'}
+DOES = {'print': 'process {0.process} of mote {0.mote} prints {1:,} times', 'send': 'mote {0.mote} sends {1:,} packets',
+        'pause': 'process {0.process} of mote {0.mote} pauses {1:,} times',
+        'post': 'mote {0.mote} posts {1:,} events to process {0.process}'}
+IS_ENDLESS = ': does a loop repeat without end?'
+PAUSES = ': a loop that only pauses repeats many times in each moment, so let it wait, such as by `yield_until`.'
+
+
+class Does(NamedTuple):
+    """The deed of a process or a mote that is counted."""
+    kind: str
+    process: str
+    mote: int
 
 
 def runs_within(name: str, asked: argparse.Namespace) -> Callable[[bytes], Answer]:
@@ -44,8 +58,12 @@ def answer_within(name: str, data: bytes, limits: Limits) -> Answer:
             name, met, busiest(data), OPTIONS[met.limit])) from None
 
 
-def busiest(data: bytes) -> str:
-    """A sentence about the process that prints most, or the mote that sends most, in a run that ends earlier."""
+def busiest(data: bytes, file_lines: bool = True) -> str:
+    """A sentence about the process that prints or pauses most, or the mote that sends or posts most, in a run that ends
+    earlier; an empty text if none does so often.
+
+    file_lines  whether the sentence has lines of the scenario; otherwise it has lines of the program's text
+    """
     written, found = END.search(data), None
     if written is None:
         return ''
@@ -59,21 +77,33 @@ def busiest(data: bytes) -> str:
         found = end, Report.parse(got.report)
     if found is None:
         return ''
-    counts = Counter((it.kind, it.process, it.mote) for it in found[1].lines('print', 'send'))
-    (kind, process, mote), count = counts.most_common(1)[0] if counts else (('print', '', 0), 0)
+    its, count = most_of(found[1])
     if count < MANY * (found[0] + 1):
         return ''
-    does = (DOES[kind] % ((process, mote) if kind == 'print' else (mote,))).format(count)
-    its = lines_of(data, process, mote) if kind == 'print' else ''
-    return ' Up to moment %d, %s%s: does a loop repeat without end?' % (found[0], does, its)
+    where = lines_of(data, its, file_lines) if its.kind in ('print', 'pause') else ''
+    return ' Up to moment %d, %s%s%s' % (found[0], DOES[its.kind].format(its, count), where,
+                                         PAUSES if its.kind == 'pause' else IS_ENDLESS)
 
 
-def lines_of(data: bytes, process: str | None, mote: int) -> str:
-    """The lines of a scenario in which a process of a mote prints."""
+def most_of(report: Report) -> tuple[Does, int]:
+    """The most frequent deed of a process or a mote, and its number: prints and packets have precedence, because a loop
+    that pauses after each print posts as many events as it prints."""
+    counts = Counter(Does(it.kind, it.process or '', it.mote) for it in report.lines('print', 'send'))
+    posts = Counter(Does('pause' if it.event == 'continue' else 'post', it.process or '', it.mote)
+                    for it in report.lines('post'))
+    first, second = (it.most_common(1) or [(Does('print', '', 0), 0)] for it in (counts, posts))
+    return first[0] if 2 * first[0][1] >= second[0][1] else second[0]
+
+
+def lines_of(data: bytes, its: Does, file_lines: bool) -> str:
+    """The lines in which a process of a mote prints or pauses: of a scenario, or of the text of its program."""
     scenario = Scenario.parse(data)
-    name = scenario.places[mote].program
-    its = Program(name, scenario.programs[name])
-    begin = next(at for at, it in enumerate(its.words) if its.words[at:at + 2] == ['code', process])
-    tokens = [its.tokens[at] for at in range(begin, its.end_of_block(begin + 2)) if its.words[at] == 'print']
+    name = scenario.places[its.mote].program
+    program = Program(name, scenario.programs[name])
+    begin = next(at for at, it in enumerate(program.words) if program.words[at:at + 2] == ['code', its.process])
+    tokens = [program.tokens[at] for at in range(begin, program.end_of_block(begin + 2))
+              if program.words[at] == its.kind]
+    if not file_lines:
+        return ' (%s of program %s)' % (', '.join('line %d' % it.line for it in tokens), one_line(name))
     places = [place_of_token(data.decode('utf-8'), name, it) for it in tokens]
     return ' (%s)' % ', '.join('line %d' % it.line for it in places if it) if all(places) else ''

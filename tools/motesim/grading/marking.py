@@ -9,6 +9,7 @@ from typing import NamedTuple
 
 from motesim.explain.explanation import explanation, of_program, of_program_file, tables_or_none
 from motesim.explain.lint import Program, of_start
+from motesim.explain.within import busiest
 from motesim.faults import Fault
 from motesim.files import replace_whole
 from motesim.grading.entries import IN_C, Entry, data_of, without_program
@@ -21,7 +22,7 @@ from motesim.judge.sentences import lacking
 from motesim.notation.faults import find_fault as find_program_fault
 from motesim.report import Report
 from motesim.runner import LimitMet, Limits, Runner
-from motesim.runner.run import Run
+from motesim.runner.run import Answer, Run
 from motesim.scenario import Scenario
 from motesim.scenario.faults import find_fault
 from motesim.scenario.kinds import begins_as_c, begins_as_program, begins_as_scenario
@@ -43,6 +44,10 @@ LONGEST_NAME = 80
 OF_HIDDEN = 'in a hidden net'
 # The most lines of an error, and the most warnings, that are shown.
 MOST_LINES, MOST_WARNED = 40, 3
+
+
+class Ended(Fault):
+    """The run of a solution reached one of its own limits."""
 
 
 class Mark(NamedTuple):
@@ -189,9 +194,9 @@ class Task:
         except UnicodeDecodeError:
             return Marks(entry.name, why=NOT_UTF8)
         except LimitMet as fault:
-            if fault.limit == 'seconds':
-                return unmarked(entry.name, '%s, though the program had used less processor time than it may' % fault)
-            return Marks(entry.name, why='the run was ended: %s' % fault)
+            return unmarked(entry.name, '%s, though the program had used less processor time than it may' % fault)
+        except Ended as fault:
+            return Marks(entry.name, why=str(fault))
         except NoProgram as fault:
             return Marks(entry.name, why=str(fault), fix=(fault.hint,))
         except UnknownSentence as fault:
@@ -227,7 +232,7 @@ class Task:
         lacks = [lacking(it, names) for it in self.part.sentences]
         part = replace(self.part, sentences=[it for it, lack in zip(self.part.sentences, lacks) if not lack])
         sentences = read_all(part.sentences, names)
-        got = Runner(limits=self.limits).answer(text.encode())
+        got = self.answer(text.encode())
         if got.status:
             verdicts = refused(part, sentences, got)
             is_held = verdicts and all(it.holds for it in verdicts)
@@ -249,6 +254,16 @@ class Task:
         return InNet(marks, lacks, '', run, [None if lack else next(places) for lack in lacks], bytes=len(got.report),
                      halts=halt_of(report), warned=warned_of(
                          {program: scenario.programs[program]} if program else scenario.programs))
+
+    def answer(self, scenario: bytes) -> Answer:
+        """The answer of `motesim`, within the limits. The error at a limit says what the run does most often."""
+        try:
+            return Runner(limits=self.limits).answer(scenario)
+        except LimitMet as fault:
+            if fault.limit == 'seconds':
+                raise
+            does = busiest(scenario, False)
+            raise Ended('the run was ended: %s%s%s' % (fault, '.' * bool(does), does.rstrip('.'))) from None
 
     def spread(self, held: Iterator[Mark], lacks: list[str]) -> list[Mark]:
         """A mark for each sentence: a sentence about something that the scenario lacks doesn't hold."""

@@ -11,6 +11,7 @@ import threading
 from collections import OrderedDict
 from typing import Any, Callable, NamedTuple
 
+from motesim.explain.within import busiest
 from motesim.faults import Fault
 from motesim.notation.grammar import COLOURS, NAMING
 from motesim.report import ReportFault
@@ -153,7 +154,7 @@ class Session:
         except Superseded:
             return framed({'superseded': True}, b'')
         except LimitMet as fault:
-            return framed({'limit': str(fault)}, b'')
+            return framed({'limit': str(fault) + busiest(data)}, b'')
         except (ReportFault, ScenarioFault) as fault:
             return framed({'limit': 'This run cannot be shown: %s' % fault}, b'')
         self.keep(done, asked.get('pinned'))
