@@ -79,7 +79,7 @@ RIGHT: list[tuple[str, str, str]] = [
     (BODY, 'if ((x == 1)) {\n}', 'if (x == 1) {\n}'),
     (BODY, 'yield_until (fired(t));', 'yield_until fired(t);'),
     (BODY, 'yield_until(is(packet));', 'yield_until is(packet);'),
-    (BODY, 'linkaddr_t x;', 'x = 0;'),
+    (BODY, 'linkaddr_t i;', 'i = 0;'),
     (BODY, 'yield_until t.expired;', 'yield_until expired(t);'),
     (BODY, 'yield_until t.fired && data > 1;', 'yield_until (fired(t) && (data > 1));'),
     (BODY, 'if (other.running) { print items.count; }', 'if running(other) { print count(items); }'),

@@ -875,7 +875,8 @@ class Calls(unittest.TestCase):
         self.assertEqual(found, 'if is(packet) { print data; done = 1; }')
         self.assertNotIn('var break', hint)
         found, _, hint = self.corrected('((tries < 3) || (self == 0))', 'if is(packet) { break; }')
-        self.assertIn('write `while (((tries < 3) || (self == 0)) && (done == 0))`, and here `done = 1;`', hint)
+        self.assertIn('write `done = 0; while (((tries < 3) || (self == 0)) && (done == 0))`, and here `done = 1;`',
+                      hint)
 
 
 if __name__ == '__main__':

@@ -61,6 +61,14 @@ def edits_of(text: str, last: int, closings: Sequence[Closing]) -> tuple[Edit, .
     return tuple(_edits(text.split('\n'), pieces))
 
 
+def with_renamed(text: str, renamed: str, edits: Sequence[Edit]) -> tuple[Edit, ...]:
+    """The edits of a text in which variables are renamed, with those of all other lines that this changes."""
+    replaced = {it.first for it in edits if it.first <= it.last}
+    rows = zip(text.split('\n'), renamed.split('\n'))
+    changed = (Edit(at, at, row.strip()) for at, (old, row) in enumerate(rows, 1) if row != old and at not in replaced)
+    return tuple(sorted((*edits, *changed)))
+
+
 def repeated(text: str, last: int, closings: Sequence[Closing]) -> str:
     """The last statement of a block below a line if the block already has this statement; otherwise nothing."""
     tokens = [it for it in tokens_of(text) if it.text]

@@ -6,7 +6,7 @@ import re
 from motesim.from_c.closings import Closing
 from motesim.from_c.counting import caution, is_changed, loop_of, natural, refuse_endless
 from motesim.from_c.expressions import ONE_TOO_MANY, QUALIFIERS, TYPES, WORDS, NoCounterpart, Node
-from motesim.from_c.lines import Lines
+from motesim.from_c.own_names import OwnNames
 from motesim.from_c.places import conjuncts, ends_loop, last_statement
 from motesim.from_c.scope import allowed
 from motesim.from_c.tokens import Token, tokens_of
@@ -33,6 +33,8 @@ REST_RUNS = ('The rest of the block still runs once: write it in an `else` if it
              'that is needed after the loop.')
 # The test of a flag: it is 0 until the loop ends.
 FLAG = re.compile(r'^!|== 0\b')
+# What the advice on a `break` adds for a flag.
+OF_FLAG = (' var %s ', ' %s = 0 ; while ', ' %s = 1 ; break ')
 
 
 def ends_value(token: Token) -> bool:
@@ -45,7 +47,7 @@ def begins_statement(token: Token) -> bool:
     return token.kind in ('name', 'end') and token.text not in WORDS or token.text in (';', '{', '}', '++', '--', ':')
 
 
-class Control(Lines):
+class Control(OwnNames):
     """Reads blocks, tests and loops."""
 
     def why_with_rest(self, reason: str, rest: str) -> None:
@@ -216,10 +218,21 @@ class Control(Lines):
         loop = self.place.loop
         if not loop:
             return ''
-        test = '(done == 0)' if loop in ('1', '(1 == 1)') else '(%s && (done == 0))' % loop
-        here = 'leave `break` out' if before == 'done = 1' else 'here `done = 1;`'
-        head = '' if 'done' in self.place.variables else ', with `var done = 0;` at the head of the `code`'
-        return ' Instead of `while %s`, write `while %s`, and %s%s. %s' % (loop, test, here, head, REST_RUNS)
+        flag = self.flag()
+        test = '(%s == 0)' % flag if loop in ('1', '(1 == 1)') else '(%s && (%s == 0))' % (loop, flag)
+        here = 'leave `break` out' if before == flag + ' = 1' else 'here `%s = 1;`' % flag
+        head = '' if flag in self.place.variables else ', with `var %s = 0;` at the head of the `code`' % flag
+        return ' Instead of `while %s`, write `%s = 0; while %s`, and %s%s. %s' % (loop, flag, test, here, head,
+                                                                               REST_RUNS)
+
+    def flag(self) -> str:
+        """A name for the flag of a loop: nothing else in the program uses it. The flag itself may be there already."""
+        text, count, name, rest = ' %s ' % ' '.join(self.words_around()), 1, '', '  '
+        while ' %s ' % name in rest:
+            name, count, rest = 'done%s' % (count if count > 1 else ''), count + 1, text
+            for its in OF_FLAG:
+                rest = rest.replace(its % name, ' ')
+        return name
 
     def choice_or_loop(self, word: str) -> str:
         if word == 'while' and self.is_empty_loop():
@@ -334,10 +347,11 @@ class Control(Lines):
 
     def first_of_loop(self) -> str:
         """The first step of a `for`, which may declare its variable."""
+        name = allowed(self.token.text)
         if self.token.text in TYPES | QUALIFIERS:
             self.skip_types()
-        name = allowed(self.token.text)
-        if self.place.head and self.scope.meant(name, 'variable') not in self.place.variables:
+            name = self.own_name(self.token.text, self.at)
+        if self.place.head and not self.is_variable(self.scope.meant(name, 'variable')):
             self.declares.append('var %s = 0;' % name)
             self.scope.kinds[name] = 'variable'
         return self.assignment()

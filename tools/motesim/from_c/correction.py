@@ -5,9 +5,10 @@ A correction is shown only if it helps: with it the text has no fault, or its fi
 from __future__ import annotations
 
 from collections.abc import Iterator
+from dataclasses import replace
 from typing import NamedTuple
 
-from motesim.from_c.closings import Edit, edits_of, repeated
+from motesim.from_c.closings import Edit, edits_of, repeated, with_renamed
 from motesim.from_c.expressions import MIXED, NoCounterpart
 from motesim.from_c.heads import bare_body, end_of_body, process_block
 from motesim.from_c.scope import Scope
@@ -46,7 +47,7 @@ class Correction(NamedTuple):
         edits = [(self.first - 1, self.last, [] if self.line is None else [self.line])]
         edits += [(self.above[0], self.above[0], [self.above[1]])] if self.above else []
         edits += [(it.first - 1, it.last, [it.line]) for it in self.below]
-        for begin, end, new in sorted(edits, key=lambda it: it[0], reverse=True):
+        for begin, end, new in sorted(edits, key=lambda it: it[:2], reverse=True):
             lines[begin:end] = new
         return '\n'.join(lines)
 
@@ -97,13 +98,17 @@ def _same(one: str, other: str) -> bool:
 
 def _readings(source: str, scope: Scope, place: Surroundings, unclosed: int) -> Iterator[Statements]:
     """The ways in which lines may be read, the likeliest first. `unclosed` is the number of blocks without an end."""
+    def reader(end: str = '') -> Statements:
+        # (a name that one reading declares isn't declared in another)
+        return Statements(source, replace(scope, kinds={**scope.kinds}), place, end)
+
     ends = ('}', '') if unclosed > 0 else ('', '}')
     for end in ends if '_end' in source.lower() else ('',):
-        yield Statements(source, scope, place, end)
+        yield reader(end)
     if unclosed < 0:
-        reader = Statements(source, scope, place)
-        reader.opens = True
-        yield reader
+        opening = reader()
+        opening.opens = True
+        yield opening
 
 
 def _structural(text: str, fault: ProgramError) -> Correction | None:
@@ -185,8 +190,8 @@ def correction(text: str, fault: ProgramError) -> Correction | None:
             continue
         found: list[tuple[int, Correction]] = []
         place, rest = place_below(lines[:first - 1]), '\n'.join(lines[last:])
-        place = place._replace(rest=rest_of_loop(source, rest, place.levels),
-                               is_endless=opens_endless_do(source, rest))
+        place = place._replace(rest=rest_of_loop(source, rest, place.levels), above='\n'.join(lines[:first - 1]),
+                               below=rest, is_endless=opens_endless_do(source, rest))
         for reader in _readings(source, scope, place, unclosed):
             try:
                 written = reader.written()
@@ -195,15 +200,17 @@ def correction(text: str, fault: ProgramError) -> Correction | None:
                 if begun <= fault.token.line <= last and not (is_only_named and last > fault.token.line):
                     advice = advice or str(said)
                 continue
-            below = edits_of(text, last, reader.closings)
+            renamed = '\n'.join([*lines[:last], *([reader.below] if last < len(lines) else [])])
+            below = edits_of(renamed, last, reader.closings)
             if below is None or reader.hides_else and reader.lacks_else and tokens_of(rest)[0].text == 'else':
                 continue
             seed = seed_for(text, first, last, reader.declares)
-            twice = repeated(text, last, reader.closings)
+            twice = repeated(renamed, last, reader.closings)
             if twice:
                 reader.writer.insist(STEPS_TWICE % twice)
             reasons = reasons_with(bool(seed) or MIXED in text, reader.writer.shown())
-            made = Correction(first, last, written, reasons, below=tuple(sorted((*seed, *below))))
+            below = with_renamed(text, renamed, (*seed, *below))
+            made = Correction(first, last, written, reasons, below=below)
             for above in _insertions(text, reader):
                 made = made._replace(above=above)
                 found.append((0 if _same(source, written) else _rank(text, made), made))

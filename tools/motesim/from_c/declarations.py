@@ -7,7 +7,7 @@ from motesim.from_c.expressions import (
     BYTES, LONG, MOST, NO_ARRAYS, NO_FIELDS, QUALIFIERS, READ_ONLY, SMALL, TICKS, TOO_LARGE, TYPES, Expressions,
     NoCounterpart, number_of, value_of,
 )
-from motesim.from_c.lines import Lines
+from motesim.from_c.own_names import OTHERS, OwnNames
 from motesim.from_c.parameters import KEPT, OF_COMMENT, READ_BY_NAME, SHARED
 from motesim.from_c.scope import LONGEST, allowed
 from motesim.from_c.tokens import tokens_of
@@ -38,11 +38,16 @@ OF_BYTES = ('A variable has 16 bits and no type: its values are 0 to 65,535, wit
 OF_PARTS = ('A variable has 16 bits and no type: its values are 0 to 65,535. Count larger ones in parts, such as '
             'thousands in a second variable.')
 NO_CONSTANTS = 'There are no constants: use a variable that is never assigned'
+OF_INITIAL = 'The initial value of a variable is a number: write 0, and assign the value at the start of `body`.'
+KEPT_VALUE = ('A `static` variable keeps its value from call to call: it has its initial value from its declaration, '
+              'and no statement assigns this value again.')
+OTHER_VALUE = '%s Leave this line out, and write `var %s = %s;` at the head of the `code`.'
+WRITE_BY_NAME = '`%s` has another meaning in a program, so write `%s` in each line that means this variable, too.'
 MOST_MEMBERS = 8
 NO_PLACE = 'Variables are declared at the head of `code`, before its timers, threads and `body`: `var %s = 0;`.'
 
 
-class Declarations(Lines):
+class Declarations(OwnNames):
     """Reads declarations."""
 
     def in_order(self, found: list[str]) -> list[str]:
@@ -90,12 +95,15 @@ class Declarations(Lines):
             self.writer.insist(TICKS)
         return value
 
-    def declared(self, name: str, value: str) -> str:
-        if self.place.is_top or self.is_late('var'):
-            return self.in_code('Variables', 'var %s = %s;' % (self.new_name(name), value))
-        if not self.place.is_head:
-            return self.declared_above(name, value)
-        return 'var %s = %s;' % (self.new_name(name), value)
+    def declared(self, name: str, value: str, at: int | None = None, is_static: bool = False) -> str:
+        """A variable with its initial value. `at`: the place of the token that declares it in C."""
+        if not (self.place.is_top or self.place.is_head):
+            return self.declared_above(name, value, at, is_static)
+        found = self.new_name(name)
+        if name in OTHERS:
+            self.writer.insist(WRITE_BY_NAME % (name, found))
+        declared = 'var %s = %s;' % (found, value)
+        return self.in_code('Variables', declared) if self.place.is_top or self.is_late('var') else declared
 
     def is_late(self, word: str) -> bool:
         """Returns whether a declaration with this word is in a code below one that belongs further down."""
@@ -115,15 +123,22 @@ class Declarations(Lines):
                                *(it for it in self.writer.reasons if not it.startswith(belongs))]
         return ''
 
-    def declared_above(self, name: str, value: str) -> str:
+    def declared_above(self, name: str, value: str, at: int | None, is_static: bool) -> str:
         """A variable that is declared among statements."""
         if not self.place.head:
             raise NoCounterpart(NO_PLACE % allowed(name))
+        if is_static and not value.isdecimal():
+            raise NoCounterpart(OF_INITIAL)
         self.why('Variables are declared at the head of `code`, before its timers, threads and `body`.')
-        found = self.new_name(name)
-        if found not in self.place.variables:
-            self.declares.append('var %s = 0;' % found)
-        return '%s = %s;' % (found, value)
+        found = self.new_name(name) if at is None else self.own_name(name, at, is_static)
+        self.scope.kinds.setdefault(found, 'variable')
+        if not self.is_variable(found):
+            self.declares.append('var %s = %s;' % (found, value if is_static else '0'))
+        elif is_static and self.scope.values.get(found) != value:
+            raise NoCounterpart(OTHER_VALUE % (KEPT_VALUE, found, value))
+        if is_static:
+            self.writer.insist(KEPT_VALUE)
+        return '' if is_static else '%s = %s;' % (found, value)
 
     def declaration(self) -> str:
         words = []
@@ -144,7 +159,7 @@ class Declarations(Lines):
             return self.of_names('event', '%s')
         if words != ['var']:
             self.of_type(words)
-        return self.variables()
+        return self.variables(words)
 
     def of_type(self, words: list[str]) -> None:
         """Notes that a variable has no type, and what that means for its values."""
@@ -155,11 +170,11 @@ class Declarations(Lines):
         else:
             self.why('A variable has 16 bits and no type.')
 
-    def variables(self) -> str:
-        """Variables with their initial values."""
+    def variables(self, words: list[str]) -> str:
+        """Variables with their initial values, below the words of their type."""
         found = []
         while True:
-            name = self.token.text
+            name, at = self.token.text, None if words == ['var'] else self.at
             if self.token.kind != 'name':
                 raise NoCounterpart
             self.at += 1
@@ -170,7 +185,7 @@ class Declarations(Lines):
             else:
                 self.why('The initial value of a variable is a number.')
                 value = '0'
-            found.append(self.declared(name, value))
+            found.append(self.declared(name, value, at, 'static' in words))
             if not self.accept(','):
                 break
             self.why('Each variable has a line of its own.')
@@ -256,8 +271,7 @@ class Declarations(Lines):
         if not value.isdecimal() and not self.place.is_head and not self.place.is_top:
             return value
         if not value.isdecimal():
-            raise NoCounterpart('The initial value of a variable is a number: write 0, and assign the value at the '
-                                'start of `body`.')
+            raise NoCounterpart(OF_INITIAL)
         return value
 
     def of_struct(self, kind: str) -> str:

@@ -24,6 +24,8 @@ class Lines(Expressions):
         super().__init__([it for it in tokens_of(text) if it.kind != 'comment'], scope)
         self.comments = [it.text for it in tokens_of(text) if it.kind == 'comment']
         self.place, self.writer = place, Writer(scope)
+        # The text below these lines, with other names for variables whose scope continues there.
+        self.below = place.below
         if place.head:
             self.writer.foreign = frozenset(scope.of_kind('variable')) - place.variables
         # Two facts: a block continues below these lines; a header without its brace opens a block.

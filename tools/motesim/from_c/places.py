@@ -41,6 +41,8 @@ class Surroundings(NamedTuple):
     levels   the number of braces that close the innermost `while` around the lines
     rest     the words of this `while` below the lines
     is_endless  whether the lines open the block of a `do` that ends with `while (1)`
+    above    the text above the lines
+    below    the text below the lines
     """
     is_head: bool = False
     is_top: bool = False
@@ -56,6 +58,8 @@ class Surroundings(NamedTuple):
     levels: int = 0
     rest: tuple[str, ...] = ()
     is_endless: bool = False
+    above: str = ''
+    below: str = ''
 
 
 def place_below(above: list[str]) -> Surroundings:
