@@ -1,4 +1,5 @@
-"""Runs of tools/explain and tools/expect that reach a limit: the message names the process that prints, pauses or posts most."""
+"""Runs of tools/explain and tools/expect that reach a limit: the message names the process that prints, pauses or
+posts most."""
 import os
 import subprocess
 import sys
@@ -94,9 +95,9 @@ class Endless(unittest.TestCase):
         with self.assertRaises(ProgramFault) as caught:
             answer_within('net.toml', text.encode(), Limits(60, 1 << 30, 1 << 20))
         self.assertRegex(str(caught.exception), (
-            r'^net\.toml: the run was ended: the report is longer than 1,048,576 bytes\. Up to moment \d+, process idle '
-            r'of mote 0 pauses [\d,]+ times \(line 15\): a loop that only pauses repeats many times in each moment, so '
-            r'let it wait, such as by `yield_until`\. A larger --report raises the limit$'))
+            r'^net\.toml: the run was ended: the report is longer than 1,048,576 bytes\. Up to moment \d+, process '
+            r'idle of mote 0 pauses [\d,]+ times \(line 15\): a loop that only pauses repeats many times in each '
+            r'moment, so let it wait, such as by `yield_until`\. A larger --report raises the limit$'))
 
     def test_the_message_names_the_process_to_which_events_are_posted(self) -> None:
         data = (NET % POSTS).encode()
