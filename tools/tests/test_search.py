@@ -29,6 +29,7 @@ from motesim.search.added import DIES, LATE, NoRoom, changed_program
 from motesim.search.change import Base, CannotChange
 from motesim.search.cuts import cut_of
 from motesim.search.faults import Asked, FaultyPart, change_of, faults_of
+from motesim.search.halting import without_halts
 from motesim.search.one_program import Limits, OneProgram
 from motesim.search.quick_judge import QuickJudge
 from motesim.search.sets import Known, count_of
@@ -581,19 +582,39 @@ class Searches(unittest.TestCase):
             self.assertIn('4 NOT JUDGED', said)
             self.assertNotIn('holds in', said)
 
-    def test_expectation_about_halts_where_the_added_process_halts(self) -> None:
+    def test_expectation_about_halts_is_judged_for_the_motes_that_do_not_fail(self) -> None:
         early, late = 'no mote halts by 50', 'no mote halts after 50'
         for old, text in ('  etimer t;\n', '  etimer t;\n  ctimer c { print 9; }\n'), ('send 7;', 'send 7; exit;'):
             changed = DIAMOND.replace(old, text)
-            with folder_with(changed, sentences=[REACHED, 'no mote halts', early, late]) as folder:
+            lines = 'the report has exactly %d lines' % (len(answer(changed.encode()).report.split(b'\n')) - 1)
+            with folder_with(changed, sentences=[REACHED, 'no mote halts', early, late, lines]) as folder:
                 sets, found, _ = minimal_sets(folder, '--faults', 'deaths', '--moments', '5,90')
                 self.assertEqual(sets, {REACHED: {frozenset(('mote %d fails at 5' % mote,)) for mote in (0, 3)}})
-                self.assertEqual([it.rpartition(': ')[2] for it in found['notes']], ['no mote halts', early, late])
-                self.assertEqual(found['holds'], [])
-                # (a sentence about other moments than that of the failure is judged)
-                for sentence, moment in (late, '5'), (early, '90'):
-                    _, found, _ = minimal_sets(folder, '--expect', sentence, '--faults', 'deaths', '--moments', moment)
-                    self.assertEqual((found['holds'], found['notes']), ([sentence], []))
+                self.assertEqual(found['holds'], ['no mote halts', early, late])
+                # (a line `halt` breaks the sentence about lines, which is about no mote)
+                self.assertEqual([it.rpartition(': ')[2] for it in found['notes']], [lines])
+
+    def test_mote_that_another_failure_halts(self) -> None:
+        # (a mote without a packet by 50 runs away)
+        program = ('process p; autostart p; receiver p; code p { etimer t; ctimer c { print 9; } body { if (self == 0) '
+                   '{ set t 10; yield_until fired(t); } else { set t 50; yield_until (is(packet) || fired(t)); while '
+                   'fired(t) { } } send 7; } }\n')
+        with folder_with(DIAMOND.replace(PROGRAM, program), sentences=['no mote halts']) as folder:
+            sets, found, _ = minimal_sets(folder, '--faults', 'deaths', '--moments', '5', '--at-most', '2')
+            self.assertEqual(sets, {'no mote halts': {
+                frozenset(('mote 0 fails at 5',)), frozenset(('mote 1 fails at 5', 'mote 2 fails at 5'))}})
+            self.assertEqual(found['notes'], [])
+            _, said, seen = search(folder, '--faults', 'deaths', '--moments', '5', '--shrink')
+            self.assertRegex(said, 'small_1.toml breaks: no mote halts\\n  made from: mote 0 fails at 5\\n  2 motes',
+                             seen)
+
+    def test_lines_of_halts_of_failed_motes_are_left_out(self) -> None:
+        report = b'mote 0 p\n3 halt\nmote 1 p\n0 start a\n13 halt\nmote 10 p\n5 halt\nmedium\nleft 0\n'
+        self.assertEqual(without_halts(report, [(0, 3)]), report.replace(b'3 halt\n', b'', 1))
+        self.assertEqual(without_halts(report, [(1, 13), (10, 5)]),
+                         report.replace(b'13 halt\n', b'').replace(b'5 halt\n', b''))
+        # (a mote that halted at another moment)
+        self.assertEqual(without_halts(report, [(1, 3)]), report)
 
     def test_expectations_on_shares_of_copies_are_checked_for_motes_that_halt(self) -> None:
         # (these motes fail by halting; the first sentence has other lines of such a mote after its failure)

@@ -8,7 +8,7 @@
     change.py          the changes that faults make to a scenario, and the changed text
     added.py           the process that makes a mote fail, or start late
     prepare.py         the checks before a search
-    halting.py         the expectations that the line `halt` of a failed mote breaks by itself
+    halting.py         the expectations that the line `halt` of a failed mote breaks by itself, and reports without it
     work.py            one run of a set of faults
     single_packets.py  whether the link of a lost packet loses only this packet in the run
     one_program.py     runs of `motesim`, one after the other, at little cost

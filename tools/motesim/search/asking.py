@@ -67,11 +67,12 @@ class Asking:
     def digest(self) -> str:
         """The identity of a search, by which it differs from others."""
         plan = self.base.plan and (self.base.plan.text, self.base.plan.digest({}))
-        parts = (self.base.source, plan, self.texts, self.prepared.faults, self.limits, program_digest(self.path))
+        parts = (self.base.source, plan, self.texts, self.prepared.faults, self.limits, program_digest(self.path),
+                 *([self.prepared.halting] if self.prepared.halting else []))
         return hashlib.sha256(repr(parts).encode()).hexdigest()[:16]
 
     def work(self) -> Work:
-        return Work(self.base, self.prepared.faults, self.sentences, str(self.path), self.limits)
+        return Work(self.base, self.prepared.faults, self.sentences, str(self.path), self.limits, self.prepared.halting)
 
     def search(self, processes: int, kept: Kept, shown: Callable[[Search, int, bool], None] | None = None,
                asks_end: Callable[[], bool] = lambda: False, address: str | None = None) -> Search:

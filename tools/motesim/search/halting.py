@@ -1,16 +1,18 @@
 """Motes that fail by halting: the expectations that their line `halt` breaks by itself.
 
-In a run with such a fault, these expectations would be broken even if the protocol did everything right.
+In a run with such a fault, these expectations would be broken even if the protocol did everything right. Those that
+are only about halts are judged without this line, so for all other motes.
 """
 from __future__ import annotations
 
 from array import array
 from bisect import bisect_right
+from collections.abc import Iterable
 from dataclasses import fields, is_dataclass
 from functools import cached_property
 
 from motesim.judge.judge import Judge
-from motesim.judge.sentences import Lines, Sentence
+from motesim.judge.sentences import Does, Lines, Sentence
 from motesim.report import Report, Trace
 from motesim.report.columns import CODES
 from motesim.scenario.scenario import Scenario
@@ -23,6 +25,24 @@ def is_about_halts(it: object) -> bool:
     if is_dataclass(it):
         return isinstance(it, Lines) or any(is_about_halts(getattr(it, field.name)) for field in fields(it))
     return it == 'halt'
+
+
+def is_only_about_halts(sentence: Sentence) -> bool:
+    """Returns whether a sentence is only about lines `halt`."""
+    return isinstance(sentence, Does) and all(pattern[0] == 'halt' for pattern in sentence.deed.patterns)
+
+
+def without_halts(report: bytes, failed: Iterable[tuple[int, int]]) -> bytes:
+    """The report without the lines `halt` of motes that failed, each named with the moment of its failure. A mote that
+    halted earlier keeps its line."""
+    text = b'\n' + report
+    for mote, moment in failed:
+        begin = text.index(b'\nmote %d ' % mote)
+        end = text.find(b'\nmote ', begin + 1)
+        end = text.rindex(b'\nmedium\n') if end < 0 else end
+        kept = text[:end].removesuffix(b'\n%d halt' % moment)
+        text = kept + text[end:]
+    return text[1:]
 
 
 def with_halt(report: Report, mote: int, moment: int) -> Report:

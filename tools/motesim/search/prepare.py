@@ -15,7 +15,7 @@ from motesim.faults import Fault
 from motesim.search.added import DIES, LATE, NoRoom, added_name, halts
 from motesim.search.change import Base, CannotChange, Change
 from motesim.search.faults import FaultyPart
-from motesim.search.halting import HaltLines
+from motesim.search.halting import HaltLines, is_only_about_halts
 from motesim.search.one_program import OneProgram
 from motesim.search.quick_judge import QuickJudge
 from motesim.search.sets import Set
@@ -79,11 +79,14 @@ def difference(base: Base, plain: Plain, program: OneProgram, mote: int, kind: s
 class Prepared(NamedTuple):
     """The faults for the search; those that can't be made, with the reasons; and those that hide some expectations.
 
-    blind  for each fault, the expectations that the added process breaks by itself: the search can't judge them
+    blind    for each fault, the expectations that the added process breaks by itself: the search can't judge them
+    halting  for each fault, the expectations about halts that only its line `halt` breaks: the search judges them
+             without this line
     """
     faults: list[FaultyPart]
     left_out: list[str]
     blind: dict[int, int]
+    halting: dict[int, int]
 
     def blind_of(self) -> Callable[[Set], int]:
         """A function that returns the expectations that can't be judged with a set."""
@@ -104,7 +107,8 @@ def prepare(base: Base, plain: Plain, program: OneProgram, sentences: list[Sente
     halt_lines = HaltLines(base.scenario_itself, plain.report,
                            {number: it for number, it in enumerate(sentences) if number not in plain.broken})
     kept: list[FaultyPart] = []
-    left_out, blind = dict[tuple[int, str], list[str]](), dict[int, int]()
+    left_out, blind, halting = dict[tuple[int, str], list[str]](), dict[int, int](), dict[int, int]()
+    of_halts = mask_of([number for number, it in enumerate(sentences) if is_only_about_halts(it)])
     for fault in faults:
         kind = ADDED.get(str(fault.effect[0]))
         if kind is not None:
@@ -116,12 +120,16 @@ def prepare(base: Base, plain: Plain, program: OneProgram, sentences: list[Sente
                 kinds = left_out.setdefault((mote, why), [])
                 kinds += [INTO[kind]] if INTO[kind] not in kinds else []
                 continue
+            hidden = 0
             if kind == DIES and halts(base.tables['programs'][base.scenario_itself.places[mote].program]):
-                mask |= mask_of(halt_lines.hidden(mote, int(fault.effect[2])))
+                hidden = mask_of(halt_lines.hidden(mote, int(fault.effect[2])))
+            mask |= hidden & ~of_halts
             if mask:
                 blind[len(kept)] = mask
+            if hidden & of_halts:
+                halting[len(kept)] = hidden & of_halts
         kept.append(fault)
-    return Prepared(kept, _left_out(left_out), blind)
+    return Prepared(kept, _left_out(left_out), blind, halting)
 
 
 def _left_out(reasons: dict[tuple[int, str], list[str]]) -> list[str]:

@@ -18,6 +18,7 @@ from motesim.scenario.scenario import Scenario
 from motesim.search.change import Base, Change
 from motesim.search.faults import EFFECTS, MOTES_OF
 from motesim.search.following import follow, names_motes_in_quotes
+from motesim.search.halting import is_only_about_halts, without_halts
 from motesim.search.net import Net, NetStep, loss_steps, mote_steps, net_of, number_steps, program_steps
 from motesim.search.one_program import OneProgram
 from motesim.search.quick_judge import QuickJudge
@@ -69,9 +70,14 @@ def with_effects(text: str, effects: tuple[Effect, ...]) -> str:
 
 
 class Seen(NamedTuple):
-    """A report with its scenario."""
+    """A report with its scenario, and the motes that a fault lets fail, each with its moment."""
     report: bytes
     scenario: Scenario
+    failed: tuple[tuple[int, int], ...] = ()
+
+    def report_for(self, sentence: Sentence) -> bytes:
+        """The report for a sentence: one about halts isn't about the motes that fail."""
+        return without_halts(self.report, self.failed) if is_only_about_halts(sentence) else self.report
 
     def read(self, sentence: str) -> Sentence | None:
         """A sentence, if it can be read with the names of this scenario."""
@@ -83,14 +89,14 @@ class Seen(NamedTuple):
     def is_broken(self, sentence: str) -> bool:
         """Returns whether a sentence is broken, or names something that the scenario no longer has."""
         read = self.read(sentence)
-        return read is None or bool(QuickJudge([read]).broken(self.report, self.scenario))
+        return read is None or bool(QuickJudge([read]).broken(self.report_for(read), self.scenario))
 
     def broken(self, sentence: str) -> Broken | None:
         """Returns the lines that break a sentence; None if it names something that the scenario no longer has."""
         read = self.read(sentence)
         if read is None or not self.is_broken(sentence):
             return None
-        return Judge(Report.parse(self.report), self.scenario).broken(read)
+        return Judge(Report.parse(self.report_for(read)), self.scenario).broken(read)
 
 
 @dataclass
@@ -141,6 +147,8 @@ class Shrinking:
             found = self.seen(with_effects(case.net.text, case.effects))
         except Fault:
             return None
+        failed = tuple((int(it[1]), int(it[2])) for it in case.effects if it[0] == 'fails')
+        found = found and found._replace(failed=failed)
         if found is None or any(found.is_broken(it) for it in case.keeps):
             return None
         broken = found.broken(case.sentence)

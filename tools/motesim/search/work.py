@@ -1,12 +1,14 @@
 """One run with a set of faults: makes the text, runs `motesim` on it, and judges the sentences."""
 from __future__ import annotations
 
+from collections.abc import Mapping
 from typing import NamedTuple
 
 from motesim.scenario.scenario import Scenario
 from motesim.search.change import NOT_SO, Base, CannotChange, Change
 from motesim.search.added import NoRoom
 from motesim.search.faults import FaultyPart, change_of
+from motesim.search.halting import without_halts
 from motesim.search.one_program import Answer, Limits, OneProgram
 from motesim.search.quick_judge import QuickJudge
 from motesim.search.sets import Set
@@ -32,12 +34,14 @@ class Outcome(NamedTuple):
 
 
 class Work(NamedTuple):
-    """The data that all runs of a search share."""
+    """The data that all runs of a search share. For each fault that halts a mote, `halting` has the expectations that
+    are judged without this mote's line `halt`."""
     base: Base
     faults: list[FaultyPart]
     sentences: list[Sentence]
     program: str
     limits: Limits
+    halting: Mapping[int, int] = {}
 
 
 def numbers_of(mask: int) -> list[int]:
@@ -53,7 +57,7 @@ class Bench:
     """The objects that a run needs; they are kept from one run to the next."""
 
     def __init__(self, work: Work):
-        self.base, self.faults = work.base, work.faults
+        self.base, self.faults, self.halting = work.base, work.faults, work.halting
         self.judge = QuickJudge(work.sentences)
         self.program = OneProgram(work.program, work.limits)
 
@@ -91,8 +95,21 @@ class Bench:
             return Outcome(found, UNMADE, 0, answer.fault or 'status %d' % answer.status)
         if loses_more([self.faults[number] for number in found], answer.report, self.base.scenario_itself.losses):
             return Outcome(found, MORE)
-        broken = self.judge.broken(answer.report, self.base.scenario(change), numbers_of(task.wanted))
-        return Outcome(found, RUN, mask_of(broken))
+        return Outcome(found, RUN, self.broken(answer.report, change, task))
+
+    def broken(self, report: bytes, change: Change, task: Task) -> int:
+        """The expectations that a report breaks. Those about halts are judged for the motes that the faults don't
+        halt."""
+        halting = [number for number in task.faults if self.halting.get(number)]
+        apart = 0
+        for number in halting:
+            apart |= self.halting[number] & task.wanted
+        scenario = self.base.scenario(change)
+        found = self.judge.broken(report, scenario, numbers_of(task.wanted & ~apart))
+        if apart:
+            failed = [(int(mote), int(moment)) for _, mote, moment in (self.faults[it].effect for it in halting)]
+            found += self.judge.broken(without_halts(report, failed), scenario, numbers_of(apart))
+        return mask_of(found)
 
 
 def check_text(text: str, change: Change, base: Base) -> None:
