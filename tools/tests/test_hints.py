@@ -429,6 +429,28 @@ class Warnings(unittest.TestCase):
             with self.subTest(statements):
                 self.assertEqual([it for it in (nobody, radio) if it in seen], wanted)
 
+    def test_a_broadcast_in_a_net_in_which_another_program_sends(self) -> None:
+        sink = "process s; autostart s; receiver s; code s { body { %s yield_until is(packet); send 5; } }"
+        quiet = 'mote 0 p\nmote 1 q\nmedium\nleft 0\n'
+        loud = 'mote 0 p\nmote 1 q\n0 send 0 9\nmedium\n0 1 0 9 0@3\nleft 1\n'
+        lonely, silent = 'but sends none by `send`', 'no mote sent one in this run'
+        asks = ('process a%s; autostart a%s; receiver a; code a { body { broadcast %s 7; yield_until is(packet); %s} } '
+                'code b { body { %s } }')
+        alone = asks.replace('%s; autostart a%s', '; autostart a').partition(' code b')[0]
+        net = ('version = 1\nend = 9\nmedium = { range = 9, base = 1, per = 9 }\n'
+               'mote = [{ x = 0, y = 0, program = "p" }, { x = 5, y = 0, program = "q" }]\n[programs]\n'
+               'p = "%s"\nq = "%s"\n')
+        for program, first, wanted in ((alone % ('packet', ''), 'send 9;', lonely), (alone % ('msg', ''), '', lonely),
+                                       (alone % ('msg', 'send 3; '), '', ''),
+                                       (asks % (*[', b'] * 2, 'msg', '', 'yield_until is(msg);'), 'send 9;', ''),
+                                       (asks % (*[', b'] * 2, 'msg', '', 'yield_until is(msg);'), '', silent),
+                                       (asks % (*[', b'] * 2, 'msg', '', 'yield;'), 'send 9;', ''),
+                                       (asks % (*[', b'] * 2, 'msg', '', 'print 1;'), 'send 9;', lonely)):
+            text = net % (program, sink % first)
+            seen = [it.text for it in warnings(Scenario.parse(text), Report.parse(loud if first else quiet))]
+            with self.subTest(program):
+                self.assertEqual([it for it in (lonely, silent) if it in ' '.join(seen)], [wanted] if wanted else [])
+
     def test_two_loops_that_never_end_have_one_warning(self) -> None:
         found = by_cause([Warned('a', 'p', Token('while', 3, 0), cause='loop'),
                           Warned('a', 'p', Token('while', 5, 0), cause='loop'),

@@ -60,6 +60,8 @@ OF_TWO_VALUES = '`%s` can\'t be %s and %s at once, so this test is %s true'
 TWO_VALUES = re.compile(r'\( \( ([a-z]\w*) (==|!=) ([0-9]+) \) (&&|\|\|) \( \1 \2 ([0-9]+) \) \)')
 RESULTS = {'==&&': 'never', '!=||': 'always'}
 NOBODY_SENDS = 'the program waits for packets, but no program of a mote sends one by `send`'
+HAS_NO_SEND = 'the program waits for packets, but sends none by `send`'
+NOBODY_SENT = 'the program waits for packets, but no mote sent one in this run'
 OF_BROADCAST = ('; this `broadcast` posts an event to the processes of its own mote, and `send %s;` sends a packet by '
                 'radio')
 # The line of a scenario from a plan with a parameter that is 0: a 0 of a program may be its value.
@@ -390,18 +392,30 @@ def programs_of(scenario: Scenario) -> dict[str, Program]:
     return {name: Program(name, text) for name, text in scenario.programs.items()}
 
 
-def of_silence(scenario: Scenario, programs: dict[str, Program]) -> Iterator[Warned]:
-    """Yields the warnings about programs that broadcast an event and wait for packets, if no mote sends any."""
+def of_silence(scenario: Scenario, programs: dict[str, Program], report: Report | None) -> Iterator[Warned]:
+    """Yields the warnings about programs that broadcast an event and wait for packets: if no mote sends any, or if no
+    other process of a program without `send` waits for the event."""
     used = [program for name, program in programs.items() if any(it.program == name for it in scenario.places)]
-    if any({'send', 'packet'} & set(packets_of(program)) for program in used):
-        return
+    sends = any({'send', 'packet'} & set(packets_of(program)) for program in used)
+    is_silent = report is not None and not report.log.at
     for program in used:
         waits, casts = program.first('is', '(', 'packet', ')'), program.first('broadcast')
-        if waits and program.receivers and casts:
-            at = program.tokens.index(casts)
-            value = ' '.join(program.words[at + 2:program.words.index(';', at)]).partition(' into ')[0]
-            text = NOBODY_SENDS + OF_BROADCAST % value.replace('( ', '(').replace(' )', ')')
-            yield Warned(text, program.name, casts)
+        if not (waits and program.receivers and casts):
+            continue
+        at = program.tokens.index(casts)
+        value = ' '.join(program.words[at + 2:program.words.index(';', at)]).partition(' into ')[0]
+        is_lonely = 'send' not in program.words and not is_awaited(program, at)
+        what = NOBODY_SENDS if not sends else HAS_NO_SEND if is_lonely else NOBODY_SENT if (
+            is_silent and 'send' not in program.words) else ''
+        if what:
+            yield Warned(what + OF_BROADCAST % value.replace('( ', '(').replace(' )', ')'), program.name, casts)
+
+
+def is_awaited(program: Program, at: int) -> bool:
+    """Returns whether another process than the one of a `broadcast` waits for its event, or for any event."""
+    own = program.code_around(at)
+    codes = [program.words[it:program.end_of_block(it + 2)] for it, word in enumerate(program.words) if word == 'code']
+    return any(followed(code, 'is', '(', program.words[at + 1]) or 'yield' in code for code in codes if code != own)
 
 
 def packets_of(program: Program) -> Iterator[str]:
@@ -418,7 +432,7 @@ def of_net(scenario: Scenario, programs: dict[str, Program], report: Report | No
     for name in scenario.programs:
         if all(place.program != name for place in scenario.places):
             yield Warned('no mote runs the program `%s`' % name, name, programs[name].tokens[0])
-    yield from of_silence(scenario, programs)
+    yield from of_silence(scenario, programs, report)
     alone = [number for number in range(scenario.motes) if not scenario.hearers(number)]
     speaks = [number for number in alone if 'send' in programs[scenario.places[number].program].words]
     lonely = [number for number in alone
