@@ -22,6 +22,7 @@ from motesim.faults import Fault
 from motesim.judge.expectations import beside, parts_of, read_all
 from motesim.judge.judge import Judge
 from motesim.judge.sentences import names_of, read_sentence
+from motesim.plan.plan import Plan
 from motesim.report.report import Report
 from motesim.runner.run import answer, program_path
 from motesim.scenario.scenario import Scenario
@@ -192,6 +193,28 @@ class Texts(unittest.TestCase):
 
     def test_silent_mote(self) -> None:
         self.assertEqual(self.one('mote 3 is silent', kinds=('motes',))[2].losses, {(3, 1): 1, (3, 2): 1})
+
+    def test_a_silent_mote_is_silent_for_motes_that_come_into_range(self) -> None:
+        base = base_of()
+        found = faults_by_words(base, kinds=('motes', 'values', 'places'), values={'range': (30,)}, step=6)
+        for other, hearers in ('range is 30', {1, 2, 3}), ('mote 3 is at 6, 0', {1, 2, 3}), ('mote 1 is at 12, 6', {2}):
+            for words in ['mote 0 is silent', other], [other, 'mote 0 is silent']:
+                read = Scenario.parse(base.text(change_of([found[it] for it in words], base)))
+                self.assertEqual(read.losses, {(0, it): 1 for it in hearers})
+                self.assertEqual(read.receivers(0), [])
+
+    def test_a_fault_of_a_link_takes_no_loss_away_that_a_parameter_brings(self) -> None:
+        with tempfile.TemporaryDirectory() as folder:
+            Path(folder, 'flood.mote').write_text(PROGRAM)
+            plan = Path(folder, 'net.plan.toml')
+            plan.write_text('end = 100\n[medium]\nrange = 10\nbase = 2\nper = 1000\n[parameters]\nevery = 9\n'
+                            '[places]\nrule = "line"\ncount = 2\nstep = 10\nprogram = "flood.mote"\n'
+                            '[[loss]]\nrule = "all"\nevery = "${every}"\n')
+            base = Base.of_plan(Plan.read(plan))
+            found = faults_by_words(base, kinds=('every', 'parameters'), every=(3,), given={'every': [2, 5]})
+            for parameter, every in ('every is 2', 2), ('every is 5', 3):
+                change = change_of([found['link 0 to 1 loses 1 packet in 3'], found[parameter]], base)
+                self.assertEqual(Scenario.parse(base.text(change)).losses[0, 1], every)
 
     def test_sets_that_cut_the_net_for_any_protocol_are_known(self) -> None:
         line = DIAMOND.replace('x = 12\ny = 0', 'x = 18\ny = 18').replace('x = 6\ny = -6', 'x = 12\ny = 12')

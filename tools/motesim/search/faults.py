@@ -5,7 +5,7 @@ changes of one thing, such as two ranges, and are never combined.
 """
 from __future__ import annotations
 
-from collections.abc import Callable, Iterator, Sequence
+from collections.abc import Callable, Iterable, Iterator, Sequence
 from dataclasses import dataclass, field
 from typing import NamedTuple
 
@@ -31,20 +31,20 @@ KINDS: dict[str, tuple[str, str]] = {
 }
 
 
+# A change: its kind in the first word, then numbers and names.
+Effect = tuple[str | int, ...]
+
+
 class FaultyPart(NamedTuple):
     """A fault: its kind, its description, and its change.
 
     slot    the thing that it changes; other faults with the same slot are alternatives
-    effect  the change: its kind in the first word, then numbers and names
+    effect  the change
     """
     kind: str
     words: str
     slot: tuple[str | int, ...]
-    effect: tuple[str | int, ...]
-
-    def put_into(self, change: Change, base: Base) -> None:
-        """Adds this fault to a change."""
-        EFFECTS[str(self.effect[0])](change, base, *self.effect[1:])
+    effect: Effect
 
     @property
     def file_name(self) -> str:
@@ -53,7 +53,8 @@ class FaultyPart(NamedTuple):
 
 
 def _lose(change: Change, base: Base, sender: int, receiver: int, every: int) -> None:
-    change.lose(sender, receiver, every)
+    # (with other parameters a plan may make a scenario whose link loses more)
+    change.lose(sender, receiver, min(every, base.scenario_itself.losses.get((sender, receiver), every)))
 
 
 def _apart(change: Change, base: Base, one: int, other: int) -> None:
@@ -62,7 +63,10 @@ def _apart(change: Change, base: Base, one: int, other: int) -> None:
 
 
 def _silence(change: Change, base: Base, mote: int) -> None:
-    for receiver in base.scenario_itself.receivers(mote):
+    scenario = base.scenario_itself
+    if change.places or 'range' in change.numbers:
+        scenario = base.scenario(Change(numbers=change.numbers, places=change.places))
+    for receiver in scenario.receivers(mote):
         change.lose(mote, receiver, 1)
 
 
@@ -100,13 +104,19 @@ EFFECTS: dict[str, Callable[..., None]] = {
 }
 
 
+def put_into(change: Change, base: Base, effects: Iterable[Effect]) -> None:
+    """Adds effects to a change: the silence of motes last, because it depends on the places and on the range."""
+    for effect in sorted(effects, key=lambda effect: effect[0] == 'silent'):
+        EFFECTS[str(effect[0])](change, base, *effect[1:])
+
+
 # For each effect, the words that follow its first one.
 PARTS_OF = {'lose': 'SENDER RECEIVER EVERY', 'apart': 'MOTE MOTE', 'silent': 'MOTE', 'fails': 'MOTE MOMENT',
             'late': 'MOTE MOMENT', 'collide': '', 'queue': 'PROGRAM LENGTH', 'number': 'NAME NUMBER',
             'move': 'MOTE X Y'}
 
 
-def effect_of(words: str, motes: int) -> tuple[str | int, ...]:
+def effect_of(words: str, motes: int) -> Effect:
     """The effect that words such as `lose 0 1 1` denote."""
     name, *rest = words.split() or ['']
     wanted = PARTS_OF.get(name)
@@ -313,9 +323,7 @@ def change_of(faults: Sequence[FaultyPart], base: Base) -> Change:
     """The changes that faults make together: those of parameters first, because the other faults change the scenario
     that the plan makes with these parameters."""
     change = Change()
-    for fault in faults:
-        if fault.kind == 'parameters':
-            fault.put_into(change, base)
+    put_into(change, base, [it.effect for it in faults if it.kind == 'parameters'])
     made = base.with_parameters(change.parameters)
     for fault in faults:
         if fault.kind != 'parameters':
@@ -324,5 +332,5 @@ def change_of(faults: Sequence[FaultyPart], base: Base) -> Change:
                 raise CannotChange('there is no mote %d with these parameters' % max(motes))
             if fault.effect[0] in ('fails', 'late') and int(fault.effect[2]) > made.scenario_itself.end:
                 raise CannotChange('with these parameters the scenario ends before moment %s' % fault.effect[2])
-            fault.put_into(change, made)
+    put_into(change, made, [it.effect for it in faults if it.kind != 'parameters'])
     return change

@@ -16,7 +16,7 @@ from motesim.judge.sentences import Sentence, SentenceFault, names_of, read_sent
 from motesim.report import Report
 from motesim.scenario.scenario import Scenario
 from motesim.search.change import Base, Change
-from motesim.search.faults import EFFECTS, MOTES_OF
+from motesim.search.faults import MOTES_OF, Effect, put_into
 from motesim.search.following import follow, names_motes_in_quotes
 from motesim.search.halting import is_only_about_halts, without_halts
 from motesim.search.net import Net, NetStep, loss_steps, mote_steps, net_of, number_steps, program_steps
@@ -25,7 +25,6 @@ from motesim.search.quick_judge import QuickJudge
 
 NAME = 'the scenario'
 MOTE = re.compile(r'\bmotes? \d+')
-Effect = tuple[str | int, ...]
 STEPS: dict[str, Callable[[Net], Iterator[NetStep]]] = {
     'motes': mote_steps, 'losses': loss_steps, 'programs': program_steps, 'numbers': number_steps}
 
@@ -64,8 +63,7 @@ def with_effects(text: str, effects: tuple[Effect, ...]) -> str:
     if not effects:
         return text
     base, change = Base(text, NAME, is_checked=True), Change()
-    for effect in effects:
-        EFFECTS[str(effect[0])](change, base, *effect[1:])
+    put_into(change, base, effects)
     return base.text(change)
 
 

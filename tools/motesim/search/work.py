@@ -93,7 +93,8 @@ class Bench:
             return Outcome(found, STOPPED, 0, answer.stopped)
         if answer.status:
             return Outcome(found, UNMADE, 0, answer.fault or 'status %d' % answer.status)
-        if loses_more([self.faults[number] for number in found], answer.report, self.base.scenario_itself.losses):
+        losses = self.base.with_parameters(change.parameters).scenario_itself.losses
+        if loses_more([self.faults[number] for number in found], answer.report, losses):
             return Outcome(found, MORE)
         return Outcome(found, RUN, self.broken(answer.report, change, task))
 
