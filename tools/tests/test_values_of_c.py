@@ -137,5 +137,59 @@ class Addresses(OfC):
         self.says('n = linkaddr_node_addr.u8[n];', 'An address is one number')
 
 
+class Bits(OfC):
+    """Operators on bits, by `/`, `%`, `*`, `+` and `-`."""
+    def test_each_operator_with_a_number(self) -> None:
+        for mask in (1, 2, 4, 6, 0x0f, 0xf0, 0xff0, 0x8000, 0xf000, 0xff00, 5, 0x81, 0xfffe, 0xfff3, 0xffff):
+            for value in (0, 1, 2, 5, 0xabcd, 0x5432, 0xffff):
+                self.check('n = %d; i = n & %d; j = n | %d; m = n ^ 0x%x; print i; print j; print m;' % (
+                    value, *[mask] * 3), [value & mask, value | mask, value ^ mask])
+                self.check('n = %d; i = n & ~%d; print i; print((1 << 3) | %d); i = 0x%x & n; print i;' % (
+                    value, *[mask] * 3), [value & ~mask, 8 | mask, value & mask])
+
+    def test_a_test_of_bits(self) -> None:
+        for test in 'm & 2', '(m & 2) != 0', '(m & 2) == 2', '2 & m', 'm & 0xf2', 'm & (1 << 1)':
+            self.check('if (%s) { print 1; } m = 5; if (%s) { print 2; }' % (test, test), [1])
+            self.check('if (!(%s)) { print 1; } m = 5; if (!(%s) && !n) { print 2; }' % (test, test), [2])
+        self.assertEqual(words(followed(PROGRAM % 'if (n & 2) { print 1; }')),
+                         words(PROGRAM % 'if ((n / 2) % 2) { print 1; }'))
+
+    def test_an_assignment(self) -> None:
+        self.check('n |= 4; print n; n |= 4; print n; n ^= 1; print n; n &= ~4; print n; n &= ~4; print n; '
+                   'n |= 0x8000; print n; n |= 6; print n; n &= 0xf; print n; n |= 1; print n; n &= ~1; print n; '
+                   'n <<= 2; print n; n |= 1 << 4; print n;',
+                   [4, 4, 5, 1, 1, 32_769, 32_775, 7, 7, 6, 24, 24])
+
+    def test_two_values_in_one(self) -> None:
+        for lines, wanted in (('n = (m << 8) | (i & 0xff); print n;', [768]), ('n = m | (m << 2); print n;', [15]),
+                              ('n = m << 4 | 5; print n;', [53]), ('i = 9; n = m << 8 | (uint8_t)i; print n;', [777]),
+                              ('n = (m << 8) | (m << 4) | m; print n;', [819]), ('n = m % 4 | i << 2; print n;', [3]),
+                              ('n = m << 8 ^ m; print n;', [771])):
+            self.check(lines, wanted)
+        said, other = (of_lines('n = (m << 8) | %s;' % it).hint for it in ('i', '(i % 256)'))
+        self.assertIn('This is right if `i` is less than 256.', said)
+        self.assertNotIn('This is right if', other)
+
+    def test_other_operations_have_advice(self) -> None:
+        self.says('n = m & i;', '`((m / i) % 2)` is 1 if `m` has this bit')
+        self.says('n |= i;', '`n = (n + i);` sets it')
+        self.says('n = m ^ i;', 'There are no operators on bits')
+        self.says('n = m & 0x5555;', 'There are no operators on bits')
+
+
+class Numbers(OfC):
+    def test_an_octal_number_is_said(self) -> None:
+        self.says('n = 010;', 'A number has no zeros in front: `10`. In C, `010` is octal, which is 8.', True)
+        for lines in 'n = 007;', 'n = 09;':
+            self.assertNotIn('octal', of_lines(lines).hint)
+
+    def test_an_address(self) -> None:
+        self.check('linkaddr_copy(&n, from); print(linkaddr_cmp(from, &linkaddr_node_addr)); print(!linkaddr_cmp(&m, '
+                   '&n)); linkaddr_copy(&m, &linkaddr_node_addr); print m;', [1, 1, 0])
+
+    def test_an_assignment_as_a_value(self) -> None:
+        self.check('n = (i = 4); print n; print i; n += (i = 5); print n;', [4, 4, 9])
+
+
 if __name__ == '__main__':
     unittest.main()

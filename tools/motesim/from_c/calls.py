@@ -4,8 +4,9 @@ from __future__ import annotations
 import re
 
 from motesim.from_c.declarations import OF_STRUCTURE
-from motesim.from_c.expressions import MOMENTS_OF_SECOND, TICKS, NoCounterpart, Node
+from motesim.from_c.expressions import TICKS, NoCounterpart
 from motesim.from_c.lines import Lines
+from motesim.from_c.nodes import MOMENTS_OF_SECOND, Node
 from motesim.from_c.parameters import ASSIGNED, IN_CIRCLE, OF_ARGUMENTS, assignments
 from motesim.from_c.scope import allowed
 from motesim.from_c.structure import ONE_LINE

@@ -5,7 +5,8 @@ import re
 
 from motesim.from_c.closings import Closing
 from motesim.from_c.counting import caution, is_changed, loop_of, natural, refuse_endless
-from motesim.from_c.expressions import ONE_TOO_MANY, QUALIFIERS, TYPES, WORDS, NoCounterpart, Node
+from motesim.from_c.expressions import ONE_TOO_MANY, QUALIFIERS, TYPES, WORDS, NoCounterpart
+from motesim.from_c.nodes import Node
 from motesim.from_c.own_names import OwnNames
 from motesim.from_c.places import conjuncts, ends_loop, last_statement
 from motesim.from_c.scope import allowed
@@ -159,7 +160,7 @@ class Control(OwnNames):
             if self.token.text in ('||', '&&', '==', '!=', '<', '<=', '>', '>=', '+', '-', '/', '%', 'and', 'or'):
                 self.go_back(begin)
                 inner = None
-        text = self.writer.text(natural(inner or self.expression()))
+        text = self.writer.test(natural(inner or self.expression()))
         while self.accept(')'):
             self.why(ONE_TOO_MANY)
         if self.accept('then', 'do', ':'):

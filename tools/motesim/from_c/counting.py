@@ -8,7 +8,8 @@ import re
 from collections.abc import Sequence
 from typing import NamedTuple
 
-from motesim.from_c.expressions import MOST, NoCounterpart, Node, value_of
+from motesim.from_c.expressions import MOST, NoCounterpart
+from motesim.from_c.nodes import Node, value_of
 from motesim.from_c.places import NAME
 
 DOWN = re.compile(r'\((%s) (>=|>) (\w+|\([^()&|]*\))\)' % NAME)

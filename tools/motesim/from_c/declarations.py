@@ -5,8 +5,9 @@ import re
 
 from motesim.from_c.expressions import (
     BYTES, LONG, MOST, NO_ARRAYS, NO_FIELDS, QUALIFIERS, READ_ONLY, SMALL, TICKS, TOO_LARGE, TYPES, Expressions,
-    NoCounterpart, number_of, value_of,
+    NoCounterpart,
 )
+from motesim.from_c.nodes import number_of, value_of
 from motesim.from_c.own_names import OTHERS, OwnNames
 from motesim.from_c.parameters import KEPT, OF_COMMENT, READ_BY_NAME, SHARED
 from motesim.from_c.scope import LONGEST, allowed

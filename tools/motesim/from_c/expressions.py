@@ -6,13 +6,15 @@ to do instead.
 """
 from __future__ import annotations
 
-import operator
-from collections.abc import Callable
 from dataclasses import dataclass, field
 from fractions import Fraction
-from typing import NamedTuple
 
 from motesim.from_c.absent import NO_SENSORS, OF_READING, READING, RUNICAST, is_sensor
+from motesim.from_c.bits import SIGNS, bits_of, most_of, runs_of, unit_of
+from motesim.from_c.nodes import (
+    ADDRESSES, MOMENTS_OF_SECOND, Choice, Node, Step, address_of, has_difference, is_of_no_mote, is_test,
+    is_upper_byte, names_of, number_of, opposite, value_of,
+)
 from motesim.from_c.parameters import of_value
 from motesim.from_c.scope import Scope, abbreviated, allowed
 from motesim.from_c.tokens import END, Token
@@ -70,17 +72,21 @@ NO_NUMBER = ('The event of a call has no number: `is(..)` tests it, such as `is(
 NO_EVENT = ('The event of a call is tested by `is(..)`, but no event is named `%s`: `%s` is possible if `event %s;` is '
             'above the `process` line. The kernel\'s own events are `%s`.')
 OWN_EVENTS = ('init', 'poll', 'exit', 'continue', 'msg', 'com', 'packet', 'exited', 'timer')
-SUMS: dict[str, Callable[[int, int], int]] = {
-    '+': operator.add, '-': operator.sub, '*': operator.mul, '/': lambda left, right: int(Fraction(left, right))}
 MOST = 65_535
 MOST_REASONS = 2
+# Bits in more groups aren't calculated with.
+MOST_RUNS = 2
 OF_ADDRESS = 'An address is one number: `from` of the sender, `self` of the mote itself.'
 UPPER_BYTE = 'This number replaces `u8[0]`, and 0 replaces the other bytes.'
 NO_UPPER_BYTE = 'This number replaces `u8[0]`, and the other bytes need no test.'
-ADDRESSES = ('linkaddr_node_addr', 'rimeaddr_node_addr')
 
 NO_BITS = ('There are no operators on bits: `(x % 256)` is the low byte, `(x / 256)` the high one, and flags are '
            'variables of their own.')
+BY_PARTS = 'There are no operators on bits: `/` leaves the lower bits out, and `%` the upper ones.'
+JOINED = 'There are no operators on bits: `+` joins numbers that have no bits in common.'
+NOT_ABOVE = 'This is right if `%s` is less than %d.'
+OF_BIT = ('There are no operators on bits. If `{bit}` is one bit, a power of 2, `(({flags} / {bit}) % 2)` is 1 if '
+          '`{flags}` has this bit; if it is 0, `{flags} = ({flags} + {bit});` sets it.')
 NO_SHIFTS = ('There are no shifts: a loop %s, `bit = %s; k = 0; while (k < %s) { bit = (bit %s 2); k = (k + 1); }`, '
              'with `var bit = 0;` and `var k = 0;` at the head of its `code`.')
 OF_FLAG = ' Then `((flags / bit) % 2)` is this bit of `flags`; if it is 0, `flags = (flags + bit);` sets it.'
@@ -105,10 +111,10 @@ NO_CHANCE = ('A mote has no random numbers: each run is the same. Use a generato
 SEEDED = ('A mote has no random numbers: each run is the same. Use a generator, as below, with a seed that differs by '
           'mote. The statements at the start of `body` mix the seed, so that motes don\'t draw in step, for at most 255 '
           'motes. ' + OF_DRAWN)
+OF_OCTAL = 'A number has no zeros in front: `%d`. In C, `%s` is octal, which is %d.'
 TOO_LARGE = ('Numbers have 16 bits, 0 to 65,535: a timer is set to 65535 moments at most. Count larger ones in parts, '
              'such as '
              'thousands in a second variable.')
-MOMENTS_OF_SECOND = 10
 TICKS = ('There is no `CLOCK_SECOND`: a timer is set in moments. Decide how many moments a second has; with %d it is '
          'the line '
          'below.' % MOMENTS_OF_SECOND)
@@ -120,106 +126,6 @@ ONE_TOO_MANY = 'One `)` is too many.'
 class NoCounterpart(Exception):
     """Something in C that the notation lacks. The text says what to do instead; it is empty if the words aren't C
     either."""
-
-
-@dataclass(frozen=True)
-class Node:
-    """A part of an expression: number, name, text, call, unary, binary, choice, index or member, with its parts."""
-    kind: str
-    text: str = ''
-    parts: tuple[Node, ...] = ()
-
-
-class Step(NamedTuple):
-    """A variable that an expression changes: by `++` or `--`, or by `=` with a value. `only` is the test that has to be
-    true for this step: in C, the right side of `&&` is evaluated only if the left one is true."""
-    name: str
-    sign: str
-    value: Node = Node('number', '0')
-    only: Node | None = None
-
-    def under(self, test: Node) -> Step:
-        """The step, which is done only if this test is true, too."""
-        return self._replace(only=test if self.only is None else Node('binary', '&&', (test, self.only)))
-
-
-class Choice(NamedTuple):
-    """A sign of C after a test, with the value that is evaluated only if the test requires it."""
-    sign: str
-    test: Node
-    value: Node
-
-
-def is_test(node: Node) -> bool:
-    """True if an expression compares two values, or joins or negates tests."""
-    return node.kind == 'binary' and node.text in ('==', '=', '!=', '<', '<=', '>', '>=', '&&', '||') or (
-        node.kind == 'unary' and node.text in ('!', 'not'))
-
-
-def opposite(test: Node) -> Node:
-    """The test that is true if this one is false."""
-    return test.parts[0] if test.kind == 'unary' and test.text == '!' else Node('unary', '!', (test,))
-
-
-def names_of(node: Node) -> set[str]:
-    """The names in an expression."""
-    own = {node.text} if node.kind == 'name' else set()
-    return own.union(*map(names_of, node.parts))
-
-
-def number_of(text: str) -> int | None:
-    """The value of a number of C, or None."""
-    plain = text.lower().rstrip('ul') or text
-    try:
-        if plain[:2] in ('0x', '0b'):
-            return int(plain, 0)
-        return int(plain.translate(str.maketrans('oi', '01')))
-    except ValueError:
-        return None
-
-
-def address_of(node: Node) -> str:
-    """The word for the address of which a node is a byte, or nothing if it is something else."""
-    words: list[str] = []
-    at = node
-    while at.kind in ('index', 'member'):
-        words.append(at.text)
-        at = at.parts[0]
-    if 'u8' not in words or at.text not in ('from', 'sender', *ADDRESSES):
-        return ''
-    return 'self' if at.text in ADDRESSES else 'from'
-
-
-def is_upper_byte(node: Node) -> bool:
-    """Returns whether a byte of an address is another one than the first."""
-    return node.kind == 'index' and value_of(node.parts[1]) != 0
-
-
-def is_of_no_mote(sign: str, node: Node) -> bool:
-    """Returns whether one side of `&&` or `||` only says that the upper byte of an address is 0, or isn't."""
-    if node.kind != 'binary' or node.text != {'&&': '==', '||': '!='}[sign]:
-        return False
-    sides = [(it, other) for it, other in (node.parts, node.parts[::-1]) if value_of(other) == 0]
-    return any(address_of(it) != '' and is_upper_byte(it) for it, _ in sides)
-
-
-def has_difference(node: Node) -> bool:
-    """Returns whether an expression subtracts."""
-    return node.text == '-' and node.kind in ('unary', 'binary') or any(map(has_difference, node.parts))
-
-
-def value_of(node: Node) -> int | None:
-    """The value of an expression of numbers, `CLOCK_SECOND` and + - * /; None if it has something else."""
-    if node.kind == 'number':
-        return number_of(node.text)
-    if node == Node('name', 'CLOCK_SECOND'):
-        return MOMENTS_OF_SECOND
-    values = [value_of(it) for it in node.parts]
-    if node.kind == 'unary' and node.text in '+-' and values[0] is not None:
-        return values[0] if node.text == '+' else -values[0]
-    if node.kind != 'binary' or node.text not in SUMS or values[0] is None or values[1] is None:
-        return None
-    return SUMS[node.text](values[0], values[1]) if values[1] or node.text != '/' else None
 
 
 class Expressions:
@@ -500,7 +406,9 @@ class Writer:
             return self.refuse('')
         if value > MOST:
             return self.refuse(TOO_LARGE)
-        if str(value) != word:
+        if word.isdecimal() and word != str(value) and not {'8', '9'}.intersection(word) and int(word, 8) != value:
+            self.insist(OF_OCTAL % (value, word, int(word, 8)))
+        elif str(value) != word:
             self.why(self.of_number(word, value))
         return str(value)
 
@@ -599,6 +507,9 @@ class Writer:
         if parts and is_sensor(parts[0].text):
             self.insist(OF_READING)
             return READING
+        if lower in ('linkaddr_cmp', 'rimeaddr_cmp') and len(parts) == 2:
+            self.why('An address is one number, which `==` compares.')
+            return '(%s == %s)' % (self.address(parts[0]), self.address(parts[1]))
         if lower == 'runicast_is_transmitting':
             return self.refuse(RUNICAST)
         test = node.text if node.text in TESTS else CALLS.get(lower, '') or self.test_meant(node)
@@ -621,6 +532,11 @@ class Writer:
         if self.unknown is not None and kind == 'timer' and self.scope.kinds.get(its) != 'timer':
             its = self.new_name(its, 'timer')
         return '%s(%s)' % (test, its)
+
+    def address(self, node: Node) -> str:
+        """An address, or the one that a pointer is to."""
+        its = node.parts[0] if node.kind == 'unary' and node.text == '&' else node
+        return 'self' if its.kind == 'name' and its.text in ADDRESSES else self.text(its)
 
     def drawn(self, limits: tuple[Node, ...]) -> str:
         """A random number; with two limits, one from the first to the second, and with one, below it."""
@@ -648,7 +564,7 @@ class Writer:
 
     def unary(self, sign: str, inner: Node) -> str:
         if sign == '!':
-            return '!' + self.text(inner)
+            return '!' + self.test(inner)
         if sign == '-':
             self.why('There are no numbers below 0: values have 16 bits, and `(0 - 1)` is 65535.')
             return '(0 - %s)' % self.text(inner)
@@ -684,6 +600,8 @@ class Writer:
             self.why(NO_UPPER_BYTE)
             return self.text(left if is_of_no_mote(sign, right) else right)
         assert sign in PLAIN
+        if sign in ('&&', '||') or sign in ('==', '!=') and value_of(right) == 0:
+            return '(%s %s %s)' % (self.test(left), sign, self.test(right))
         return '(%s %s %s)' % (self.text(left), sign, self.text(right))
 
     def with_sign(self, sign: str, left: Node, right: Node) -> str:
@@ -772,14 +690,66 @@ class Writer:
         if sign in ('&', '|') and is_test(right) and left.kind not in ('name', 'number'):
             self.why('There are no operators on bits: `%s` is "%s".' % (2 * sign, 'and' if sign == '&' else 'or'))
             return '(%s %s %s)' % (self.text(left), 2 * sign, self.text(right))
-        mask = number_of(right.text) if right.kind == 'number' else None
-        if sign != '&' or mask is None or mask & (mask + 1) or not mask:
-            # (the advice on a shift in it is more helpful)
-            self.text(left), self.text(right)
+        left, right = (right, left) if bits_of(left) is not None else (left, right)
+        bits, known = bits_of(right), bits_of(left)
+        if bits is None:
+            return self.joined(sign, left, right)
+        if known is not None:
+            self.why('There are no operators on bits: the value is %d.' % SIGNS[sign](known, bits))
+            return str(SIGNS[sign](known, bits))
+        if sign != '&' and bits < unit_of(left):
+            return self.joined(sign, left, right)
+        if sign == '&' and right.kind == 'number' and not bits & (bits + 1):
+            self.why('There are no operators on bits: `%% %d` has the same lower bits as `& %s`.' % (bits + 1,
+                                                                                                       right.text))
+        self.why(BY_PARTS)
+        return self.masked(sign, self.text(left), bits)
+
+    def masked(self, sign: str, text: str, bits: int) -> str:
+        """A value in which some bits are kept, set or turned around."""
+        if sign == '&' and len(runs_of(MOST - bits)) < len(runs_of(bits)):
+            return '(%s - %s)' % (text, self.kept(text, MOST - bits))
+        if sign == '&':
+            return self.kept(text, bits)
+        if bits in (0, MOST):
+            return text if not bits else '65535' if sign == '|' else '(65535 - %s)' % text
+        if sign == '|':
+            return '((%s - %s) + %d)' % (text, self.kept(text, bits), bits)
+        return '((%s + %d) - (2 * %s))' % (text, bits, self.kept(text, bits))
+
+    def kept(self, text: str, bits: int, is_test: bool = False) -> str:
+        """Some bits of a value; for a test only whether one of them is set."""
+        found = []
+        for low, count in runs_of(bits):
+            upper = text if low == 1 else '(%s / %d)' % (text, low)
+            its = upper if low * count > MOST else '(%s %% %d)' % (upper, count)
+            found.append(its if low == 1 or is_test else '(%s * %d)' % (its, low))
+        if len(found) > MOST_RUNS:
             return self.refuse(NO_BITS)
-        self.why('There are no operators on bits: `%% %d` has the same lower bits as `& %s`.' % (mask + 1,
-                                                                                                   right.text))
-        return '(%s %% %d)' % (self.text(left), mask + 1) if mask < MOST else self.text(left)
+        return '(%s)' % ' + '.join(found) if len(found) > 1 else ''.join(found) or '0'
+
+    def joined(self, sign: str, left: Node, right: Node) -> str:
+        """Two values that have no bits in common."""
+        texts = self.text(left), self.text(right)
+        pairs = sorted(((left, right), (right, left)), key=lambda it: unit_of(it[0]), reverse=True)
+        if sign == '&' or unit_of(pairs[0][0]) == 1:
+            named = left.kind == right.kind == 'name' and sign != '^'
+            return self.refuse(OF_BIT.format(flags=texts[0], bit=texts[1]) if named else NO_BITS)
+        self.why(JOINED)
+        if not any(most_of(low) < unit_of(high) for high, low in pairs):
+            self.insist(NOT_ABOVE % (self.text(pairs[0][1]), unit_of(pairs[0][0])))
+        return '(%s + %s)' % texts
+
+    def test(self, node: Node) -> str:
+        """A value of which only matters whether it is 0."""
+        if node.kind != 'binary' or node.text != '&':
+            return self.text(node)
+        left, right = node.parts[::-1] if bits_of(node.parts[0]) is not None else node.parts
+        bits = bits_of(right)
+        if bits is None or bits_of(left) is not None or not bits & (bits + 1):
+            return self.text(node)
+        self.why(BY_PARTS)
+        return self.kept(self.text(left), bits, True)
 
     def part(self, node: Node) -> str:
         """The number of a mote instead of a part of its address. Other arrays and fields are refused."""

@@ -2,9 +2,8 @@
 from __future__ import annotations
 
 from motesim.from_c.closings import Closing
-from motesim.from_c.expressions import (
-    ONE_TOO_MANY, READ_ONLY, Choice, Expressions, NoCounterpart, Node, Step, Writer,
-)
+from motesim.from_c.expressions import ONE_TOO_MANY, READ_ONLY, Expressions, NoCounterpart, Writer
+from motesim.from_c.nodes import Choice, Node, Step
 from motesim.from_c.places import Surroundings
 from motesim.from_c.scope import Scope, allowed
 from motesim.from_c.tokens import tokens_of

@@ -8,16 +8,18 @@ from __future__ import annotations
 import re
 
 from motesim.from_c.absent import NO_ACTIVATION, NO_SENSORS, NO_SINK, SENDS, SENSORS, SENT_ALREADY, is_sensor
+from motesim.from_c.bits import bits_of, is_one
 from motesim.from_c.calls import BROADCAST, CALLS, Calls
 from motesim.from_c.control import ENDS, Control
 from motesim.from_c.declarations import ABOVE, OF_PACKETS, Declarations
 from motesim.from_c.expressions import (
-    DICE, FIRST, MOMENTS_OF_SECOND, NO_ARRAYS, NO_CALLS, NO_CHANCE, NO_FIELDS, QUALIFIERS, READ_ONLY, STEP, TYPES,
-    NoCounterpart, Node,
+    DICE, FIRST, MOST, NO_ARRAYS, NO_CALLS, NO_CHANCE, NO_FIELDS, QUALIFIERS, READ_ONLY, STEP, TYPES, NoCounterpart,
 )
+from motesim.from_c.nodes import MOMENTS_OF_SECOND, Node
 from motesim.from_c.scope import allowed, nearest
 from motesim.notation.faults import MOST_LEVELS, STATEMENTS
 
+OF_ONE_BIT = 'There are no operators on bits: a bit is set by `+` if it is 0, and cleared by `-` if it is 1.'
 PRINTS = ('printf', 'print', 'println', 'puts', 'putchar', 'log_info', 'log_dbg', 'log_warn', 'log_err')
 # A packet that names its receiver has 8 bits for the receiver, and 8 for the value.
 LARGEST_PART = 255
@@ -184,6 +186,8 @@ class Statements(Declarations, Calls, Control):
             self.expression()
             self.why(OF_LEDS)
             return self.end('print ' + LEDS[lower])
+        if lower in ('linkaddr_copy', 'rimeaddr_copy') and behind == '(':
+            return self.copied()
         if lower in ('packetbuf_copyfrom', 'broadcast_send', 'abc_send') and behind == '(':
             return self.of_packet(lower)
         if lower in OPENS and behind == '(':
@@ -238,6 +242,15 @@ class Statements(Declarations, Calls, Control):
         self.why('Did you mean `%s`?' % like)
         self.tokens[self.at] = self.token._replace(kind='name', text=like)
         return self.statement()
+
+    def copied(self) -> str:
+        """An address that is copied, as an assignment."""
+        call = self.expression()
+        if len(call.parts) != 2:
+            raise NoCounterpart
+        named = call.parts[0].parts[0] if call.parts[0].kind == 'unary' else call.parts[0]
+        self.why('An address is one number, which `=` assigns.')
+        return self.end('%s = %s' % (self.variable(named.text), self.writer.address(call.parts[1])))
 
     def of_end(self) -> str:
         """A word that ends a block in other languages."""
@@ -329,7 +342,7 @@ class Statements(Declarations, Calls, Control):
             self.why('`into` stores the result of a `post` in a variable.')
             text = self.own().removesuffix(';')
             return '%s;' % text if text.startswith('synch') else '%s into %s;' % (text, variable)
-        right = self.expression()
+        right = self.assigned(self.expression())
         if right.kind == 'call' and right.text.lower() == 'process_post' and len(right.parts) == 3:
             return self.end('%s into %s' % (self.of_call(right), variable))
         if right.kind == 'choice' and sign == '=':
@@ -337,10 +350,25 @@ class Statements(Declarations, Calls, Control):
             test, yes, no = map(self.writer.text, right.parts)
             self.end('')
             return 'if %s { %s = %s; } else { %s = %s; }' % (test, variable, yes, variable, no)
+        if sign in ('|=', '&=') and is_one(self.bits_set(sign, right)):
+            return self.of_bit(sign, variable, self.bits_set(sign, right) or 0)
         if len(sign) > 1 and sign not in ('==', ':='):
             self.why('There is no `%s`.' % sign)
             right = Node('binary', sign[:-1], (Node('name', name), right))
         return self.end('%s = %s' % (variable, self.writer.text(right)))
+
+    def bits_set(self, sign: str, mask: Node) -> int | None:
+        """The bits that `|=` sets or `&=` clears, if they are known."""
+        bits = bits_of(mask)
+        return bits if bits is None or sign == '|=' else MOST - bits
+
+    def of_bit(self, sign: str, variable: str, bit: int) -> str:
+        """One bit that is set or cleared."""
+        self.end('')
+        self.why(OF_ONE_BIT)
+        test = self.writer.kept(variable, bit, True)
+        return 'if %s%s { %s = (%s %s %d); }' % ('!' * (sign == '|='), test, variable, variable,
+                                                 '+' if sign == '|=' else '-', bit)
 
     def of_event(self, name: str) -> str:
         """An event that is created by a call: it is declared at the top."""
