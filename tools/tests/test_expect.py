@@ -192,6 +192,20 @@ class Sentences(unittest.TestCase):
                 assert broken is not None
                 self.assertEqual(broken.row, row, broken.why)
 
+    def test_another_process_that_prints_the_values_is_named(self) -> None:
+        for sentence, more in (('mote 3 prints just hears 1, 2', '; process flood prints exactly these values'),
+                               ('mote 3 prints just hears 2, 1', ''), ('mote 3 prints just hears 1 to 3', ''),
+                               ('mote 3 prints just hears 2, 1 in any order',
+                                '; process flood prints exactly these values'),
+                               ('mote 3 prints hears 2', '; process flood prints this value'),
+                               ('mote 3 finally prints hears 2', '; process flood prints this value'),
+                               ('mote 3 prints hears 2 by 50', ''), ('mote 3 prints hears', ''),
+                               ('mote 1 prints hears 2', '; it prints hears 1 at moment 43, and 1 other')):
+            broken = self.judge.broken(read_sentence(sentence, self.names))
+            with self.subTest(sentence):
+                assert broken is not None
+                self.assertEqual(''.join(broken.why.partition(';')[1:]).removeprefix('; wanted: at least 1'), more)
+
     def test_the_greatest_mote_number_is_that_of_the_net(self) -> None:
         for motes in 3, 4:
             lines = REPORT.replace('46 print hears 2', '46 print hears %d' % (motes - 1))
