@@ -18,6 +18,26 @@ class NotWritten(Fault):
         self.why = why
 
 
+def refuse_inputs(path: str | Path, inputs: Iterable[str | Path | None], option: str = '-o') -> None:
+    """Raises a fault if writing this file would replace an input of the command, even if the names differ.
+
+    Each tool calls this for each file that the user names, before it does anything that lasts long. A name that is
+    None isn't an input. Files that aren't regular, such as standard input and output, are never the same.
+    """
+    path = Path(path)
+    for it in inputs:
+        if it is not None and _is_same(path, Path(it)):
+            name = 'an input of this command' if str(path) == str(it) else '%s, an input of this command' % it
+            raise Fault('writing %s would replace %s: name another file with %s' % (path, name, option))
+
+
+def _is_same(one: Path, other: Path) -> bool:
+    try:
+        return one.is_file() and other.is_file() and one.samefile(other)
+    except (OSError, ValueError):
+        return False
+
+
 def write_whole(path: str | Path, parts: Iterable[bytes]) -> None:
     """Writes a file under a temporary name, and renames it at the end; until then an earlier file stays.
 

@@ -32,6 +32,7 @@ from pathlib import Path, PurePosixPath
 from typing import NamedTuple
 
 from motesim.faults import Fault, command
+from motesim.files import refuse_inputs
 from motesim.runner.optimized import wait_for_optimized
 from motesim.runner.programs import COMPILED, TOP, is_proved, program_of_sources, program_path
 from motesim.scenario import kinds
@@ -241,8 +242,11 @@ def main() -> int:
                        help='pack solutions, hidden nets and the page for teachers too')
     asked = words.parse_args()
     its = sorted_files(parts(), asked.own, has_all=asked.for_teachers)
-    folder, packed = 'motesim-%s' % VERSION, program()
+    folder = 'motesim-%s' % VERSION
     path = asked.output or Path(folder + '.tar.gz')
+    refuse_inputs(path, [*its.packed.values(), *(file for _, file in own_files(asked.own, TOP))])
+    packed = program()
+    refuse_inputs(path, [packed])
     data = archive(folder, packed, its)
     path.write_bytes(data)
     for line in its.notes():

@@ -19,11 +19,13 @@ def main() -> int:
                        help='the page to write; by default NAME.html, next to FILE')
     words.add_argument('--title', help='the title of the page; by default the name of the file')
     asked = words.parse_args()
+    from motesim.files import refuse_inputs
     from motesim.output import beside
     from motesim.runner.run import read_run
     from motesim.timeline.html import write_page
     name = 'run' if asked.file == '-' else Path(asked.file).stem
     page = asked.page or str(beside(asked.file, name + '.html'))
+    refuse_inputs(page, [asked.file, asked.scenario])
     write_page(page, asked.title or name, [read_run(asked.file, asked.scenario)])
     print(page)
     return 0

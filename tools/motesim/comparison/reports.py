@@ -9,6 +9,7 @@ from typing import Any, NamedTuple
 from motesim.comparison import scenarios as scenario_differences
 from motesim.comparison.columns import MEDIUM, Both
 from motesim.faults import Fault
+from motesim.files import refuse_inputs
 from motesim.report import FIELDS, KINDS, Line, Packet, Report
 from motesim.runner.run import Run, read_run
 from motesim.timeline.html import write_page
@@ -292,6 +293,8 @@ def status_of(asked: argparse.Namespace) -> int:
     """Prints the comparison; returns the status."""
     if asked.a == asked.b == '-':
         raise Fault('A and B can\'t both be standard input: one of them is a file')
+    if asked.html:
+        refuse_inputs(asked.html, [asked.a, asked.b], '--html')
     a, b = read_run(asked.a), read_run(asked.b)
     lines, first, is_same = compared(a, b, max(1, asked.rows))
     if asked.html:

@@ -9,6 +9,7 @@ from motesim.contiki.names import file_names
 from motesim.contiki.program_file import ProgramFile
 from motesim.contiki.reader import read_program
 from motesim.faults import Fault
+from motesim.files import refuse_inputs
 from motesim.scenario import Scenario
 from motesim.scenario.faults import find_fault
 
@@ -120,6 +121,8 @@ def write_folder(data: bytes, path: str, folder: Path, with_host: bool) -> list[
         raise Fault('%s: %s (tools/explain %s says more)' % (path, fault.message, path))
     scenario = Scenario.parse(data)
     texts = list(folder_files(Path(path).stem, scenario, with_host))
+    for name, _ in texts:
+        refuse_inputs(folder / name, [path])
     return [_written(folder / name, text) for name, text in texts]
 
 

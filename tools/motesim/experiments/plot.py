@@ -22,6 +22,7 @@ from motesim.experiments.results import Row
 from motesim.experiments.selected import Sides, kinds_in, note_of_compared, note_of_measures, runs_of, sides_of
 from motesim.experiments.wishes import WHERE, check_by, table_path, wishes
 from motesim.faults import Fault
+from motesim.files import refuse_inputs
 from motesim.summary.counts import table
 
 
@@ -182,6 +183,10 @@ def drawn(wish: Wish, asked: argparse.Namespace, read: dict[tuple[str, ...], lis
     rows, other = joined(read[key], wish.by), folder / wish.compare
     files = (results, other) if wish.compare else (results,)
     wish = wish._replace(kinds=kinds_in(files), where=where)
+    if wish.file:
+        picture = folder / wish.file
+        for path in picture, table_path(picture), origin_path(picture):
+            refuse_inputs(path, [*files, asked.plan])
     source = Source(folder, files, shlex.join(['tools/plot', *sys.argv[1:]]), where)
     if wish.pair or wish.compare:
         return compare(sides_of(wish, rows, results, other, where), wish, source)

@@ -14,7 +14,8 @@ from pathlib import Path
 from motesim.analysis.points import is_seed
 from motesim.experiments import packages
 from motesim.faults import INTERRUPTED, Fault
-from motesim.experiments.measures import edition_of
+from motesim.files import refuse_inputs
+from motesim.experiments.measures import edition_of, file_of
 from motesim.experiments.one_run import DIGITS, TOO_BUSY, Job, Result, Work, digest, program_digest
 from motesim.output import beside
 from motesim.plan.plan import UNUSED, Plan
@@ -314,7 +315,10 @@ def status_of(asked: argparse.Namespace) -> int:
         # (an error in a picture is reported before the runs, not after them)
         wishes_of(plan)
     sweep.most_bytes = asked.bytes
-    sweeper = Sweeper(sweep, Path(asked.output) if asked.output else default_output(asked.plan), asked.plot)
+    output = Path(asked.output) if asked.output else default_output(asked.plan)
+    of_measures = [plan.files.folder / it for it in map(file_of, sweep.measures) if it]
+    refuse_inputs(output, [*plan.paths(sweep.run_at(0)), *of_measures])
+    sweeper = Sweeper(sweep, output, asked.plot)
     sweeper.keep(asked.renew, asked.retry)
     of_pictures = [] if asked.plot else warnings_of_names(plan, sweeper.to_come())
     for line in [*sweeper.of_defaults(), *sweeper.alike(), *(UNUSED % (it, it) for it in unused(sweep)), *of_pictures]:

@@ -7,7 +7,7 @@ from pathlib import Path
 
 from motesim.contiki.folder import write_folder
 from motesim.export import pcapng, perfetto, tables, vcd
-from motesim.files import write_whole
+from motesim.files import refuse_inputs, write_whole
 from motesim.report import Report
 from motesim.runner.run import read_file, read_run
 
@@ -18,10 +18,16 @@ def encoded(lines: Iterable[str]) -> Iterable[bytes]:
     return (line.encode() + b'\n' for line in lines)
 
 
+def ends_of(form: str) -> list[str]:
+    """The endings of the names of a form's files."""
+    return ['.%s.csv' % name for name in tables.TABLES] if form == 'csv' else ['']
+
+
 def parts_of(report: Report, form: str) -> dict[str, Iterable[bytes]]:
     """The files of a form: for each, the ending of its name, and its bytes."""
     if form == 'csv':
-        return {'.%s.csv' % name: (line.encode() for line in tables.table(report, name)) for name in tables.TABLES}
+        return {end: (line.encode() for line in tables.table(report, name))
+                for name, end in zip(tables.TABLES, ends_of(form))}
     work: dict[str, Callable[[], Iterable[bytes]]] = {
         'vcd': lambda: encoded(vcd.vcd(report)), 'pcapng': lambda: pcapng.pcapng(report),
         'perfetto': lambda: encoded(perfetto.perfetto(report))}
@@ -42,6 +48,8 @@ def status_of(asked: argparse.Namespace) -> int:
         return export_program_files(asked.report, asked.output, asked.host)
     name = 'run' if asked.report == '-' else Path(asked.report).stem
     begin = asked.output or name + ENDS[asked.to]
+    for end in ends_of(asked.to):
+        refuse_inputs(begin + end, [asked.report])
     for end, parts in parts_of(read_run(asked.report).report, asked.to).items():
         write_whole(Path(begin + end), parts)
         print(begin + end)

@@ -10,12 +10,12 @@ from pathlib import Path
 
 from motesim.explain.synonyms import nearest
 from motesim.faults import Fault
-from motesim.files import replace_whole
+from motesim.files import refuse_inputs, replace_whole
 from motesim.grading import page, tables
 from motesim.grading.entries import Entry, anonymous, data_of, entries_of, skipped_of
 from motesim.grading.marking import Marks, Task, page_name, unmarked
 from motesim.grading.nets import (
-    Net, hidden_and_shown, nets_of, nets_with_cut_off, nets_with_wide_sets, program_of, without_nets,
+    Net, files_of, hidden_and_shown, nets_of, nets_with_cut_off, nets_with_wide_sets, program_of, without_nets,
 )
 from motesim.grading.own import OF_KEY
 from motesim.grading.pages import keep_names, pages_of, remove_earlier
@@ -93,6 +93,16 @@ def write(path: Path, marked: Sequence[Marks], sentences: Sequence[str], task: T
                             time.strftime('%Y-%m-%d at %H:%M'), bool(task.nets))
     written(path, text)
     print(path)
+
+
+def refuse_all_inputs(asked: argparse.Namespace, entries: Sequence[Entry]) -> None:
+    """Raises a fault if the marks or their key would replace the expectations, a net or a solution."""
+    solutions = [it.path for it in entries if it.is_solution]
+    inputs = [asked.expectations, *files_of([*asked.net, *asked.hidden]), *solutions]
+    for path, option in (*((it, '-o') for it in asked.output), (asked.key, '--key')):
+        # (a link is replaced, so the file to which it points stays)
+        if path and not path.is_symlink():
+            refuse_inputs(path, inputs, option)
 
 
 def write_scenarios(folder: Path, entries: Sequence[Entry], task: Task) -> None:
@@ -189,6 +199,7 @@ def status_of(asked: argparse.Namespace) -> int:
     pictures = pages_of(pages[0]) if pages else None
     task = task_of(asked, pictures)
     entries = entries_of(asked.folder)
+    refuse_all_inputs(asked, entries)
     if asked.why is not None:
         entry = entry_of(asked.why, entries, asked.folder)
         for line in others_of(asked.why, entry, entries):

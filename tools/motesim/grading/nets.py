@@ -124,6 +124,12 @@ def nets_of(paths: Sequence[Path], vary: Sequence[str], program: str | None, is_
     return [replace(it, is_hidden=is_hidden) for it in found]
 
 
+def files_of(paths: Sequence[Path]) -> list[Path]:
+    """The files of nets, and the files that plans among them need with their own values."""
+    found = [_read(path) for path in paths]
+    return [*paths, *(it for plan in found if isinstance(plan, Plan) for it in plan.paths({}))]
+
+
 def without_nets(vary: Sequence[str], is_hidden: bool = False) -> list[str]:
     """The line about the combinations of values that have no net, because there are too many."""
     option = OPTIONS[is_hidden][0]

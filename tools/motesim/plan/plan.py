@@ -80,6 +80,11 @@ class Plan:
         """The names of the files that the scenario needs, as far as they are known."""
         return files_of(self.tables.with_parameters(self.with_given(given)), self.files)
 
+    def paths(self, given: Mapping[str, Value]) -> list[Path]:
+        """The file of the plan, and the files that the scenario needs."""
+        folder = self.files.folder
+        return [folder / self.name, *(folder / it for it in self.used_files(given))]
+
     def digest(self, given: Mapping[str, Value]) -> str:
         """The SHA-256 of the parts of the plan that determine a run, and of the files that it needs."""
         return self.files.digest(self.tables.of_runs(), self.used_files(given))

@@ -8,7 +8,7 @@ from pathlib import Path
 
 from motesim.scenario import faults as scenario_faults
 from motesim.faults import Fault
-from motesim.files import write_whole
+from motesim.files import refuse_inputs, write_whole
 from motesim.output import beside
 from motesim.plan.from_scenario import write_plan
 from motesim.plan.plan import UNUSED, Plan
@@ -70,6 +70,7 @@ def status_of(asked: argparse.Namespace) -> int:
     if not asked.output:
         sys.stdout.write(text)
         return 0
+    refuse_inputs(asked.output, plan.paths(given))
     try:
         write_whole(asked.output, [text.encode('utf-8')])
     except OSError as fault:

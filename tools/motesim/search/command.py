@@ -11,6 +11,7 @@ from motesim.experiments import packages
 from motesim.experiments.asked import values_of
 from motesim.experiments.runs import Break
 from motesim.faults import INTERRUPTED, Fault
+from motesim.files import refuse_inputs
 from motesim.judge.expectations import beside, parts_of, read_all, text_of
 from motesim.judge.sentences import Names, Refused, Sentence, names_of
 from motesim.plan.plan import Plan
@@ -112,6 +113,20 @@ def asking_of(words: argparse.Namespace) -> Asking:
     texts, sentences = sentences_of(words, names_of(base.scenario_itself))
     bounds = Bounds(words.at_most, words.random, words.seed, words.most_runs, words.most_seconds)
     return Asking(base, texts, sentences, asked_of(words), bounds, Limits(words.seconds, words.bytes))
+
+
+def refuse_all_inputs(words: argparse.Namespace, asking: Asking, folder: Path) -> None:
+    """Raises a fault if the search would write a file over its scenario, its plan or its expectations."""
+    path = Path(words.scenario)
+    inputs = [path, Path(words.expectations) if words.expectations else beside(path)]
+    inputs += asking.base.plan.paths({}) if asking.base.plan else []
+    for name, option in (words.csv, '--csv'), (words.json, '--json'):
+        if name:
+            refuse_inputs(name, inputs, option)
+    small = ['small_%d.toml' % number for number in range(1, len(asking.texts) + 1)] if words.shrink else []
+    for it in map(folder.joinpath, (STATE, 'found.csv', *small)):
+        for name in it, beside(it):
+            refuse_inputs(name, inputs)
 
 
 def show(words: argparse.Namespace, asking: Asking, search: Search, folder: Path) -> int:
@@ -216,11 +231,12 @@ def status_of(words: argparse.Namespace) -> int:
         packages.hand_on('search', 'distributed', sys.argv)
         packages.load('distributed')
     asking = asking_of(words)
+    folder = Path(words.output) if words.output else Path(
+        Path(words.scenario).name.removesuffix('.toml').removesuffix('.plan') + '.search')
+    refuse_all_inputs(words, asking, folder)
     if len(asking.plain.broken) == len(asking.texts):
         raise Fault('%s breaks each of the expectations without a fault, so there is nothing to search for'
                     % words.scenario)
-    folder = Path(words.output) if words.output else Path(
-        Path(words.scenario).name.removesuffix('.toml').removesuffix('.plan') + '.search')
     folder.mkdir(parents=True, exist_ok=True)
     kept = Kept()
     kept.open(folder / STATE, asking.digest(), words.resume)

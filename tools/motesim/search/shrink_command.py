@@ -6,6 +6,7 @@ from pathlib import Path
 
 from motesim.experiments.runs import Break
 from motesim.faults import INTERRUPTED, Fault
+from motesim.files import refuse_inputs
 from motesim.judge.expectations import beside, parts_of, read_all, text_of
 from motesim.judge.judge import Judge
 from motesim.judge.sentences import names_of
@@ -69,6 +70,9 @@ def status_of(asked: argparse.Namespace) -> int:
     program = OneProgram(str(program_path().resolve()), Limits(asked.seconds))
     is_file = not asked.expectation or asked.expectation.endswith('.toml')
     expected = Path(asked.expectation) if asked.expectation else beside(path)
+    output = Path(asked.output) if asked.output else Path(path.name.removesuffix('.toml') + '.small.toml')
+    for made in output, beside(output):
+        refuse_inputs(made, [path, expected])
     sentence = first_broken(base, expected, program) if is_file else asked.expectation
     read_all([sentence, *asked.keep], names_of(base.scenario_itself))
     effects = tuple(effect_of(it, base.scenario_itself.motes) for it in asked.fault)
@@ -77,7 +81,6 @@ def status_of(asked: argparse.Namespace) -> int:
         shrinking = Shrinking(program, case, lambda: stop.is_asked)
         before = shrinking.text
         shrinking.run()
-    output = Path(asked.output) if asked.output else Path(path.name.removesuffix('.toml') + '.small.toml')
     write_result(shrinking, case.net, path.name, output)
     if asked.steps:
         for number, it in enumerate(shrinking.taken, 1):

@@ -1,0 +1,128 @@
+"""No tool replaces its own inputs by a file that it writes, even if the two names of the file differ."""
+import os
+import subprocess
+import sys
+import tempfile
+import unittest
+from pathlib import Path
+
+from here import TOOLS
+from motesim.faults import Fault
+from motesim.files import refuse_inputs
+from skips import interpreter_with, need_program
+
+SCENARIO = '''version = 1
+end = 50
+[medium]
+range = 10
+base = 2
+per = 100
+[programs]
+p = "process a; autostart a; receiver a; code a { body { if (self == 0) { send 1; } yield; print data; } }"
+[[mote]]
+x = 0
+y = 0
+program = "p"
+[[mote]]
+x = 5
+y = 0
+program = "p"
+'''
+PLAN = '''end = 50
+[medium]
+range = 10
+base = 2
+per = 100
+[parameters]
+seed = 1
+[places]
+rule = "csv"
+file = "places.csv"
+program = "a.mote"
+'''
+PROGRAM = 'process a;\nautostart a;\ncode a { body { print ${seed}; } }\n'
+REPORT = 'mote 0 p\n0 start etimer\n0 start ctimer\n0 start radio\n0 start a\nmedium\nleft 0\n'
+FILES = {'net.toml': SCENARIO, 'net.expect.toml': 'expect = ["mote 1 prints a 1"]\n', 'net.plan.toml': PLAN,
+         'a.mote': PROGRAM, 'places.csv': 'x,y\n0,0\n5,0\n', 'run.html': REPORT, 'run.lines.csv': REPORT,
+         'measures.py': 'def one(run):\n    return 1\n', 'empty.py': '', 'solutions/anna.toml': SCENARIO,
+         'README.md': SCENARIO, 'found.csv': SCENARIO, 'small_1.toml': SCENARIO}
+# Commands that would replace one of their inputs.
+WRONG = (
+    'scenario net.plan.toml -o net.plan.toml', 'scenario net.plan.toml -o a.mote',
+    'scenario net.plan.toml -o places.csv', 'scenario net.plan.toml -o link',
+    'scenario net.plan.toml -o other/../a.mote',
+    'timeline net.toml -o net.toml', 'timeline run.html', 'timeline run.html --scenario net.toml -o net.toml',
+    'export net.toml --to vcd -o net.toml', 'export run.lines.csv --to csv -o run',
+    'export README.md --form contiki -o .', 'compare run.html net.toml --html net.toml',
+    'compare run.html net.toml --html run.html',
+    'shrink net.toml -o net.toml', 'shrink net.toml -o net.expect.toml', 'shrink net.toml net.expect.toml -o net.x',
+    'search net.toml --csv net.toml', 'search net.toml --json net.expect.toml',
+    'search net.plan.toml --csv a.mote --expect mote_1_prints_a', 'search found.csv --expect mote_1_prints_a -o .',
+    'search small_1.toml --expect mote_1_prints_a -o . --shrink',
+    'grade solutions net.expect.toml --net net.toml -o net.toml', 'grade solutions net.expect.toml -o net.expect.toml',
+    'grade solutions net.expect.toml -o solutions/anna.toml',
+    'grade solutions net.expect.toml --hidden net.plan.toml --anonymous --key a.mote',
+    'sweep net.plan.toml --measure sent -o net.plan.toml', 'sweep net.plan.toml --measure sent -o a.mote',
+    'sweep net.plan.toml --measure python:_measures.py:one -o measures.py',
+    'pack solutions -o solutions/anna.toml')
+
+
+class Inputs(unittest.TestCase):
+    def setUp(self) -> None:
+        room = tempfile.TemporaryDirectory()
+        self.addCleanup(room.cleanup)
+        self.room = Path(room.name)
+        for folder in 'solutions', 'other':
+            (self.room / folder).mkdir()
+        for name, text in FILES.items():
+            (self.room / name).write_text(text)
+        os.link(self.room / 'a.mote', self.room / 'link')
+
+    def texts(self) -> dict[str, bytes]:
+        return {str(it): it.read_bytes() for it in sorted(self.room.rglob('*')) if it.is_file()}
+
+    def done(self, words: str) -> 'subprocess.CompletedProcess[str]':
+        """The result of a tool; in the arguments `_` is a space."""
+        tool, *more = words.split()
+        given = [it if it in FILES else it.replace('_', ' ') for it in more]
+        return subprocess.run([sys.executable, '-B', TOOLS / tool, *given], cwd=self.room, capture_output=True,
+                              text=True)
+
+    def test_each_tool_refuses_to_replace_its_inputs(self) -> None:
+        need_program(self)
+        before = self.texts()
+        for words in WRONG:
+            with self.subTest(words):
+                done = self.done(words)
+                self.assertIn(' would replace ', done.stderr)
+                self.assertIn(': name another file with -', done.stderr)
+                self.assertEqual((done.returncode, done.stdout), (2, ''))
+                self.assertEqual(self.texts(), before)
+
+    def test_a_picture_and_its_tables_replace_no_results(self) -> None:
+        python = interpreter_with(self, 'matplotlib')
+        need_program(self)
+        self.done('sweep net.plan.toml --vary seed=1..3 --measure sent -o a.table.csv')
+        before = self.texts()
+        for words in ('a.table.csv --measure sent --against seed -o a.svg',
+                      'b.csv --compare a.table.csv --measure sent --against seed -o a.svg'):
+            (self.room / 'b.csv').write_bytes(before[str(self.room / 'a.table.csv')])
+            done = subprocess.run([python, '-B', TOOLS / 'plot', *words.split()], cwd=self.room, capture_output=True,
+                                  text=True)
+            self.assertEqual((done.returncode, done.stderr), (
+                2, 'plot: writing a.table.csv would replace an input of this command: name another file with -o\n'))
+            (self.room / 'b.csv').unlink()
+            self.assertEqual(self.texts(), before)
+
+    def test_other_files_may_be_replaced(self) -> None:
+        refuse_inputs(self.room / 'a.mote', [self.room / 'net.toml', None, self.room / 'none', '-'])
+        refuse_inputs(self.room / 'none', [self.room / 'none'])
+        refuse_inputs('/dev/null', ['/dev/null'])
+        refuse_inputs(self.room, [self.room])
+        with self.assertRaisesRegex(Fault, 'writing .*/link would replace .*/a.mote, an input of this command: name '
+                                           'another file with --html$'):
+            refuse_inputs(self.room / 'link', [self.room / 'a.mote'], '--html')
+
+
+if __name__ == '__main__':
+    unittest.main()
