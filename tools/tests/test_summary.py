@@ -198,6 +198,17 @@ from to copies received lost ring collided halted late ratio delay
             self.assertTrue(done.stderr.startswith('summary: several motes print the same value as a source: motes 0 '
                                                    'and 1 print 7. '), done)
 
+    def test_a_flow_whose_mote_prints_a_value_twice_as_a_source_has_a_warning(self) -> None:
+        # (a sequence number that wraps: four messages, of which one value arrives, and the ratio is 0.5)
+        prints = ''.join('%d print talker %d\n' % (at, at // 4 % 2) for at in (0, 4, 8, 12))
+        self.path.write_text('mote 0 talker\n%smote 1 hearer\n14 print hearer 1\nmedium\nleft 0\n' % prints)
+        for more in ((), ('--by', '10')):
+            done = self.run_it('--flow', 'print talker -> print hearer', *more)
+            self.assertTrue(done.stderr.startswith(
+                'summary: a mote prints the same value twice as a source: mote 0 prints 0 at moment 0 and at moment 8. '),
+                done)
+        self.assertEqual(self.run_it('--flow', 'print talker 7 -> print hearer').stderr.count('twice'), 0)
+
     def test_the_net_is_searched_once_for_each_origin(self) -> None:
         """Mote 0 sends thirty messages, all heard by mote 1: one origin, so one search for its row and one for the
         net."""

@@ -642,6 +642,24 @@ class SweepTest(Bed):
             'sweep: 3 of 3 runs have a warning in the column note; the first (period = 1): several motes print the '
             'same value as a source: motes 0 and 1 print 1. '), done)
 
+    def test_a_value_that_one_mote_prints_twice_is_reported_with_the_measures(self) -> None:
+        need_program(self)
+        (self.folder / 'net.plan.toml').write_text(PLAN)
+        (self.folder / 'a.mote').write_text(
+            'process a; autostart a; code a { var n = 0; etimer t; body { while (n < 4) { if (self == 0) { print (n % '
+            '${period}); } n = (n + 1); set t 2; yield_until fired(t); } } }')
+        command = self.command(
+            '--vary', 'period=2,4', '--measure', 'arrived = delivery: mote 0 prints a -> mote 1 prints a', '--measure',
+            'flow ratio: print a -> print a', '--measure', 'sent')
+        done = subprocess.run(command, cwd=self.folder, capture_output=True, text=True)
+        self.assertEqual((done.returncode, done.stderr.count('\n')), (0, 1), done)
+        self.assertTrue(done.stderr.startswith(
+            'sweep: 1 of 2 runs has a warning in the column note; the first (period = 2): a mote prints the same value '
+            'twice as a source: mote 0 prints 0 at moment 0 and at moment 4. '), done)
+        notes = [row['note'] for row in self.rows()]
+        self.assertTrue(notes[0].endswith(' (measures arrived, flow ratio: print a -> print a)'), notes)
+        self.assertEqual(notes[1], '')
+
     def test_runs_with_packets_of_one_moment_are_counted(self) -> None:
         need_program(self)
         plan = PLAN.replace('per = 100', 'per = 100\ncollide = true').replace('"a"', '"a"\nseed = 1')

@@ -25,7 +25,7 @@ from motesim.judge import judge as judges
 from motesim.summary import counts as summary
 from motesim.faults import Fault
 from motesim.summary.flows import NAMES as FLOW_NAMES
-from motesim.summary.flows import FlowFault, flow_rows, read_flow, shared, shared_in_flow
+from motesim.summary.flows import FlowFault, flow_rows, read_flow, same_value, same_value_in_flow
 from motesim.summary.shares import share
 from motesim.judge.judge import Event, Judge
 from motesim.plan.tables import Value
@@ -282,12 +282,12 @@ def _own(messages: Sequence[Line], receivers: Sequence[tuple[int, ...]]) -> str:
 
 
 def _warning_of_delivery(words: str, names: Names) -> Callable[[Bench], str]:
-    """The warning of a `delivery`: several motes print the same value as a source, or a mote is its own receiver."""
+    """The warning of a `delivery`: several messages have the same value, or a mote is its own receiver."""
     begin, end = (_plain(read_sentence(it.strip(), names), it.strip()) for it in words.split('->'))
 
     def found(judge: Judge) -> str:
         messages = _lines(judge, begin, judge.chosen(begin.motes))
-        return shared(messages) or _own(messages, _receivers(judge, end.motes))
+        return same_value(messages) or _own(messages, _receivers(judge, end.motes))
 
     of = _guarded(found)
     return lambda bench: str(of(bench) or '')
@@ -442,7 +442,7 @@ def read_measure(words: str, names: Names = Names(), sources: Mapping[str, str] 
         if flow:
             words_of_flow = flow[2]
             return Measure(name, text, _of_flow(flow[1], flow[2]),
-                           warning=lambda bench: shared_in_flow(bench.run.report, words_of_flow))
+                           warning=lambda bench: same_value_in_flow(bench.run.report, words_of_flow))
         if sentence:
             of = _of_sentence(sentence[1], sentence[2], names)
             if sentence[1] == 'delivery':

@@ -8,7 +8,7 @@ import hashlib
 import os
 import signal
 import threading
-from collections.abc import Iterator
+from collections.abc import Iterator, Sequence
 from contextlib import contextmanager
 from functools import lru_cache
 from pathlib import Path
@@ -149,7 +149,7 @@ def measured(work: Work, bench: Bench, known: Scenario) -> tuple[dict[str, Cell]
     """The measures of a run, and a note on those that fail or have a warning. Each measure has the same limit as the
     run."""
     found: dict[str, Cell] = {}
-    notes, doubts = [], dict[str, None]()
+    notes, doubts = [], dict[str, list[str]]()
     names, sources = names_of(known), dict(work.sources)
     for words in work.measures:
         name = name_of(words)
@@ -157,12 +157,18 @@ def measured(work: Work, bench: Bench, known: Scenario) -> tuple[dict[str, Cell]
             with limited(work.seconds):
                 measure = read_measure(words, names, sources)
                 found[name] = measure.of(bench)
-                doubts[measure.warning(bench)] = None
+                doubts.setdefault(measure.warning(bench), []).append(name)
         except BaseException as failure:
             # (a user's measure may raise any exception, even one that asks Python to exit)
             found[name] = None
             notes.append('%s: %s' % (name, reason_of(failure)))
-    return found, '; '.join([*notes, *(WARNING + it for it in filter(None, doubts))])
+    warnings = ['%s%s (%s)' % (WARNING, it, of_measures(its)) for it, its in doubts.items() if it]
+    return found, '; '.join([*notes, *warnings])
+
+
+def of_measures(names: Sequence[str]) -> str:
+    """The words for the measures with these names."""
+    return '%s %s' % ('measure' if len(names) == 1 else 'measures', ', '.join(names))
 
 
 def warned(report: Report, known: Scenario, seconds: float) -> list[str]:

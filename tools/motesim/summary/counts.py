@@ -14,7 +14,7 @@ from typing import Any
 from motesim.explain.moments import collided
 from motesim.faults import Fault
 from motesim.summary.flows import NAMES as FLOW_NAMES
-from motesim.summary.flows import NAMES_BY, flow_rows, flow_rows_by, shared_in_flow, silent
+from motesim.summary.flows import NAMES_BY, flow_rows, flow_rows_by, same_value_in_flow, silent
 from motesim.summary.shares import share
 from motesim.report import KINDS, LOST, MOST_MOMENT, OUTCOMES, Report
 from motesim.runner.run import Run, read_run
@@ -144,8 +144,8 @@ def write_csv(rows: list[Row], names: list[str]) -> None:
 
 
 def warn_of_flow(run: Run, words: str) -> None:
-    """Reports why a flow has nothing to show, and whether its motes begin messages of the same value."""
-    for line in filter(None, (*silent(run.report, run.scenario, words), shared_in_flow(run.report, words))):
+    """Reports why a flow has nothing to show, and whether prints begin messages of the same value."""
+    for line in filter(None, (*silent(run.report, run.scenario, words), same_value_in_flow(run.report, words))):
         print('summary: %s' % line, file=sys.stderr)
 
 

@@ -28,7 +28,9 @@ NAMES_BY = ['from', 'to', 'sent', 'delivered', 'ratio', 'reached', 'copies', 'du
 FORM = re.compile(r'\s*(?:(send|recv)|print\s+([A-Za-z][A-Za-z0-9_]*))'
                   r'(?:\s+([0-9]{1,5})(?:\s+to\s+([0-9]{1,5}))?)?\s*')
 
+# The beginnings of the warnings about messages that have the same value.
 SHARED = 'several motes print the same value as a source'
+TWICE = 'a mote prints the same value twice as a source'
 
 
 class FlowFault(Fault):
@@ -111,21 +113,33 @@ def silent(report: Report, scenario: Scenario | None, words: str) -> Iterator[st
             return
 
 
-def shared(sources: Iterable[Line]) -> str:
-    """A warning if several motes print a value as the source of a message; otherwise an empty text."""
-    firsts: dict[int, int] = {}
+def same_value(sources: Iterable[Line]) -> str:
+    """A warning if several motes print a value as the source of a message, or if a mote prints a value twice;
+    otherwise an empty text."""
+    firsts: dict[int, Line] = {}
+    again: tuple[Line, Line] | None = None
     for line in sources:
-        if line.kind == 'print' and line.value is not None and firsts.setdefault(line.value, line.mote) != line.mote:
+        if line.kind != 'print' or line.value is None:
+            continue
+        first = firsts.setdefault(line.value, line)
+        if first.mote != line.mote:
             return ('%s: motes %d and %d print %d. Messages are matched by value, so the message of one mote counts as '
                     'that of the other. Print values that differ for each mote, such as `print ((self * 256) + n)`, '
-                    'or use another measure' % (SHARED, firsts[line.value], line.mote, line.value))
-    return ''
+                    'or use another measure' % (SHARED, first.mote, line.mote, line.value))
+        if first is not line and again is None:
+            again = first, line
+    if again is None:
+        return ''
+    first, line = again
+    return ('%s: mote %d prints %d at moment %d and at moment %d. Messages are matched by value, so these two messages '
+            'count as one in a flow, and if the later one arrives, a `delivery` counts both as delivered. Print another '
+            'value for each message, or use another measure' % (TWICE, first.mote, first.value or 0, first.at, line.at))
 
 
-def shared_in_flow(report: Report, words: str) -> str:
-    """A warning if several motes begin messages of the same value by a print; otherwise an empty text."""
+def same_value_in_flow(report: Report, words: str) -> str:
+    """A warning if prints begin several messages of the same value; otherwise an empty text."""
     begin, _ = read_flow(words)
-    return shared(it for it in report.lines(begin.kind) if begin.has(it))
+    return same_value(it for it in report.lines(begin.kind) if begin.has(it))
 
 
 def messages(report: Report, begin: Mark, end: Mark) -> dict[int, Message]:
