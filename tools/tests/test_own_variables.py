@@ -66,6 +66,20 @@ STATIC = [
      'void third(void) {\n static int n = 20;\n n++;\n printf("%d\\n", n);\n }',
      'one();\n other();\n third();\n one();\n third();', [11, 21, 12, 22]),
 ]
+# Names that are one in small letters, and names of other kinds.
+OF_OTHERS = [
+    ('void tick(void) {\n int A = 7;\n printf("%d\\n", A);\n }',
+     'int N = 3, n = 4;\n int a = 1;\n tick();\n printf("%d\\n", a + n + N);', [7, 8],
+     'Names have small letters, so `N` and `n` would be one variable: the name is `n2` here'),
+    ('', 'int n = 4;\n int N = 3;\n n++;\n printf("%d\\n", n + N);', [8],
+     'Names have small letters, so `n` and `N` would be one variable: the name is `n2` here'),
+    ('', 'for (int I = 0; I < 2; I++) {\n for (int i = 0; i < 2; i++)\n printf("%d\\n", I * 10 + i);\n }',
+     [0, 1, 10, 11], '`I` and `i` would be one variable: the name is `i2` here'),
+    ('void tick(void) {\n printf("%d\\n", 3);\n }', 'int a = 4;\n tick();\n a++;\n printf("%d\\n", a);', [3, 5],
+     '`a` is a process already: the name is `a2` here'),
+    ('void tick(void) {\n printf("%d\\n", 3);\n }', 'tick();\n int tick = 4;\n tick++;\n printf("%d\\n", tick);',
+     [3, 5], '`tick` is a thread already: the name is `tick2` here'),
+]
 # Names that have another meaning in an expression.
 WORDS = [
     ('int data = 5;\n printf("%d\\n", data);\n if (data > 3) {\n data = data + 1;\n }\n printf("%d\\n", data + 1);',
@@ -75,6 +89,8 @@ WORDS = [
     ('int now = 5;\n printf("%d\\n", now + 1);', [6]),
     ('int timer = 3, stop = 4, set = 5;\n printf("%d\\n", timer + stop + set);', [12]),
     ('int msg = 5;\n msg = msg + 1;\n printf("%d\\n", msg);', [6]),
+    ('int count = 3;\n while (count > 1) {\n count--;\n printf("%d\\n", count);\n }', [2, 1]),
+    ('int stop, set = 5;\n stop = 4;\n if (stop < set) {\n printf("%d\\n", stop + set);\n }', [9]),
     ('int poll = 2;\n while (poll > 0) {\n poll--;\n printf("%d\\n", poll);\n }', [1, 0]),
     ('int x = 1;\n if (x) {\n int data = 2;\n printf("%d\\n", data);\n }\n if (x) {\n int data = 3;\n'
      ' printf("%d\\n", data);\n }', [2, 3]),
@@ -144,6 +160,18 @@ class OwnVariables(unittest.TestCase):
             said = ' '.join(hints(PROGRAM % ('', statements)))
             self.assertIn('has another meaning in a program: the name is `my_', said)
 
+    def test_a_name_that_something_else_has(self) -> None:
+        for *case, said in OF_OTHERS:
+            functions, statements, wanted = case
+            assert isinstance(functions, str) and isinstance(statements, str) and isinstance(wanted, list)
+            self.check(functions, statements, wanted)
+            self.assertIn(said, ' '.join(hints(PROGRAM % (functions, statements))))
+
+    def test_a_timer_of_another_process_leaves_its_name(self) -> None:
+        other = 'code b { etimer t; body { } }'
+        text = followed(PROGRAM.replace('process a;', 'process a, b;') % ('', 'int t = 3;\n print(t);') + other)
+        self.assertIn('t = 3;', text)
+
     def test_a_name_with_another_meaning_at_the_head(self) -> None:
         text = PROGRAM % ('var data = 3;', 'print data;')
         fault = find_fault(text)
@@ -159,6 +187,10 @@ class OwnVariables(unittest.TestCase):
         self.assertEqual((found.line, found.hint), (
             None, '`data` has another meaning in a program. Choose another name for this one, such as `my_data`, from '
                   'here to the end of its block.'))
+
+    def test_a_statement_in_many_lines_is_renamed_line_by_line(self) -> None:
+        lines = '\n'.join('print(count + %d);' % it for it in range(14))
+        self.check('', 'int count = 3;\n' + lines, [3 + it for it in range(14)])
 
     def test_events_of_the_notation_keep_their_names(self) -> None:
         text = followed(PROGRAM % ('', 'int msg = 2;\n post a msg 1;\n yield_until is(msg);\n print(msg);'))
@@ -204,6 +236,14 @@ class Flags(unittest.TestCase):
                    ' if (j == 2) break;\n }\n i++;\n if (i == 2) break;\n }', [0, 1, 0, 1])
         self.check('int i = 0;\n int done = 7;\n while (i < 9) {\n i++;\n if (i == 2) break;\n }\n'
                    ' printf("%d\\n", i);\n printf("%d\\n", done);', [2, 7])
+
+    def test_a_flag_that_is_needed_later_has_another_one(self) -> None:
+        self.check('int i = 0, found = 0;\n while (!found) {\n i++;\n if (i == 3) break;\n }\n printf("%d\\n", i);\n'
+                   ' printf("%d\\n", found);', [3, 0])
+        self.check('int k = 0, i = 0, stop = 0;\n while (k < 3) {\n k++;\n while (!stop) {\n i++;\n'
+                   ' if (i > 2 * k) break;\n }\n printf("%d\\n", i);\n }', [3, 5, 7])
+        self.check('int k = 0, i = 0, stop;\n while (k < 3) {\n k++;\n stop = 0;\n while (!stop) {\n i++;\n'
+                   ' if (i > 2 * k) break;\n }\n printf("%d\\n", i);\n }', [3, 5, 7])
 
     def test_two_breaks_of_one_loop(self) -> None:
         self.check('int i = 0;\n while (i < 9) {\n i++;\n if (i == 5) {\n break;\n } else {\n if (i == 3) {\n break;\n'

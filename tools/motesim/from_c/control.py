@@ -10,6 +10,7 @@ from motesim.from_c.nodes import Node
 from motesim.from_c.own_names import OwnNames
 from motesim.from_c.places import conjuncts, ends_loop, last_statement
 from motesim.from_c.scope import allowed
+from motesim.from_c.sharing import is_needed
 from motesim.from_c.tokens import Token, tokens_of
 
 NO_SWITCH = ('There is no `switch`: each `case` is a test of its own, `if (%s == %s) { .. } else { if (%s == %s) { .. '
@@ -199,6 +200,7 @@ class Control(OwnNames):
             self.writer.insist('There is no `break`: `%s;` already makes the test of the `while` false, so leave it '
                                'out. %s' % (before, REST_RUNS))
             return self.end('').removesuffix(';')
+        ends = [it for it in ends if not self.is_flag_needed(it.partition(' ')[0])]
         if not ends:
             raise NoCounterpart(NO_BREAK + self.of_flag(before))
         self.at += 1
@@ -213,6 +215,10 @@ class Control(OwnNames):
         rest = (*(it.text for it in self.tokens[self.at:]), *self.place.rest)
         found = [ends_loop(test) for test in conjuncts(self.place.loop) if FLAG.search(test)]
         return [it for it in found if it and not is_changed(it.partition(' ')[0], rest)]
+
+    def is_flag_needed(self, name: str) -> bool:
+        """Returns whether the value of the flag of a loop is needed after the `break`."""
+        return is_needed(self.words_around(), self.at + self.count_above(), name)
 
     def of_flag(self, before: str) -> str:
         """Advice to end a loop by a variable of its own, next to the test that it has."""

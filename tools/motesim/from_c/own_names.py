@@ -4,15 +4,17 @@ from __future__ import annotations
 from motesim.from_c.expressions import OWN_EVENTS, READ_ONLY, NoCounterpart
 from motesim.from_c.lines import Lines
 from motesim.from_c.scope import LONGEST
-from motesim.from_c.sharing import scope_of, user
+from motesim.from_c.sharing import is_declared, scope_of, user
 from motesim.from_c.tokens import TOKEN, Token, tokens_of
+from motesim.notation.faults import ARTICLES, STATEMENTS
 from motesim.notation.keywords import RESERVED
 
-# Names that have another meaning in an expression, and those of them that are statements, too.
+# Names that have another meaning in an expression: no message would be about a use of them.
 OTHERS = (*READ_ONLY, *OWN_EVENTS)
-STATEMENTS = ('exit', 'poll', 'continue')
 TAKEN = ('`%s` is already a variable of this process (%s uses it), and the blocks and threads of a process share its '
          'variables')
+OF_KIND = '`%s` is %s %s already'
+ONE_CASE = 'Names have small letters, so `%s` and `%s` would be one variable'
 MISREAD = '`%s` has another meaning in a program'
 RENAMED = '%s: the name is `%s` here, to the end of the block.'
 RENAME = '%s. Choose another name for this one, such as `%s`, from here to the end of its block.'
@@ -28,7 +30,7 @@ def means_variable(words: list[str], at: int) -> bool:
         return False
     if behind == '(':
         return False
-    return words[at] not in STATEMENTS or before not in ('', ';', '{', '}', ')', 'else') or not (
+    return words[at] not in (*STATEMENTS, 'continue') or before not in ('', ';', '{', '}', ')', 'else') or not (
         behind == ';' or behind.isidentifier())
 
 
@@ -39,23 +41,38 @@ class OwnNames(Lines):
         """The name of a variable of C that the token at a place declares in a block. In the rest of its scope it gets
         this name, too, if its name is that of another variable or has another meaning."""
         found = self.new_name(name)
-        if not self.is_variable(found) and name not in OTHERS:
+        reason = self.reason(name, found, at, is_static)
+        if not reason:
             return found
-        words, place = self.words_around(), len(_words(tokens_of(self.place.above))) + at
-        taken = user(words, place, found, is_static) if self.is_variable(found) else ''
-        if not taken and name not in OTHERS:
-            return found
-        new = self.fresh(found, {*words} - ({found} if not taken else set()))
-        reason = TAKEN % (found, taken) if taken else MISREAD % name
-        self.rename(name, new, at, at + scope_of(words, place) - place, RENAME % (reason, new))
+        words = {*self.words_around()}
+        new = self.fresh(found, words - {found} if reason == MISREAD % name else words)
+        if not self.rename(name, new, at):
+            if name not in OTHERS and new == found:
+                return found
+            raise NoCounterpart(RENAME % (reason, new))
         self.writer.reasons = [it for it in self.writer.reasons if not it.startswith('`%s` is a word' % name)]
         self.writer.insist(RENAMED % (reason, new))
         self.scope.kinds[new] = 'variable'
         return new
 
+    def reason(self, name: str, found: str, at: int, is_static: bool) -> str:
+        """The reason why a variable of C can't have a name of the notation, or nothing if it can."""
+        words, place, kind = self.words_around(), self.count_above() + at, self.scope.kinds.get(found, 'variable')
+        if kind in ('event', 'semaphore', 'process') or kind != 'variable' and is_declared(words, place, found):
+            return OF_KIND % (found, ARTICLES[kind], kind)
+        others = {it for it in words if it.lower() == found} - {name}
+        if others:
+            return ONE_CASE % (name, min(others))
+        taken = user(words, place, found, is_static) if self.is_variable(found) else ''
+        return TAKEN % (found, taken) if taken else MISREAD % name if name in RESERVED else ''
+
     def is_variable(self, name: str) -> bool:
         """Returns whether the process has a variable, also if these lines declare it."""
         return name in self.place.variables or any(it.startswith('var %s ' % name) for it in self.declares)
+
+    def count_above(self) -> int:
+        """The number of words above these lines."""
+        return len(_words(tokens_of(self.place.above)))
 
     def words_around(self) -> list[str]:
         """The words of the program that has these lines."""
@@ -70,23 +87,27 @@ class OwnNames(Lines):
             found = name[:LONGEST - len(str(count))].rstrip('_') + str(count)
         return found
 
-    def rename(self, name: str, new: str, begin: int, end: int, otherwise: str) -> None:
-        """Renames a variable from one token to another one, which may be below these lines."""
-        here, rows = [it.text for it in self.tokens], set[int]()
-        for at in range(begin, min(end, len(here))):
-            if here[at] == name and self.tokens[at].kind == 'name' and (at == begin or means_variable(here, at)):
-                self.tokens[at] = self.tokens[at]._replace(text=new)
-                rows.add(-self.tokens[at].line)
+    def rename(self, name: str, new: str, begin: int) -> bool:
+        """Renames the variable that a token declares, up to the end of its scope. Returns whether the lines with this
+        name are few enough; if they aren't, nothing is renamed."""
+        above, here = self.count_above(), [it.text for it in self.tokens]
+        end = scope_of(self.words_around(), above + begin) - above
         places = [it for it in TOKEN.finditer(self.below) if it.lastgroup != 'comment']
+        kinds = [it.kind for it in self.tokens] + [it.lastgroup or '' for it in places]
         words, text = here + [it[0] for it in places], self.below
-        for at in range(min(end, len(words)) - 1, len(here) - 1, -1):
-            its = places[at - len(here)]
-            if its[0] == name and its.lastgroup == 'name' and means_variable(words, at):
-                text = text[:its.start()] + new + text[its.end():]
-                rows.add(self.below.count('\n', 0, its.start()))
+        found = [at for at in range(begin, min(end, len(words))) if words[at] == name and kinds[at] == 'name'
+                 and (at == begin or means_variable(words, at))]
+        own = [at for at in found if at < len(here)]
+        its = [places[at - len(here)].span() for at in found[len(own):]]
+        rows = {-self.tokens[at].line for at in own} | {text.count('\n', 0, it) for it, _ in its}
         if len(rows) > MOST_RENAMED:
-            raise NoCounterpart(otherwise)
+            return False
+        for at in own:
+            self.tokens[at] = self.tokens[at]._replace(text=new)
+        for first, last in reversed(its):
+            text = text[:first] + new + text[last:]
         self.below = text
+        return True
 
 
 def _words(tokens: list[Token]) -> list[str]:

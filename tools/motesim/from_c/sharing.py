@@ -6,7 +6,7 @@ that runs within its scope overwrites its own value.
 """
 from __future__ import annotations
 
-from collections.abc import Iterator, Sequence
+from collections.abc import Sequence
 from typing import NamedTuple
 
 from motesim.from_c.expressions import QUALIFIERS, TYPES
@@ -75,6 +75,12 @@ def _end_of_statement(words: Sequence[str], at: int) -> int:
     return min(at, len(words))
 
 
+def is_declared(words: Sequence[str], at: int, name: str) -> bool:
+    """Returns whether the code around a place declares a timer or a thread with a name."""
+    begin, end = code_around(words, at)
+    return any(words[it] == name and words[it - 1] in ('etimer', 'ctimer', 'thread') for it in range(begin, end))
+
+
 def parts_of(words: Sequence[str], begin: int, end: int) -> list[Part]:
     """The blocks of a code."""
     found, head, at = list[Part](), begin, begin
@@ -115,9 +121,15 @@ def _is_assigned(words: Sequence[str], at: int) -> bool:
     return list(words[at + 1:at + 2]) == ['='] and before not in (')', 'else') and words[at] not in words[at + 1:end]
 
 
-def _loops_around(words: Sequence[str], begin: int, at: int) -> Iterator[int]:
-    """The places at which the loops around a place begin to repeat, within the block that begins at another place."""
-    opened, head, depth = list[int](), begin, 0
+class Loop(NamedTuple):
+    """The places of a loop: its first word, and the first word that it repeats."""
+    begin: int
+    repeats: int
+
+
+def _loops_around(words: Sequence[str], begin: int, at: int) -> list[Loop]:
+    """The loops around a place, the outermost first, within the block that begins at another place."""
+    opened, head, depth, found = list[int](), begin, 0, list[Loop]()
     for it in range(begin, at):
         depth += (words[it] == '(') - (words[it] == ')')
         if words[it] == '{':
@@ -127,9 +139,28 @@ def _loops_around(words: Sequence[str], begin: int, at: int) -> Iterator[int]:
         if words[it] in ('{', '}') or words[it] == ';' and depth <= 0:
             head, depth = it + 1, 0
     for it in (*opened, head):
-        first = next((it for it in range(it, at) if words[it] in LOOPS), at)
-        # (the first step of a `for` isn't repeated)
-        yield next((it for it in range(first, at) if words[it] == ';'), at) if words[first] == 'for' else first
+        first = next((it for it in range(it, at) if words[it] in LOOPS), None)
+        if first is not None:
+            # (the first step of a `for` isn't repeated)
+            test = next((it for it in range(first, at) if words[it] == ';'), at)
+            found.append(Loop(first, test if words[first] == 'for' else first))
+    return found
+
+
+def is_needed(words: Sequence[str], at: int, name: str) -> bool:
+    """Returns whether statements outside the innermost loop around a place may read the value that a variable has when
+    this loop ends, or whether the test of the loop itself may read this value when the loop begins again."""
+    begin, end = code_around(words, at)
+    parts = parts_of(words, begin, end)
+    own = next((it for it in parts if it.begin <= at <= it.end), Part('body', '', begin, end))
+    loops = _loops_around(words, own.begin, at)
+    if not loops or any(name in words[it.begin:it.end] for it in parts if it != own):
+        return True
+    inner = loops[-1].begin
+    block = next((it for it in range(inner, at) if words[it] == '{'), at)
+    begins = [it.repeats for it in loops[:-1]] + [own.begin] * (own.kind != 'body')
+    return reads_old(words[_end_of_statement(words, inner):own.end], name) or any(
+        reads_old(words[it:block], name) for it in begins)
 
 
 def _called(words: Sequence[str], parts: list[Part], begin: int, end: int) -> set[Part]:
@@ -157,7 +188,8 @@ def user(words: Sequence[str], at: int, name: str, is_static: bool = False) -> s
         is_called = it in called or own in _called(words, parts, it.begin, it.end)
         if is_static or is_called or it.kind in HANDLERS or own.kind in HANDLERS or reads_old(its, name):
             return str(it)
-    outside = [words[behind:own.end], *(words[it:at] for it in (own.begin, *_loops_around(words, own.begin, at)))]
+    begins = [own.begin, *(it.repeats for it in _loops_around(words, own.begin, at))]
+    outside = [words[behind:own.end], *(words[it:at] for it in begins)]
     is_read = any(reads_old(it, name) for it in outside)
     is_used = is_static and any(name in it for it in outside)
     return str(own) if is_read or is_used else ''
