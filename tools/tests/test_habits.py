@@ -3,9 +3,9 @@
 A message that shows lines is taken at its word: the lines are put where it says, and the scenario has to run. One that
 shows none has to have the words that one needs.
 """
-import re
 import unittest
 
+from follow import followed
 from habits import HABITS, Habit
 from here import TOP
 from motesim.explain.explanation import explanation
@@ -42,27 +42,6 @@ def message(text: str) -> list[str]:
     return explanation(NAME, data, 'motesim: ' + fault.message)
 
 
-def repaired(text: str, lines: list[str]) -> str | None:
-    """A scenario with the lines of a message put where it says."""
-    edits: list[tuple[int, int, list[str]]] = []
-    for at, line in enumerate(lines):
-        written = re.fullmatch(r'(Write, as|Leave) lines? (\d+)(?: to (\d+))?(?: out\.|:)', line)
-        inserted = re.fullmatch(r'(?:and insert|Insert) below line (\d+):', line)
-        if written:
-            behind = at + 1
-            while behind < len(lines) and lines[behind].startswith('  '):
-                behind += 1
-            edits.append((int(written[2]), int(written[3] or written[2]), [it[2:] for it in lines[at + 1:behind]]))
-        elif inserted:
-            edits.append((int(inserted[1]) + 1, int(inserted[1]), [lines[at + 1][2:]]))
-    if not edits:
-        return None
-    rows = text.split('\n')
-    for first, last, new in sorted(edits, reverse=True):
-        rows[first - 1:last] = new
-    return '\n'.join(rows)
-
-
 class Habits(unittest.TestCase):
     def test_there_are_150_and_each_is_a_mistake(self) -> None:
         self.assertEqual(len({it.name for it in HABITS}), 150)
@@ -78,7 +57,7 @@ class Habits(unittest.TestCase):
                 if it.name in SAID:
                     self.assertIn(SAID[it.name], ' '.join(line.strip() for line in lines))
                     continue
-                fixed = repaired(it.typed, lines)
+                fixed = followed(it.typed, lines)
                 assert fixed is not None, lines
                 fault = find_fault(fixed.encode())
                 if it.name in LACKING:
@@ -92,7 +71,7 @@ class Habits(unittest.TestCase):
         for it in HABITS:
             if it.name not in {*SAID, *OTHERS, *LACKING}:
                 with self.subTest(it.name):
-                    self.assertEqual(self.report(it, repaired(it.typed, message(it.typed)) or ''), self.report(it,
+                    self.assertEqual(self.report(it, followed(it.typed, message(it.typed)) or ''), self.report(it,
                         it.meant))
 
     def report(self, it: Habit, text: str) -> bytes:
