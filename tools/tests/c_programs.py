@@ -200,10 +200,13 @@ class CProgram:
         name = self._name(('w', 'u', 'q'))
         first = '%sint %s = %d;' % (edge, name, self.chance.randrange(1, 4))
         step, inner = '%s  %s--;' % (edge, name), self._counted(scope, name, edge)
+        if self._is(0.25):
+            # (the variable isn't used after the loop: there it is -1, and a message says so)
+            scope[:] = [it for it in scope if it != name]
+            return [first, '%swhile (%s-- > 0) {' % (edge, name), *inner, edge + '}']
         scope += [] if name in scope else [name]
         return [first, *self.chance.choice((
             ['%swhile (%s > 0) {' % (edge, name), step, *inner, edge + '}'],
-            ['%swhile (%s-- > 0) {' % (edge, name), *inner, edge + '}'],
             ['%sdo {' % edge, step, *inner, '%s} while (%s > 0);' % (edge, name)],
             ['%swhile (1) {' % edge, step, *inner, '%s  if (%s == 0) break;' % (edge, name), edge + '}']))]
 

@@ -278,7 +278,8 @@ class Control(OwnNames):
         self.before, self.after = [], []
         body = self.body(last)
         if first:
-            self.why('The step is at the start of the block, so `%s` isn\'t done when the test is false.' % first)
+            self.why('The step is at the start of the block, so `%s` isn\'t done when the test is false: in C, the '
+                     'variable is one step further after the loop.' % first)
             body = body.replace('{', '{ ' + first, 1)
         if last:
             self.why_with_rest('The step is above the loop and at the end of its block',
