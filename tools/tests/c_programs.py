@@ -125,8 +125,8 @@ class CProgram:
                 for line in self._statement(inner, edge, in_loop)]
 
     def _nested(self, scope: list[str], edge: str, in_loop: bool) -> list[str]:
-        """A block with names of its own."""
-        outer, self.local = self.local, set()
+        """A block with names of its own, other than those of the counters of the loops around."""
+        outer, self.local = self.local, set(self.counters)
         self.depth += 1
         lines = self._block(scope, edge + '  ', in_loop)
         self.depth -= 1
