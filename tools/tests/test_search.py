@@ -31,9 +31,12 @@ from motesim.search.change import Base, CannotChange
 from motesim.search.cuts import cut_of
 from motesim.search.faults import Asked, FaultyPart, change_of, faults_of
 from motesim.search.halting import without_halts
+from motesim.search.kept import Kept
 from motesim.search.one_program import Limits, OneProgram
 from motesim.search.quick_judge import QuickJudge
+from motesim.search.search import Bounds, Search
 from motesim.search.sets import Known, count_of
+from motesim.search.work import RUN, Outcome, Task
 from skips import interpreter_with, need_program
 from test_sweep import CLUSTER
 
@@ -447,6 +450,22 @@ class Counts(unittest.TestCase):
             self.assertEqual(count_of(faults, size), naive)
             self.assertEqual(sum(1 for _ in known.of_size(size)), naive)
 
+    def test_sets_of_the_present_size_count_as_found(self) -> None:
+        class Breaking:
+            def outcomes(self, tasks: Iterator[Task], is_over: object) -> Iterator[Outcome]:
+                return (Outcome(it.faults, RUN, int(it.faults[-1] % 2)) for it in tasks)
+
+            def close(self) -> None: ...
+
+            def kill(self) -> None: ...
+
+        counts: list[int] = []
+        known = Known(faults_of(base_of(), Asked(('links',))), 1)
+        searched = Search(known, Bounds(), Kept(), shown=lambda search, size, is_sample: counts.append(search.found))
+        searched.run(Breaking())
+        self.assertEqual(counts, [0, 1, 1, 2, 2, 3, 3, 4])
+        self.assertEqual(searched.found, len(known.minimal))
+
 
 class QuickJudging(unittest.TestCase):
     """The quick judge says what the judge says."""
@@ -791,6 +810,32 @@ program = "flood.mote"
             self.assertEqual({len(it) for it in sets[REACHED]}, {2})
             again = minimal_sets(folder, '--faults', 'links', '--random', '40', '--seed', '3')
             self.assertEqual(again[0], sets)
+            # (of the 154 sets of 2 to 4 links, no set is drawn twice)
+            sample = found['sample']
+            self.assertEqual((sample['sets'], sample['run'] + sample['decided']), (40, 40))
+            self.assertIn('a sample of 40 larger sets, drawn with the seed 3 (a sample covers no size completely): 40 '
+                          'run\n', said)
+            _, found, said = minimal_sets(folder, '--faults', 'links', '--random', '200')
+            self.assertEqual(found['sample']['sets'], 154)
+            self.assertIn('completely; no other sets were drawn in 20,000 attempts)', said)
+
+    def test_a_search_that_never_began_is_not_continued(self) -> None:
+        with folder_with() as folder:
+            status, said, seen = search(folder, '--faults', 'links', '--resume', '-o', 'here')
+            self.assertEqual((status, said), (2, ''))
+            self.assertIn('here has no search that could be continued: search without --resume, or name', seen)
+
+    def test_the_limits_of_a_run_are_named(self) -> None:
+        with folder_with() as folder:
+            status, _, seen = search(folder, '--faults', 'links', '--bytes', '100')
+            self.assertEqual(status, 2)
+            self.assertIn('the report is longer than 100 bytes (--seconds and --bytes of tools/search set', seen)
+
+    def test_kinds_with_the_same_fault(self) -> None:
+        # (of two packets every = 2 loses packet 1)
+        with folder_with(DIAMOND.replace('send 7', 'send 7; send 7')) as folder:
+            _, said, _ = search(folder, '--faults', 'every,packets', '--expect', 'mote 0 sends')
+            self.assertNotIn('there is no fault', said)
 
     def test_hostile_programs_are_stopped(self) -> None:
         # A mote that misses the message prints 3,000 lines at each of a million moments.

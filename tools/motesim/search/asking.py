@@ -9,7 +9,7 @@ from motesim.judge.sentences import Sentence
 from motesim.runner.optimized import optimized_path
 from motesim.search.by_dask import ByDask
 from motesim.search.change import Base
-from motesim.search.faults import WHY_NONE, Asked, faults_of, untried_copies
+from motesim.search.faults import WHY_NONE, Asked, absent_kinds, faults_of, untried_copies
 from motesim.search.kept import Kept
 from motesim.search.one_program import Limits, OneProgram
 from motesim.search.prepare import plain_run, prepare
@@ -38,7 +38,7 @@ class Asking:
         self.plain = plain_run(base, program, sentences)
         asked.sent = tuple(self.plain.sent)
         faults = faults_of(base, asked)
-        self.absent = [kind for kind in asked.kinds if not any(fault.kind == kind for fault in faults)]
+        self.absent = absent_kinds(base, asked)
         self.untried = untried_copies(base, asked) if 'packets' in asked.kinds else ''
         self.prepared = prepare(base, self.plain, program, sentences, faults)
         program.close()

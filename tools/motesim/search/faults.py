@@ -214,9 +214,12 @@ def untried_copies(base: Base, asked: Asked) -> str:
     left = [copy for copy in copies if copy not in tried]
     if not left:
         return ''
-    return ('{:,} of {:,} copies, such as packet {} of mote {} on its way to mote {}: no `every` above 1 loses only '
-            'this packet. Use `--faults links,every`, or let the receiver ignore the packet (docs/use/SCENARIO.md, "A '
-            'lost first packet")'.format(len(left), len(copies), left[0][2], *left[0][:2]))
+    sender, receiver, number = left[0]
+    is_lossy = losses.get((sender, receiver), asked.sent[sender] + 1) <= asked.sent[sender]
+    why = 'its link loses other packets already' if is_lossy else 'no `every` above 1 loses only this packet'
+    return ('{:,} of {:,} copies, such as packet {} of mote {} on its way to mote {}: {}. Use `--faults links,every`, '
+            'or let the receiver ignore the packet (docs/use/SCENARIO.md, "A lost first packet")'
+            .format(len(left), len(copies), number, sender, receiver, why))
 
 
 def _motes(base: Base, asked: Asked) -> Iterator[FaultyPart]:
@@ -294,7 +297,7 @@ def _parameters(base: Base, asked: Asked) -> Iterator[FaultyPart]:
 # The reason why a scenario has no fault of a kind.
 WHY_NONE = {
     'packets': (': a link loses only packet n if its sender sends n + 1 to 2n + 1 packets, n is at least 1, and the '
-                'link has no loss yet. docs/use/SCENARIO.md says how only the first packet is lost'),
+                'link loses no packet yet. docs/use/SCENARIO.md says how only the first packet is lost'),
     'collisions': ': its packets collide already',
     'links': ': no mote hears another one, or each link loses everything already',
 }
@@ -311,8 +314,14 @@ def faults_of(base: Base, asked: Asked) -> list[FaultyPart]:
     if unknown is not None:
         raise Fault('there is no kind of fault %s; allowed are: %s' % (unknown, ', '.join(KINDS)))
     found = [fault for kind in KINDS if kind in asked.kinds for fault in MAKERS[kind](base, asked)]
+    # (two kinds may have the same fault)
     by_effect = {fault.effect: fault for fault in reversed(found)}
     return [fault for fault in found if by_effect[fault.effect] is fault]
+
+
+def absent_kinds(base: Base, asked: Asked) -> list[str]:
+    """The wanted kinds of which the scenario has no fault."""
+    return [kind for kind in asked.kinds if next(MAKERS[kind](base, asked), None) is None]
 
 
 # For each effect, the places of those parts that are numbers of motes.

@@ -108,14 +108,15 @@ def covered_lines(search: Search) -> list[str]:
     if len(search.why) > SHOWN_REASONS:
         rows.append('  and %s' % counted(len(search.why) - SHOWN_REASONS, 'other reason', 'other reasons'))
     if search.sample.sets:
-        rows.append('a sample of {:,} larger sets, drawn with the seed {} (a sample covers no size completely): '
-                    '{:,} run'
-                    .format(search.sample.sets, search.bounds.seed, search.sample.run))
+        fewer = ('; no other sets were drawn in {:,} attempts'.format(100 * search.bounds.sample)
+                 if search.sample.sets < search.bounds.sample else '')
+        rows.append('a sample of {:,} larger sets, drawn with the seed {} (a sample covers no size completely{}): {}'
+                    .format(search.sample.sets, search.bounds.seed, fewer, ', '.join(parts_of(search.sample))))
     return rows
 
 
-def covered_line(name: str, tally: Tally) -> str:
-    """The coverage of the sets of one size."""
+def parts_of(tally: Tally) -> list[str]:
+    """The number of sets that were run, and the numbers of those that weren't, by the reasons."""
     parts = ['{:,} run'.format(tally.run)]
     if tally.decided:
         parts.append('{:,} decided by a smaller set'.format(tally.decided))
@@ -131,8 +132,13 @@ def covered_line(name: str, tally: Tally) -> str:
         parts.append('{:,} LEFT OUT because a link would lose more than its one packet'.format(tally.more))
     if tally.done < tally.sets:
         parts.append('{:,} NOT TRIED'.format(tally.sets - tally.done))
+    return parts
+
+
+def covered_line(name: str, tally: Tally) -> str:
+    """The coverage of the sets of one size."""
     amount = 'all {:,}' if tally.is_whole else '{:,}'
-    return '%s %s: %s' % (amount.format(tally.sets), name, ', '.join(parts))
+    return '%s %s: %s' % (amount.format(tally.sets), name, ', '.join(parts_of(tally)))
 
 
 def is_whole(search: Search) -> bool:

@@ -24,6 +24,8 @@ from motesim.judge.sentences import Sentence
 
 ADDED = {'fails': DIES, 'late': LATE}
 INTO = {DIES: 'fail', LATE: 'start late'}
+# The advice if a run reaches a limit.
+LIMITS = ' (--seconds and --bytes of tools/search set the limits of a run)'
 
 
 class Plain(NamedTuple):
@@ -37,7 +39,8 @@ def plain_run(base: Base, program: OneProgram, sentences: list[Sentence]) -> Pla
     """Runs the scenario without a fault."""
     answer = program.run(base.source.encode())
     if answer.stopped or answer.status:
-        raise Fault('%s has no report without a fault: %s' % (base.name, answer.stopped or answer.fault))
+        raise Fault('%s has no report without a fault: %s' % (
+            base.name, answer.stopped + LIMITS if answer.stopped else answer.fault))
     sections = answer.report.partition(b'\nmedium\n')[0].split(b'\nmote ')
     return Plain(answer.report, QuickJudge(sentences).broken(answer.report, base.scenario_itself),
                  [section.count(b' send ') for section in sections])

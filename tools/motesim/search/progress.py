@@ -40,14 +40,14 @@ class Progress:
         left = round((tally.sets - tally.done) / max(rate, 0.001))
         text = '%s: %s of %s, %d runs per second, %d:%02d left, %d found' % (
             'sample' if is_sample else 'sets of %d' % size, '{:,}'.format(tally.done), '{:,}'.format(tally.sets),
-            search.runs / max(search.seconds, 0.001), left // 60, left % 60, len(search.known.minimal))
+            search.runs / max(search.seconds, 0.001), left // 60, left % 60, search.found)
         write_over(text) if self.is_terminal else print(text, file=sys.stderr, flush=True)
 
     def say(self, search: Search, size: int) -> None:
         """A line for another program: how many sets there are up to the bound, and how many are done."""
         sets = [count_of(search.known.faults, it) for it in range(1, search.bounds.at_most + 1)]
         told = {'size': size, 'done': sum(it.done for it in search.tallies.values()), 'sets': sum(sets),
-                'runs': search.runs, 'found': len(search.known.minimal), 'seconds': round(search.seconds, 1)}
+                'runs': search.runs, 'found': search.found, 'seconds': round(search.seconds, 1)}
         print(json.dumps(told), file=sys.stderr, flush=True)
 
     def end(self, search: Search) -> None:

@@ -45,6 +45,8 @@ class Search:
         self.sample = Tally()
         self.why: Counter[str] = Counter()
         self.runs = self.resumed = 0
+        # the sets that break an expectation, among the sets of the present size or of the sample
+        self.breaking = 0
         self.begin = time.monotonic()
         self.given = 0
         self.asks_end: Callable[[], bool] = lambda: False
@@ -68,6 +70,11 @@ class Search:
         for mask in self.known.minimal.values():
             broken |= mask
         return self.known.wanted & ~broken & ~self.unjudged
+
+    @property
+    def found(self) -> int:
+        """The number of sets that were found so far."""
+        return len(self.known.minimal) + self.breaking
 
     @property
     def seconds(self) -> float:
@@ -94,7 +101,7 @@ class Search:
 
     def draw(self, runner: Runner) -> None:
         least = self.bounds.at_most + 1
-        drawn = list(dict.fromkeys(draws(self.known, least, least + LARGER - 1, self.bounds.sample, self.bounds.seed)))
+        drawn = list(draws(self.known, least, least + LARGER - 1, self.bounds.sample, self.bounds.seed))
         self.sample.sets = len(drawn)
         found: list[Outcome] = []
         self.try_sets(iter(drawn), self.sample, runner, 0, found.append)
@@ -127,6 +134,7 @@ class Search:
         for outcome in runner.outcomes(self.tasks(sets, tally, found), self.is_over):
             self.kept.add(outcome)
             self.note(outcome, tally, found)
+            self.breaking = len(found)
             if self.shown:
                 self.shown(self, size, hold is not None)
         for outcome in found:
@@ -134,6 +142,7 @@ class Search:
                 hold(outcome)
             else:
                 self.known.add(outcome.faults, outcome.broken)
+        self.breaking = 0
 
     def tasks(self, sets: Iterator[Set], tally: Tally, found: list[Outcome]) -> Iterator[Task]:
         """The sets that have to be run. Sets that are decided or known already are noted at once."""

@@ -98,13 +98,13 @@ class Known:
 
 
 def draws(known: Known, least: int, most: int, count: int, seed: int) -> Iterator[Set]:
-    """At most this many sets, drawn at random, each with `least` to `most` faults."""
+    """At most this many different sets, drawn at random, each with `least` to `most` faults."""
     chance = random.Random(seed)
     most = min(most, len({fault.slot for fault in known.faults}))
-    drawn = tried = 0
-    while drawn < count and least <= most and tried < 100 * count:
+    drawn, tried = set[Set](), 0
+    while len(drawn) < count and least <= most and tried < 100 * count:
         tried += 1
         found = tuple(sorted(chance.sample(range(len(known.faults)), chance.randint(least, most))))
-        if known.is_possible(found):
-            drawn += 1
+        if known.is_possible(found) and found not in drawn:
+            drawn.add(found)
             yield found
