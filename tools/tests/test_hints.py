@@ -382,6 +382,8 @@ class Warnings(unittest.TestCase):
             (CODE % 'set t 1; while (seq >= 0) { pause; }', 5, 'no number is below 0, so this test is always true'),
             (CODE % 'set t 1; if (0 <= seq) { pause; }', 5, 'this test is always true'),
             (CODE % 'set t 1; if (seq < 0) { pause; }', 5, 'this test is never true'),
+            (CODE % 'set t 1; if ((seq - seen) > 0) { pause; }', 5,
+             'so this test is also true if `seq` is less than `seen`: `(seq > seen)` compares them'),
             (CODE % 'set t 1; if ((self == 1) && (self == 0)) { pause; }', 5,
              '`self` can\'t be 1 and 0 at once, so this test is never true'),
             (CODE % 'set t 1; if ((seq != 1) || (seq != 2)) { pause; }', 5,
@@ -400,8 +402,9 @@ class Warnings(unittest.TestCase):
             found = warnings(Scenario.parse(scenario(program=branch, x=5)), text='# Parameters: %s\n' % comment)
             self.assertEqual(len(found), count, comment)
 
-    def test_a_test_of_two_values_that_may_be_true_or_false(self) -> None:
+    def test_tests_of_two_values_that_may_be_meant(self) -> None:
         for test in ('((seq == 1) || (seq == 2))', '((seq != 1) && (seq != 2))', '((seq == 1) && (seen == 2))',
+                     '((seq - 1) > 0)', '((now - seq) > 0)', '((seq - seen) > 1)', '((seq + seen) > 0)',
                      '((seq == 1) && (seq == 1))', '((seq == 1) && (seq != 2))', '((1 == 1) && (seq == 2))'):
             self.assertEqual(self.seen(CODE % ('set t 1; if %s { pause; }' % test)), [], test)
 

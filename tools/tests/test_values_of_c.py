@@ -21,7 +21,7 @@ def words(text: str) -> list[str]:
 
 
 class OfC(unittest.TestCase):
-    """The expected numbers are those that gcc's programs print. At the start `m` is 3, and `n`, `i` and `j` are 0."""
+    """The expected numbers are those that C prints. At the start `m` is 3, and `n`, `i` and `j` are 0."""
     def setUp(self) -> None:
         need_program(self)
 
@@ -118,6 +118,42 @@ class Casts(OfC):
         self.assertNotIn('sign', of_lines('print((int)n);').hint)
 
 
+class Signs(OfC):
+    """Numbers below 0: a comparison with one is that of C, and a hint says what else differs."""
+    def test_a_comparison_with_a_number_below_0(self) -> None:
+        for value in 0, 1, 5, 65_530, 65_533, 65_535:
+            signed = (value + 32_768) % 65_536 - 32_768
+            for test, is_so in (('n > -5', signed > -5), ('n < -2', signed < -2), ('-3 <= n', -3 <= signed),
+                                ('n >= -(1 + 2)', signed >= -3), ('(int16_t)n < -2', signed < -2)):
+                self.check('n = %d; if (%s && m) { print 1; } else { print 2; }' % (value, test), [1 if is_so else 2])
+        self.check('for (i = 2; i >= -1; i--) { print i; }', [2, 1, 0, 65_535])
+
+    def test_the_order_of_a_negative_number_is_said(self) -> None:
+        for lines in 'int best = -1;', 'n = -1;':
+            self.says(lines, 'the greatest of all', True)
+
+    def test_a_difference_is_said(self) -> None:
+        for test in 'n - m > 0', 'n - m < 2', '3 >= n - m':
+            self.says('if (%s) { }' % test, 'if `n` is less than `m`, `(n - m)` is above 0 here', True)
+        for test in 'now - m > 3', 'clock_time() - m < 2', 'n - m == 2':
+            self.assertNotIn('below 0', of_lines('if (%s) { }' % test).hint)
+
+
+class Choices(OfC):
+    def test_each_side_is_a_statement(self) -> None:
+        for lines, wanted in (('int k = n > 0 ? 1 : 2; print k;', [2]), ('printf("%d %d\\n", m ? 4 : 5, n);', [4, 0]),
+                              ('int k = n ? 1 : m ? 7 : 2, l = 8; print k; print l;', [7, 8]),
+                              ('print(n ? 1 : 2); print m > 2 ? m : n;', [2, 3]),
+                              ('n = i ? 5 : j ? 6 : 7; print n;', [7])):
+            self.check(lines, wanted)
+        self.assertEqual(words(followed(PROGRAM % 'send(n ? 1 : 2);')),
+                         words(PROGRAM % 'if n { send 1; } else { send 2; }'))
+
+    def test_a_case_without_a_break_is_said(self) -> None:
+        for lines in 'switch (n) {\n case 1: print 1;\n }', 'switch (ev) {\n case 1: print 1;\n }':
+            self.says(lines, 'A `case` without `break` continues in the next one')
+
+
 class Addresses(OfC):
     """The bytes of an address: mote 0 runs the program, and no packet arrives."""
     def test_a_test_of_the_mote(self) -> None:
@@ -182,6 +218,11 @@ class Numbers(OfC):
         self.says('n = 010;', 'A number has no zeros in front: `10`. In C, `010` is octal, which is 8.', True)
         for lines in 'n = 007;', 'n = 09;':
             self.assertNotIn('octal', of_lines(lines).hint)
+
+    def test_a_sum_without_parentheses_is_said(self) -> None:
+        for text, is_said in ('4 + 3', True), ('(4) - 3', True), ('(4 + 3)', False), ('-3', False), ('(-3)', False):
+            found = of_lines('#define SUM %s' % text).hint
+            self.assertEqual('the text replaces the name, so `SUM * 2` is `%s * 2` there.' % text in found, is_said)
 
     def test_an_address(self) -> None:
         self.check('linkaddr_copy(&n, from); print(linkaddr_cmp(from, &linkaddr_node_addr)); print(!linkaddr_cmp(&m, '

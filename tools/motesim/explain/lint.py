@@ -54,6 +54,10 @@ WAIT_FOR_BOTH = ('it waits for the timer `%s`, too, and a packet must not end th
                  'statements for a packet instead of the dots')
 NATURAL = 'no number is below 0, so this test is %s true: values are 0 to 65,535, and 0 - 1 is 65,535'
 COUNT_DOWN = '; write `while (x > 0)` to count down'
+OF_DIFFERENCE = ('no number is below 0, so this test is also true if `%s` is less than `%s`: `(%s > %s)` compares '
+                 'them')
+# The words of a test whether a difference is above 0.
+DIFFERENCE = re.compile(r'\( \( ([a-z]\w*) - ([a-z]\w*) \) > 0 \)')
 OF_TWO_VALUES = '`%s` can\'t be %s and %s at once, so this test is %s true'
 # The words of a test of one value by two numbers, such as `((x == 1) && (x == 2))`; and the results of such tests if
 # the numbers differ.
@@ -220,6 +224,14 @@ class Program:
                 advice = COUNT_DOWN if self.statement_of(at) == 'while' else ''
                 yield NATURAL % ('always' if sign in ('>=', '<=') else 'never') + advice, self.tokens[at]
 
+    def tests_of_difference(self) -> Iterator[tuple[str, Token]]:
+        """Each test whether a difference of two values is above 0, with the warning: this is also true if the first one
+        is less than the second one. (The time from an earlier moment to now may be meant so.)"""
+        for at in range(len(self.words)):
+            found = DIFFERENCE.fullmatch(' '.join(self.words[at:at + 9]))
+            if found and found[1] != 'now':
+                yield OF_DIFFERENCE % (found.groups() * 2), self.tokens[at + 6]
+
     def tests_of_two_values(self) -> Iterator[tuple[str, Token]]:
         """Each test whether a value equals two different numbers, or differs from one of them, with the warning."""
         for at in range(len(self.words)):
@@ -353,7 +365,7 @@ def of_program(program: Program, is_zero_given: bool) -> Iterator[Warned]:
         yield Warned(text, name, token)
     for token in program.awaited_ctimers():
         yield Warned(OF_CTIMER % (token.text, token.text), name, token)
-    for text, token in () if is_zero_given else program.tests_of_sign():
+    for text, token in () if is_zero_given else (*program.tests_of_sign(), *program.tests_of_difference()):
         yield Warned(text, name, token)
     for text, token in (*program.tests_of_two_values(), *program.endless_waits()):
         yield Warned(text, name, token)

@@ -103,8 +103,8 @@ class Calls(Lines):
             while self.accept(','):
                 values.append(self.expression())
         values = [it for it in values if it.kind != 'text']
-        text = ' '.join('print %s;' % self.writer.text(it) for it in values)
-        return self.end(text.removesuffix(';'))
+        self.end('')
+        return ' '.join(self.chosen('print %s;', it) for it in values)
 
     def listed(self) -> list[Node]:
         """Several values in parentheses, as in `print(n, x)`; nothing if the parentheses belong to one value."""

@@ -17,6 +17,7 @@ NO_SWITCH = ('There is no `switch`: each `case` is a test of its own, `if (%s ==
              '} }`.')
 NO_SWITCH_OF_EVENTS = ('There is no `switch`: each `case` is a test of its own, and `is(..)` tests the event of a '
                        'call, `if is(timer) { .. } else { if is(packet) { .. } }`.')
+WITHOUT_BREAK = ' A `case` without `break` continues in the next one: its block needs the statements of both.'
 ELSE_IFS = ('elif', 'elseif', 'elsif')
 OWN_STEP = 'There is no `%s`: the step is a statement of its own, `%s`.'
 OWN_ASSIGNMENT = ('An assignment in a test is a statement of its own, `%s`, before each place at which the test is '
@@ -174,10 +175,10 @@ class Control(OwnNames):
     def of_switch(self) -> str:
         self.at += 1
         if self.ahead(self.token.text == '(').text == 'ev' and 'ev' not in self.scope.kinds:
-            raise NoCounterpart(NO_SWITCH_OF_EVENTS)
+            raise NoCounterpart(NO_SWITCH_OF_EVENTS + WITHOUT_BREAK)
         tested = self.condition()
         case = next((self.ahead(at + 1).text for at in range(12) if self.ahead(at).text == 'case'), '1')
-        raise NoCounterpart(NO_SWITCH % (tested, case, tested, '2' if case == '1' else '..'))
+        raise NoCounterpart(NO_SWITCH % (tested, case, tested, '2' if case == '1' else '..') + WITHOUT_BREAK)
 
     def of_case(self) -> str:
         self.at += 1

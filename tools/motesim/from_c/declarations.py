@@ -7,7 +7,7 @@ from motesim.from_c.expressions import (
     BYTES, LONG, MOST, NO_ARRAYS, NO_FIELDS, QUALIFIERS, READ_ONLY, SMALL, TICKS, TOO_LARGE, TYPES, Expressions,
     NoCounterpart,
 )
-from motesim.from_c.nodes import number_of, value_of
+from motesim.from_c.nodes import Node, number_of, value_of
 from motesim.from_c.own_names import OTHERS, OwnNames
 from motesim.from_c.parameters import KEPT, OF_COMMENT, READ_BY_NAME, SHARED
 from motesim.from_c.scope import LONGEST, allowed
@@ -44,8 +44,19 @@ KEPT_VALUE = ('A `static` variable keeps its value from call to call: it has its
               'and no statement assigns this value again.')
 OTHER_VALUE = '%s Leave this line out, and write `var %s = %s;` at the head of the `code`.'
 WRITE_BY_NAME = '`%s` has another meaning in a program, so write `%s` in each line that means this variable, too.'
+OF_TEXT = 'Here, `%s` is the number %d. In C, the text replaces the name, so `%s * 2` is `%s * 2` there.'
 MOST_MEMBERS = 8
 NO_PLACE = 'Variables are declared at the head of `code`, before its timers, threads and `body`: `var %s = 0;`.'
+
+
+def is_sum(text: str) -> bool:
+    """Returns whether a text of C has a `+` or `-` between two values, not in parentheses."""
+    depth, words = 0, [it.text for it in tokens_of(text) if it.kind != 'comment']
+    for before, word in zip(words, words[1:]):
+        depth += (before == '(') - (before == ')')
+        if not depth and word in ('+', '-') and (before == ')' or before.isalnum()):
+            return True
+    return False
 
 
 class Declarations(OwnNames):
@@ -79,6 +90,8 @@ class Declarations(OwnNames):
             raise NoCounterpart('%s. Leave this line out, and choose a value n: `var %s = n;`, at the head of the '
                                 '`code`.' % (NO_CONSTANTS, allowed(name)))
         self.why(NO_CONSTANTS + '.')
+        if is_sum(defined[2]):
+            self.writer.insist(OF_TEXT % (defined[1], value, defined[1], defined[2].strip()))
         return self.declared(name, str(value % (MOST + 1)))
 
     def constant(self, text: str) -> int | None:
@@ -181,12 +194,12 @@ class Declarations(OwnNames):
             self.at += 1
             if self.token.text == '[':
                 return self.of_array(name)
-            if self.accept('='):
-                value = self.beginning()
+            node, is_static = self.expression() if self.accept('=') else None, 'static' in words
+            is_chosen = node is not None and node.kind == 'choice' and not is_static
+            if node and is_chosen and self.place.head and not self.place.is_head:
+                found.append(self.chosen(self.declared(name, '%s', at), node))
             else:
-                self.why('The initial value of a variable is a number.')
-                value = '0'
-            found.append(self.declared(name, value, at, 'static' in words))
+                found.append(self.declared(name, self.beginning(node), at, is_static))
             if not self.accept(','):
                 break
             self.why('Each variable has a line of its own.')
@@ -262,11 +275,14 @@ class Declarations(OwnNames):
                 self.why(OF_COMMENT)
                 self.declares.append('var %s = 0;' % found)
 
-    def beginning(self) -> str:
+    def beginning(self, node: Node | None) -> str:
         """The initial value of a variable."""
-        node = self.expression()
+        if node is None:
+            self.why('The initial value of a variable is a number.')
+            return '0'
         if node.kind == 'unary' and node.text == '-' and node.parts[0].kind == 'number':
-            self.why('There are no numbers below 0: values have 16 bits, and 65535 is one less than 0.')
+            self.why('There are no numbers below 0: values have 16 bits, and 65535 is one less than 0, and the '
+                     'greatest of all.')
             return str(-(number_of(node.parts[0].text) or 0) % 65_536)
         value = self.writer.text(node)
         if not value.isdecimal() and not self.place.is_head and not self.place.is_top:

@@ -12,8 +12,8 @@ from fractions import Fraction
 from motesim.from_c.absent import NO_SENSORS, OF_READING, READING, RUNICAST, is_sensor
 from motesim.from_c.bits import SIGNS, bits_of, most_of, runs_of, unit_of
 from motesim.from_c.nodes import (
-    ADDRESSES, MOMENTS_OF_SECOND, Choice, Node, Step, address_of, has_difference, is_of_no_mote, is_test,
-    is_upper_byte, names_of, number_of, opposite, value_of,
+    ADDRESSES, MOMENTS_OF_SECOND, Choice, Node, Step, address_of, has_difference, has_negative, is_difference,
+    is_of_no_mote, is_test, is_upper_byte, names_of, number_of, opposite, value_of,
 )
 from motesim.from_c.parameters import of_value
 from motesim.from_c.scope import Scope, abbreviated, allowed
@@ -42,6 +42,9 @@ OF_SIGNED = ('Values have 16 bits and no sign, so the cast to `%s` is left out: 
 COMPARED = ('Values have 16 bits and no sign. Add 32768 to both sides of a comparison, and its result is that of C '
             'for `%s`.')
 HALF = 32_768
+ORDERS = ('<', '<=', '>', '>=')
+OF_DIFFERENCE = ('No number is below 0: if `%s` is less than `%s`, `%s` is above 0 here. For the comparison of C, add '
+                 '32768 to both of its sides.')
 OF_CAST = 'Values have 16 bits and no sign, so the cast to `%s` is left out; `(x %% 256)` would keep the lower 8 bits.'
 VALUES = {'true': '1', 'false': '0', 'null': '0', 'node_id': 'self', 'simmoteid': 'self', 'rtimer_now': 'now'}
 TESTS = ('is', 'fired', 'expired', 'gone', 'running', 'count')
@@ -566,7 +569,8 @@ class Writer:
         if sign == '!':
             return '!' + self.test(inner)
         if sign == '-':
-            self.why('There are no numbers below 0: values have 16 bits, and `(0 - 1)` is 65535.')
+            self.why('There are no numbers below 0: values have 16 bits, and `(0 - 1)` is 65535, '
+                     'the greatest of all.')
             return '(0 - %s)' % self.text(inner)
         if sign == '~':
             self.why('There are no operators on bits: `(65535 - x)` turns all bits of x around.')
@@ -587,8 +591,11 @@ class Writer:
         if sign == '&&' and self.is_timer_event(left) and right.kind == 'binary' and self.is_of_timer(*right.parts):
             self.why('`fired(..)` tests both: the event is that of a timer, and the timer is this one.')
             return self.text(right)
-        if 'signed' in (left.kind, right.kind) and sign in PLAIN:
+        if 'signed' in (left.kind, right.kind) and sign in PLAIN or sign in ORDERS and has_negative(left, right):
             return self.with_sign(sign, left, right)
+        taken = next((it for it in (left, right) if is_difference(it)), None) if sign in ORDERS else None
+        if taken:
+            self.insist(OF_DIFFERENCE % (*map(self.text, taken.parts), self.text(taken)))
         if sign in ('*', '/') and 'real' in (left.kind, right.kind):
             return self.scaled(sign, left, right)
         if sign in ('<<', '>>'):
@@ -606,9 +613,9 @@ class Writer:
 
     def with_sign(self, sign: str, left: Node, right: Node) -> str:
         """An operation on values of which a cast makes one signed."""
-        kind = left.text if left.kind == 'signed' else right.text
+        kind = next((it.text for it in (left, right) if it.kind == 'signed'), 'int')
         plain = [it.parts[0] if it.kind == 'signed' else it for it in (left, right)]
-        if sign in ('<', '<=', '>', '>='):
+        if sign in ORDERS:
             self.insist(COMPARED % kind)
             return '(%s %s %s)' % (self.shifted(plain[0]), sign, self.shifted(plain[1]))
         if sign not in ('==', '!=', '+', '-', '*'):

@@ -77,6 +77,14 @@ class Lines(Expressions):
     def value(self) -> str:
         return self.writer.text(self.expression())
 
+    def chosen(self, form: str, node: Node) -> str:
+        """A statement with a value, or one for each side of a `? :`."""
+        if node.kind != 'choice':
+            return form % self.writer.text(node)
+        self.why('There is no `? :`: each side is a statement of its own.')
+        sides = [self.chosen(form, it) for it in node.parts[1:]]
+        return 'if %s { %s } else { %s }' % (self.writer.test(node.parts[0]), *sides)
+
     def stepped(self, name: str, sign: str) -> str:
         """A variable that is incremented or decremented."""
         found = self.variable(name)

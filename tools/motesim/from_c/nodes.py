@@ -99,6 +99,17 @@ def has_difference(node: Node) -> bool:
     return node.text == '-' and node.kind in ('unary', 'binary') or any(map(has_difference, node.parts))
 
 
+def has_negative(*nodes: Node) -> bool:
+    """Returns whether one of some values is a number below 0."""
+    return any((value_of(it) or 0) < 0 for it in nodes)
+
+
+def is_difference(node: Node) -> bool:
+    """Returns whether a value may be below 0 in C: a difference, but not the time from an earlier moment to now."""
+    is_time = any(it.text.lower() in ('now', 'clock_time', 'clock_seconds', 'rtimer_now') for it in node.parts[:1])
+    return node.kind == 'binary' and node.text == '-' and value_of(node) is None and not is_time
+
+
 def value_of(node: Node) -> int | None:
     """The value of an expression of numbers, `CLOCK_SECOND` and + - * /; None if it has something else."""
     if node.kind == 'number':

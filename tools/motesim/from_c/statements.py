@@ -346,10 +346,8 @@ class Statements(Declarations, Calls, Control):
         if right.kind == 'call' and right.text.lower() == 'process_post' and len(right.parts) == 3:
             return self.end('%s into %s' % (self.of_call(right), variable))
         if right.kind == 'choice' and sign == '=':
-            self.why('There is no `? :`: each side is an assignment of its own.')
-            test, yes, no = map(self.writer.text, right.parts)
             self.end('')
-            return 'if %s { %s = %s; } else { %s = %s; }' % (test, variable, yes, variable, no)
+            return self.chosen(variable + ' = %s;', right)
         if sign in ('|=', '&=') and is_one(self.bits_set(sign, right)):
             return self.of_bit(sign, variable, self.bits_set(sign, right) or 0)
         if len(sign) > 1 and sign not in ('==', ':='):
@@ -415,7 +413,11 @@ class Statements(Declarations, Calls, Control):
             self.writer.of_timer = 'fired' if word == 'yield_until' else 'expired'
             is_first = word == 'send' and self.token.text == 'to' and 'to' not in self.scope.kinds
             receiver = self.of_first() if is_first else self.of_pair() if word == 'send' else ''
-            value = self.value()
+            node = self.expression()
+            if node.kind == 'choice' and word == 'send' and not receiver and self.token.text != 'to':
+                self.end('')
+                return self.chosen('send %s;', node)
+            value = self.writer.text(node)
             if receiver and not is_first:
                 self.need(')')
             if word == 'send' and (receiver or self.accept('to')):
