@@ -394,6 +394,12 @@ class LinesOfTheFile(unittest.TestCase):
         first = as_json(found, hops)['chain'][0]
         self.assertEqual((first['program_line'], first['file'], first['file_line']), (8, 'a.toml', 16))
 
+    def test_a_program_that_is_not_in_the_file_is_named(self) -> None:
+        """So the line isn't mistaken for a line of the file."""
+        other = ScenarioFile('b.mote', 'process x;\ncode x { body { print 1; } }\n')
+        hops = chain(Source('test', REPORT.encode(), Scenario.parse(SCENARIO), other), At(0, 7))
+        self.assertEqual(hops[0].because, 'a, line 8 of program talker: `post b msg 5`')
+
 
 class Questions(unittest.TestCase):
     """Which line a question is about."""

@@ -64,6 +64,24 @@ class Notes(unittest.TestCase):
         note = self.note('mote 1 prints just h 8, 9 in any order')
         self.assertEqual((note.why, note.mote), ('mote 1 never prints 9. The nearest:', 1))
 
+    def test_another_process_that_prints_the_values_is_named(self) -> None:
+        for sentence in 'mote 0 prints just a 7, 3, 2', 'mote 0 prints just a 2, 3, 7 in any order':
+            note = self.note(sentence)
+            self.assertEqual(note.lines[0], Line('mote 0: its process c prints exactly these values', 11))
+        self.assertEqual(self.note('mote 0 prints a 3').lines[0], Line('mote 0: its process c prints this value', 11))
+        for sentence in 'mote 0 prints just a 7, 3', 'mote 0 prints just b 7, 3, 2', 'mote 0 prints a 4':
+            self.assertNotIn('its process', str(self.note(sentence)))
+
+    def test_a_page_on_a_list_opens_at_no_copy_that_was_lost(self) -> None:
+        run = read_run(str(TOP / 'examples/small_network.toml'))
+        assert run.scenario
+        rest = 'copies did not reach a process here; the last'
+        for sentence, is_shown in (('mote 1 prints echo 99', True), ('mote 1 prints just echo 30, 99', False),
+                                   ('mote 1 prints just echo 99, 30 in any order', False)):
+            broken = Judge(run.report, run.scenario).broken(read_sentence(sentence, names_of(run.scenario)))
+            lines = [it for it in note_of(run, sentence, broken and broken._replace(row=None)).lines if rest in it.text]
+            self.assertEqual([bool(it.row) for it in lines], [is_shown], sentence)
+
     def test_a_page_on_an_order_opens_at_the_first_mote_that_misses_it(self) -> None:
         run = read_run(str(TOP / 'examples/lesson/start.toml'))
         assert run.scenario

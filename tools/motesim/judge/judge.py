@@ -265,8 +265,9 @@ class Judge:
             if broken is None:
                 return None
             is_shown = broken.row is not None or events or it.than
-            why = broken.why + ('' if is_shown else self.other_value(it, motes) or self.other_process(it, motes))
-            return Broken(why + remark_on(it.deed, motes, self.values), broken.row)
+            more = '' if is_shown else self.other_value(it, motes) or self.other_process(it, motes)
+            more = '; ' + more if more else ''
+            return Broken(broken.why + more + remark_on(it.deed, motes, self.values), broken.row)
         except _Apart as apart:
             return Broken(str(apart))
 
@@ -305,21 +306,21 @@ class Judge:
         who = 'it' if len(motes) == 1 else 'mote %d' % line.mote
         what = DOES[line.kind] + (' %s' % line.process if line.process else '')
         more = ', and %d other%s' % (len(inside) - 1, '' if len(inside) == 2 else 's') if len(inside) > 1 else ''
-        return '; %s %s %s at moment %d%s' % (who, what, line.value, line.at, more)
+        return '%s %s %s at moment %d%s' % (who, what, line.value, line.at, more)
 
     def other_process(self, it: Does, motes: tuple[int, ...]) -> str:
-        """The process that prints the wanted values instead of the process of the sentence, in words; empty if there is
-        none, or if the sentence names no process."""
+        """The process that prints the wanted values instead of the process of the sentence, and what it prints, in
+        words; empty if there is none, or if the sentence names no process."""
         pattern, deed = it.deed.patterns[0], it.deed
         if len(deed.patterns) > 1 or pattern[0] != 'print' or len(pattern) < 2 or pattern[1] is None:
             return ''
         found = [event for mote in motes for event in self.matches(('print', None, None), mote)]
         printed: dict[str, list[int]] = {}
         for event in sorted(self.within(found, it.window, motes), key=lambda it: (it.line.at, it.row)):
-            if event.line.process is not None and event.line.value is not None:
+            if event.line.process and event.line.process != pattern[1] and event.line.value is not None:
                 printed.setdefault(event.line.process, []).append(event.line.value)
-        return next(('; process %s %s' % (name, 'prints exactly these values' if deed.way in ('just', 'set') else
-                                          'prints this value') for name, values in printed.items()
+        return next(('process %s prints %s' % (name, 'exactly these values' if deed.way in ('just', 'set') else
+                                               'this value') for name, values in printed.items()
                      if self.is_wanted(it, values, motes[0])), '')
 
     def is_wanted(self, it: Does, values: list[int], mote: int) -> bool:

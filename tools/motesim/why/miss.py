@@ -9,8 +9,9 @@ from __future__ import annotations
 from collections.abc import Iterator
 from typing import Any, NamedTuple
 
-from motesim.judge.judge import Span
+from motesim.judge.judge import Judge, Span
 from motesim.judge.sentences import Does, Value
+from motesim.report import Report
 from motesim.why.callers import Callers, times
 from motesim.why.chain import count, in_words
 from motesim.why.fate import Fate, fate_of
@@ -26,11 +27,13 @@ class Miss(NamedTuple):
     """A near miss: its kind, a sentence about it, and the line that shows it, if there is one.
 
     is_wanted  whether it is about exactly the line, packet or event that the sentence wants
+    is_rest    whether it only counts other copies, of which any may matter
     """
     kind: str
     words: str
     row: int = 0
     is_wanted: bool = False
+    is_rest: bool = False
 
 
 def last_of(span: Span, source: Source) -> int:
@@ -55,6 +58,7 @@ class _Misses:
         """All misses, the nearest first."""
         moved = list(self.outside())
         yield from moved
+        yield from self.other_process()
         yield from self.past_the_end()
         if not moved:
             yield from self.other_values()
@@ -106,6 +110,18 @@ class _Misses:
         yield Miss('value', 'it %s %s: %s%s' % (
             verb, count(len(rows), 'value'), self.which(len(rows)), shown),
             self.source.traces.row(At(self.mote, near[0][0])))
+
+    def other_process(self) -> Iterator[Miss]:
+        """The wanted values, printed by another process, if this process never prints."""
+        prints = [(words[2], place) for place, words in enumerate(it.split(' ') for it in self.lines)
+                  if words[1] == 'print']
+        if self.kind != 'print' or len(self.pattern) < 2 or not prints or self.pattern[1] in dict(prints):
+            return
+        judge = Judge(Report.parse(self.source.traces.data), self.source.scenario)
+        words = judge.other_process(self.sentence, (self.mote,))
+        place = next((place for process, place in prints if words.startswith('process %s prints' % process)), None)
+        if place is not None:
+            yield Miss('printer', 'its ' + words, self.source.traces.row(At(self.mote, place)), True)
 
     def which(self, number: int) -> str:
         """Which of several values are shown, if not all are: those near the end of the sentence's time."""
@@ -175,7 +191,7 @@ class _Misses:
             others = ' with other values' if values and is_of_packets else ''
             yield Miss(fate.how, '%s%s did not reach a process here; the last, packet %s of mote %s, '
                        'was sent at %s: %s' % (count(len(lost[False]), 'copy', 'copies'), others, words[2], words[1],
-                                               words[0], fate.words), fate.row or row)
+                                               words[0], fate.words), fate.row or row, is_rest=True)
 
     def silent(self) -> Iterator[Miss]:
         """Neighbours from which nothing arrived, because they sent nothing."""

@@ -229,6 +229,7 @@ class Source:
         """A program of the scenario, with the place of its text in the scenario's file."""
         program = translated(self.scenario.programs[name], is_detailed)
         program.place = self.file.place(name, program.text) if self.file else None
+        program.other = name if self.file and program.place is None else ''
         return program
 
     def replay(self, mote: int) -> Replay:

@@ -12,6 +12,7 @@ from typing import Any, NamedTuple
 
 from motesim.faults import Fault
 from motesim.notation.faults import OPERATORS, Token, tokens_of
+from motesim.terminal import one_line
 
 COMPARED = ('==', '!=', '<', '<=', '>', '>=')
 
@@ -77,7 +78,10 @@ class ProgramPlace(NamedTuple):
 
 @dataclass
 class Program:
-    """A program: its declarations and its code; and the place of its text, if that is known."""
+    """A program: its declarations and its code; and the place of its text, if that is known.
+
+    other  the program's name, if it isn't in the file of the other programs
+    """
     text: str
     processes: list[Process] = field(default_factory=list)
     timers: list[Timer] = field(default_factory=list)
@@ -87,14 +91,18 @@ class Program:
     receiver: int | None = None
     statements: list[Statement] = field(default_factory=list)
     place: ProgramPlace | None = None
+    other: str = ''
 
     def statement(self, number: int) -> Statement:
         """A statement by its number, from 1."""
         return self.statements[number - 1]
 
     def line(self, line: int) -> str:
-        """A line of the program in words, with the line of the file: line 27 (tree.toml:43)."""
-        return 'line %d%s' % (line, ' (%s:%d)' % (self.place.file, self.place.above + line) if self.place else '')
+        """A line of the program in words, with the line of the file, `line 27 (tree.toml:43)`, or with the name of a
+        program that isn't in the file, `line 27 of program sink`."""
+        if self.place is None:
+            return 'line %d%s' % (line, ' of program %s' % one_line(self.other) if self.other else '')
+        return 'line %d (%s:%d)' % (line, self.place.file, self.place.above + line)
 
 
 def divided(a: int, b: int) -> int:
