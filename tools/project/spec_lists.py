@@ -148,8 +148,9 @@ def headline(top: Path) -> str:
         rows += [item('`%s` (%d): %s' % (it.relative_to(top / folder).as_posix(), lines_of(it), about(it)))
                  for it in order]
         rows.append('')
-    rows += ['**Types of sources** that these files name: %d, in %d sources' % (
-        sum(len(names - {CONSTANTS}) for names in rests.types.values()), len(rests.types)), '']
+    rows += ['**Types of the source files** that these definitions use: %s, from %s' % (
+        counted(sum(len(names - {CONSTANTS}) for names in rests.types.values()), 'type'),
+        counted(len(rests.types), 'file')), '']
     for path in sorted(rests.types, key=lambda path: (crates.index(crate_of(top, path)), path)):
         names = ['its constants' if it == CONSTANTS else '`%s`' % it for it in sorted(rests.types[path])]
         rows.append(item('`%s`: %s' % (path.relative_to(top / 'crates').as_posix(), ', '.join(names))))

@@ -54,7 +54,7 @@ All `specs/` together have 7 files.
 - `Ways/Far.antt` (3): How far it is.
 - `Near.antt` (2): What is near.
 
-**Types of sources** that these files name: 1, in 2 sources
+**Types of the source files** that these definitions use: 1 type, from 2 files
 
 - `simulation/src/input.rt`: `InputError`
 - `low/src/place.rt`: its constants

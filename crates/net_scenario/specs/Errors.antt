@@ -1,4 +1,4 @@
--- The number of each fault of a scenario, and the fault that each fault of a part becomes.
+-- The fault of a scenario for each fault of its tables.
 use Rattle.net_scenario.specs.declared.error.TableFault.{TableFault}
 use Rattle.net_scenario.specs.declared.error.TableFault.TheVariants as table
 use Rattle.net_scenario.specs.declared.error.ScenarioError.{ScenarioError}

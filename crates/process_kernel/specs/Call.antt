@@ -1,4 +1,4 @@
--- The call of a process, and the only recursion of the rules.
+-- The call of a process. It is the only recursion in the kernel's rules.
 use Rattle.std.specs.Prelude.{ℕ, zero, suc, Bool, true, false, ◌||◌, if◌then◌else◌}
 use Rattle.program_tree.specs.declared.event.Proc.{Proc}
 use Rattle.program_tree.specs.declared.event.Event.{Event}

@@ -1,4 +1,4 @@
--- The two kinds of recursive calls, and the walk over the process list.
+-- The two calls that a rule may make, and the walk over the process list.
 use Rattle.std.specs.Prelude.{ℕ, ◌==◌, Bool, not, ◌&&◌, List, [], ◌∷◌, if◌then◌else◌}
 use Rattle.program_tree.specs.declared.event.Proc.{Proc}
 use Rattle.program_tree.specs.declared.event.Event.{Event}

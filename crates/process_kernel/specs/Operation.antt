@@ -1,4 +1,4 @@
--- The operations of a protothread, and its run up to its answer.
+-- The operations of a protothread, and its run until it waits, yields, exits or ends.
 use Rattle.std.specs.Prelude.{ℕ, Bool, if◌then◌else◌, List, Option, Some, None, slice_get, slice_set, ◌+◌, ◌-◌, ◌%◌}
 use Rattle.std.specs.Prelude.{◌^◌, slice_index}
 use Rattle.program_tree.specs.declared.event.Proc.TheVariants.{Own}

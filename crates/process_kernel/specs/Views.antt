@@ -1,4 +1,4 @@
--- The meaning of the types of `src/machine.rt` and `src/look.rt` in a mote with this program.
+-- The meaning of the types of `src/machine.rt` and `src/look.rt`, for a mote with a given program.
 use Rattle.std.specs.Prelude.{ℕ, ◌≡◌, ◌+◌, ◌<◌, ◌≤◌, ◌++◌, ◌^◌, Bool, IsTrue, List, [], ◌∷◌, Result, Ok, Err}
 use Rattle.std.specs.Prelude.{Option, Some, None, if◌then◌else◌}
 use Rattle.std.specs.Global.{Box}

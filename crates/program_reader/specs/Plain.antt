@@ -1,4 +1,4 @@
--- The statements without a block that begin with a keyword, grouped by the operands after it, with their trees.
+-- Statements that begin with a keyword and have no block, grouped by the operands after the keyword, with their trees.
 use Rattle.std.specs.Prelude.{ℕ, Option, Some}
 use Rattle.program_tree.specs.Forms.{Beginning, action, beginning}
 use Rattle.program_reader.specs.Steps.{IsPlain}

@@ -1,5 +1,5 @@
--- The result of reading one part of a program: its marks spell its tokens, and the machine continues after the part,
--- whatever follows.
+-- The result of reading one part of a program: the marks of the part spell the tokens that were read, and the machine
+-- continues after the part, whatever follows.
 use Rattle.std.specs.Prelude.{◌≡◌, ℕ, ◌+◌, List, ◌∷◌, ◌++◌, Bool, true, false, ◌||◌, Option, Some, option_map, Result}
 use Rattle.std.specs.Prelude.{Err}
 pub use Rattle.program_tree.specs.Classes.{class_of}

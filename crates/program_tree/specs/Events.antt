@@ -1,4 +1,4 @@
--- The numbers and the words of the events that every kernel knows.
+-- The events that every kernel knows: their numbers, and their names in programs and reports.
 use Rattle.std.specs.Prelude.{ℕ, List, codes}
 use Rattle.program_tree.specs.declared.event.SystemEvent.{SystemEvent}
 use Rattle.program_tree.specs.declared.event.SystemEvent.TheVariants.{Init, Poll, Exit, Continue, Msg, Exited, Timer}

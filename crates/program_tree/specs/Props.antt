@@ -1,4 +1,4 @@
--- Each statement of a ghost field has at most one proof.
+-- Each proposition in a ghost field of a program has at most one proof.
 use Rattle.std.specs.Prelude.{ℕ, List, [], ◌∷◌}
 use Rattle.std.proofs.Props.{props}
 use Rattle.program_tree.specs.EventNames.{BroadcastEvent, PostedEvent, TestedEvent}
