@@ -1,4 +1,4 @@
--- The answers of a protothread (it waits, yields, exits or has ended) with their numbers in `pt.h`.
+-- The states that a protothread returns (it waits, yields, exits or has ended), with their numbers in `pt.h`.
 use Rattle.std.specs.Prelude.{ℕ}
 use Rattle.protothread.specs.declared.answer.PtState.{PtState}
 use Rattle.protothread.specs.declared.answer.PtState.TheVariants.{Waiting, Yielded, Exited, Ended}
