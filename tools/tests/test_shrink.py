@@ -26,7 +26,7 @@ from motesim.search.shrink import Shrinking, case_of
 from motesim.search.smaller import smaller_numbers
 from motesim.search.tree import program_text, read_program
 from skips import need_program
-from test_search import DIAMOND, REACHED, folder_with, search
+from test_search import DIAMOND, PROGRAM, REACHED, folder_with, search
 
 CANONICAL = '''process a;
 autostart a;
@@ -250,6 +250,21 @@ class Shrinks(unittest.TestCase):
                 done = subprocess.run([*words, fault], cwd=folder, capture_output=True, text=True)
                 self.assertEqual((done.returncode, done.stdout), (2, ''))
                 self.assertIn(wanted, done.stderr)
+
+    def test_programs_can_be_kept(self) -> None:
+        # (mote 3 has a program of its own, and mote 4 another one)
+        text = DIAMOND + '[[mote]]\nx = 18\ny = 6\nprogram = "q"\n'
+        text = text.replace('[programs]\n', "[programs]\nq = '''\n%s'''\n" % PROGRAM.replace('7', '8'))
+        with folder_with(text) as folder:
+            words = [sys.executable, '-B', str(TOOLS / 'shrink'), 'diamond.toml', REACHED, '--fault', 'silent 0',
+                     '--keep-programs']
+            done = subprocess.run(words, cwd=folder, capture_output=True, text=True)
+            self.assertIn('before: 5 motes, 2 losses, 2 programs', done.stdout, done.stderr)
+            self.assertIn('now:    2 motes, 1 loss, 1 program', done.stdout)
+            self.assertIn('; no further step is possible without a change of a program\n', done.stdout)
+            small = Scenario.parse((folder / 'diamond.small.toml').read_text())
+            self.assertEqual(small.programs, {'p': program_text(read_program(PROGRAM))})
+            self.assertLess(small.end, 100)
 
     def test_motes_with_other_numbers_are_mapped_to_those_of_the_scenario(self) -> None:
         with folder_with() as folder:

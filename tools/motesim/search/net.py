@@ -102,13 +102,25 @@ def loss_steps(net: Net) -> Iterator[NetStep]:
         yield NetStep(words, net._replace(losses=net.losses[:begin] + net.losses[end:]))
 
 
+def without_program(net: Net, at: int) -> NetStep:
+    name = net.programs[at][0]
+    queue = tuple(it for it in net.queue if it[0] != name)
+    return NetStep('removes the program %s' % name, net._replace(programs=without(net.programs, at), queue=queue))
+
+
+def unused_program_steps(net: Net) -> Iterator[NetStep]:
+    """Steps that remove the programs of no mote."""
+    used = {mote.program for mote in net.motes}
+    for at, (name, _) in enumerate(net.programs):
+        if name not in used:
+            yield without_program(net, at)
+
+
 def program_steps(net: Net) -> Iterator[NetStep]:
     used = {mote.program for mote in net.motes}
     for at, (name, program) in enumerate(net.programs):
         if name not in used:
-            queue = tuple(it for it in net.queue if it[0] != name)
-            yield NetStep('removes the program %s' % name,
-                          net._replace(programs=without(net.programs, at), queue=queue))
+            yield without_program(net, at)
             continue
         step: Step
         for step in programs(program):

@@ -19,7 +19,9 @@ from motesim.search.change import Base, Change
 from motesim.search.faults import MOTES_OF, Effect, put_into
 from motesim.search.following import follow, names_motes_in_quotes
 from motesim.search.halting import is_only_about_halts, without_halts
-from motesim.search.net import Net, NetStep, loss_steps, mote_steps, net_of, number_steps, program_steps
+from motesim.search.net import (
+    Net, NetStep, loss_steps, mote_steps, net_of, number_steps, program_steps, unused_program_steps,
+)
 from motesim.search.one_program import OneProgram
 from motesim.search.quick_judge import QuickJudge
 
@@ -27,6 +29,8 @@ NAME = 'the scenario'
 MOTE = re.compile(r'\bmotes? \d+')
 STEPS: dict[str, Callable[[Net], Iterator[NetStep]]] = {
     'motes': mote_steps, 'losses': loss_steps, 'programs': program_steps, 'numbers': number_steps}
+# The steps that change no program.
+STEPS_OF_NET: dict[str, Callable[[Net], Iterator[NetStep]]] = {**STEPS, 'programs': unused_program_steps}
 
 
 class Case(NamedTuple):
@@ -108,6 +112,7 @@ class Shrinking:
     is_whole: bool = True
     last: int = 0
     longest: int | None = None
+    keeps_programs: bool = False
     # The numbers that the present motes had at first.
     motes: list[int] = field(default_factory=list)
     # The explanations for the first report, for the present one, and for the last one that was judged.
@@ -180,10 +185,11 @@ class Shrinking:
 
     def take_all(self, name: str) -> bool:
         """Takes steps of one sort, as long as there are any; returns whether one was taken."""
+        steps = STEPS_OF_NET if self.keeps_programs else STEPS
         found = False
         at = 0
         while not self.is_over():
-            tried = list(STEPS[name](self.case.net))
+            tried = list(steps[name](self.case.net))
             for offset in range(len(tried)):
                 index = (at + offset) % len(tried)
                 if self.is_over():

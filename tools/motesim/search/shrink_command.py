@@ -78,7 +78,7 @@ def status_of(asked: argparse.Namespace) -> int:
     effects = tuple(effect_of(it, base.scenario_itself.motes) for it in asked.fault)
     with Break() as stop:
         case = case_of(base.source, sentence, effects, tuple(asked.keep))
-        shrinking = Shrinking(program, case, lambda: stop.is_asked)
+        shrinking = Shrinking(program, case, lambda: stop.is_asked, keeps_programs=asked.keep_programs)
         before = shrinking.text
         shrinking.run()
     write_result(shrinking, case.net, path.name, output)
@@ -87,9 +87,9 @@ def status_of(asked: argparse.Namespace) -> int:
             print('%3d %s' % (number, it))
     print('before: %s' % sizes(before))
     print('now:    %s' % sizes(shrinking.text))
-    print('%d steps, %d runs; %s' % (
-        len(shrinking.taken), shrinking.runs,
-        'no further step is possible' if shrinking.is_whole else 'STOPPED: more steps may be possible'))
+    whole = 'no further step is possible' + ' without a change of a program' * asked.keep_programs
+    print('%d steps, %d runs; %s' % (len(shrinking.taken), shrinking.runs,
+                                     whole if shrinking.is_whole else 'STOPPED: more steps may be possible'))
     print('%s breaks: %s' % (output, shrinking.case.sentence))
     if shrinking.renumbered:
         print('  in %s, %s' % (path.name, shrinking.renumbered))
