@@ -197,6 +197,37 @@ class OwnVariables(unittest.TestCase):
         self.assertIn('post a msg 1; yield_until is(msg); print my_msg;', ' '.join(text.split()))
 
 
+class Arrays(unittest.TestCase):
+    def test_a_member_is_a_variable(self) -> None:
+        need_program(self)
+        for place in 0, 1:
+            lines = ('int v[3];', 'v[0] = 5;\n v[1] = v[0] + 2;\n v[2] = 1;\n v[2] += 1;\n v[1]++;\n'
+                     ' print(v[1] + v[2]);')
+            text = PROGRAM % (lines if not place else ('', '\n '.join(lines)))
+            self.assertEqual(printed(followed(text)), [10])
+            self.assertIn('`v` for `v[0]`, `v1` for `v[1]`, `v2` for `v[2]`', hints(text)[0])
+
+    def test_a_member_by_a_variable_has_advice(self) -> None:
+        self.assertIn('An `if` for each number chooses among `v`, `v1`, `v2`, such as `if (i == 1) { .. v1 .. }`.',
+                      self.advised(PROGRAM % ('var v = 0; var v1 = 0; var v2 = 0; var i = 0;', 'v[i] = 3;')))
+
+    def test_a_member_whose_name_is_taken(self) -> None:
+        for place in 0, 1:
+            lines = ('int v1;', 'int v[3];')
+            text = PROGRAM % (('\n'.join(lines), '') if not place else ('', '\n '.join(lines)))
+            fault = find_fault(text)
+            made = correction(text, fault) if fault else None
+            self.assertIn('the program has another `v1`: give the array another name first',
+                          self.advised(made.applied(text) if made else text))
+
+    def advised(self, text: str) -> str:
+        """The hint on a fault without a corrected line."""
+        fault = find_fault(text)
+        found = advice(text, fault) if fault else None
+        assert found and found.line is None, found
+        return found.hint
+
+
 class Flags(unittest.TestCase):
     """The advice on a `break`, taken at its word."""
     FORM = re.compile(r'Instead of `(while .*?)`, write `(.*?)`, and here `(.*?)`(?:, with `(.*?)`)?')
@@ -244,6 +275,18 @@ class Flags(unittest.TestCase):
                    ' if (i > 2 * k) break;\n }\n printf("%d\\n", i);\n }', [3, 5, 7])
         self.check('int k = 0, i = 0, stop;\n while (k < 3) {\n k++;\n stop = 0;\n while (!stop) {\n i++;\n'
                    ' if (i > 2 * k) break;\n }\n printf("%d\\n", i);\n }', [3, 5, 7])
+
+    def test_a_continue_keeps_the_step_of_its_loop(self) -> None:
+        said = 'The step, `i = (i + 1);`, stays the last statement of the block, behind this `else`.'
+        for form, is_said in (('for (i = 0; i < 4; i++) {\n if (i == 2) continue;\n print i;\n }', True),
+                              ('for (i = 0; i < 4; i++) { if (i == 2) continue; print i; }', True),
+                              ('while (i < 4) {\n i = (i + 1);\n if (i == 2) continue;\n print i;\n }', False)):
+            text = PROGRAM % ('var i = 0;', form)
+            while (fault := find_fault(text)) and (found := correction(text, fault)) and found.line is not None:
+                text = found.applied(text)
+            hint = advice(text, fault) if fault else None
+            with self.subTest(form):
+                self.assertEqual(hint and said in hint.hint, is_said)
 
     def test_two_breaks_of_one_loop(self) -> None:
         self.check('int i = 0;\n while (i < 9) {\n i++;\n if (i == 5) {\n break;\n } else {\n if (i == 3) {\n break;\n'

@@ -389,7 +389,8 @@ class Control(OwnNames):
 
     def do_loop(self) -> str:
         self.at += 1
-        body = self.body()
+        outside, self.place = self.place, self.place._replace(loop='')
+        body, self.place = self.body(), outside
         if self.is_cut and self.place.is_endless:
             self.why(ENDLESS_DO)
             return 'while 1 ' + body

@@ -4,8 +4,8 @@ from __future__ import annotations
 import re
 
 from motesim.from_c.expressions import (
-    BYTES, LONG, MOST, NO_ARRAYS, NO_FIELDS, QUALIFIERS, READ_ONLY, SMALL, TICKS, TOO_LARGE, TYPES, Expressions,
-    NoCounterpart,
+    BYTES, LONG, MOST, NO_ARRAYS, NO_FIELDS, NO_POINTERS, QUALIFIERS, READ_ONLY, SMALL, TICKS, TOO_LARGE, TYPES,
+    Expressions, NoCounterpart,
 )
 from motesim.from_c.nodes import Node, number_of, value_of
 from motesim.from_c.own_names import OTHERS, OwnNames
@@ -46,6 +46,9 @@ OTHER_VALUE = '%s Leave this line out, and write `var %s = %s;` at the head of t
 WRITE_BY_NAME = '`%s` has another meaning in a program, so write `%s` in each line that means this variable, too.'
 OF_TEXT = 'Here, `%s` is the number %d. In C, the text replaces the name, so `%s * 2` is `%s * 2` there.'
 MOST_MEMBERS = 8
+OF_NAMES = 'Each member is a variable of its own: %s.'
+OF_MEMBERS = ('%s Its members would be the variables `%s` to `%s`, but the program has another `%s`: give the array '
+              'another name first.')
 NO_PLACE = 'Variables are declared at the head of `code`, before its timers, threads and `body`: `var %s = 0;`.'
 
 
@@ -188,12 +191,16 @@ class Declarations(OwnNames):
         """Variables with their initial values, below the words of their type."""
         found = []
         while True:
+            if self.token.text == '*':
+                raise NoCounterpart(NO_POINTERS % self.ahead(1).text)
             name, at = self.token.text, None if words == ['var'] else self.at
             if self.token.kind != 'name':
                 raise NoCounterpart
             self.at += 1
             if self.token.text == '[':
-                return self.of_array(name)
+                return self.of_array(name, self.at - 1, 'static' in words)
+            if '*' in words and not (self.token.text == '=' and 'packetbuf_dataptr' in self.rest_of_line()):
+                raise NoCounterpart(NO_POINTERS % name)
             node, is_static = self.expression() if self.accept('=') else None, 'static' in words
             is_chosen = node is not None and node.kind == 'choice' and not is_static
             if node and is_chosen and self.place.head and not self.place.is_head:
@@ -206,16 +213,26 @@ class Declarations(OwnNames):
         self.end('')
         return ' '.join(it for it in found if it)
 
-    def of_array(self, name: str) -> str:
+    def rest_of_line(self) -> list[str]:
+        """The words up to the end of a declaration."""
+        words = [it.text for it in self.tokens[self.at:]]
+        return words[:words.index(';')] if ';' in words else words
+
+    def of_array(self, name: str, at: int, is_static: bool) -> str:
         """An array: a variable for each of its members, if they are few."""
         self.need('[')
         count = number_of(self.token.text) or 0
         self.at += 1
         if self.accept(']') != ']' or not 0 < count <= MOST_MEMBERS or self.token.text not in (';', ''):
             raise NoCounterpart(NO_ARRAYS)
+        members = ['%s%s' % (name, it or '') for it in range(count)]
+        taken = {allowed(it) for it in members[1:]}.intersection(self.words_around())
+        if taken or not self.place.is_head and self.reason(name, allowed(name), at, is_static):
+            raise NoCounterpart(OF_MEMBERS % (NO_ARRAYS, members[0], members[-1], min(taken, default=name)))
         self.why(NO_ARRAYS)
-        found = [self.declared('%s%s' % (name, it or ''), '0') for it in range(count)]
-        return ' '.join(it for it in found if it)
+        self.writer.insist(OF_NAMES % ', '.join('`%s` for `%s[%d]`' % (allowed(it), name, number)
+                                                for number, it in enumerate(members)))
+        return ' '.join(filter(None, (self.declared(it, '0', is_static=is_static) for it in members)))
 
     def of_function(self) -> str:
         """A function: a thread, without parameters."""

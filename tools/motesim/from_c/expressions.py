@@ -94,7 +94,14 @@ NO_SHIFTS = ('There are no shifts: a loop %s, `bit = %s; k = 0; while (k < %s) {
              'with `var bit = 0;` and `var k = 0;` at the head of its `code`.')
 OF_FLAG = ' Then `((flags / bit) % 2)` is this bit of `flags`; if it is 0, `flags = (flags + bit);` sets it.'
 NO_ARRAYS = 'There are no arrays: a variable holds one number of 16 bits.'
-NO_FIELDS = 'A packet has no fields: it has one number, `data`. Two small ones make one, `((a * 256) + b)`.'
+MEMBER = 'There are no arrays: `%s[%d]` is the variable `%s`.'
+NO_INDEX = ('There are no arrays: a variable holds one number of 16 bits. An `if` for each number chooses among `%s`, '
+            'such as `if (%s == 1) { .. %s .. }`.')
+NO_FIELDS = ('There are no structures: each field is a variable of its own, such as `p_x` instead of `p.x`. A packet '
+             'has one number, `data`. Two small ones make one, `((a * 256) + b)`.')
+NO_POINTERS = ('There are no pointers: leave out the declaration of `%s`, and write the name of the variable at which '
+               'it points, `x = 7;` instead of `*p = 7;`.')
+NO_SIZES = 'There are no sizes: all values have 16 bits, which are 2 bytes.'
 NO_TEXTS = 'There are no texts: a program prints numbers, `print 1;`. The line of the report names the process anyway.'
 NO_REALS = ('Numbers are whole, 0 to 65,535. Count in smaller units, such as tenths: 15 for 1.5; `((x * 9) / 10)` is '
             'nine '
@@ -307,6 +314,8 @@ class Expressions:
             is_assigned = inner.kind == 'binary' and inner.text == '=' and inner.parts[0].kind == 'name'
             return Node('assigned', '=', inner.parts) if is_assigned else inner
         self.at += 1
+        if token.text == 'sizeof':
+            raise NoCounterpart(NO_SIZES)
         if token.kind in ('number', 'name', 'text', 'char', 'real'):
             return Node(token.kind, token.text)
         raise NoCounterpart
@@ -763,7 +772,19 @@ class Writer:
         address = address_of(node)
         if address:
             return self.byte_of(address, node)
-        return self.refuse(NO_ARRAYS) if node.kind == 'index' else self.field(node)
+        return self.member(*node.parts) if node.kind == 'index' else self.field(node)
+
+    def member(self, array: Node, index: Node) -> str:
+        """A member of an array: a variable, if the array became variables."""
+        count = number_of(index.text) if index.kind == 'number' else None
+        name = self.scope.member(array.text, count) if count is not None else ''
+        if name:
+            self.why(MEMBER % (array.text, count or 0, name))
+            return name
+        its = self.scope.members(array.text) if array.kind == 'name' else []
+        if len(its) < 2 or count is not None:
+            return self.refuse(NO_ARRAYS)
+        return self.refuse(NO_INDEX % ('`, `'.join(its), self.text(index), its[1]))
 
     def byte_of(self, address: str, node: Node) -> str:
         """A byte of an address: the address itself is the first one."""

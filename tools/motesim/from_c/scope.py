@@ -126,6 +126,20 @@ class Scope:
         """The names of a kind."""
         return [name for name, its in self.kinds.items() if its == kind]
 
+    def member(self, array: str, count: int) -> str:
+        """The variable for a member of an array, or nothing if there is none."""
+        first = allowed(array)
+        name = '%s%s' % (first, count or '')
+        is_array = self.kinds.get(first) == self.kinds.get('%s1' % first) == 'variable'
+        return name if is_array and self.kinds.get(name) == 'variable' else ''
+
+    def members(self, array: str) -> list[str]:
+        """The variables for the members of an array."""
+        found: list[str] = []
+        while name := self.member(array, len(found)):
+            found.append(name)
+        return found
+
     def short(self, name: str) -> str:
         """The name that may be declared for this one, which differs from that of another long name of the text."""
         its = allowed(name)

@@ -13,10 +13,13 @@ from motesim.from_c.calls import BROADCAST, CALLS, Calls
 from motesim.from_c.control import ENDS, Control
 from motesim.from_c.declarations import ABOVE, OF_PACKETS, Declarations
 from motesim.from_c.expressions import (
-    DICE, FIRST, MOST, NO_ARRAYS, NO_CALLS, NO_CHANCE, NO_FIELDS, QUALIFIERS, READ_ONLY, STEP, TYPES, NoCounterpart,
+    DICE, FIRST, MOST, NO_CALLS, NO_CHANCE, NO_FIELDS, NO_POINTERS, NO_SIZES, QUALIFIERS, READ_ONLY, STEP, TYPES,
+    NoCounterpart,
 )
 from motesim.from_c.nodes import MOMENTS_OF_SECOND, Node
+from motesim.from_c.places import last_statement
 from motesim.from_c.scope import allowed, nearest
+from motesim.from_c.tokens import tokens_of
 from motesim.notation.faults import MOST_LEVELS, STATEMENTS
 
 OF_ONE_BIT = 'There are no operators on bits: a bit is set by `+` if it is 0, and cleared by `-` if it is 1.'
@@ -54,9 +57,11 @@ ADVICE = {
     'goto': NO_GOTO,
     'random_init': 'There is no generator to set up: a seed is a variable, `seed = self;`.',
     'srand': 'There is no generator to set up: a seed is a variable, `seed = self;`.',
-    'struct': NO_FIELDS, 'typedef': 'There are no types: all values have 16 bits.', 'enum': 'There are no types: give '
-    'each value a number, and note it in a comment.', 'sizeof': 'There are no sizes: all values have 16 bits.',
+    'sizeof': NO_SIZES, 'struct': NO_FIELDS,
+    'typedef': 'There are no types: all values have 16 bits.', 'enum': 'There are no types: give '
+    'each value a number, and note it in a comment.',
 }
+OF_STEP = ' The step, `%s;`, stays the last statement of the block, behind this `else`.'
 SUMS = {'++': '+', '--': '-', '+=': '+', '-=': '-'}
 # A statement whose name is of another kind, with the statement that is meant.
 OTHER = {
@@ -143,7 +148,7 @@ class Statements(Declarations, Calls, Control):
             return self.choice_or_loop(word)
         if word == 'for' and self.ahead(1).text == '(':
             return self.for_loop()
-        if word == 'do' and self.ahead(1).text == '{':
+        if word == 'do' and self.ahead(1).text not in ('=', '++', '--', ';', ''):
             return self.do_loop()
         if word == 'return':
             return self.of_return()
@@ -170,6 +175,10 @@ class Statements(Declarations, Calls, Control):
             return self.end(self.stepped(self.ahead(-1).text, word))
         if token.kind == 'name':
             return self.named(word)
+        if word == '(' and self.is_cast() and self.ahead(1).text == 'void' and self.ahead(2).text == ')':
+            return self.unused()
+        if word == '*' or word == '(' and self.ahead(1).text == '*':
+            return self.of_pointer()
         raise NoCounterpart
 
     def named(self, word: str) -> str:
@@ -204,6 +213,8 @@ class Statements(Declarations, Calls, Control):
             self.expression()
             self.writer.insist(SENT_ALREADY + SENDS[lower])
             return self.end('').removesuffix(';')
+        if lower == 'continue':
+            raise NoCounterpart(self.of_continue())
         if lower in ADVICE and not (word in self.scope.kinds and behind == '='):
             raise NoCounterpart(ADVICE[lower])
         if lower in ('process_pollhandler', 'process_exithandler') and behind == '(':
@@ -235,7 +246,7 @@ class Statements(Declarations, Calls, Control):
         if behind == '(':
             raise NoCounterpart(NO_CALLS)
         if behind == '[':
-            raise NoCounterpart(NO_ARRAYS)
+            return self.of_member(word)
         like = nearest(word, STATEMENTS)
         if not like:
             raise NoCounterpart
@@ -251,6 +262,37 @@ class Statements(Declarations, Calls, Control):
         named = call.parts[0].parts[0] if call.parts[0].kind == 'unary' else call.parts[0]
         self.why('An address is one number, which `=` assigns.')
         return self.end('%s = %s' % (self.variable(named.text), self.writer.address(call.parts[1])))
+
+    def of_member(self, array: str) -> str:
+        """A statement that begins with a member of an array."""
+        begin = self.at
+        self.at += 2
+        name = self.writer.member(Node('name', array), self.expression())
+        self.need(']')
+        self.tokens[begin:self.at] = [self.tokens[begin]._replace(text=name)]
+        self.at = begin
+        return self.statement()
+
+    def of_pointer(self) -> str:
+        """An assignment to the variable at which a pointer points."""
+        name = next(it.text for it in self.tokens[self.at:] if it.text not in '(*')
+        raise NoCounterpart(NO_POINTERS % name)
+
+    def unused(self) -> str:
+        """A value that isn't used, `(void) x;`, or a call whose value isn't used."""
+        self.at += 3
+        if self.ahead(1).text != ';':
+            return self.statement()
+        self.at += 1
+        self.why('A value that is not used needs no statement.')
+        return self.end('').removesuffix(';')
+
+    def of_continue(self) -> str:
+        """Advice on a `continue`, which in a `for` doesn't skip the step."""
+        words = [*(it.text for it in self.tokens[self.at + 1:]), *self.place.rest]
+        last = last_statement(words)
+        is_step = ' = ' in last and last.split()[0] in [it.text for it in tokens_of(self.place.loop)]
+        return ADVICE['continue'] + (OF_STEP % last.replace('( ', '(').replace(' )', ')') if is_step else '')
 
     def of_end(self) -> str:
         """A word that ends a block in other languages."""
