@@ -144,7 +144,8 @@ class Choices(OfC):
         for lines, wanted in (('int k = n > 0 ? 1 : 2; print k;', [2]), ('printf("%d %d\\n", m ? 4 : 5, n);', [4, 0]),
                               ('int k = n ? 1 : m ? 7 : 2, l = 8; print k; print l;', [7, 8]),
                               ('print(n ? 1 : 2); print m > 2 ? m : n;', [2, 3]),
-                              ('n = i ? 5 : j ? 6 : 7; print n;', [7])):
+                              ('n = i ? 5 : j ? 6 : 7; print n;', [7]),
+                              ('n += i ? 2 : 3; print n; n -= m & 4 ? 1 : 2; print n;', [3, 1])):
             self.check(lines, wanted)
         self.assertEqual(words(followed(PROGRAM % 'send(n ? 1 : 2);')),
                          words(PROGRAM % 'if n { send 1; } else { send 2; }'))
@@ -206,6 +207,16 @@ class Bits(OfC):
         self.assertIn('This is right if `i` is less than 256.', said)
         self.assertNotIn('This is right if', other)
 
+    def test_a_variable_that_is_never_assigned(self) -> None:
+        for lines, wanted in (('n = 7; print(n & m);', [3]), ('n = 7; if (n & ~m) { print 1; }', [1]),
+                              ('n = 4; n |= m; print n;', [7]), ('n = 7; n &= ~m; print n;', [4]),
+                              ('print(4 | m | 8);', [15])):
+            self.check(lines, wanted)
+        self.says('n = n & m;', 'No line assigns to `m`, so it is always 3.', True)
+        for other in ('m = 5;', 'm++;', '--m;', 'm += 2;', 'post b full 1 into m;', 'm <<= 1;', 'm=n;'):
+            self.says('n = n & m; %s' % other, 'If `m` is one bit, a power of 2')
+        self.says('if (m == 3 && m <= 4 && m >= 2 && m != 1 && n & m) { }', 'No line assigns to `m`', True)
+
     def test_other_operations_have_advice(self) -> None:
         self.says('n = m & i;', '`((m / i) % 2)` is 1 if `m` has this bit')
         self.says('n |= i;', '`n = (n + i);` sets it')
@@ -219,7 +230,9 @@ class Numbers(OfC):
         for lines in 'n = 007;', 'n = 09;':
             self.assertNotIn('octal', of_lines(lines).hint)
 
-    def test_a_sum_without_parentheses_is_said(self) -> None:
+    def test_what_a_declaration_loses_is_said(self) -> None:
+        for name in 'int', 'uint16_t', 'short':
+            self.says('%s k = 5;' % name, 'its values are 0 to 65,535, without a sign', True)
         for text, is_said in ('4 + 3', True), ('(4) - 3', True), ('(4 + 3)', False), ('-3', False), ('(-3)', False):
             found = of_lines('#define SUM %s' % text).hint
             self.assertEqual('the text replaces the name, so `SUM * 2` is `%s * 2` there.' % text in found, is_said)

@@ -185,7 +185,7 @@ class Declarations(OwnNames):
         elif LONG.intersection(words):
             self.writer.insist(OF_PARTS)
         else:
-            self.why('A variable has 16 bits and no type.')
+            self.why('A variable has 16 bits and no type: its values are 0 to 65,535, without a sign.')
 
     def variables(self, words: list[str]) -> str:
         """Variables with their initial values, below the words of their type."""

@@ -13,7 +13,7 @@ from motesim.from_c.absent import NO_SENSORS, OF_READING, READING, RUNICAST, is_
 from motesim.from_c.bits import SIGNS, bits_of, most_of, runs_of, unit_of
 from motesim.from_c.nodes import (
     ADDRESSES, MOMENTS_OF_SECOND, Choice, Node, Step, address_of, has_difference, has_negative, is_difference,
-    is_of_no_mote, is_test, is_upper_byte, names_of, number_of, opposite, value_of,
+    is_of_no_mote, is_test, is_upper_byte, names_of, number_of, opposite, value_of, with_values,
 )
 from motesim.from_c.parameters import of_value
 from motesim.from_c.scope import Scope, abbreviated, allowed
@@ -87,6 +87,7 @@ NO_BITS = ('There are no operators on bits: `(x % 256)` is the low byte, `(x / 2
            'variables of their own.')
 BY_PARTS = 'There are no operators on bits: `/` leaves the lower bits out, and `%` the upper ones.'
 JOINED = 'There are no operators on bits: `+` joins numbers that have no bits in common.'
+CONSTANT = 'No line assigns to `%s`, so it is always %s.'
 NOT_ABOVE = 'This is right if `%s` is less than %d.'
 OF_BIT = ('There are no operators on bits. If `{bit}` is one bit, a power of 2, `(({flags} / {bit}) % 2)` is 1 if '
           '`{flags}` has this bit; if it is 0, `{flags} = ({flags} + {bit});` sets it.')
@@ -706,7 +707,7 @@ class Writer:
         if sign in ('&', '|') and is_test(right) and left.kind not in ('name', 'number'):
             self.why('There are no operators on bits: `%s` is "%s".' % (2 * sign, 'and' if sign == '&' else 'or'))
             return '(%s %s %s)' % (self.text(left), 2 * sign, self.text(right))
-        left, right = (right, left) if bits_of(left) is not None else (left, right)
+        left, right = (right, left) if bits_of(left) is not None else (left, self.constant(right))
         bits, known = bits_of(right), bits_of(left)
         if bits is None:
             return self.joined(sign, left, right)
@@ -720,6 +721,20 @@ class Writer:
                                                                                                        right.text))
         self.why(BY_PARTS)
         return self.masked(sign, self.text(left), bits)
+
+    def constant(self, node: Node) -> Node:
+        """The number of an expression whose variables are never assigned, as after a `#define`; other expressions are
+        unchanged."""
+        meant = {it: self.scope.meant(it, 'variable') for it in names_of(node)}
+        values = self.scope.values
+        if not meant or any(it in self.scope.changed or values.get(it, '0') == '0' for it in meant.values()):
+            return node
+        bits = bits_of(with_values(node, {word: values[its] for word, its in meant.items()}))
+        if bits is None:
+            return node
+        for its in sorted({*meant.values()}):
+            self.why(CONSTANT % (its, values[its]))
+        return Node('number', str(bits))
 
     def masked(self, sign: str, text: str, bits: int) -> str:
         """A value in which some bits are kept, set or turned around."""
@@ -761,7 +776,7 @@ class Writer:
         if node.kind != 'binary' or node.text != '&':
             return self.text(node)
         left, right = node.parts[::-1] if bits_of(node.parts[0]) is not None else node.parts
-        bits = bits_of(right)
+        bits = bits_of(self.constant(right))
         if bits is None or bits_of(left) is not None or not bits & (bits + 1):
             return self.text(node)
         self.why(BY_PARTS)

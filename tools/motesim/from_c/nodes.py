@@ -58,6 +58,13 @@ def names_of(node: Node) -> set[str]:
     return own.union(*map(names_of, node.parts))
 
 
+def with_values(node: Node, values: dict[str, str]) -> Node:
+    """An expression with numbers instead of names."""
+    if node.kind == 'name' and node.text in values:
+        return Node('number', values[node.text])
+    return Node(node.kind, node.text, tuple(with_values(it, values) for it in node.parts))
+
+
 def number_of(text: str) -> int | None:
     """The value of a number of C, or None."""
     plain = text.lower().rstrip('ul') or text

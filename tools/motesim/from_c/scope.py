@@ -17,6 +17,9 @@ NAME = re.compile('[a-z][a-z0-9_]*')
 CODE = re.compile(r'^[ \t]*(?:code[ \t]+(\w+)|PROCESS_THREAD\s*\(\s*(\w+))', re.M)
 SEMAPHORE = re.compile(r'\bPT_SEM_INIT\s*\(\s*&?\s*(\w+)\s*,\s*([0-9]{1,5})\s*\)')
 VARIABLE = re.compile(r'^[ \t]*var\s+(\w+)\s*=\s*([0-9]+)\s*;', re.M)
+# A variable that is assigned, in the notation or in C: with a sign after its name, or in front of it.
+CHANGED = re.compile(r'(?<!\w)(?:(?<!var )(\w++)\s*+(?:(?:[-+*/%&|^]|<<|>>)?=(?!=)|\+\+|--)'
+                     r'|(?:\+\+|--|into\s)\s*+(\w++))')
 MACRO = re.compile(r'^[ \t]*PROCESS(?:_NAME)?[ \t]*\([ \t]*(\w+)', re.M)
 LONGEST = 16
 # The least similarity of a misspelt name to the name of a variable.
@@ -73,6 +76,11 @@ def is_misspelt(word: str, name: str) -> bool:
     return ratio >= MISSPELT or sorted(word.lower()) == sorted(name)
 
 
+def changed_in(text: str) -> frozenset[str]:
+    """The names, in small letters, to which a text assigns."""
+    return frozenset((one or other).lower() for one, other in CHANGED.findall(text))
+
+
 @dataclass
 class Scope:
     """Names with their kinds: event, semaphore, process, variable, timer, thread.
@@ -87,6 +95,7 @@ class Scope:
     callbacks  the callback timers
     parameters for each thread that was a function, its parameters
     long       the names that are longer than the notation allows
+    changed    the names of the variables that a line assigns to
     """
     kinds: dict[str, str] = field(default_factory=dict)
     codes: tuple[str, ...] = ()
@@ -98,6 +107,7 @@ class Scope:
     callbacks: Callbacks = Callbacks()
     parameters: dict[str, tuple[str, ...]] = field(default_factory=dict)
     long: frozenset[str] = frozenset()
+    changed: frozenset[str] = frozenset()
 
     @classmethod
     def of(cls, text: str) -> Scope:
@@ -120,7 +130,7 @@ class Scope:
             kinds.setdefault(name, 'process')
         return cls(kinds, codes, 'receiver' in words, named, tuple(dict.fromkeys([*codes, *named, *macros])),
                    {allowed(name): count for name, count in SEMAPHORE.findall(text)}, dict(VARIABLE.findall(text)),
-                   callbacks_of(text), parameters_of(text), frozenset(LONG.findall(text)))
+                   callbacks_of(text), parameters_of(text), frozenset(LONG.findall(text)), changed_in(text))
 
     def of_kind(self, kind: str) -> list[str]:
         """The names of a kind."""

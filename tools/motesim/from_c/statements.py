@@ -387,6 +387,9 @@ class Statements(Declarations, Calls, Control):
         right = self.assigned(self.expression())
         if right.kind == 'call' and right.text.lower() == 'process_post' and len(right.parts) == 3:
             return self.end('%s into %s' % (self.of_call(right), variable))
+        if right.kind == 'choice' and len(sign) > 1 and sign not in ('==', ':='):
+            sides = [Node('binary', sign[:-1], (Node('name', name), it)) for it in right.parts[1:]]
+            right, sign = Node('choice', '', (right.parts[0], *sides)), '='
         if right.kind == 'choice' and sign == '=':
             self.end('')
             return self.chosen(variable + ' = %s;', right)
