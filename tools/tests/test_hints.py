@@ -394,6 +394,19 @@ class Warnings(unittest.TestCase):
             with self.subTest(wanted):
                 self.assertTrue(any(wanted in it for it in self.seen(program, x)))
 
+    def test_a_sum_or_product_of_numbers_above_the_greatest_value_has_a_warning(self) -> None:
+        cases: list[tuple[str, list[str]]] = [
+            ('(60000 + 10000)', ['`(60000 + 10000)` is 70,000, and values are 0 to 65,535: the result is 4,464']),
+            ('(seq + (300 * 300))', ['`(300 * 300)` is 90,000, and values are 0 to 65,535: the result is 24,464']),
+            ('((2 * 30000) + 5536)', [
+                '`((2 * 30000) + 5536)` is 65,536, and values are 0 to 65,535: the result is 0']),
+            ('(65534 + 1)', []), ('(0 - 1)', []), ('(seq * 65535)', []), ('((0 - 1) + 65535)', []),
+            ('(5 - (2 * 65535))', ['`(2 * 65535)` is 131,070, and values are 0 to 65,535: the result is 65,534'])]
+        for value, wanted in cases:
+            with self.subTest(value):
+                self.assertEqual([it for it in self.seen(CODE % ('set t %s; send %s;' % (value, value))) if
+                                  'the result is' in it], wanted * 2)
+
     def test_a_test_of_sign_has_advice_on_counting_only_in_a_while(self) -> None:
         loop, branch = (CODE % ('set t 1; %s (seq >= 0) { pause; }' % it) for it in ('while', 'if'))
         self.assertEqual([['to count down' in it for it in self.seen(program)] for program in (loop, branch)],

@@ -9,7 +9,7 @@ import re
 from collections.abc import Iterator, Sequence
 from typing import NamedTuple
 
-from motesim.explain import busy, event, once
+from motesim.explain import busy, event, once, wraps
 from motesim.explain.busy import OF_EVENT
 from motesim.explain.event import FOR_TIMER, SETS
 from motesim.explain.moments import bursts
@@ -373,7 +373,8 @@ def of_program(program: Program, is_zero_given: bool) -> Iterator[Warned]:
         yield Warned(BEHIND % token.text, name, token)
     for text, token in program.unset_timers():
         yield Warned(text, name, token)
-    for text, token in event.mistaken(program.words, program.tokens):
+    its = program.words, program.tokens
+    for text, token in (*event.mistaken(*its), *wraps.warnings(*its)):
         yield Warned(text, name, token)
 
 
