@@ -33,6 +33,7 @@ from typing import NamedTuple
 
 from motesim.faults import Fault, command
 from motesim.files import refuse_inputs
+from motesim.plan.plan import Plan
 from motesim.runner.optimized import wait_for_optimized
 from motesim.runner.programs import COMPILED, TOP, is_proved, program_of_sources, program_path
 from motesim.scenario import kinds
@@ -116,7 +117,21 @@ class Sorted(NamedTuple):
         lines = [] if self.is_clone else ['Git lists no files of this tree, so all files of its folders are packed.']
         lines += ['Added: %s' % one_line(it) for it in self.added]
         lines += ['Not as in the commit: %s' % one_line(it) for it in self.changed]
-        return lines + ['Left out: %s (%s)' % (one_line(name), why) for name, why in self.left_out.items()]
+        lines += ['Left out: %s (%s)' % (one_line(name), why) for name, why in self.left_out.items()]
+        return lines + ['Not packed: %s, which the plan %s needs' % (one_line(file), one_line(plan))
+                        for plan in self.added for file in self.lacks(plan)]
+
+    def lacks(self, name: str) -> list[str]:
+        """The files that a packed plan needs with its own values, but that aren't packed at their place next to it.
+        A file that isn't a plan needs none."""
+        path = self.packed[name]
+        if path.suffix != '.toml' or not kinds.has_plan(path.read_bytes()):
+            return []
+        try:
+            used = Plan.read(path).used_files({})
+        except Fault:
+            return []
+        return [it for it in used if os.path.normpath(os.path.join(os.path.dirname(name), it)) not in self.packed]
 
 
 def files_of(path: Path) -> Iterator[Path]:

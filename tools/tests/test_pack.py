@@ -247,6 +247,20 @@ class Pack(unittest.TestCase):
             with self.assertRaisesRegex(Fault, said):
                 pack.sorted_files(['examples'], [path], top)
 
+    def test_files_of_a_plan_that_are_not_packed_are_listed(self) -> None:
+        top = self.tree('examples/a.toml', '')
+        lab = top.parent / 'course/lab'
+        lab.mkdir(parents=True)
+        plan = ('end = 9\n[medium]\nrange = 1\nbase = 1\nper = 1\n[parameters]\nname = "b"\n[[places]]\nrule = "line"\n'
+                'count = 2\nstep = 1\nprogram = "%s"\n')
+        for name, text in (('a.plan.toml', plan % '${name}.mote'), ('b.plan.toml', plan % '../c.mote'), ('b.mote', ''),
+                           ('../c.mote', ''), ('bad.plan.toml', plan % '${no}.mote'), ('net.toml', 'version = 1')):
+            (lab / name).write_text(text)
+        line = 'Not packed: ../c.mote, which the plan lab/b.plan.toml needs'
+        for named, lines in ([lab], [line]), ([lab, lab.parent / 'c.mote'], []), ([lab / 'b.mote'], []):
+            found = pack.sorted_files(['examples'], named, top)
+            self.assertEqual([it for it in found.notes() if it.startswith('Not packed')], lines)
+
     def test_a_file_that_differs_from_the_commit_is_listed(self) -> None:
         top = self.tree('examples/a.toml', '')
         (top / 'examples/a.toml').write_text('# the solution')
