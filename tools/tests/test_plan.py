@@ -128,6 +128,15 @@ class PlacesTest(unittest.TestCase):
             places.scattered(100, 10, 10, 1, 9, None)
         with self.assertRaisesRegex(places.NoPlace, 'connected'):
             places.scattered(3, 1000, 1000, 1, 0, 1)
+        # (more motes, instead of fewer, help to connect a net)
+        text = ('end = 9\n[medium]\nrange = 1\nbase = 1\nper = 1\n[places]\nrule = "random"\ncount = 9\nwidth = %d\n'
+                'height = %d\nseed = 1\nleast = %d\nconnected = true\nprogram = "a.mote"\n')
+        for side, least, said in (1000, 1, 'more motes, a smaller area, a larger `range` of the medium, or another'), (
+                2, 9, 'fewer motes, a larger area, a smaller `least`, or another'):
+            files = Files(Path(), {'a.mote': b'process a;\ncode a { body { } }\n'})
+            with self.assertRaises(Fault) as caught:
+                Plan('a.plan.toml', text % (side, side, least), files).scenario({})
+            self.assertIn(said, ' '.join(str(caught.exception).split()))
 
 
 class PlanTest(unittest.TestCase):

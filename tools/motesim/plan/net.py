@@ -11,7 +11,7 @@ from motesim.notation import faults as program_faults
 from motesim.plan import places, primes
 from motesim.plan.chance import Chance
 from motesim.faults import Fault
-from motesim.plan.places import Crowd, NoPlace, Point
+from motesim.plan.places import Crowd, NoPlace, NotConnected, Point
 from motesim.plan.files import CsvTable, Files
 from motesim.plan.keys import (
     CORNER, FIRST_OF_COUNTS, LOSS_STREAM, LOSSES, MEDIUM, MOST_BYTES, MOST_LOSSES, MOST_MOTES, MOST_PLACE, OTHER,
@@ -168,8 +168,8 @@ class Builder:
             points = self.points(values, path, reach, names)
         except NoPlace as fault:
             may = 'fewer motes, a larger area, a smaller `least`, or another `seed`'
-            if reach is not None:
-                may += ', or a larger `range` of the medium'
+            if isinstance(fault, NotConnected):
+                may = 'more motes, a smaller area, a larger `range` of the medium, or another `seed`'
             raise self.tables.fault(path, str(fault), may, False) from None
         if not names:
             if not values['program']:

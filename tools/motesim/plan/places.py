@@ -25,6 +25,10 @@ class NoPlace(Exception):
     """The rule can't be met; the reason, in a sentence."""
 
 
+class NotConnected(NoPlace):
+    """No net that was drawn is connected."""
+
+
 class Crowd:
     """Points, sorted into squares, to find near ones."""
 
@@ -129,7 +133,7 @@ def _drawn(net: Callable[[], list[Point]], reach: int | None) -> Drawn:
         points = net()
         if reach is None or is_connected(points, reach):
             return Drawn(points, rejected)
-    raise NoPlace('None of %d nets that were drawn is connected if a packet is heard up to %s away.' % (
+    raise NotConnected('None of %d nets that were drawn is connected if a packet is heard up to %s away.' % (
         TRIES_FOR_A_NET, reach))
 
 
