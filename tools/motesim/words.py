@@ -15,6 +15,18 @@ class Version(argparse.Action):
         parser.exit()
 
 
+class Once(argparse.Action):
+    """Stores the value of an option that must not be given twice."""
+
+    def __call__(self, parser: argparse.ArgumentParser, namespace: argparse.Namespace, values: Any,
+                 option: str | None = None) -> None:
+        given = namespace.__dict__.setdefault('given_once', set())
+        if option and self.dest in given:
+            parser.error('%s is given twice: each command uses one' % option)
+        given.add(self.dest)
+        setattr(namespace, self.dest, values)
+
+
 class Words(argparse.ArgumentParser):
     """A parser that reports an error in one line, without all options."""
 

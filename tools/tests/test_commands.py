@@ -43,6 +43,8 @@ class Commands(unittest.TestCase):
     def test_an_error_in_an_option_is_one_line(self) -> None:
         for words, said in ((('plot', 'a.csv', '--confidence', '100'), '--confidence is 50 to 99.9, not 100'),
                             (('plot', 'a.csv', '--draws', 'x'), "argument --draws: invalid int value: 'x'"),
+                            (('plot', 'a.csv', '--measure', 'x', '--against', 'y', '--measure', 'z'),
+                             '--measure is given twice: each command uses one'),
                             (('search', 'a.toml', '--step', 'x'), "argument --step: invalid int value: 'x'"),
                             (('sweep', 'a.toml', '--jobs', '0'), '--jobs is 1 or more, and --seconds more than 0'),
                             (('summary',), 'the following arguments are required: REPORT')):

@@ -10,6 +10,7 @@ from unittest import mock
 from xml.etree import ElementTree
 
 from here import TOOLS
+from motesim.analysis import drawing
 from motesim.analysis.estimates import quartiles
 from motesim.analysis.points import Wish, shown_of
 from motesim.experiments import packages, plot
@@ -95,6 +96,22 @@ class PlotTest(unittest.TestCase):
         wrong = self.plot('--measure', 'sent', '--against', 'density', '--by', 'period', '--log', '-o', 'a.png')
         self.assertEqual((wrong.returncode, wrong.stdout), (2, ''))
         self.assertIn('--log needs values above 0, and density is dense in some runs: leave out --log', wrong.stderr)
+
+    def test_a_picture_without_room_for_its_axes_is_an_error_that_says_what_to_do(self) -> None:
+        python = interpreter_with(self, 'matplotlib')
+        words = '--measure', 'sent', '--against', 'density', '--by', 'period', '--by', 'seed', '-o', 'a.png'
+        for size, status, said in (
+                ('8x4', 2, 'plot: a.png: the legend and the texts leave no room for the axes: select fewer lines with '
+                           '--where, write shorter texts with --label, or use a larger --size\n'), ('30x30', 0, '')):
+            done = subprocess.run([python, '-B', str(TOOLS / 'plot'), 'net.csv', *words, '--size', size],
+                                  cwd=self.folder, capture_output=True, text=True)
+            self.assertEqual((done.returncode, done.stderr), (status, said))
+            self.assertEqual((self.folder / 'a.png').exists(), status == 0)
+
+    def test_lines_have_the_same_mark_and_colour_only_after_49_lines(self) -> None:
+        looks = [(it['color'], it['marker']) for it in map(drawing._look, range(49))]
+        self.assertEqual(len(set(looks)), 49)
+        self.assertEqual(looks[:7], list(zip(drawing.COLOURS, drawing.MARKS)))
 
     def test_runs_that_all_have_a_fault_are_no_picture(self) -> None:
         with open(self.folder / 'net.csv', newline='') as file:

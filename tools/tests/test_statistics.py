@@ -18,12 +18,13 @@ from motesim.analysis import drawing, estimates
 from motesim.analysis.around import dodged, labelled
 from motesim.analysis.crossings import Crossing, Key, Place, Runs, crossing, place
 from motesim.analysis.drawing import lengths, ticks_between, with_gaps
+from motesim.analysis.drawing import unused_labels
 from motesim.analysis.origin import digest_of_tools, origin_of
 from motesim.analysis.paired import Pair, Paired, differences, pairs_of
 from motesim.analysis.estimates import Estimate
 from motesim.analysis.points import Joint, Point, Wish, is_seed, order, shown_of
 from motesim.analysis.rows import by_net, once, warnings_of
-from motesim.analysis.text import columns_of_crossing, of_crossing, of_crossing_in_short, of_pairs, remarks
+from motesim.analysis.text import columns_of_crossing, of_crossing, of_crossing_in_short, of_pairs, of_place, remarks
 from motesim.experiments.measures import Cell
 from motesim.experiments.results import Row, number_text, read_results
 from motesim.faults import Fault
@@ -775,6 +776,14 @@ class Command(unittest.TestCase):
         its = [Joint.of(it) for it in parts]
         self.assertEqual(sorted(reversed(its), key=order), its)
 
+    def test_the_names_of_two_parameters_are_each_before_their_value(self) -> None:
+        by = Joint.of(['counter', 'true'])
+        self.assertEqual(of_place((by, 60), 'protocol,conn', 'motes'), 'motes 60, protocol counter, conn true')
+        self.assertEqual(of_place(('counter', None), 'protocol', ''), 'protocol counter')
+        wish = Wish('sent', by='protocol,conn', labels=(('x', 'X'),))
+        self.assertEqual(unused_labels([by, Joint.of(['flood', 2])], wish), [
+            'no line has protocol,conn = x, so this label isn\'t used; there are: counter, true; flood, 2'])
+
     def test_lines_of_two_parameters(self) -> None:
         words = '--measure', 'sent', '--against', 'seed', '--by', 'density', '--by', 'period'
         rows = self.plot(*words, '--threshold', '12', '--where', 'seed=1..3')
@@ -1438,7 +1447,7 @@ class Command(unittest.TestCase):
         self.assertIn('left out: 9 pairs of runs, because only pairs with a value on both sides are compared', ' '.join(
             rows[3]))
         missing = 'nets with missing pairs (the value of each is the mean of its other pairs): motes 9: net_seed 1 ' \
-                  '(2 of 4), net_seed 2 (1 of 4), net_seed 3 (none of 4)'
+                  '(has 2 of 4), net_seed 2 (has 1 of 4), net_seed 3 (has none of 4)'
         self.assertEqual(' '.join(rows[4]), missing)
         interpreter_with(self, 'matplotlib')
         self.plot(*words[:3], 'motes', *words[4:], '-o', 'a.svg')
@@ -1446,7 +1455,7 @@ class Command(unittest.TestCase):
         self.assertIn(missing, (self.folder / 'a.origin.csv').read_text())
         with open(self.folder / 'a.table.csv', newline='') as file:
             self.assertEqual(next(csv.DictReader(file))['nets with missing runs'],
-                             'net_seed 1 (2 of 4), net_seed 2 (1 of 4), net_seed 3 (none of 4)')
+                             'net_seed 1 (has 2 of 4), net_seed 2 (has 1 of 4), net_seed 3 (has none of 4)')
 
     def test_runs_that_lack_a_value_are_counted_and_their_nets_are_named(self) -> None:
         self.written_nets([(1, 1, 1), (1, 2, 1), (1, 2, 2), (1, 2, 3), *((2, 3, seed) for seed in (1, 2, 3, 4))])
@@ -1457,7 +1466,7 @@ class Command(unittest.TestCase):
         self.assertEqual([row[:4] for row in rows[2:4]], [['1', '3', '8', '4'], ['2', '2', '8', '4']])
         self.assertEqual(' '.join(rows[4]), out)
         missing = 'nets with missing runs (the value of each is the mean of its other runs): period 1: net_seed 1 ' \
-                  '(3 of 4), net_seed 2 (1 of 4); period 2: net_seed 3 (none of 4)'
+                  '(has 3 of 4), net_seed 2 (has 1 of 4); period 2: net_seed 3 (has none of 4)'
         self.assertEqual(' '.join(rows[5]), missing)
         self.assertIn(out, [' '.join(row) for row in self.plot(*words)])
         interpreter_with(self, 'matplotlib')
@@ -1470,7 +1479,7 @@ class Command(unittest.TestCase):
         self.assertTrue(out in origin and missing in origin, origin)
         with open(self.folder / 'a.table.csv', newline='') as file:
             self.assertEqual([it['nets with missing runs'] for it in csv.DictReader(file)],
-                             ['net_seed 1 (3 of 4), net_seed 2 (1 of 4)', 'net_seed 3 (none of 4)'])
+                             ['net_seed 1 (has 3 of 4), net_seed 2 (has 1 of 4)', 'net_seed 3 (has none of 4)'])
 
     def test_a_mean_of_two_measures_in_a_net_is_of_runs_that_have_both(self) -> None:
         self.written_nets([(1, 1, 1), (1, 1, 2)])

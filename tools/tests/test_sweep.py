@@ -672,6 +672,16 @@ class SweepTest(Bed):
         self.assertIn('sweep: 3 of 3 runs have a warning in the column note; the first (period = 1, seed = 1): '
                       'packets of one moment collide with each other: mote 1 sent 2 packets at moment 0, ', done.stderr)
 
+    def test_results_with_a_byte_order_mark_are_read_and_continued(self) -> None:
+        self.sweep(*self.words)
+        path = self.folder / 'net.csv'
+        before = read_results(path)
+        path.write_bytes(b'\xef\xbb\xbf' + path.read_bytes())
+        self.assertEqual(read_results(path), before)
+        done = self.sweep(*self.words)
+        self.assertEqual((done.returncode, done.stdout), (0, 'net.csv: 6 runs, 0 of them now, 0 with a fault\n'))
+        self.assertEqual(read_results(path), before)
+
     def test_sqlite(self) -> None:
         done = self.sweep(*self.words, '-o', 'net.sqlite')
         self.assertEqual((done.returncode, done.stdout), (0, 'net.sqlite: 6 runs, 6 of them now, 0 with a fault\n'))

@@ -4,6 +4,7 @@ from __future__ import annotations
 import itertools
 import math
 import re
+import warnings
 from collections.abc import Callable, Iterable, Sequence
 from pathlib import Path
 from typing import Any
@@ -42,6 +43,8 @@ ABOVE_AXES, NEAR_END = 3, 0.03
 ANGLE = 30
 # The texts of the legend about a threshold. They follow the texts of the curves.
 THRESHOLD, CROSSING = 'threshold ', 'interval of the crossing'
+# The beginning of matplotlib's warning about a picture without room for its axes.
+NO_ROOM = 'constrained_layout not applied'
 # Colours that readers with colour blindness can distinguish (Okabe and Ito); lines differ by their marks too.
 COLOURS = ['#0072b2', '#d55e00', '#009e73', '#cc79a7', '#e69f00', '#56b4e9', '#000000']
 MARKS = ['o', 's', '^', 'D', 'v', 'P', 'X']
@@ -59,7 +62,9 @@ def _pyplot(wish: Wish) -> Any:
 
 
 def _look(number: int) -> dict[str, str]:
-    return {'color': COLOURS[number % len(COLOURS)], 'marker': MARKS[number % len(MARKS)],
+    """The look of a line. The marks of each next round of colours begin one mark later, so that a pair of a colour and
+    a mark is repeated only after 49 lines."""
+    return {'color': COLOURS[number % len(COLOURS)], 'marker': MARKS[(number + number // len(MARKS)) % len(MARKS)],
             'linestyle': STROKES[number % len(STROKES)]}
 
 
@@ -138,7 +143,7 @@ def unused_labels(every: Iterable[Cell], wish: Wish) -> list[str]:
     values = list(dict.fromkeys(map(text_of, every)))
     unused = [value for value, _ in wish.labels if value not in values]
     return ['no line has %s = %s, so this label isn\'t used; there are: %s' % (
-        wish.by, ' or '.join(unused), ', '.join(values))] if unused else []
+        wish.by, ' or '.join(unused), ('; ' if ',' in wish.by else ', ').join(values))] if unused else []
 
 
 def _groups(shown: Shown) -> dict[Cell, list[Point]]:
@@ -150,7 +155,12 @@ def _groups(shown: Shown) -> dict[Cell, list[Point]]:
 
 def _save(figure: Any, pyplot: Any, path: Path) -> None:
     try:
-        figure.savefig(path, dpi=150, metadata=METADATA[path.suffix])
+        with warnings.catch_warnings():
+            warnings.filterwarnings('error', NO_ROOM, UserWarning)
+            figure.savefig(path, dpi=150, metadata=METADATA[path.suffix])
+    except UserWarning:
+        raise Fault('%s: the legend and the texts leave no room for the axes: select fewer lines with --where, write '
+                    'shorter texts with --label, or use a larger --size' % path) from None
     except OSError as fault:
         raise Fault('%s: %s' % (path, fault.strerror)) from None
     finally:

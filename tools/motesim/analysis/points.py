@@ -49,6 +49,13 @@ class Joint(str):
         return found
 
 
+def columns_of_by(by: str, value: Cell) -> dict[str, Cell]:
+    """The values of the parameters that separate lines, by their names, for a value of `by`."""
+    if not by:
+        return {}
+    return dict(zip(by.split(','), value.parts)) if isinstance(value, Joint) else {by: value}
+
+
 class Wish(NamedTuple):
     """A request for a picture or a table, and the texts around it.
 
@@ -94,9 +101,7 @@ class Wish(NamedTuple):
 
     def columns_of_by(self, value: Cell) -> dict[str, Cell]:
         """The values of the parameters that separate lines, by their names, for a value of `by`."""
-        if not self.by:
-            return {}
-        return dict(zip(self.by.split(','), value.parts)) if isinstance(value, Joint) else {self.by: value}
+        return columns_of_by(self.by, value)
 
     def name_of_by(self, value: Cell) -> str:
         """A value of `by`, as in `period 20` or `period 20, density thin`."""

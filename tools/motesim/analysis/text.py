@@ -12,7 +12,7 @@ from motesim.analysis.crossings import Crossing, Middle, Runs, crossing, share_t
 from motesim.analysis.estimates import BOUNDED, DRAWS, ENOUGH_RUNS, LEAST_RUNS, NAMES, OF_ROW, RANGE
 from motesim.analysis.estimates import Estimate, is_skewed_near_an_end, words_of
 from motesim.analysis.paired import Difference, Paired, reasons
-from motesim.analysis.points import Curve, Net, Place, Point, Shown, Wish, order
+from motesim.analysis.points import Curve, Net, Place, Point, Shown, Wish, columns_of_by, order
 from motesim.experiments.measures import Cell
 from motesim.experiments.results import line_of, number_text, text_of
 from motesim.faults import Fault
@@ -104,12 +104,13 @@ def _of_row(row: Row, found: Mapping[Cell, Crossing | None], wish: Wish) -> Cros
 
 def of_net(net: Net) -> str:
     """A net with missing runs."""
-    return '%s (%s of %d)' % (net.name, net.having or 'none', net.runs)
+    return '%s (has %s of %d)' % (net.name, net.having or 'none', net.runs)
 
 
 def of_place(place: Place, by: str, against: str) -> str:
     """The place of a point, as in `motes 60, jitter 4`."""
-    return ', '.join('%s %s' % (name, text_of(value)) for name, value in ((against, place[1]), (by, place[0])) if name)
+    its = {against: place[1], **columns_of_by(by, place[0])}
+    return ', '.join('%s %s' % (name, text_of(value)) for name, value in its.items() if name)
 
 
 def of_missing(nets: Sequence[Net], by: str, against: str, what: str, most: int | None) -> list[str]:

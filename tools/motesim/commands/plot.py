@@ -25,7 +25,7 @@ from __future__ import annotations
 import argparse
 
 from motesim.faults import command
-from motesim.words import words_of
+from motesim.words import Once, words_of
 
 # The statistics of runs, and the ways to find an interval, by their names in motesim.analysis.
 SHOWS, MEANS = ('median', 'mean', 'points', 'cdf', 'heat'), ('auto', 't', 'bootstrap', 'bootstrap-t')
@@ -33,6 +33,7 @@ SHOWS, MEANS = ('median', 'mean', 'points', 'cdf', 'heat'), ('auto', 't', 'boots
 
 def arguments() -> argparse.Namespace:
     words = words_of(__doc__)
+    words.register('action', None, Once)
     words.add_argument('results', metavar='RESULTS', help='a file that tools/sweep wrote')
     words.add_argument('--measure', metavar='NAME', help='the measure to show')
     words.add_argument('--against', metavar='NAME', help='the parameter, or the measure, on the horizontal axis')

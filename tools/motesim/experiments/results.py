@@ -270,8 +270,10 @@ def _records(path: Path) -> Generator[tuple[int, int, list[str]], None, None]:
     def lines(file: IO[bytes]) -> Iterator[str]:
         nonlocal at
         for line in file:
+            # (a spreadsheet writes a byte order mark at the beginning)
+            form = 'utf-8' if at else 'utf-8-sig'
             at += len(line)
-            yield line.decode('utf-8')
+            yield line.decode(form)
 
     try:
         with open(path, 'rb') as file:
