@@ -390,7 +390,7 @@ class Nets(Folder):
         self.assertNotIn('secret', self.page())
         self.assertNotIn('5 motes do', self.page())
         self.assertIn('<pre>in a hidden net</pre>', self.page())
-        self.assertEqual(os.listdir(self.top / 'marks_runs'), ['pages.txt'])
+        self.assertEqual(sorted(os.listdir(self.top / 'marks_runs')), ['ben.toml_in_task.toml.html', 'pages.txt'])
         self.grade('--net', 'secret.toml', '-o', 'marks.html')
         self.assertEqual(sorted(os.listdir(self.top / 'marks_runs')), [
             'anna.toml_in_secret.toml.html', 'ben.toml_in_secret.toml.html', 'pages.txt'])
@@ -401,6 +401,16 @@ class Nets(Folder):
         self.grade('--hidden', 'secret.toml', '--net', 'task.toml', '-o', 'marks.html')
         self.assertIn('<pre>in task.toml\nmote 0 has 0 such lines', self.page())
         self.assertIn('href="marks_runs/ben.toml_in_task.toml.html"', self.page())
+
+    def test_a_later_sentence_that_fails_in_a_shown_net_has_the_link(self) -> None:
+        (self.top / 'secret.toml').write_text(net(PROGRAM % 9, motes=5))
+        (self.top / 'task.expect.toml').write_text('expect = ["at most 4 motes print", "every mote prints a 3"]\n')
+        self.hand_in('ben.toml', net(PROGRAM % 4))
+        self.grade('--net', 'task.toml', '--hidden', 'secret.toml', '-o', 'marks.html')
+        self.assertIn('<td>1. at most 4 motes print<pre>in a hidden net</pre>\n'
+                      '<a href="marks_runs/ben.toml_in_task.toml.html">2. every mote prints a 3</a>'
+                      '<pre>in task.toml\nmote 0 has 0 such lines', self.page())
+        self.assertEqual(self.page().count('href='), 1)
 
     def test_programs_in_nets_are_written_as_scenarios(self) -> None:
         (self.top / 'secret.toml').write_text(net(PROGRAM % 9, motes=5))
@@ -462,6 +472,22 @@ class Nets(Folder):
                   for folder in set(re.findall(r'mkdir (?:-p )?(\w+)', page.read_text('utf-8')))]
         self.assertGreater(len(filled), 2)
         self.assertEqual(len(filled), len(set(filled)), filled)
+
+    def test_loops_and_packets_of_one_moment_are_named(self) -> None:
+        need_program(self)
+        self.stub = program_path()
+        (self.top / 'task.toml').write_text(net(PROGRAM % 9).replace('collide = false', 'collide = true'))
+        self.hand_in('ben.mote', 'process a;\nautostart a;\nreceiver a;\ncode a { body { if (self == 0) { send 1; '
+                     'send 2; }\nyield_until is(packet); while 1 { } } }\n')
+        wanted = ('Warning: an endless loop in which nothing waits: the mote halts when its work is used up (line 5 of '
+                  'the program)', 'Warning: packets of one moment collide with each other: mote 0 sent 2 packets')
+        for text in self.grade('--net', 'task.toml', '--why', 'ben'), self.grade(
+                '--net', 'task.toml', '-o', 'marks.html') and self.page():
+            for line in wanted:
+                self.assertIn(line, text)
+        self.grade('--hidden', 'task.toml', '-o', 'marks.html')
+        self.assertIn(wanted[0], self.page())
+        self.assertNotIn(wanted[1], self.page())
 
     def test_a_process_that_nothing_starts_is_named(self) -> None:
         need_program(self)

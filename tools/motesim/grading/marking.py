@@ -7,8 +7,8 @@ from dataclasses import dataclass, replace
 from pathlib import Path
 from typing import NamedTuple
 
-from motesim.explain.explanation import explanation, of_program, of_program_file, tables_or_none
-from motesim.explain.lint import Program, of_start
+from motesim.explain.explanation import explanation, of_program as fault_of_program, of_program_file, tables_or_none
+from motesim.explain.lint import ZERO_GIVEN, Program, by_cause, of_moments, of_program, of_start
 from motesim.explain.within import busiest
 from motesim.faults import Fault
 from motesim.files import replace_whole
@@ -81,11 +81,12 @@ class Marks:
 
     is_open  whether it has to be marked again, because the reason isn't in the solution
     is_solution  whether it is marked: other files than solutions have no mark, and don't count
-    picture  the page with the timeline of its first failed sentence, in the folder of pictures
+    picture  the page with the timeline of the first sentence that fails in a net that isn't hidden, in the folder of
+             pictures; and `pictured`, the place of this sentence
     no_page  the reason why there is no such page, though pages were asked for
     fix      for a refused scenario or program, the place of its error, and the correction
     halts    the first mote that halts in a net, if one does; and `shown_halts` in a net that isn't hidden
-    warned   the warnings about its processes that never start, and about packets that no process gets
+    warned   the warnings about its programs, and about packets of one moment in a net that isn't hidden
     unused   its programs that no mote of the nets runs, in words
     """
     name: str
@@ -93,6 +94,7 @@ class Marks:
     why: str = ''
     lacks: tuple[str, ...] = ()
     picture: str = ''
+    pictured: int | None = None
     no_page: str = ''
     fix: tuple[str, ...] = ()
     is_open: bool = False
@@ -150,6 +152,7 @@ class InNet(NamedTuple):
     bytes: int = 0
     halts: str = ''
     warned: tuple[str, ...] = ()
+    moments: tuple[str, ...] = ()
 
 
 @dataclass(frozen=True)
@@ -207,8 +210,9 @@ class Task:
         marks = replace(self.together(entry.name, found), unused=unused)
         if any(its.is_refused for its in found):
             return replace(marks, fix=self.fix(entry, data))
-        picture, no_page = self.picture(number, marks, found)
-        return replace(marks, picture=picture, no_page=no_page)
+        place, net = first_shown(marks, found)
+        picture, no_page = self.picture(number, marks, place, net) if net else ('', '')
+        return replace(marks, picture=picture, pictured=place if picture else None, no_page=no_page)
 
     def fix(self, entry: Entry, data: bytes) -> tuple[str, ...]:
         """The place of the error in a solution, and its correction, as tools/explain shows them."""
@@ -252,8 +256,9 @@ class Task:
             marks.append(Mark(whole.sentence, whole.holds, (), tuple(whole.more)))
         run = Run('', report, scenario, file) if len(got.report) <= MOST_SHOWN else None
         return InNet(marks, lacks, '', run, [None if lack else next(places) for lack in lacks], bytes=len(got.report),
-                     halts=halt_of(report), warned=warned_of(
-                         {program: scenario.programs[program]} if program else scenario.programs))
+                     halts=halt_of(report), moments=moments_of(report), warned=warned_of(
+                         {program: scenario.programs[program]} if program else scenario.programs,
+                         ZERO_GIVEN.search(text) is not None))
 
     def answer(self, scenario: bytes) -> Answer:
         """The answer of `motesim`, within the limits. The error at a limit says what the run does most often."""
@@ -282,25 +287,22 @@ class Task:
         lacks = [next((it for it in each if it), '') for each in zip(*(its.lacks for its in found))]
         halts, shown = (next((it.halts + (' in %s' % it.net if it.net else '') for it in its if it.halts), '')
                         for its in (found, [it for it in found if not it.is_hidden]))
-        return Marks(name, tuple(marks), why, tuple(lacks), halts=halts, shown_halts=shown, warned=found[0].warned)
+        moments = next((it.moments for it in found if it.moments and not it.is_hidden), ())
+        return Marks(name, tuple(marks), why, tuple(lacks), halts=halts, shown_halts=shown,
+                     warned=(*found[0].warned, *moments))
 
     def possible_pictures(self, entries: Sequence[Entry]) -> list[str]:
         """The names of all pages that the marking of these entries may write."""
         nets = [net.name for net in self.nets if not net.is_hidden] if self.nets else ['']
         return [page_name(number, entry.name, net) for number, entry in enumerate(entries, 1) for net in nets]
 
-    def picture(self, number: int, marks: Marks, found: list[InNet]) -> tuple[str, str]:
-        """Writes a page with the timeline of the first failed sentence. Returns the name of the page, or the reason why
-        there is none.
-
-        A run in a hidden net has no page.
-        """
-        place = marks.first_failed
-        if place is None or self.pictures is None:
+    def picture(self, number: int, marks: Marks, place: int, its: InNet) -> tuple[str, str]:
+        """Writes a page with the timeline of a sentence that fails in a net. Returns the name of the page, or the
+        reason why there is none."""
+        if self.pictures is None:
             return '', ''
-        its = next((its for its in found if not its.marks[place].holds and not its.is_hidden), None)
-        if its is None or its.run is None:
-            return '', TOO_LONG.format(its.bytes, MOST_SHOWN) if its and its.bytes > MOST_SHOWN else ''
+        if its.run is None:
+            return '', TOO_LONG.format(its.bytes, MOST_SHOWN) if its.bytes > MOST_SHOWN else ''
         mark = its.marks[place]
         note = note_of(its.run, mark.sentence, its.broken[place] if place < len(its.broken) else None, mark.more)
         name = page_name(number, marks.name, its.net)
@@ -309,16 +311,35 @@ class Task:
         return name, ''
 
 
+def first_shown(marks: Marks, found: Sequence[InNet]) -> tuple[int, InNet | None]:
+    """The place of the first sentence that fails in a net that isn't hidden, and the first such net."""
+    for place, mark in enumerate(marks.marks):
+        for its in found:
+            if not mark.holds and not its.marks[place].holds and not its.is_hidden:
+                return place, its
+    return 0, None
+
+
 def halt_of(report: Report) -> str:
     """The first mote that halts in a report, with the moment; an empty text if none does."""
     last = ((mote.number, mote.lines[-1]) for mote in report.motes if mote.lines)
     return next(('mote %d halts at %d' % (number, it.at) for number, it in last if it.kind == 'halt'), '')
 
 
-def warned_of(programs: Mapping[str, str]) -> tuple[str, ...]:
-    """The warnings of tools/explain about processes that never start, and about packets that no process gets."""
-    found = [it.text for name, text in programs.items() for it in of_start(Program(name, text))]
-    return tuple('Warning: %s' % it for it in found[:MOST_WARNED])
+def warned_of(programs: Mapping[str, str], is_zero_given: bool = False) -> tuple[str, ...]:
+    """The warnings of tools/explain about programs, with their lines; those about processes that never start, and about
+    packets that no process gets, need no line."""
+    lines = []
+    for its in (Program(name, text) for name, text in programs.items()):
+        whole = [it.text for it in of_start(its)]
+        lines += whole + ['%s (line %d of the program)' % (it.text, it.token.line)
+                          for it in of_program(its, is_zero_given) if it.token and it.text not in whole]
+    return tuple('Warning: %s' % it for it in lines[:MOST_WARNED])
+
+
+def moments_of(report: Report) -> tuple[str, ...]:
+    """The warnings of tools/explain about packets of one moment that collided."""
+    return tuple('Warning: %s' % it.text for it in by_cause(list(of_moments(report)))[:MOST_WARNED])
 
 
 def unmarked(name: str, why: str) -> Marks:
@@ -353,4 +374,4 @@ def fix_of_program(name: str, text: str, wanted: str) -> list[str]:
         return []
     its = wanted if wanted in programs else next(iter(programs))
     error = find_program_fault(programs[its]) if type(programs[its]) is str else None
-    return of_program(name, text, its, error) if error else []
+    return fault_of_program(name, text, its, error) if error else []

@@ -38,16 +38,29 @@ def _colour(marks: Marks, count: int) -> str:
 
 
 def _first_failed(marks: Marks, folder: str) -> str:
-    """The first sentence that fails, linked to the run that shows it, and why it fails."""
+    """The first sentence that fails, linked to the run that shows it, and why it fails. If this sentence fails only in
+    hidden nets, the first sentence that fails in another net is below it, with the link."""
     place = marks.first_failed
     if marks.why or place is None:
         return escape(marks.why) + ('<pre>%s</pre>' % escape('\n'.join(marks.fix)) if marks.fix else '')
+    below = [*marks.warned, *(it for it in (marks.shown_halts, marks.unused, marks.no_page) if it)]
+    other = marks.pictured if marks.pictured is not None and marks.pictured > place else None
+    first = _failed(marks, place, '' if other is not None else folder)
+    rest = '' if other is None else '\n' + _failed(marks, other, folder)
+    return first + rest + _lines(below)
+
+
+def _failed(marks: Marks, place: int, folder: str) -> str:
+    """A sentence that fails, and why it fails. If a folder is given, the sentence is linked to its run."""
     mark = marks.marks[place]
-    words = '%d. %s' % (place + 1, mark.words)
-    link = '<a href="%s/%s">%s</a>' % (quote(folder), quote(marks.picture), escape(words)) if marks.picture \
-        else escape(words)
-    rows = [*mark.shown, *marks.warned, *(it for it in (marks.shown_halts, marks.unused, marks.no_page) if it)]
-    return link + ('<pre>%s</pre>' % escape('\n'.join(rows)) if rows else '')
+    words = escape('%d. %s' % (place + 1, mark.words))
+    if folder and marks.picture:
+        words = '<a href="%s/%s">%s</a>' % (quote(folder), quote(marks.picture), words)
+    return words + _lines(mark.shown)
+
+
+def _lines(rows: Sequence[str]) -> str:
+    return '<pre>%s</pre>' % escape('\n'.join(rows)) if rows else ''
 
 
 def _row(marks: Marks, count: int, folder: str) -> str:
