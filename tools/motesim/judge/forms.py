@@ -55,7 +55,7 @@ DEED = Table('DEED', 'Lines of the report', ('mote 1 %s',), (
     (('prints just P 1 to 29 in any order',),
      'all lines `print P V`, which must have exactly these values, in any order'),
     (('prints just P its distance from mote 0',),
-     'all lines `print P V`: there must be exactly one, with this value; all other values in words from the next table '
+     'all lines `print P V`: there must be exactly one, with this value; each other VALUE that the next table describes '
      'may also follow `prints just P`'),
     (('finally prints P VALUE',), 'the last line `print P V`, which must have this value'),
     (('sends', 'sends VALUE'), '`send N V`'),
