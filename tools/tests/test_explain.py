@@ -296,11 +296,15 @@ class Pages(unittest.TestCase):
 
 class Deep(unittest.TestCase):
     def test_texts_that_are_nested_deeply_are_explained_within_seconds(self) -> None:
-        for count in (100, 500, 20_000):
+        for count in (14, 28, 100, 500, 20_000):
             for body in ('n = %s1%s;' % ('(' * count, ' + 1)' * count), 'n = %sn + 1;' % ('!' * count),
                          'while 1 {' * count,
                          'if (n == 1) ' * count + 'n++;', '{' * count, 'n = f(' * count,
-                         'n = n ? 1 : ' * count + '0;'):
+                         'n = n ? 1 : ' * count + '0;', 'n = ' + 'n ? n++ && ' * count + '0;',
+                         'n = %sn%s;' % ('(' * count, ' | 1)' * count),
+                         'n = %sn%s;' % ('(' * count, ' << 1 | n)' * count),
+                         'if %sn%s { }' % ('(' * count, ' - n) < n' * count), 'if %sn%s { }' % (
+                             '!(' * count, ' & 2)' * count)):
                 text = SCENARIO.replace('{ body { print 1; } }', '{ var n = 0; body { ' + body)
                 assert text != SCENARIO
                 fault = scenario_faults.find_fault(text.encode())

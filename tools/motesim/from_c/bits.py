@@ -1,17 +1,21 @@
 """Operators on bits: the known bits of values, from which forms with `/`, `%`, `*`, `+` and `-` follow."""
 from __future__ import annotations
 
+import functools
 import operator
 from collections.abc import Callable
 
 from motesim.from_c.nodes import Node, is_test, value_of
 
 COUNT = 65_536
+# The number of expressions whose bits are kept, so that those within others aren't searched again.
+MOST_KEPT = 1_000
 SIGNS: dict[str, Callable[[int, int], int]] = {
     '&': operator.and_, '|': operator.or_, '^': operator.xor, '<<': lambda value, places: value << min(places, 16),
     '>>': lambda value, places: value >> min(places, 16)}
 
 
+@functools.lru_cache(MOST_KEPT)
 def bits_of(node: Node) -> int | None:
     """The value of an expression of numbers, which may have operators on bits; None if it has something else."""
     known = value_of(node)
@@ -42,6 +46,7 @@ def is_one(bits: int | None) -> bool:
     return bits is not None and bits > 0 and not bits & (bits - 1)
 
 
+@functools.lru_cache(MOST_KEPT)
 def unit_of(node: Node) -> int:
     """A power of 2 of which a value is a multiple."""
     known, left, right = bits_of(node), *(*node.parts, Node('none'), Node('none'))[:2]
@@ -59,6 +64,7 @@ def unit_of(node: Node) -> int:
     return min(unit_of(left), unit_of(right)) if node.text in ('|', '^', '+') else 1
 
 
+@functools.lru_cache(MOST_KEPT)
 def most_of(node: Node) -> int:
     """A number that a value is never above: the least one that is known."""
     known, left, right = bits_of(node), *(*node.parts, Node('none'), Node('none'))[:2]
@@ -73,7 +79,7 @@ def most_of(node: Node) -> int:
         return min(most_of(left), most_of(right))
     if node.text == '|':
         return (1 << max(most_of(left), most_of(right)).bit_length()) - 1
-    if not by:
+    if not by or node.text not in ('%', '/', '>>', '<<'):
         return COUNT - 1
-    return {'%': by - 1, '/': most_of(left) // by, '>>': most_of(left) >> min(by, 16),
-            '<<': min(most_of(left) << min(by, 16), COUNT - 1)}.get(node.text, COUNT - 1)
+    most, places = most_of(left), min(by, 16)
+    return {'%': by - 1, '/': most // by, '>>': most >> places, '<<': min(most << places, COUNT - 1)}[node.text]

@@ -43,8 +43,8 @@ COMPARED = ('Values have 16 bits and no sign. Add 32768 to both sides of a compa
             'for `%s`.')
 HALF = 32_768
 ORDERS = ('<', '<=', '>', '>=')
-OF_DIFFERENCE = ('No number is below 0: if `%s` is less than `%s`, `%s` is above 0 here. For the comparison of C, add '
-                 '32768 to both of its sides.')
+OF_DIFFERENCE = ('No number is below 0: if `%s` is less than `%s`, `(%s - %s)` is above 0 here. For the comparison of '
+                 'C, add 32768 to both of its sides.')
 OF_CAST = 'Values have 16 bits and no sign, so the cast to `%s` is left out; `(x %% 256)` would keep the lower 8 bits.'
 VALUES = {'true': '1', 'false': '0', 'null': '0', 'node_id': 'self', 'simmoteid': 'self', 'rtimer_now': 'now'}
 TESTS = ('is', 'fired', 'expired', 'gone', 'running', 'count')
@@ -79,6 +79,8 @@ MOST = 65_535
 MOST_REASONS = 2
 # Bits in more groups aren't calculated with.
 MOST_RUNS = 2
+# A form that repeats a value isn't written for a longer one.
+LONGEST_OPERAND = 200
 OF_ADDRESS = 'An address is one number: `from` of the sender, `self` of the mote itself.'
 UPPER_BYTE = 'This number replaces `u8[0]`, and 0 replaces the other bytes.'
 NO_UPPER_BYTE = 'This number replaces `u8[0]`, and the other bytes need no test.'
@@ -200,7 +202,9 @@ class Expressions:
         evaluated before them; here it is evaluated again, so they mustn't change it."""
         before, after = self.before[place[1]:], self.after[place[2]:]
         above = {it.name for it in self.after[begin[2]:place[2]]}
-        if {it.name for it in before} & names_of(choice.test) or above & names_of(choice.value):
+        if not (before or above or after):
+            return
+        if {it.name for it in before} & names_of(choice.test) or above and above & names_of(choice.value):
             self.refuse_order(choice, before)
         self.before[place[1]:] = [it.under(test) for it in before]
         self.after[place[2]:] = [it.under(test) for it in after]
@@ -605,7 +609,9 @@ class Writer:
             return self.with_sign(sign, left, right)
         taken = next((it for it in (left, right) if is_difference(it)), None) if sign in ORDERS else None
         if taken:
-            self.insist(OF_DIFFERENCE % (*map(self.text, taken.parts), self.text(taken)))
+            is_plain = not any(it.parts for it in taken.parts)
+            sides = tuple(map(self.text, taken.parts)) if is_plain else ('a', 'b')
+            self.insist(OF_DIFFERENCE % (sides * 2))
         if sign in ('*', '/') and 'real' in (left.kind, right.kind):
             return self.scaled(sign, left, right)
         if sign in ('<<', '>>'):
@@ -738,6 +744,8 @@ class Writer:
 
     def masked(self, sign: str, text: str, bits: int) -> str:
         """A value in which some bits are kept, set or turned around."""
+        if len(text) > LONGEST_OPERAND:
+            return self.refuse(NO_BITS)
         if sign == '&' and len(runs_of(MOST - bits)) < len(runs_of(bits)):
             return '(%s - %s)' % (text, self.kept(text, MOST - bits))
         if sign == '&':
@@ -768,7 +776,7 @@ class Writer:
             return self.refuse(OF_BIT.format(flags=texts[0], bit=texts[1]) if named else NO_BITS)
         self.why(JOINED)
         if not any(most_of(low) < unit_of(high) for high, low in pairs):
-            self.insist(NOT_ABOVE % (self.text(pairs[0][1]), unit_of(pairs[0][0])))
+            self.insist(NOT_ABOVE % (texts[pairs[0][1] is right], unit_of(pairs[0][0])))
         return '(%s + %s)' % texts
 
     def test(self, node: Node) -> str:
