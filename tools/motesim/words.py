@@ -22,7 +22,7 @@ class Once(argparse.Action):
                  option: str | None = None) -> None:
         given = namespace.__dict__.setdefault('given_once', set())
         if option and self.dest in given:
-            parser.error('%s is given twice: each command uses one' % option)
+            parser.error('%s is given twice: give it only once' % option)
         given.add(self.dest)
         setattr(namespace, self.dest, values)
 

@@ -254,10 +254,10 @@ RIGHT: list[tuple[str, str, str]] = [
 
 SAID: list[tuple[str, str, str]] = [
     (BODY, 'print t.interval;', 'There are no fields: the tests of `t` are `fired(t)` and `expired(t)`.'),
-    (BODY, 'x = sizeof(int);', 'There are no sizes: all values have 16 bits, which are 2 bytes.'),
-    (BODY, '*y = 7;', 'leave out the declaration of `y`, and write the name of the variable at which it points'),
-    (BODY, '(*y)++;', 'leave out the declaration of `y`, and write the name of the variable at which it points'),
-    (BODY, 'int *y = &x;', 'leave out the declaration of `y`, and write the name of the variable at which it points'),
+    (BODY, 'x = sizeof(int);', 'There are no sizes: each value has 16 bits, or 2 bytes.'),
+    (BODY, '*y = 7;', 'leave out the declaration of `y`, and write the name of the other variable'),
+    (BODY, '(*y)++;', 'leave out the declaration of `y`, and write the name of the other variable'),
+    (BODY, 'int *y = &x;', 'leave out the declaration of `y`, and write the name of the other variable'),
     (BODY, 'struct point q;', 'each field is a variable of its own, such as `p_x` instead of `p.x`'),
     (BODY, 'print x.value;', 'such as `p_x` instead of `p.x`'),
     (BODY, 'collect_send(&tc, 15);', 'collects values along a tree'),

@@ -44,7 +44,7 @@ class Commands(unittest.TestCase):
         for words, said in ((('plot', 'a.csv', '--confidence', '100'), '--confidence is 50 to 99.9, not 100'),
                             (('plot', 'a.csv', '--draws', 'x'), "argument --draws: invalid int value: 'x'"),
                             (('plot', 'a.csv', '--measure', 'x', '--against', 'y', '--measure', 'z'),
-                             '--measure is given twice: each command uses one'),
+                             '--measure is given twice: give it only once'),
                             (('search', 'a.toml', '--step', 'x'), "argument --step: invalid int value: 'x'"),
                             (('sweep', 'a.toml', '--jobs', '0'), '--jobs is 1 or more, and --seconds more than 0'),
                             (('summary',), 'the following arguments are required: REPORT')):

@@ -76,9 +76,9 @@ OF_OTHERS = [
     ('', 'for (int I = 0; I < 2; I++) {\n for (int i = 0; i < 2; i++)\n printf("%d\\n", I * 10 + i);\n }',
      [0, 1, 10, 11], '`I` and `i` would be one variable: the name is `i2` here'),
     ('void tick(void) {\n printf("%d\\n", 3);\n }', 'int a = 4;\n tick();\n a++;\n printf("%d\\n", a);', [3, 5],
-     '`a` is a process already: the name is `a2` here'),
+     '`a` is already a process: the name is `a2` here'),
     ('void tick(void) {\n printf("%d\\n", 3);\n }', 'tick();\n int tick = 4;\n tick++;\n printf("%d\\n", tick);',
-     [3, 5], '`tick` is a thread already: the name is `tick2` here'),
+     [3, 5], '`tick` is already a thread: the name is `tick2` here'),
 ]
 # Names that have another meaning in an expression.
 WORDS = [
@@ -177,7 +177,7 @@ class OwnVariables(unittest.TestCase):
         fault = find_fault(text)
         found = advice(text, fault) if fault else None
         assert found
-        self.assertIn('so write `my_data` in each line that means this variable, too', found.hint)
+        self.assertIn('so write `my_data` in all other lines that mean this variable', found.hint)
 
     def test_a_name_in_too_many_lines_has_advice(self) -> None:
         text = PROGRAM % ('', 'int data = 3;\n' + 30 * ' print data;\n')
@@ -185,8 +185,8 @@ class OwnVariables(unittest.TestCase):
         found = advice(text, fault) if fault else None
         assert found
         self.assertEqual((found.line, found.hint), (
-            None, '`data` has another meaning in a program. Choose another name for this one, such as `my_data`, from '
-                  'here to the end of its block.'))
+            None, '`data` has another meaning in a program. Choose another name for this variable, such as `my_data`, '
+                  'from here to the end of its block.'))
 
     def test_a_statement_in_many_lines_is_renamed_line_by_line(self) -> None:
         lines = '\n'.join('print(count + %d);' % it for it in range(14))
@@ -277,7 +277,7 @@ class Flags(unittest.TestCase):
                    ' if (i > 2 * k) break;\n }\n printf("%d\\n", i);\n }', [3, 5, 7])
 
     def test_a_continue_keeps_the_step_of_its_loop(self) -> None:
-        said = 'The step, `i = (i + 1);`, stays the last statement of the block, behind this `else`.'
+        said = 'The step, `i = (i + 1);`, stays the last statement of the block, after this `else`.'
         for form, is_said in (('for (i = 0; i < 4; i++) {\n if (i == 2) continue;\n print i;\n }', True),
                               ('for (i = 0; i < 4; i++) { if (i == 2) continue; print i; }', True),
                               ('while (i < 4) {\n i = (i + 1);\n if (i == 2) continue;\n print i;\n }', False)):

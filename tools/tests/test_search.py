@@ -823,7 +823,7 @@ program = "flood.mote"
         with folder_with() as folder:
             status, said, seen = search(folder, '--faults', 'links', '--resume', '-o', 'here')
             self.assertEqual((status, said), (2, ''))
-            self.assertIn('here has no search that could be continued: search without --resume, or name', seen)
+            self.assertIn('here has no search to continue: leave out --resume, or name', seen)
 
     def test_the_limits_of_a_run_are_named(self) -> None:
         with folder_with() as folder:

@@ -626,8 +626,8 @@ class SweepTest(Bed):
                               capture_output=True, text=True)
         self.assertEqual((done.returncode, done.stderr), (0, (
             'sweep: 1 of 2 runs has a warning in the column note; the first (period = 1): all motes halted, the last '
-            'of them at 5, because a kernel run of each mote used up its 10,000 units of work: make the scenario of '
-            'this row with tools/scenario, and tools/explain names the loops\n')), done)
+            'one at moment 5: each mote used up the 10,000 units of work of a kernel run. Make the scenario of this '
+            'row with tools/scenario, and tools/explain names the loops\n')), done)
         self.assertEqual([(row['halt'], bool(row['note'])) for row in self.rows()], [('3', True), ('2', False)])
 
     def test_sources_of_the_same_value_are_reported_once_with_the_number_of_runs(self) -> None:

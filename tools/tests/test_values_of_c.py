@@ -77,7 +77,7 @@ class Sides(OfC):
                   '`if (m == 0) { .. } else { m = (m - 1); if (m == 0) { .. } }`')
         for lines in ('while (m > 0 && --m) { print m; }', 'while (m-- && m > 0) { print m; }', 'n = m-- && m;',
                       'n = m > 2 ? --m : m;', 'while (m > 0 && (m = n) == 0) { }'):
-            self.says(lines, 'write the steps as statements of their own')
+            self.says(lines, 'Write the steps as statements of their own')
 
     def test_a_step_behind_has_advice(self) -> None:
         for lines in 'n = i && m--;', 'if (i && m--) { }', 'while (!(n && m--)) { n = 1; }':
@@ -130,7 +130,7 @@ class Signs(OfC):
 
     def test_the_order_of_a_negative_number_is_said(self) -> None:
         for lines in 'int best = -1;', 'n = -1;':
-            self.says(lines, 'the greatest of all', True)
+            self.says(lines, 'the greatest value', True)
 
     def test_a_difference_is_said(self) -> None:
         for test in 'n - m > 0', 'n - m < 2', '3 >= n - m':
@@ -152,7 +152,7 @@ class Choices(OfC):
 
     def test_a_case_without_a_break_is_said(self) -> None:
         for lines in 'switch (n) {\n case 1: print 1;\n }', 'switch (ev) {\n case 1: print 1;\n }':
-            self.says(lines, 'A `case` without `break` continues in the next one')
+            self.says(lines, 'A `case` without `break` continues in the next `case`')
 
 
 class Addresses(OfC):
@@ -214,11 +214,11 @@ class Bits(OfC):
             self.check(lines, wanted)
         self.says('n = n & m;', 'No line assigns to `m`, so it is always 3.', True)
         for other in ('m = 5;', 'm++;', '--m;', 'm += 2;', 'post b full 1 into m;', 'm <<= 1;', 'm=n;'):
-            self.says('n = n & m; %s' % other, 'If `m` is one bit, a power of 2')
+            self.says('n = n & m; %s' % other, 'If `m` is a power of 2 (one bit)')
         self.says('if (m == 3 && m <= 4 && m >= 2 && m != 1 && n & m) { }', 'No line assigns to `m`', True)
 
     def test_other_operations_have_advice(self) -> None:
-        self.says('n = m & i;', '`((m / i) % 2)` is 1 if `m` has this bit')
+        self.says('n = m & i;', '`((m / i) % 2)` is this bit of `m`')
         self.says('n |= i;', '`n = (n + i);` sets it')
         self.says('n = m ^ i;', 'There are no operators on bits')
         self.says('n = m & 0x5555;', 'There are no operators on bits')
@@ -226,7 +226,7 @@ class Bits(OfC):
 
 class Numbers(OfC):
     def test_an_octal_number_is_said(self) -> None:
-        self.says('n = 010;', 'A number has no zeros in front: `10`. In C, `010` is octal, which is 8.', True)
+        self.says('n = 010;', 'A number has no zeros in front: `10`. In C, `010` is octal, with the value 8.', True)
         for lines in 'n = 007;', 'n = 09;':
             self.assertNotIn('octal', of_lines(lines).hint)
 

@@ -97,7 +97,7 @@ class Endless(unittest.TestCase):
         self.assertRegex(str(caught.exception), (
             r'^net\.toml: the run was ended: the report is longer than 1,048,576 bytes\. Up to moment \d+, process '
             r'idle of mote 0 pauses [\d,]+ times \(line 15\): a loop that only pauses repeats many times in each '
-            r'moment, so let it wait, such as by `yield_until`\. A larger --report raises the limit$'))
+            r'moment, so let the process wait by `yield_until`\. A larger --report raises the limit$'))
 
     def test_the_message_names_the_process_to_which_events_are_posted(self) -> None:
         data = (NET % POSTS).encode()

@@ -5,10 +5,10 @@
 Motes, losses, processes, statements, timers and constants are removed or made smaller, one step at a time, as long as
 the expectation is still broken in the same way; each step is checked by a run. The small scenario may still break the
 expectation for another reason. Three options make this less likely: with --fault the expectation has to hold without
-the fault, and to be broken with it; --keep names sentences that have to hold throughout; and --keep-programs changes
-no program. If motes get other numbers, sentences and faults are adapted. If EXPECTATION is a file, the tool uses the
-first broken sentence in it; without EXPECTATION, the first broken sentence in NAME.expect.toml, next to the scenario
-NAME.toml.
+the fault, and to be broken with it; --keep names sentences that have to hold throughout; and with --keep-programs the
+tool changes no program. If motes get other numbers, sentences and faults are adapted. If EXPECTATION is a file, the
+tool uses the first broken sentence in it; without EXPECTATION, the first broken sentence in NAME.expect.toml, next to
+the scenario NAME.toml.
 
 The result is written to NAME.small.toml, with its expectation next to it. It is one-minimal: no single further step is
 possible. docs/use/SEARCH.md has an example. After Ctrl-C the smallest scenario so far is written.
@@ -38,8 +38,8 @@ def main() -> int:
                        help='a fault, such as `lose 0 1 1`: the expectation has to be broken with this fault, and to '
                             'hold without it')
     words.add_argument('--keep-programs', action='store_true',
-                       help='change no program: remove only motes and losses, and make the time and the other numbers '
-                            'smaller')
+                       help='change no program: remove only motes, losses and programs that no mote runs, and make '
+                            'only numbers outside the programs smaller')
     words.add_argument('--steps', action='store_true', help='show each step')
     words.add_argument('--seconds', type=float, default=SECONDS, metavar='N',
                        help='the limit of a run, in seconds (10)')

@@ -13,8 +13,8 @@ FOR_STATE = BUSY + '`wait_while` and the same test, without a block, lets the mo
 FOR_EVENT = BUSY + '`yield_until` and the opposite test, without a block, waits for the next call first'
 # (without the values that may change without an event)
 AWAITED = frozenset(('expired', 'running', 'count', *OF_EVENT))
-PAUSED = ('a loop that only pauses: it repeats dozens of times in each moment, so the report grows quickly, and a '
-          '`pause` resumes only at its own event, so the process doesn\'t notice other events, such as a packet; %s')
+PAUSED = ('a loop that only pauses: it repeats dozens of times in each moment, so the report grows quickly. And the '
+          'process misses other events, such as a packet, because a `pause` ends only at its own event. Instead, %s')
 ENDLESS = ('a loop that never ends once its test is true: nothing changes `%s`. The loop repeats until the mote\'s '
            'work is used up, and then the mote halts; %s at the end of its block')
 CONSTANT = ('a loop whose test never changes: once the test is true, the loop repeats until the mote\'s work is used '

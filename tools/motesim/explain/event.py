@@ -8,14 +8,14 @@ from typing import NamedTuple
 from motesim.notation.faults import WAITS, Token
 
 FOR_TIMER, SETS = ('yield_until', 'wait_until'), ('set', 'restart_timer', 'reset')
-OF_VALUE = ('`%s` isn\'t that of a packet here: the process has just waited for the timer `%s`, and has its event now. '
-            'Keep the value of a packet in a variable before this wait, `x = %s;`')
-NEVER = ('`is(%s)` is never true here: the process has just waited for the timer `%s`, and has its event now. To wait '
-         'for both, write `yield_until (fired(%s) || is(%s));`')
+OF_VALUE = ('`%s` isn\'t that of a packet here: the process has just waited for the timer `%s`, and now has the event '
+            'of this timer. Keep the value of a packet in a variable before this wait, `x = %s;`')
+NEVER = ('`is(%s)` is never true here: the process has just waited for the timer `%s`, and now has the event of this '
+         'timer. To wait for both, write `yield_until (fired(%s) || is(%s));`')
 # (the event may be in the queue before that of the timer if both are of the same moment)
 HARDLY = ('`is(%s)` is hardly ever true here: the process has just set the timer `%s` and has waited until the timer '
-          'is due. An event in between doesn\'t end this wait, and is gone then. To wait for both, write `yield_until '
-          '(fired(%s) || is(%s));`')
+          'is due. An event that arrives during this wait doesn\'t end the wait, and isn\'t kept. To wait for both, write '
+          '`yield_until (fired(%s) || is(%s));`')
 
 
 class Wait(NamedTuple):

@@ -12,5 +12,5 @@ def all_halted(report: Report) -> str:
     known = [moment for moment in moments if moment is not None]
     if not known or len(known) < len(moments):
         return ''
-    return '%s, the last of them at %d, because a kernel run of each mote used up its 10,000 units of work: make the ' \
+    return '%s, the last one at moment %d: each mote used up the 10,000 units of work of a kernel run. Make the ' \
            'scenario of this row with tools/scenario, and tools/explain names the loops' % (ALL_HALTED, max(known))

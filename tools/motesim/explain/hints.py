@@ -194,7 +194,7 @@ def _of_unexpected(before: list[Token], here: Token, behind: Token, may: list[st
     if word in OPERATORS:
         return None
     if word == ',' and '`;`' in may:
-        return 'A packet, an event and a print have one number. Two small ones make one: `((a * 256) + b)`.'
+        return 'A packet, an event and a print have one number. Two small numbers fit into one: `((a * 256) + b)`.'
     if 'a new name' in may and here.kind == 'keyword':
         return '`%s` is a word of the notation: another name is needed here, such as `my_%s`.' % (word, word)
     if here.kind == 'keyword' and word not in WISHES and any(it.startswith('a variable (') for it in may):

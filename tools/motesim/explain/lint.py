@@ -64,7 +64,7 @@ OF_TWO_VALUES = '`%s` can\'t be %s and %s at once, so this test is %s true'
 TWO_VALUES = re.compile(r'\( \( ([a-z]\w*) (==|!=) ([0-9]+) \) (&&|\|\|) \( \1 \2 ([0-9]+) \) \)')
 RESULTS = {'==&&': 'never', '!=||': 'always'}
 NOBODY_SENDS = 'the program waits for packets, but no program of a mote sends one by `send`'
-HAS_NO_SEND = 'the program waits for packets, but sends none by `send`'
+HAS_NO_SEND = 'the program waits for packets, but has no `send`'
 NOBODY_SENT = 'the program waits for packets, but no mote sent one in this run'
 OF_BROADCAST = ('; this `broadcast` posts an event to the processes of its own mote, and `send %s;` sends a packet by '
                 'radio')

@@ -31,7 +31,7 @@ DOES = {'print': 'process {0.process} of mote {0.mote} prints {1:,} times', 'sen
         'pause': 'process {0.process} of mote {0.mote} pauses {1:,} times',
         'post': 'mote {0.mote} posts {1:,} events to process {0.process}'}
 IS_ENDLESS = ': does a loop repeat without end?'
-PAUSES = ': a loop that only pauses repeats many times in each moment, so let it wait, such as by `yield_until`.'
+PAUSES = ': a loop that only pauses repeats many times in each moment, so let the process wait by `yield_until`.'
 
 
 class Does(NamedTuple):

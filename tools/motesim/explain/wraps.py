@@ -9,7 +9,7 @@ from collections.abc import Iterator
 from motesim.notation.faults import Token
 
 VALUES = 65_536
-WRAPS = '`%s` is %s, and values are 0 to 65,535: the result is %s'
+WRAPS = '`%s` would be %s, but the greatest value is 65,535: the result is %s'
 
 
 def warnings(words: list[str], tokens: list[Token]) -> Iterator[tuple[str, Token]]:

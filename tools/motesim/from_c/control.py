@@ -17,7 +17,7 @@ NO_SWITCH = ('There is no `switch`: each `case` is a test of its own, `if (%s ==
              '} }`.')
 NO_SWITCH_OF_EVENTS = ('There is no `switch`: each `case` is a test of its own, and `is(..)` tests the event of a '
                        'call, `if is(timer) { .. } else { if is(packet) { .. } }`.')
-WITHOUT_BREAK = ' A `case` without `break` continues in the next one: its block needs the statements of both.'
+WITHOUT_BREAK = ' A `case` without `break` continues in the next `case`: its block needs the statements of both.'
 ELSE_IFS = ('elif', 'elseif', 'elsif')
 OWN_STEP = 'There is no `%s`: the step is a statement of its own, `%s`.'
 OWN_ASSIGNMENT = ('An assignment in a test is a statement of its own, `%s`, before each place at which the test is '
@@ -279,8 +279,8 @@ class Control(OwnNames):
         self.before, self.after = [], []
         body = self.body(last)
         if first:
-            self.why('The step is at the start of the block, so `%s` isn\'t done when the test is false: in C, the '
-                     'variable is one step further after the loop.' % first)
+            self.why('The step is at the start of the block, so `%s` isn\'t done when the test is false. In C, it is '
+                     'done then too: after the loop, the variable is one step further.' % first)
             body = body.replace('{', '{ ' + first, 1)
         if last:
             self.why_with_rest('The step is above the loop and at the end of its block',

@@ -43,12 +43,12 @@ OF_INITIAL = 'The initial value of a variable is a number: write 0, and assign t
 KEPT_VALUE = ('A `static` variable keeps its value from call to call: it has its initial value from its declaration, '
               'and no statement assigns this value again.')
 OTHER_VALUE = '%s Leave this line out, and write `var %s = %s;` at the head of the `code`.'
-WRITE_BY_NAME = '`%s` has another meaning in a program, so write `%s` in each line that means this variable, too.'
+WRITE_BY_NAME = '`%s` has another meaning in a program, so write `%s` in all other lines that mean this variable.'
 OF_TEXT = 'Here, `%s` is the number %d. In C, the text replaces the name, so `%s * 2` is `%s * 2` there.'
 MOST_MEMBERS = 8
 OF_NAMES = 'Each member is a variable of its own: %s.'
-OF_MEMBERS = ('%s Its members would be the variables `%s` to `%s`, but the program has another `%s`: give the array '
-              'another name first.')
+OF_MEMBERS = ('%s The members of this array would be the variables `%s` to `%s`, but the program has another `%s`: '
+              'give the array another name first.')
 NO_PLACE = 'Variables are declared at the head of `code`, before its timers, threads and `body`: `var %s = 0;`.'
 
 
@@ -298,8 +298,8 @@ class Declarations(OwnNames):
             self.why('The initial value of a variable is a number.')
             return '0'
         if node.kind == 'unary' and node.text == '-' and node.parts[0].kind == 'number':
-            self.why('There are no numbers below 0: values have 16 bits, and 65535 is one less than 0, and the '
-                     'greatest of all.')
+            self.why('There are no numbers below 0: values have 16 bits, and one less than 0 is 65535, the greatest '
+                     'value.')
             return str(-(number_of(node.parts[0].text) or 0) % 65_536)
         value = self.writer.text(node)
         if not value.isdecimal() and not self.place.is_head and not self.place.is_top:

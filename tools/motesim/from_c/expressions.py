@@ -39,12 +39,12 @@ OF_BOOL = 'A cast to `bool` is the test `(x != 0)`.'
 REALS, SIGNED = frozenset(('float', 'double')), frozenset(('int16_t', 'short', 'signed'))
 OF_SIGNED = ('Values have 16 bits and no sign, so the cast to `%s` is left out: a value that is below 0 in C is above '
              '32,767 here.')
-COMPARED = ('Values have 16 bits and no sign. Add 32768 to both sides of a comparison, and its result is that of C '
+COMPARED = ('Values have 16 bits and no sign. If 32768 is added to both sides of a comparison, its result is that of C '
             'for `%s`.')
 HALF = 32_768
 ORDERS = ('<', '<=', '>', '>=')
-OF_DIFFERENCE = ('No number is below 0: if `%s` is less than `%s`, `(%s - %s)` is above 0 here. For the comparison of '
-                 'C, add 32768 to both of its sides.')
+OF_DIFFERENCE = ('No number is below 0: if `%s` is less than `%s`, `(%s - %s)` is above 0 here. If you want the result '
+                 'of C, add 32768 to both sides of the comparison.')
 OF_CAST = 'Values have 16 bits and no sign, so the cast to `%s` is left out; `(x %% 256)` would keep the lower 8 bits.'
 VALUES = {'true': '1', 'false': '0', 'null': '0', 'node_id': 'self', 'simmoteid': 'self', 'rtimer_now': 'now'}
 TESTS = ('is', 'fired', 'expired', 'gone', 'running', 'count')
@@ -87,12 +87,12 @@ NO_UPPER_BYTE = 'This number replaces `u8[0]`, and the other bytes need no test.
 
 NO_BITS = ('There are no operators on bits: `(x % 256)` is the low byte, `(x / 256)` the high one, and flags are '
            'variables of their own.')
-BY_PARTS = 'There are no operators on bits: `/` leaves the lower bits out, and `%` the upper ones.'
+BY_PARTS = 'There are no operators on bits: `/` leaves out the lower bits, and `%` leaves out the upper bits.'
 JOINED = 'There are no operators on bits: `+` joins numbers that have no bits in common.'
 CONSTANT = 'No line assigns to `%s`, so it is always %s.'
 NOT_ABOVE = 'This is right if `%s` is less than %d.'
-OF_BIT = ('There are no operators on bits. If `{bit}` is one bit, a power of 2, `(({flags} / {bit}) % 2)` is 1 if '
-          '`{flags}` has this bit; if it is 0, `{flags} = ({flags} + {bit});` sets it.')
+OF_BIT = ('There are no operators on bits. If `{bit}` is a power of 2 (one bit), `(({flags} / {bit}) % 2)` is this bit '
+          'of `{flags}`; if this bit is 0, `{flags} = ({flags} + {bit});` sets it.')
 NO_SHIFTS = ('There are no shifts: a loop %s, `bit = %s; k = 0; while (k < %s) { bit = (bit %s 2); k = (k + 1); }`, '
              'with `var bit = 0;` and `var k = 0;` at the head of its `code`.')
 OF_FLAG = ' Then `((flags / bit) % 2)` is this bit of `flags`; if it is 0, `flags = (flags + bit);` sets it.'
@@ -101,10 +101,10 @@ MEMBER = 'There are no arrays: `%s[%d]` is the variable `%s`.'
 NO_INDEX = ('There are no arrays: a variable holds one number of 16 bits. An `if` for each number chooses among `%s`, '
             'such as `if (%s == 1) { .. %s .. }`.')
 NO_FIELDS = ('There are no structures: each field is a variable of its own, such as `p_x` instead of `p.x`. A packet '
-             'has one number, `data`. Two small ones make one, `((a * 256) + b)`.')
-NO_POINTERS = ('There are no pointers: leave out the declaration of `%s`, and write the name of the variable at which '
-               'it points, `x = 7;` instead of `*p = 7;`.')
-NO_SIZES = 'There are no sizes: all values have 16 bits, which are 2 bytes.'
+             'has one number, `data`. Two small numbers fit into one: `((a * 256) + b)`.')
+NO_POINTERS = ('There are no pointers: leave out the declaration of `%s`, and write the name of the other variable, '
+               'such as `x = 7;` instead of `*p = 7;` after `p = &x;`.')
+NO_SIZES = 'There are no sizes: each value has 16 bits, or 2 bytes.'
 NO_TEXTS = 'There are no texts: a program prints numbers, `print 1;`. The line of the report names the process anyway.'
 NO_REALS = ('Numbers are whole, 0 to 65,535. Count in smaller units, such as tenths: 15 for 1.5; `((x * 9) / 10)` is '
             'nine '
@@ -124,7 +124,7 @@ NO_CHANCE = ('A mote has no random numbers: each run is the same. Use a generato
 SEEDED = ('A mote has no random numbers: each run is the same. Use a generator, as below, with a seed that differs by '
           'mote. The statements at the start of `body` mix the seed, so that motes don\'t draw in step, for at most 255 '
           'motes. ' + OF_DRAWN)
-OF_OCTAL = 'A number has no zeros in front: `%d`. In C, `%s` is octal, which is %d.'
+OF_OCTAL = 'A number has no zeros in front: `%d`. In C, `%s` is octal, with the value %d.'
 TOO_LARGE = ('Numbers have 16 bits, 0 to 65,535: a timer is set to 65535 moments at most. Count larger ones in parts, '
              'such as '
              'thousands in a second variable.')
@@ -583,8 +583,7 @@ class Writer:
         if sign == '!':
             return '!' + self.test(inner)
         if sign == '-':
-            self.why('There are no numbers below 0: values have 16 bits, and `(0 - 1)` is 65535, '
-                     'the greatest of all.')
+            self.why('There are no numbers below 0: values have 16 bits, and `(0 - 1)` is 65535, the greatest value.')
             return '(0 - %s)' % self.text(inner)
         if sign == '~':
             self.why('There are no operators on bits: `(65535 - x)` turns all bits of x around.')

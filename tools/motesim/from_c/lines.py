@@ -9,8 +9,8 @@ from motesim.from_c.scope import Scope, allowed
 from motesim.from_c.tokens import tokens_of
 
 ONLY_IF = 'In C, `%s` is done only if `%s` is true, so it is in the block of an `if`.'
-IN_TURN = ('Here, both sides of a test are evaluated at once, and in C one after the other: write the steps as '
-           'statements of their own, and the sides as two tests.')
+IN_TURN = ('In C, the sides of a test are evaluated one after the other, but here both are evaluated at once. Write '
+           'the steps as statements of their own, and the sides as two tests.')
 IN_TURN_AS = ('In C, the right side of `%s` is evaluated after the left one, and only if it is needed. Write the sides '
               'as two tests, with the step between them: `%s`.')
 

@@ -13,11 +13,11 @@ from motesim.notation.keywords import RESERVED
 OTHERS = (*READ_ONLY, *OWN_EVENTS)
 TAKEN = ('`%s` is already a variable of this process (%s uses it), and the blocks and threads of a process share its '
          'variables')
-OF_KIND = '`%s` is %s %s already'
+OF_KIND = '`%s` is already %s %s'
 ONE_CASE = 'Names have small letters, so `%s` and `%s` would be one variable'
 MISREAD = '`%s` has another meaning in a program'
 RENAMED = '%s: the name is `%s` here, to the end of the block.'
-RENAME = '%s. Choose another name for this one, such as `%s`, from here to the end of its block.'
+RENAME = '%s. Choose another name for this variable, such as `%s`, from here to the end of its block.'
 # If more lines than these have a name, all of them would be too many for a message.
 MOST_RENAMED = 12
 

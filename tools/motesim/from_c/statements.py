@@ -22,7 +22,7 @@ from motesim.from_c.scope import allowed, nearest
 from motesim.from_c.tokens import tokens_of
 from motesim.notation.faults import MOST_LEVELS, STATEMENTS
 
-OF_ONE_BIT = 'There are no operators on bits: a bit is set by `+` if it is 0, and cleared by `-` if it is 1.'
+OF_ONE_BIT = 'There are no operators on bits: `+` sets a bit that is 0, and `-` clears a bit that is 1.'
 PRINTS = ('printf', 'print', 'println', 'puts', 'putchar', 'log_info', 'log_dbg', 'log_warn', 'log_err')
 # A packet that names its receiver has 8 bits for the receiver, and 8 for the value.
 LARGEST_PART = 255
@@ -61,7 +61,7 @@ ADVICE = {
     'typedef': 'There are no types: all values have 16 bits.', 'enum': 'There are no types: give '
     'each value a number, and note it in a comment.',
 }
-OF_STEP = ' The step, `%s;`, stays the last statement of the block, behind this `else`.'
+OF_STEP = ' The step, `%s;`, stays the last statement of the block, after this `else`.'
 SUMS = {'++': '+', '--': '-', '+=': '+', '-=': '-'}
 # A statement whose name is of another kind, with the statement that is meant.
 OTHER = {
@@ -284,7 +284,7 @@ class Statements(Declarations, Calls, Control):
         if self.ahead(1).text != ';':
             return self.statement()
         self.at += 1
-        self.why('A value that is not used needs no statement.')
+        self.why('A value that isn\'t used needs no statement.')
         return self.end('').removesuffix(';')
 
     def of_continue(self) -> str:

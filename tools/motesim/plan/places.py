@@ -133,7 +133,7 @@ def _drawn(net: Callable[[], list[Point]], reach: int | None) -> Drawn:
         points = net()
         if reach is None or is_connected(points, reach):
             return Drawn(points, rejected)
-    raise NotConnected('None of %d nets that were drawn is connected if a packet is heard up to %s away.' % (
+    raise NotConnected('None of the %d nets that the tool drew is connected with a `range` of %s.' % (
         TRIES_FOR_A_NET, reach))
 
 

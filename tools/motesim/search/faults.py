@@ -297,7 +297,7 @@ def _parameters(base: Base, asked: Asked) -> Iterator[FaultyPart]:
 # The reason why a scenario has no fault of a kind.
 WHY_NONE = {
     'packets': (': a link loses only packet n if its sender sends n + 1 to 2n + 1 packets, n is at least 1, and the '
-                'link loses no packet yet. docs/use/SCENARIO.md says how only the first packet is lost'),
+                'link loses no packet yet. docs/use/SCENARIO.md says how to lose only the first packet'),
     'collisions': ': its packets collide already',
     'links': ': no mote hears another one, or each link loses everything already',
 }

@@ -22,8 +22,8 @@ class Kept:
     def open(self, path: Path, digest: str, is_resumed: bool) -> None:
         """Continues the file, or begins a new one. A file of another search is an error."""
         if is_resumed and not path.exists():
-            raise Fault('%s has no search that could be continued: search without --resume, or name the folder of the '
-                        'search by -o' % path.parent)
+            raise Fault('%s has no search to continue: leave out --resume, or name the folder of the search with -o' %
+                        path.parent)
         try:
             if is_resumed:
                 self.read(path, digest)

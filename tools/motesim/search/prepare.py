@@ -39,7 +39,7 @@ def plain_run(base: Base, program: OneProgram, sentences: list[Sentence]) -> Pla
     """Runs the scenario without a fault."""
     answer = program.run(base.source.encode())
     if answer.stopped or answer.status:
-        raise Fault('%s has no report without a fault: %s' % (
+        raise Fault('%s has no report, even if no fault is added: %s' % (
             base.name, answer.stopped + LIMITS if answer.stopped else answer.fault))
     sections = answer.report.partition(b'\nmedium\n')[0].split(b'\nmote ')
     return Plain(answer.report, QuickJudge(sentences).broken(answer.report, base.scenario_itself),
