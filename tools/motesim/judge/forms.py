@@ -40,7 +40,7 @@ MOTES = Table('MOTES', 'The sentence is about', ('%s sends', '%s send'), (
     (('motes 3 to 7 together', 'all motes together'),
      'all lines of these motes, as if one mote had them; lines of one moment are ordered by mote'),
     (('no mote', 'no mote but 0'),
-     'all motes, except those after `but`; the rest of the sentence must hold for none of them'),
+     'all motes, except those after `but`; the rest of the sentence must hold for none of these motes'),
     (('some mote',), 'all motes; the rest of the sentence must hold for at least one of them'),
     (('exactly 1 mote', 'at least 5 motes', 'at most 3 motes but 0'),
      'all motes, except those after `but`; the rest of the sentence must hold for this number of them'),
@@ -55,13 +55,13 @@ DEED = Table('DEED', 'Lines of the report', ('mote 1 %s',), (
     (('prints just P 1 to 29 in any order',),
      'all lines `print P V`, which must have exactly these values, in any order'),
     (('prints just P its distance from mote 0',),
-     'all lines `print P V`: there must be exactly one, with this value; each other VALUE that the next table describes '
-     'may also follow `prints just P`'),
+     'all lines `print P V`: there must be exactly one, with this value. Instead of `its distance from mote 0` you can '
+     'write any other VALUE of the next table'),
     (('finally prints P VALUE',), 'the last line `print P V`, which must have this value'),
     (('sends', 'sends VALUE'), '`send N V`'),
     (('receives', 'receives VALUE', 'receives VALUE from mote 2'), '`recv F N V`'),
     (('starts P', 'leaves P', 'halts'), '`start P`, `leave P`, `halt`'),
-    (("writes 'full echo msg'",), 'lines that continue with this text after the moment'),
+    (("writes 'full echo msg'",), 'lines that continue with this text after the number of the moment'),
     (("writes 'collide' or 'lost'",), 'lines that continue with one of these texts after the moment'),
     (('never sends', 'never prints P VALUE'),
      'the lines of the deed after `never`, of which there must be none; allowed only if MOTES is `mote ..`, `motes ..` '
