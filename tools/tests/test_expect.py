@@ -18,9 +18,11 @@ from motesim.judge.expectations import UnknownSentence, expect, parts_of, read_a
 from motesim.judge.judge import Judge
 from motesim.report import Report
 from motesim.runner import LimitMet, Limits, Runner, programs
+from motesim.runner.run import answer
 from motesim.scenario import Scenario
+from motesim.search.quick_judge import Hops
 from motesim.judge.sentences import (
-    Copies, Count, Does, Names, Refused, Sentence, SentenceFault, names_of, read_sentence,
+    Copies, Count, Does, Names, Refused, Sentence, SentenceFault, Value, names_of, read_sentence,
 )
 
 # Four motes in a row, each in range of its neighbours; mote 2 loses all that mote 3 sends.
@@ -265,6 +267,25 @@ class Sentences(unittest.TestCase):
             fault = caught.exception
             self.assertEqual(sentence[fault.place:].split(' ')[0], word)
             self.assertTrue(any(it.startswith(wanted) or wanted in it for it in fault.wanted), fault.wanted)
+
+    def test_a_mote_that_no_packet_reaches_is_not_nearer(self) -> None:
+        """Mote 1 hears mote 2, which no packet of mote 0 reaches: the only mote nearer to mote 0 is mote 0."""
+        text = """version = 1
+end = 30
+medium = { range = 10, base = 2, per = 100 }
+loss = [{ from = 1, to = 2, every = 1 }]
+mote = [{ x = 0, y = 0, program = "p" }, { x = 8, y = 0, program = "p" }, { x = 16, y = 0, program = "p" }]
+[programs]
+p = "process near; autostart near; receiver near; code near { body { if (self == 0) { send 1; exit; } %s } }"
+""" % 'yield_until is(packet); print from;'
+        report = answer(text.encode()).report
+        judge = Judge(Report.parse(report), Scenario.parse(text))
+        links = Hops(Scenario.parse(text))
+        for words, holds in (('mote 1 prints near a mote that it hears, one hop nearer to mote 0', True),
+                             ('no mote but 0 prints near a mote that it hears, one hop nearer to mote 0', False)):
+            sentence = read_sentence(words, names_of(Scenario.parse(text)))
+            self.assertEqual(judge.broken(sentence) is None, holds)
+        self.assertEqual(links.values(Value('nearer', 0), 1), {0})
 
     def test_allowed_words_that_begin_with_a_comma_have_quotes(self) -> None:
         with self.assertRaisesRegex(SentenceFault, 'Allowed here: ", one hop nearer to mote"'):

@@ -626,8 +626,8 @@ class Command(unittest.TestCase):
         (self.folder / 'net.csv').write_text(results())
         (self.folder / 'more.csv').write_text(results(2))
 
-    def plot(self, *words: str, status: int = 0) -> list[list[str]]:
-        done = subprocess.run([sys.executable, '-B', str(TOOLS / 'plot'), 'net.csv', *words], cwd=self.folder,
+    def plot(self, *words: str, status: int = 0, results: str = 'net.csv') -> list[list[str]]:
+        done = subprocess.run([sys.executable, '-B', str(TOOLS / 'plot'), results, *words], cwd=self.folder,
                               env=dict(os.environ), capture_output=True, text=True)
         self.assertEqual(done.returncode, status, done)
         self.seen = done.stderr
@@ -1002,6 +1002,25 @@ class Command(unittest.TestCase):
         (self.folder / 'net.csv').write_text('\n'.join([text[0], *(it for it in text if 'flood,2,' in it)]) + '\n')
         self.plot(*words, status=2)
         self.assertIn('the two sides have no pair of runs', self.seen)
+
+    def test_a_parameter_that_only_one_file_has_is_a_part_of_the_difference(self) -> None:
+        for name, more, jitters in ('net', 0, ()), ('more', 2, (5,)), ('many', 2, (3, 7)):
+            names = 'period,%sseed' % ('jitter,' if jitters else '')
+            (self.folder / (name + '.csv')).write_text('%s,sent,fault,parameters\n' % names + ''.join(
+                '%d,%s%d,%d,,%s\n' % (period, it, seed, more + seed * period, names.replace(',', ' '))
+                for it in ['%d,' % it for it in jitters] or ['']
+                for period in (1, 2) for seed in (1, 2, 3)))
+        words = '--measure', 'sent', '--against', 'period', '--compare'
+        for one, other, seen in (('net', 'more', 'none in the file net and 5 in the file more'),
+                                 ('more', 'net', '5 in the file more and none in the file net')):
+            rows = self.plot(*words, other + '.csv', results=one + '.csv')
+            self.assertIn('jitter is %s: this is part of the difference' % seen, [' '.join(it) for it in rows])
+            self.assertEqual(rows[2][:3], ['1', '3', '0'])
+        rows = self.plot(*words, 'many.csv', '--where', 'jitter=7')
+        self.assertIn('jitter is none in the file net and 7 in the file many: this is part of the difference',
+                      [' '.join(it) for it in rows])
+        self.plot(*words, 'many.csv', status=2)
+        self.assertIn('only many has the parameter jitter, with several values (3, 7)', self.seen)
 
     def test_points_of_two_measures_are_joined_in_the_order_of_the_parameter(self) -> None:
         (self.folder / 'net.csv').write_text(TURNS)

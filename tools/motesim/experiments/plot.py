@@ -20,6 +20,7 @@ from motesim.experiments import packages
 from motesim.experiments.measures import Cell
 from motesim.experiments.results import Row
 from motesim.experiments.selected import Sides, kinds_in, note_of_compared, note_of_measures, runs_of, sides_of
+from motesim.experiments.selected import where_in
 from motesim.experiments.wishes import WHERE, check_by, table_path, wishes
 from motesim.faults import Fault
 from motesim.files import refuse_inputs
@@ -179,7 +180,7 @@ def drawn(wish: Wish, asked: argparse.Namespace, read: dict[tuple[str, ...], lis
     apart = separated_by(wish)
     key = *where, *apart
     if key not in read:
-        read[key] = runs_of(results, where, apart)
+        read[key] = runs_of(results, where_in(results, where, folder / wish.compare) if wish.compare else where, apart)
     rows, other = joined(read[key], wish.by), folder / wish.compare
     files = (results, other) if wish.compare else (results,)
     wish = wish._replace(kinds=kinds_in(files), where=where)

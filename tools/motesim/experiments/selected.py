@@ -130,17 +130,45 @@ def note_of_measures(sides: Sides) -> list[str]:
             for name, more in zip(sides.names, found) if more]
 
 
+def where_in(path: Path, where: Sequence[str], compared: Path) -> list[str]:
+    """The selections for one of two files that are compared: a parameter that only the other file has selects no runs
+    of this file."""
+    columns, others = ({*all_runs_of(it)[0]} for it in (path, compared))
+    return [it for it in where if it.partition('=')[0] in columns or it.partition('=')[0] not in others]
+
+
+def with_all_parameters(rows: list[Row], others: list[Row],
+                        names: tuple[str, str]) -> tuple[list[Row], list[Row], list[str]]:
+    """Two files with the parameters of both, and these parameters. A parameter that only one file has needs one value
+    there; in the other file it has no value."""
+    parameters = [*dict.fromkeys([*parameters_of(rows), *parameters_of(others)])]
+    for side, name, other in (rows, names[0], others), (others, names[1], rows):
+        for lacking in (it for it in parameters if it in side[0] and it not in other[0]):
+            values = {row[lacking] for row in side}
+            if len(values) > 1:
+                raise Fault('only %s has the parameter %s, with several values (%s): select one of them with --where '
+                            '%s=VALUE' % (name, lacking, some_of(values), lacking))
+
+    def filled(side: list[Row]) -> list[Row]:
+        known: Row = {name: None for name in parameters}
+        return [known | row | {'parameters': ' '.join(parameters)} for row in side]
+
+    return filled(rows), filled(others), parameters
+
+
 def sides_of(wish: Wish, rows: list[Row], results: Path, other: Path, where: Sequence[str]) -> Sides:
     """The two sides of a comparison: two files, or two values of a parameter."""
     parameters = parameters_of(rows)
     if wish.compare:
         if other.exists() and other.samefile(results):
             raise Fault('--compare needs a second file: %s is the first side already' % results)
-        others = joined(runs_of(other, where), wish.by)
+        others = joined(runs_of(other, where_in(other, where, results)), wish.by)
         names = results.stem, other.stem
         if names[0] == names[1] or {*names} & {*parameters, *text.OF_COMPARISON}:
             names = str(results), str(other)
-        kept = [it for it in parameters if it in parameters_of(others)]
+        kept = parameters
+        if {*parameters} != {*parameters_of(others)}:
+            rows, others, kept = with_all_parameters(rows, others, names)
         compared = compared_by(rows, others, [it for it in kept if it != wish.against], wish.over)
         return Sides(rows, others, names, [it for it in kept if it not in compared], compared)
     name, _, values = wish.pair.partition('=')

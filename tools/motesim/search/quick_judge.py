@@ -64,7 +64,7 @@ class Hops:
         heard = self.heard[mote]
         if value.kind == 'nearer':
             hops = self.hops(value.number, mote)
-            return {s for s in heard if self.hops(value.number, s) == hops - 1}
+            return {s for s in heard if self.found[value.number].get(s) == hops - 1}
         if value.kind == 'linked':
             heard = {s for s in heard if mote in self.heard[s]}
         return {sum(1 << s for s in heard - value.but)}
