@@ -11,6 +11,7 @@ from motesim.judge.judge import Judge
 from motesim.judge.sentences import Names, SentenceFault, names_of, read_sentence
 from motesim.report import Report
 from motesim.scenario import Scenario
+from motesim.search.quick_judge import QuickJudge
 
 SCENARIO = """
 version = 2
@@ -90,6 +91,27 @@ SENTENCES: list[tuple[str, str | None, int | None]] = [
     ('mote 2 prints a within 20 of each time it receives', None, None),
     ('mote 3 prints a within 5 of each time mote 2 halts', 'no line shows `mote 2 halts`', None),
     ('mote 1 receives within 3 of each time mote 0 sends 1', None, None),
+    # Events whose moments go past the end, at 100: one counts if a line follows in time; not all may be left out.
+    ('mote 2 receives within 60 of each time mote 0 sends', None, None),
+    ('mote 2 receives within 60 of each time mote 0 sends 1', None, None),
+    ('mote 2 receives within 50 of each time mote 0 sends', None, None),
+    ('mote 3 prints a within 40 of each time mote 0 sends',
+     '`mote 0 sends` at 10 is this line, and mote 3 has no such line up to 50', 3),
+    ('mote 3 prints a within 91 of each time mote 0 sends',
+     'none of the 3 events has its 91 moments before the end (100): the first `mote 0 sends` at 10 is this line, and '
+     'mote 3 has no such line up to the end; write a smaller number of moments, or set a later `end`', 3),
+    ('mote 3 prints a within 2 of each time mote 0 sends 2',
+     'the only event doesn\'t have its 2 moments before the end (100): `mote 0 sends 2` at 99 is this line, and mote 3 '
+     'has no such line up to the end; write a smaller number of moments, or set a later `end`', 5),
+    ('mote 3 prints a within 1 of each time mote 0 sends 2',
+     '`mote 0 sends 2` at 99 is this line, and mote 3 has no such line up to 100', 5),
+    ('mote 0 receives within 91 of each time mote 0 sends',
+     'none of the 3 events has its 91 moments before the end (100): the first `mote 0 sends` at 10 is this line, and '
+     'mote 0 has no such line up to the end; write a smaller number of moments, or set a later `end`', 3),
+    ('every mote but 0 receives within 91 of each time mote 0 sends',
+     'none of the 3 events has its 91 moments before the end (100): the first `mote 0 sends` at 10 is this line, and '
+     'mote 3 has no such line up to the end; write a smaller number of moments, or set a later `end`', 3),
+    ('no mote but 1 and 2 receives within 91 of each time mote 0 sends', None, None),
     ('some mote sends 1 after mote 2 receives', 'no mote does', None),
     ('some mote sends 1 at least once after mote 2 receives', None, None),
     ('no mote but 2 prints a before mote 0 sends', None, None),
@@ -166,6 +188,12 @@ class Sentences(unittest.TestCase):
             with self.subTest(sentence):
                 broken = judge.broken(read_sentence(sentence, names))
                 self.assertEqual((broken.why, broken.row) if broken else (None, None), (why, row))
+
+    def test_the_quick_judge_has_the_same_verdicts(self) -> None:
+        names = names_of(self.scenario)
+        quick = QuickJudge([read_sentence(sentence, names) for sentence, _, _ in SENTENCES])
+        self.assertEqual([SENTENCES[number][0] for number in quick.broken(REPORT.encode(), self.scenario)],
+                         [sentence for sentence, why, _ in SENTENCES if why])
 
     def test_many_lines_of_one_moment(self) -> None:
         """Eight thousand packets come and go in one moment: square work would need 15 s."""

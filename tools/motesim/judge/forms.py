@@ -112,7 +112,9 @@ ORDER = Table('ORDER', 'Meaning', ('mote 1 sends 1 %s',), (
     (('within 10 of receiving 1', 'within 10 moments of it receives 1', 'within 1 moment of mote 2 sending 5'),
      'each line is at most that many moments after a line of the event'),
     (('within 10 of each time it receives 1', 'within 10 of every time mote 0 sends'),
-     'after each line of the event, at most that many moments later, there is a line of the sentence'),
+     'after each line of the event, at most that many moments later, there is a line of the sentence; an event without '
+     'such a line is ignored if its moments go past the end of the run, but if all events are ignored, the sentence is '
+     'broken'),
 ))
 OTHER = Table('Sentence', 'Is about', ('%s',), (
     (('no copy collides', 'some copy collides at mote 3'), 'lines `collide`'),

@@ -3,7 +3,9 @@
     mote 3 prints hops 2 after mote 0 sends        each such line is after the first event
     mote 1 sends before mote 2                     each such line is before the first event
     mote 4 sends 1 within 10 of receiving 1        each has an event at most 10 moments before it
-    mote 4 sends 1 within 10 of each time it receives 1    each event has such a line at most 10 moments after it
+    mote 4 sends 1 within 10 of each time it receives 1    each event has such a line at most 10 moments after it;
+                                                           an event without one is ignored if its 10 moments go
+                                                           past the end, but not all events may be ignored
 
 If a sentence says how often, the relation must hold for that many lines, and other lines don't matter; with `never`,
 it must hold for none.
@@ -127,9 +129,9 @@ def _kind_in_words(relation: Relation) -> str:
 
 
 def _answered(relation: Relation, name: str, lines: Sequence[Found], order: Order, end: int) -> Why | None:
-    """Checks that each event has a line soon after it. Events so near to the end that the line may be later don't
-    count."""
-    answers = Order(lines)
+    """Checks that each event has a line soon after it. An event without a line can't be judged if its moments go past
+    the end of the run; at least one event must be judged."""
+    answers, is_judged = Order(lines), False
     for event in order.events:
         found = answers.first_from(event)
         until = event.line.at + relation.moments
@@ -137,7 +139,22 @@ def _answered(relation: Relation, name: str, lines: Sequence[Found], order: Orde
             more = ': the next is at %d (line %d)' % (found.line.at, found.row) if found else ''
             return '`%s` at %d is this line, and %s no such line up to %d%s' % (
                 relation.words, event.line.at, has(name), until, more), event.row
-    return None if order.events else ('no line shows `%s`' % relation.words, None)
+        is_judged = is_judged or found is not None
+    if is_judged:
+        return None
+    return _none_judged(relation, name, order, end)
+
+
+def _none_judged(relation: Relation, name: str, order: Order, end: int) -> Why:
+    """The reason why a sentence is broken if no event of it can be judged."""
+    first, count = order.first(), len(order.events)
+    if first is None:
+        return 'no line shows `%s`' % relation.words, None
+    its = '%d %s' % (relation.moments, 'moment' if relation.moments == 1 else 'moments')
+    none = 'the only event doesn\'t have' if count == 1 else 'none of the %d events has' % count
+    return '%s its %s before the end (%d): %s`%s` at %d is this line, and %s no such line up to the end; %s' % (
+        none, its, end, '' if count == 1 else 'the first ', relation.words, first.line.at, has(name),
+        'write a smaller number of moments, or set a later `end`'), first.row
 
 
 def broken(it: Does, name: str, lines: Sequence[Found], events: Sequence[Found], end: int) -> Why | None:
