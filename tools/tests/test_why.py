@@ -553,6 +553,41 @@ code p {
         self.assertTrue(any('c is a ctimer: its event goes to the process ctimer, which runs its block, so `fired(c)` '
                             'is never true here' in it for it in words), words)
 
+    def test_a_process_that_ran_when_its_mote_halted_does_not_wait(self) -> None:
+        """The call that halts has no end, so the end of the call before it doesn't show where the process waits."""
+        halts = '''version = 2
+end = 30
+medium = { range = 10, base = 2, per = 100, collide = false }
+mote = [{ x = 0, y = 0, program = "p" }, { x = 5, y = 0, program = "p" }]
+[programs]
+p = """
+process idle, p; autostart idle, p; receiver p;
+code idle { body { yield_until is(msg); print 7; } }
+code p {
+  etimer t;
+  body {
+    if (self == 0) { send 1; exit; }
+    yield_until is(packet);
+    set t 5;
+    while !expired(t) { }
+    post idle msg 0;
+    print data;
+  }
+}
+"""
+'''
+        found = Source('test', answer(halts.encode()).report, Scenario.parse(halts))
+        words = self.misses('mote 1 prints p', found)
+        self.assertIn('it halted during a call of p at 2', words)
+        self.assertFalse([it for it in words if it.startswith('p has waited')], words)
+        # (a process that wasn't called waits; the process that would have called it doesn't)
+        self.assertIn('idle has waited at line 2: `yield_until is(msg)` since 0, and nothing has called it since; '
+                      'line 10: `post idle msg 0`, which calls it, was never reached',
+                      self.misses('mote 1 prints idle', found))
+        # (before the halt, p waits)
+        self.assertIn('p has waited at line 7: `yield_until is(packet)` since 0, and nothing has called it since',
+                      self.misses('mote 1 prints p by 1', found))
+
     def test_a_condition_that_was_false_the_last_time(self) -> None:
         text = CALLED.replace('if (n == 9)', 'if (n == 2)').replace('print n;', 'if (n == 3) { print n; } n = 0;')
         called = Callers(source(text, REPORT_OF_CALLED).program(0), cast(Replay, SimpleNamespace(calls=[], reached=[

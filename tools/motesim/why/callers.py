@@ -43,7 +43,6 @@ class Callers:
         for it in replay.reached:
             if it.at <= end:
                 self.of.setdefault(it.statement, []).append(it)
-        self.ends = [it for it in replay.calls if it.is_end and it.at <= end and it.frame.how != 'callback']
         self.calls_of = [it for it in replay.calls if it.at <= end and it.frame.how != 'callback']
 
     def numbered(self, kinds: Iterable[str], name: str, process: int | None = None) -> list[int]:
@@ -142,10 +141,11 @@ class Callers:
 
     def waiting(self, process: int) -> str:
         """The place at which a process waits, as the reason why it reached no statement after that place."""
-        ends = [it for it in self.ends if it.frame.process == process]
-        if not ends or not ends[-1].waits or not ends[-1].waits[-1]:
+        calls = [it for it in self.calls_of if it.frame.process == process]
+        # (a process doesn't wait if the mote halted during its last call: that call has no end)
+        if not calls or not calls[-1].is_end or not calls[-1].waits or not calls[-1].waits[-1]:
             return ''
-        waits = ends[-1].waits[-1]
+        waits = calls[-1].waits[-1]
         here = self.reached(waits)
         return ', because %s has waited at %s since %d' % (
             self.program.processes[process].name, in_words(self.program, waits), here[-1].at if here else 0)

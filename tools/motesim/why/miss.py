@@ -295,12 +295,18 @@ class _Misses:
 
     def waits(self, program: Program, replay: Replay, process: int) -> Iterator[Miss]:
         """Reports the statement at which a process waits at the last moment, and how often its condition has been
-        tested since it began to wait."""
-        ends = [it for it in replay.calls if it.is_end and it.frame.process == process and it.at <= self.end
-                and it.frame.how != 'callback']
-        if not ends or not ends[-1].waits or not ends[-1].waits[-1]:
+        tested since it began to wait; or that the mote halted during a call of the process."""
+        calls = replay.calls_of(process, self.end)
+        if not calls:
             return
-        waits = ends[-1].waits[-1]
+        if not calls[-1].is_end:
+            # (it doesn't wait: this call may have tested its condition, and have continued)
+            name = program.processes[process].name
+            yield Miss('in_call', 'it halted during a call of %s at %d' % (name, calls[-1].at))
+            return
+        if not calls[-1].waits or not calls[-1].waits[-1]:
+            return
+        waits = calls[-1].waits[-1]
         here = [it for it in replay.reached if it.statement == waits and it.at <= self.end]
         came = max(place for place, it in enumerate(here) if it.holds is None)
         tests = len(here) - came - 1

@@ -273,6 +273,12 @@ class Replay:
         self.calls.append(Called(self.lines, self.now, frame, True, self.waiting_at(process)))
         self.frame, self.current = before, current
 
+    def calls_of(self, process: int, end: int) -> list[Called]:
+        """The begins and ends of a process's calls up to a moment, without its callbacks. If the last one is a begin,
+        the mote halted during this call."""
+        return [it for it in self.calls if it.frame.process == process and it.at <= end
+                and it.frame.how != 'callback']
+
     def waiting_at(self, process: int) -> tuple[int, ...]:
         """The statements at which a protothread waits."""
         if process < 0 or not self.state[process]:
