@@ -868,6 +868,19 @@ class Runs(unittest.TestCase):
         self.assertIn('examples/flooding.toml has the line: mote 1, line 41: 43 print flood 1', shown.stdout)
         self.assertIn('lossy.toml: the medium lost it, because it loses all packets from 0 to 1', shown.stdout)
 
+    def test_names_of_programs_do_not_part_two_runs(self) -> None:
+        text = (TOP / 'examples/flooding.toml').read_text()
+        renamed = text.replace('\nflood = ', '\nflood2 = ').replace('program = "flood"', 'program = "flood2"')
+        with tempfile.TemporaryDirectory() as room:
+            paths = [Path(room, name) for name in ('renamed.toml', 'lossy.toml')]
+            for path, its in zip(paths, (renamed, renamed.replace('every = 2', 'every = 1'))):
+                path.write_text(its)
+            both, lossy = (self.why('examples/flooding.toml', 'mote 1 prints flood 1', '--other', str(it)).stdout
+                           for it in paths)
+        self.assertIn('renamed.toml has all of this chain too.', both)
+        self.assertRegex(lossy, r'mote 0: 40 send 0 1 \(line 8 in .*\)\nThen they diverge:')
+        self.assertIn('lossy.toml: the medium lost it, because it loses all packets from 0 to 1', lossy)
+
     def test_numbers_of_events_and_packets_do_not_part_two_runs(self) -> None:
         """Mote 1 gets a packet more in the first run, and sends one more: later events and packets have other numbers."""
         program = ('process p; autostart p; receiver p; code p { etimer t; body { set t 20; if (self == 0) { send 1; } '

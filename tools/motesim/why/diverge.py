@@ -47,13 +47,14 @@ def counterpart(one: Source, other: Source, hop: Hop, there: At) -> At | None:
     """The line of another run that corresponds to a hop; `there` is the line of the other run for the hop's cause.
 
     It is the arrival or the end of the same packet or event, or otherwise a line with the same words, except for the
-    numbers of its event and its packet. If a moment has several such lines, the one with the same rank counts.
+    numbers of its event and its packet. If a moment has several such lines, the one with the same rank counts. The
+    head of a mote corresponds to the head of the mote with the same number, even if their programs have other names.
     """
     where = hop.where
     if where.mote >= other.traces.motes:
         return None
     if where.place < 0:
-        return where if other.traces.programs[where.mote] == one.traces.programs[where.mote] else None
+        return where
     words, lines = uncounted(one.traces.text(where)), other.traces.lines(where.mote)
     if hop.how == 'medium':
         place = other.traces.arrivals(where.mote).get((there.mote, number_of(other, there)))
