@@ -147,6 +147,18 @@ BROKEN = [
     ('mote 0 sends at most once as often as mote 1', 5),
     ('mote 0 prints flood 1 at 3 plus 3 for each hop from mote 3', None),
     ("the scenario is refused with 'scenario fault 1'", None),
+    # The lines of several motes together, and those of copies, are in the order of their moments, not of their rows.
+    ('motes 1 to 3 together print flood at most 2', 19), ('motes 1 to 3 together print flood exactly 4 times', 13),
+    ('motes 1 to 3 together never print flood after 47', 19),
+    ('motes 1 to 2 together print flood at least twice by 45', 15),
+    ("motes 1 to 3 together write 'print flood' or 'halt' at most 2 times", 19),
+    ('motes 1 to 3 together print flood at most once as often as mote 0 sends', 19),
+    ('motes 1 to 3 together print flood at most once before mote 3 halts', 15),
+    ('all motes together send at most once from 41 on', 17), ('all motes together send at most 4 times', 5),
+    ('no copy arrives', 7), ('at most 1 copy arrives', 4),
+    # In one moment, the lines are in the order of the motes.
+    ("all motes together write 'recv' or 'print' at most 3 times", 4),
+    ("all motes together write 'recv' or 'print' at most 4 times", 15),
 ]
 
 # Each with the word that isn't allowed, and something that is allowed there.

@@ -141,7 +141,7 @@ SENTENCES: list[tuple[str, str | None, int | None]] = [
     # One, and several.
     ('exactly 2 copies are left', 'there is 1 such copy; wanted: exactly 2', 26),
     ('at least 2 packets are sent by 10', 'there is 1 packet; wanted: at least 2', None),
-    ('all motes together send exactly 1', 'the motes together have 5 such lines; wanted: exactly 1', 4),
+    ('all motes together send exactly 1', 'the motes together have 5 such lines; wanted: exactly 1', 10),
     # Another value than the wanted one.
     ('mote 1 prints a 2', 'mote 1 has 0 such lines; wanted: at least 1; it prints a 1 at moment 13', None),
     ('mote 1 prints a 2 within 0 of receiving',

@@ -46,6 +46,9 @@ class Row(NamedTuple):
     at: int
     mote: int
 
+    def in_time(self) -> tuple[int, int]:
+        return self.at, self.row
+
 
 class _Apart(Exception):
     """Packets of one mote can't reach another, so there are no hops between them."""
@@ -145,11 +148,13 @@ class Judge:
         return compress(self.events(mote, str(pattern[0])), found) if any(found) else iter(())
 
     def done(self, deed: Deed, motes: tuple[int, ...]) -> list[Event]:
-        """The lines of these motes that show this action."""
+        """The lines of these motes that show this action, in the order of moment, then mote."""
         found = [event for mote in motes for pattern in deed.patterns for event in self.matches(pattern, mote)]
-        if len(deed.patterns) == 1 and list(motes) == sorted(motes):
+        if len(deed.patterns) > 1:
+            found = list(set(found))
+        elif len(motes) == 1:
             return found
-        return sorted(set(found), key=lambda event: event.row)
+        return sorted(found, key=relations.in_time)
 
     def tally(self, pattern: Pattern, mote: int, span: Span) -> int:
         """The number of lines of a mote with this pattern, in these moments."""
@@ -279,9 +284,6 @@ class Judge:
             return self.related(it, events, motes)
         for span in self.spans(it.window, motes):
             inside = [event for event in events if _within(event.line.at, span)]
-            if it.deed.way != 'any':
-                # (lines of several motes are in the order of moment, then mote)
-                inside.sort(key=lambda event: event.line.at)
             if it.deed.way == 'finally':
                 broken = self.last(it.deed, inside, motes)
             elif it.deed.way == 'just':
@@ -298,7 +300,7 @@ class Judge:
         """The value that a line has instead of the wanted one, in words; empty if there is no such line."""
         found = [event for mote in motes for pattern in it.deed.patterns if isinstance(pattern[-1], Value)
                  for event in self.matches(_without_value(pattern), mote)]
-        found.sort(key=lambda event: (event.line.at, event.row))
+        found.sort(key=relations.in_time)
         inside = self.within(found, it.window, motes) or found
         if it.deed.way != 'any' or not inside:
             return ''
@@ -396,14 +398,14 @@ class Judge:
         return sum(place.stop - place.start for place in places)
 
     def of_copies(self, it: Copies) -> list[Row]:
-        """The rows that show this outcome, one for each copy."""
+        """The rows that show this outcome, one for each copy, in the order of their moments."""
         motes = set(range(len(self.report.motes)) if it.motes is None else it.motes)
         if it.outcome == 'lost':
             log, rows = self.report.log, self.of_packets()
             lost = compress(zip(log.of_copies(range(len(log))), log.to), map(LOST.__eq__, log.arrival))
             return [rows[packet] for packet, to in lost if to in motes]
-        return [Row(row, line.at, mote) for mote in sorted(motes)
-                for row, line in self.events(mote, BECAME[it.outcome])]
+        found = (Row(row, line.at, mote) for mote in motes for row, line in self.events(mote, BECAME[it.outcome]))
+        return sorted(found, key=Row.in_time)
 
     def of_packets(self) -> list[Row]:
         """The rows of the packets."""
