@@ -57,6 +57,10 @@ def net(program: str, motes: int = 2, name: str = 'task') -> str:
     return text + ''.join('[[mote]]\nx = %d\ny = 0\nprogram = "%s"\n' % (10 * it, name) for it in range(motes))
 
 
+def loss(s: int, r: int, every: int = 1) -> str:
+    return '[[loss]]\nfrom = %d\nto = %d\nevery = %d\n' % (s, r, every)
+
+
 class Folder(unittest.TestCase):
     """A folder of solutions in a folder of a teacher, with a program that answers short reports."""
 
@@ -346,6 +350,21 @@ class Nets(Folder):
         for text, motes in ((net(PROGRAM % 9, motes=4), []), (moved, [3]), (moved + lost, [2, 3]),
                             (net(PROGRAM % 9, motes=4) + lost, [2, 3]), (net(PROGRAM % 9, motes=1), [])):
             self.assertEqual(cut_off(Scenario.parse(text)), motes)
+
+    def test_motes_that_no_packet_can_reach_are_remarked_on(self) -> None:
+        self.hand_in('ben.toml', net(PROGRAM % 3))
+        (self.top / 'lossy.toml').write_text(net(PROGRAM % 9, motes=4) + loss(2, 3))
+        self.grade('--net', 'task.toml', '--hidden', 'lossy.toml')
+        self.assertEqual(self.seen, 'grade: in these nets no packet of the other motes reaches some motes: '
+                                    'lossy.toml (mote 3)\n')
+
+    def test_only_motes_to_which_each_link_loses_everything_are_cut_off(self) -> None:
+        four = net(PROGRAM % 9, motes=4)
+        for losses, motes in ((loss(3, 2), []), (loss(2, 3, 2), []), (loss(1, 2), []), (loss(2, 3), [3]),
+                              (loss(1, 2) + loss(3, 2), [2]), (loss(1, 0) + loss(2, 3), [0, 3])):
+            with self.subTest(losses):
+                self.assertEqual(cut_off(Scenario.parse(four + losses)), motes)
+        self.assertEqual(cut_off(Scenario.parse(net(PROGRAM % 9) + loss(1, 0) + loss(0, 1))), [0, 1])
 
     def test_sets_with_more_than_16_bits_are_remarked_on(self) -> None:
         (self.top / 'task.expect.toml').write_text(

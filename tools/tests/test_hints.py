@@ -639,6 +639,35 @@ class Warnings(unittest.TestCase):
                           or 'loss' in it.text], [
             'mote 0 sends, and nobody hears it: no mote is within `range`; the same is true of 1 more mote: 1'])
 
+    def test_motes_that_wait_for_packets_that_cannot_reach_them(self) -> None:
+        waits = 'process a; autostart a; receiver a; code a { body { send 1; yield_until is(packet); } }'
+        lost = '[[loss]]\nfrom = %d\nto = %d\nevery = %d\n'
+        third = '[[mote]]\nx = 10\ny = 0\nprogram = "source"\n'
+        cause = ('mote %d waits for packets, but no packet can reach it: each link to it has a loss with `every = 1`, '
+                 'which loses every packet')
+        for program, more, wanted in [
+            (waits, lost % (0, 1, 1), [cause % 1]),
+            (waits, lost % (0, 1, 2), []),
+            (waits, third + lost % (0, 1, 1), []),
+            (waits, third + lost % (0, 1, 1) + lost % (2, 1, 3), []),
+            (waits, third + lost % (0, 1, 1) + lost % (2, 1, 1), [cause % 1]),
+            (waits, lost % (1, 0, 1) + lost % (0, 1, 1), [cause % 0 + '; the same is true of 1 more mote: 1']),
+            ('process a; autostart a; code a { body { send 1; } }', lost % (0, 1, 1), []),
+        ]:
+            text = scenario(program=program) + more
+            found = [it for it in warnings(Scenario.parse(text)) if 'reach' in it.text]
+            with self.subTest(more):
+                self.assertEqual([it.text for it in found], wanted)
+                for it in found:
+                    line = text.split('\n').index('[[loss]]') + 1
+                    self.assertIn('a.toml, line %d:' % line, explain.warned('a.toml', text, it))
+
+    def test_a_mote_out_of_range_has_no_second_warning_for_its_losses(self) -> None:
+        waits = 'process a; autostart a; receiver a; code a { body { yield_until is(packet); } }'
+        text = scenario(program=waits, x=50) + '[[loss]]\nfrom = 0\nto = 1\nevery = 1\n'
+        self.assertEqual([it.text for it in warnings(Scenario.parse(text))], [
+            'mote 0 hears nobody: no mote is within `range`; the same is true of 1 more mote: 1'])
+
     def explained(self, name: str, text: str) -> str:
         """The output of tools/explain for a file that is not a scenario."""
         with tempfile.TemporaryDirectory() as folder, contextlib.redirect_stdout(io.StringIO()) as said, \

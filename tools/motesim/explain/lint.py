@@ -34,6 +34,8 @@ STILL_TRUE = STILL % (AT_ONCE, 'true', LATER, '')
 STILL_FALSE = STILL % (WHILE, 'false', LATER, ' and the opposite test')
 ONE_BRANCH = ('the `while` on line %d of the program waits in only one branch: if the test of the `if` on line %d is '
               '%s, nothing waits. Then the loop repeats until the mote\'s work is used up, and the mote halts')
+NO_OPEN_LINK = ('mote %d waits for packets, but no packet can reach it: each link to it has a loss with `every = 1`, '
+                'which loses every packet')
 # Statements after which a test may have another value, though no variable in it is assigned.
 CHANGES = frozenset(('spawn', 'synch', 'set', 'reset', 'restart_timer', 'stop', 'start', 'kill', 'acquire', 'signal'))
 OF_CTIMER = ('`%s` is a `ctimer`: its event goes to the process ctimer, which runs its block, so `fired(%s)` is never '
@@ -440,6 +442,17 @@ def packets_of(program: Program) -> Iterator[str]:
             yield program.words[at + (1 if word == 'broadcast' else 2)]
 
 
+def of_lost_links(scenario: Scenario, programs: dict[str, Program]) -> Iterator[Warned]:
+    """Yields the warnings about motes that wait for packets, but to which each link loses everything."""
+    places: dict[int, int] = {}
+    for place, (_, r) in enumerate(scenario.losses):
+        places.setdefault(r, place)
+    for number in sorted(places):
+        program = programs[scenario.places[number].program]
+        if scenario.loses_all_to(number) and program.first('is', '(', 'packet', ')'):
+            yield Warned(NO_OPEN_LINK % number, mote=number, loss=places[number], cause='loss: every link')
+
+
 def of_net(scenario: Scenario, programs: dict[str, Program], report: Report | None) -> Iterator[Warned]:
     """Yields the warnings of a net."""
     for name in scenario.programs:
@@ -459,6 +472,7 @@ def of_net(scenario: Scenario, programs: dict[str, Program], report: Report | No
         if not scenario.hears(r, s) and not {s, r} & set(lonely):
             what = 'a loss from mote %d to mote %d, which doesn\'t hear it, loses nothing' % (s, r)
             yield Warned(what, loss=number, cause='loss')
+    yield from of_lost_links(scenario, programs)
     if report is not None:
         yield from of_losses(scenario, report)
         yield from of_moments(report)

@@ -145,8 +145,9 @@ def hidden_and_shown(nets: Sequence[Net]) -> list[str]:
 
 
 def cut_off(scenario: Scenario) -> list[int]:
-    """The motes outside of the largest part of a net whose motes reach each other over links that don't lose
-    everything; of parts of the same size, the one with the smallest number counts."""
+    """The motes that no packet of the other motes reaches: those outside of the largest part of a net whose motes are
+    connected by links that don't lose everything, and those to which each link loses everything. Of parts of the same
+    size, the one with the smallest number counts as the largest."""
     def near(mote: int) -> list[int]:
         return [it for it in scenario.hearers(mote) if scenario.is_open(mote, it) or scenario.is_open(it, mote)]
 
@@ -154,7 +155,8 @@ def cut_off(scenario: Scenario) -> list[int]:
     while left:
         parts.append(set(hops_over(near, min(left))))
         left -= parts[-1]
-    return sorted(set(range(scenario.motes)) - max(parts, key=len, default=set()))
+    largest = max(parts, key=len, default=set[int]())
+    return [it for it in range(scenario.motes) if it not in largest or scenario.loses_all_to(it)]
 
 
 def nets_with_cut_off(nets: Sequence[Net]) -> list[str]:

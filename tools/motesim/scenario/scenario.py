@@ -131,6 +131,11 @@ class Scenario:
         """The motes that hear mote s by links that don't lose everything, in rising order."""
         return [r for r in self._neighbours[s] if self.losses.get((s, r)) != 1]
 
+    def loses_all_to(self, r: int) -> bool:
+        """Returns whether mote r hears others, but each link to it loses everything, so that no packet reaches it."""
+        near = self._neighbours[r]
+        return bool(near) and not any(self.is_open(s, r) for s in near)
+
     def hops_from(self, origin: int) -> dict[int, int]:
         """The least number of hops from a mote to each mote that its packets can reach, itself included."""
         return hops_over(self.receivers, origin)
