@@ -1,11 +1,11 @@
--- The fault of a scenario for each fault of its tables.
+-- Each fault of a table, as an error of the scenario.
 use Rattle.net_scenario.specs.declared.error.TableFault.{TableFault}
 use Rattle.net_scenario.specs.declared.error.TableFault.TheVariants as table
 use Rattle.net_scenario.specs.declared.error.ScenarioError.{ScenarioError}
 use Rattle.net_scenario.specs.declared.error.ScenarioError.TheVariants.{MissingKey, UnknownKey, WrongKind, OutOfRange}
 use Rattle.net_scenario.specs.declared.error.ScenarioError.TheVariants.{UnknownProgram}
 
--- a fault of the tables keeps its name
+-- the error has the name of the fault
 abbrev pub of_table : TableFault → ScenarioError
 of_table table.MissingKey = MissingKey
 of_table table.UnknownKey = UnknownKey

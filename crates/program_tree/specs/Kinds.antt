@@ -1,4 +1,4 @@
--- The number of each kind of error.
+-- The number that identifies each kind of error.
 use Rattle.std.specs.Prelude.{ℕ}
 use Rattle.program_tree.specs.declared.error.ReadErrorKind.{ReadErrorKind}
 use Rattle.program_tree.specs.declared.error.ReadErrorKind.TheVariants.{BadToken, Unexpected, UnknownName, NameTwice}

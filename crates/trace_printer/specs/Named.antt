@@ -1,4 +1,4 @@
--- Reports in which each process and each event has a name, if the names in each program differ.
+-- Reports that name only processes and events that exist, and programs in which all names differ.
 use Rattle.std.specs.Prelude.{◌≡◌, ◌⊎◌, ℕ, ◌+◌, ◌^◌, ◌<◌, ◌≤◌, List, [], ◌∷◌, length, Option, Some, None}
 use Rattle.std.specs.List.{AllByRecursion as Each}
 use Rattle.program_tree.specs.Code.{Tree}

@@ -1,4 +1,4 @@
--- A small program whose names differ, and two reports that would differ only in names.
+-- A program in which all names differ, and two reports with the same text because their processes have no names.
 use Rattle.std.specs.Prelude.{◌≡◌, ℕ, List, [], ◌∷◌, codes, None, false}
 use Rattle.program_tree.specs.Code.{Tree}
 use Rattle.program_tree.specs.declared.event.Proc.TheVariants.{Own}
