@@ -868,6 +868,18 @@ class Runs(unittest.TestCase):
         self.assertIn('examples/flooding.toml has the line: mote 1, line 41: 43 print flood 1', shown.stdout)
         self.assertIn('lossy.toml: the medium lost it, because it loses all packets from 0 to 1', shown.stdout)
 
+    def test_a_second_run_without_the_mote_at_which_the_chain_begins(self) -> None:
+        head, *motes = (TOP / 'examples/flooding.toml').read_text().split('[[mote]]')
+        with tempfile.TemporaryDirectory() as room:
+            path = Path(room, 'small.toml')
+            path.write_text('[[mote]]'.join([head, *motes[:3]]))
+            shown = self.why('examples/flooding.toml', '24:971', '--other', str(path))
+        self.assertEqual((shown.returncode, shown.stderr), (0, ''))
+        self.assertEqual(shown.stdout.replace(str(path), 'small.toml'), (
+            'The two runs have no line of this chain in common:\n'
+            '  examples/flooding.toml, line 967: mote 24 flood, at which the chain begins\n'
+            '  small.toml: there is no mote 24: the motes are 0 to 2\n'))
+
     def test_names_of_programs_do_not_part_two_runs(self) -> None:
         text = (TOP / 'examples/flooding.toml').read_text()
         renamed = text.replace('\nflood = ', '\nflood2 = ').replace('program = "flood"', 'program = "flood2"')

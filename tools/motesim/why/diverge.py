@@ -98,7 +98,7 @@ def instead(one: Source, other: Source, hop: Hop, there: At) -> str:
     if hop.how == 'packet' and there.place >= 0:
         return after_recv(other, there).words
     if hop.where.mote >= other.traces.motes:
-        return 'there is no mote %d' % hop.where.mote
+        return 'there is no mote %d: the motes are 0 to %d' % (hop.where.mote, other.traces.motes - 1)
     lines = other.traces.lines(hop.where.mote)
     turn = [line for line in lines if line.startswith(words[0] + ' ')]
     if not turn:
@@ -116,6 +116,12 @@ def rows(one: Source, other: Source, found: Diverged | None) -> list[str]:
     if found is None:
         return ['%s has all of this chain too.' % other.name]
     last, hop = found.last, found.hop
+    if not found.common:
+        return [
+            'The two runs have no line of this chain in common:',
+            '  %s, line %d: %s, at which the chain begins' % (one.name, hop.row, hop.words),
+            '  %s: %s' % (other.name, found.words),
+        ]
     return [
         'The two runs have the same chain from the start up to here:',
         '  mote %d: %d %s (line %d in %s, line %d in %s)' % (
