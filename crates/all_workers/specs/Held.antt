@@ -1,4 +1,4 @@
--- The copies of the agenda at the start of a window.
+-- The copies that the workers and their inboxes hold at the start of a window: together they are those on the agenda.
 use Rattle.std.specs.Prelude.{ℕ, suc, ◌<◌, List, ◌++◌, length, slice_index_or, IsPermutation}
 use Rattle.std.specs.List.{flat_map}
 use Rattle.trace_lines.specs.declared.line.Line.{Line}

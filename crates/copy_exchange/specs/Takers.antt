@@ -1,4 +1,4 @@
--- The copies that a taker took and gathered, mote by mote.
+-- The copies that a taker took, and the copies that its gathered senders pushed, mote by mote.
 use Rattle.std.specs.Prelude.{◌≡◌, ℕ, ◌<◌, ◌≤◌, false, List, [], ◌∷◌, ◌++◌, filter}
 use Rattle.std.specs.List.{AllByRecursion as Each, filter_map}
 use Rattle.radio_packet.specs.declared.copy.RadioCopy.{RadioCopy}

@@ -1,4 +1,4 @@
--- The views of an inbox, its taker and its senders in contracts, and the properties of each taker and sender.
+-- The views of takers and senders in contracts, and the properties of each taker and sender.
 use Rattle.std.specs.Prelude.{◌≡◌, ℕ, ◌+◌, ◌<◌, ◌≤◌, ◌^◌, true, false, cond, ◌⊎◌, List, [], ◌∷◌, ◌++◌, length}
 use Rattle.std.specs.Prelude.{slice_index_or}
 use Rattle.std.specs.List.{AllByRecursion as Each}

@@ -1,4 +1,4 @@
--- The senders whose counts a taker keeps: all senders except the first ones, which were gathered.
+-- The counts that a taker keeps: it drops the counts of the first senders after they were gathered.
 use Rattle.std.specs.Prelude.{◌≡◌, ℕ, ◌+◌, ◌-◌, ◌^◌, ◌<◌, ◌≤◌, ◌⊎◌, Bool, true, List, length, drop, slice_index_or}
 use Rattle.std.specs.Prelude.{slice_set}
 use Rattle.copy_inbox.specs.declared.count.Count.{Count}

@@ -1,4 +1,4 @@
--- Two more properties of a trace, besides the delivery of its events.
+-- Two more properties of a trace: no line follows a `halt`, and no process starts while it is on the process list.
 use Rattle.std.specs.Prelude.{ℕ, false, ◌≡◌, List, [], ◌∷◌, ◌++◌}
 use Rattle.delivery_laws.specs.HandedOn.{Line, Start, Halt, has_incarnation, process_list}
 

@@ -1,4 +1,4 @@
--- The tokens of workers. They show that a worker stopped only after it had seen that the flag was set.
+-- The tokens that show that a worker stopped only after it had seen the stop flag set.
 use Rattle.std.specs.Prelude.{◌≡◌, ◌<◌, ◌%◌, ℕ, Bool, true, false, Result, Ok, Err}
 use Rattle.fork_join.specs.declared.work.WorkerError.{WorkerError}
 use Rattle.fork_join.specs.declared.work.WorkerError.TheVariants.{Memory, Thread, Stopped}

@@ -1,4 +1,4 @@
--- A process for which a poll is requested, and its turn in the polls.
+-- A process for which a poll is requested, and the polls of the processes before it.
 use Rattle.std.specs.Prelude.{◌≡◌, nat_lt, true, false, if◌then◌else◌, List, [], ◌∷◌, length}
 use Rattle.program_tree.specs.declared.event.Proc.{Proc}
 use Rattle.process_kernel.specs.declared.process.Member.{Member}

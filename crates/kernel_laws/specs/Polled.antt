@@ -1,4 +1,5 @@
--- The poll of the radio process and its packets, and the poll of etimer and the timers that are due.
+-- The poll of the radio process, which empties the receive ring, and the poll of etimer, which posts the events of due
+-- timers.
 use Rattle.std.specs.Prelude.{ℕ, ◌≡◌, true, List, [], ◌∷◌, ◌++◌, map, Option, Some, None}
 use Rattle.program_tree.specs.declared.event.Proc.{Proc}
 use Rattle.program_tree.specs.declared.event.Proc.TheVariants.{Own}

@@ -1,4 +1,4 @@
--- The windows of a run with marks: they have one width, and follow one another from 0 to the end.
+-- The windows of a run with marks: they have the same length, and follow one another from 0 to the end.
 use Rattle.std.specs.Prelude.{ℕ, ◌+◌, ◌*◌, ◌/◌, ◌<◌, ◌≤◌, min}
 
 -- the moment at which a window begins, and before which the previous window ends

@@ -1,4 +1,4 @@
--- The polls.
+-- The polls of a kernel run.
 use Rattle.std.specs.Prelude.{false, ◌&&◌, List, [], ◌∷◌, if◌then◌else◌}
 use Rattle.program_tree.specs.declared.event.SystemEvent.TheVariants.{Poll}
 use Rattle.process_kernel.specs.declared.process.Member.{Member}

@@ -1,4 +1,4 @@
--- The result of reading a part of a process's code.
+-- The result of reading a part of a process's code block.
 use Rattle.std.specs.Prelude.{◌≡◌, ℕ, List, [], ◌∷◌, ◌++◌, map, Option, Some, None, option_map}
 use Rattle.program_tree.specs.Code.{Code}
 use Rattle.program_tree.specs.Faults.{Scope}

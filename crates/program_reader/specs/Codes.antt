@@ -1,4 +1,4 @@
--- The result of reading the codes of a program.
+-- The result of reading the code blocks of a program.
 use Rattle.std.specs.Prelude.{◌≡◌, ℕ, List, [], ◌∷◌, ◌++◌, length, map, replicate, false, true, Option}
 use Rattle.program_tree.specs.Code.{Code, Tree}
 use Rattle.program_tree.specs.Faults.{Scope}

@@ -1,4 +1,4 @@
--- Scopes without the names of a code, and pairs of scopes that have the same timers.
+-- Scopes without the names of a code block, and pairs of scopes that have the same timers.
 use Rattle.std.specs.Prelude.{◌≡◌, []}
 use Rattle.program_reader.specs.declared.scope.Scope.{Scope}
 

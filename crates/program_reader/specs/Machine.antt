@@ -1,5 +1,6 @@
--- The remaining text, as a list of symbols, and the effect of each token on this list. Only the proofs and contracts
--- inside this crate use it: the grammar and its errors are defined without it. Each symbol derives at least one token.
+-- The list of the symbols that are still to be read, and the effect of each token on this list. Only the proofs and
+-- contracts inside this crate use the list: the grammar and its errors are defined without it. Each symbol derives at
+-- least one token.
 use Rattle.std.specs.Prelude.{ℕ, suc, ◌+◌, List, [], ◌∷◌, ◌++◌, length, Bool, if◌then◌else◌, Option, Some, None}
 use Rattle.std.specs.Str.{bytes_eq}
 use Rattle.program_tree.specs.Faults.{Scope, scope_after, breaks}

@@ -1,4 +1,4 @@
--- The meaning of the classes of `src/class.rt`.
+-- The meaning of the classes of names in `src/class.rt`.
 use Rattle.program_tree.specs.Tree.{Class, an_event, a_semaphore, a_process, a_variable, a_timer, a_thread}
 use Rattle.program_tree.specs.declared.class.Class.{Class as ClassRead}
 use Rattle.program_tree.specs.declared.class.Class.TheVariants as read

@@ -1,4 +1,4 @@
--- The progress of a run.
+-- The engine's state during a run, and at its end.
 use Rattle.std.specs.Prelude.{◌≡◌, ℕ}
 use Rattle.trace_lines.specs.declared.line.Line.{Line}
 use Rattle.mote_node.specs.Node.{Node}

@@ -1,4 +1,4 @@
--- The copies that are sent for a packet with these fates.
+-- The copies that are sent for a packet, according to the packet's fates.
 use Rattle.std.specs.Prelude.{ℕ, List, map}
 use Rattle.std.specs.List.{filter, filter_map}
 use Rattle.radio_packet.specs.declared.sent.Sent.{Sent}

@@ -1,4 +1,4 @@
--- The results of a worker's motes.
+-- The results of a window for the motes that a worker's share lends.
 use Rattle.std.specs.Prelude.{◌≡◌, ℕ, ◌≤◌, List, [], Option, None, IfSome, MatchOption, slice_get}
 use Rattle.std.specs.List.{AllZip, AllByRecursion}
 use Rattle.program_tree.specs.Code.{Tree}

@@ -64,8 +64,8 @@ DEED = Table('DEED', 'Lines of the report', ('mote 1 %s',), (
     (("writes 'full echo msg'",), 'lines that continue with this text after the number of the moment'),
     (("writes 'collide' or 'lost'",), 'lines that continue with one of these texts after the moment'),
     (('never sends', 'never prints P VALUE'),
-     'the lines of the deed after `never`, of which there must be none; allowed only if MOTES is `mote ..`, `motes ..` '
-     'or `every mote ..`, with or without `together`'),
+     'the lines of the deed after `never`, of which there must be none; allowed only with the forms of MOTES in the '
+     'first three rows of the table above, except `every mote together`'),
 ))
 VALUE = Table('VALUE', 'Is', ('mote 1 prints p %s',), (
     (('7',), 'this number'),
@@ -112,9 +112,9 @@ ORDER = Table('ORDER', 'Meaning', ('mote 1 sends 1 %s',), (
     (('within 10 of receiving 1', 'within 10 moments of it receives 1', 'within 1 moment of mote 2 sending 5'),
      'each line is at most that many moments after a line of the event'),
     (('within 10 of each time it receives 1', 'within 10 of every time mote 0 sends'),
-     'after each line of the event, at most that many moments later, there is a line of the sentence; an event without '
-     'such a line is ignored if its moments go past the end of the run, but if all events are ignored, the sentence is '
-     'broken'),
+     'each line of the event is followed, at most that many moments later, by a line of the sentence; this ORDER has no '
+     'TIMES. If the run ends before these moments are over, a line of the event that has no such line is ignored. If all '
+     'lines of the event are ignored, the sentence is broken'),
 ))
 OTHER = Table('Sentence', 'Is about', ('%s',), (
     (('no copy collides', 'some copy collides at mote 3'), 'lines `collide`'),
@@ -123,7 +123,8 @@ OTHER = Table('Sentence', 'Is about', ('%s',), (
     (('no copy is lost', 'exactly 1 copy is lost at mote 1'),
      'copies that the medium loses; the moment of such a copy is the moment at which its packet was sent'),
     (('at least 90 % of copies arrive', 'at most 5 % of the copies collide at motes 1 to 3', 'every copy arrives',
-      'each copy arrives at mote 3', 'all copies arrive'), 'a share of the copies that are due by the end'),
+      'each copy arrives at mote 3', 'all copies arrive'),
+     'a share of the copies that are due by the end, including those that the medium loses'),
     (('exactly 1 copy is left', 'exactly 2 copies are left'),
      'the last line of the report: the copies on the way at the end'),
     (('exactly 75 packets are sent', 'no packet is sent after 90'), 'lines of the medium'),
