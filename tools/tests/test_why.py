@@ -811,7 +811,9 @@ class Runs(unittest.TestCase):
                       self.near('small_network.toml', 'mote 1 receives 40'))
         self.assertIn('the event msg 31 for echo was refused at 10, because the queue was full',
                       self.near('small_network.toml', 'mote 1 prints echo 31'))
-        self.assertIn('it halted at 0', self.near('runaway.toml', 'mote 0 prints a 9'))
+        self.assertIn('it halted at 0; line 6: `while 1` repeated 4998 times in this call, and nothing in its block '
+                      'waited: a `yield`, or a `yield_until` with the next event, lets the process wait there',
+                      self.near('runaway.toml', 'mote 0 prints a 9'))
 
     def test_the_tree(self) -> None:
         """The reading of mote 9 goes by 3 and 6 to the root.

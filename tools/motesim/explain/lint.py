@@ -494,7 +494,28 @@ def warnings(scenario: Scenario, report: Report | None = None, text: str = '') -
     programs = programs_of(scenario)
     is_zero_given = ZERO_GIVEN.search(text) is not None
     found = [it for program in programs.values() for it in of_program(program, is_zero_given)]
-    return by_cause(found + list(of_seeds(scenario, programs)) + list(of_net(scenario, programs, report)))
+    found += [*of_seeds(scenario, programs), *of_net(scenario, programs, report)]
+    loops = list(of_used_up(scenario, programs, report, found)) if report is not None else []
+    # (the motes that halt belong to the last loop above them)
+    halts = [it for it in found if it.cause.startswith('halt')]
+    return by_cause([*(it for it in found if it not in halts), *loops, *halts])
+
+
+def of_used_up(scenario: Scenario, programs: dict[str, Program], report: Report, known: Sequence[Warned]
+               ) -> Iterator[Warned]:
+    """Yields, for each program with a mote that halted, the warning about the loop that used up the work of the first
+    such mote, if no known warning is about a loop with this cause."""
+    halted = {mote.program: mote.number for mote in reversed(report.motes) if mote.halted() is not None}
+    for name, mote in halted.items():
+        tokens = programs[name].tokens
+        # (only a halt needs it, and its modules are many)
+        from motesim.explain.used_up import loop_of
+        found = loop_of(scenario, report, mote, tokens)
+        others = [it.token for it in known if it.cause == 'loop' and it.program == name and it.token]
+        is_known = found and any(it.line in (found.line, found.token.line) for it in others)
+        if found and not is_known and (found.is_wait or not any(programs[name].waiting_branches())):
+            yield Warned(found.text, name, found.token, cause='loop',
+                         instead=LATER if found.token.text == AT_ONCE else '')
 
 
 def by_cause(found: list[Warned]) -> list[Warned]:

@@ -6,6 +6,7 @@ from typing import Any, NamedTuple
 
 from motesim.explain.lint import Program as Loops
 from motesim.faults import Fault
+from motesim.why.endless import AT_ONCE, MOST_WAITS, Endless, instead
 from motesim.why.replay import SYSTEM, Frame, Link, Replay
 from motesim.why.source import At, Source
 from motesim.why.translate import Program
@@ -87,6 +88,25 @@ def in_words(program: Program, number: int) -> str:
     return '%s: `%s`' % (program.line(it.line), text)
 
 
+def used_up(source: Source, mote: int) -> list[str]:
+    """The loop that used up the work of a mote that halted, in words; an empty list if no loop did."""
+    program, found = source.program(mote), source.loop(mote)
+    if found and found.waits:
+        return [in_rounds(program, found) + ', and '.join(
+            '%s never waited, because its condition was %s each time' % (
+                in_words(program, it), AT_ONCE[program.statement(it).kind]) for it in found.waits[:MOST_WAITS]
+        ) + ': %s waits for the next call first' % instead(program, found.waits[0])]
+    branches = [text for text, _ in Loops('', program.text).waiting_branches()]
+    if branches or not found:
+        return branches
+    return [in_rounds(program, found) + (
+        'nothing in its block waited: a `yield`, or a `yield_until` with the next event, lets the process wait there')]
+
+
+def in_rounds(program: Program, found: Endless) -> str:
+    return '%s repeated %s in this call, and ' % (in_words(program, found.loop), count(found.rounds, 'time'))
+
+
 def led_by(program: Program, number: int) -> str:
     """The `if` that led to a statement: the innermost one around it, with its line."""
     for around in reversed(program.statement(number).around):
@@ -153,8 +173,7 @@ class Explainer:
             own = '%s %s' % (self.name(frame.process),
                              'was called with exit' if frame.event == 'exit' else 'ended')
         elif kind == 'halt':
-            loops = [text for text, _ in Loops('', self.program.text).waiting_branches()]
-            own = '; '.join(['the work of this run of the kernel was used up', *loops])
+            own = '; '.join(['the work of this run of the kernel was used up', *used_up(self.source, self.mote)])
         elif link.row and frame:
             own = '%s, %s%s' % (self.name(frame.process), self.statement(link.row), led_by(self.program, link.row))
         else:

@@ -13,7 +13,7 @@ from motesim.judge.judge import Judge, Span
 from motesim.judge.sentences import Does, Value
 from motesim.report import Report
 from motesim.why.callers import Callers, times
-from motesim.why.chain import count, in_words
+from motesim.why.chain import count, in_words, used_up
 from motesim.why.fate import Fate, fate_of
 from motesim.why.question import ENDLESS, Asker, Missing
 from motesim.why.replay import Reached, Replay
@@ -132,7 +132,7 @@ class _Misses:
     def halted(self) -> Iterator[Miss]:
         last = self.lines[-1].split(' ')
         if last[1] == 'halt' and int(last[0]) <= self.end:
-            yield Miss('halted', 'it halted at %s' % last[0],
+            yield Miss('halted', '; '.join(['it halted at %s' % last[0], *used_up(self.source, self.mote)]),
                        self.source.traces.row(At(self.mote, len(self.lines) - 1)))
 
     def refused(self) -> Iterator[Miss]:
@@ -209,13 +209,13 @@ class _Misses:
     # The program
 
     def program(self) -> Program:
-        return self.source.translate(self.source.traces.programs[self.mote], is_detailed=True)
+        return self.source.detailed(self.mote)
 
     def replayed(self) -> Replay:
         """The mote from its start to its end, with each statement that it reached."""
         if self.replay is None:
-            room = self.source.replay(self.mote).room
-            self.replay = Replay(self.program(), self.mote, room, self.lines).to_end(self.source.scenario.end)
+            self.replay = Replay(self.program(), self.mote, self.source.room(self.mote), self.lines).to_end(
+                self.source.scenario.end)
         return self.replay
 
     def callers(self, program: Program) -> Callers:

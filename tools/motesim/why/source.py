@@ -13,6 +13,7 @@ from motesim.report import Log, Report, Trace
 from motesim.runner.run import NoReport, is_scenario, read_file, refuse_others, run_program
 from motesim.scenario.encodings import refuse_encoding
 from motesim.scenario.scenario import Scenario
+from motesim.why.endless import Endless, LastRun, endless
 from motesim.why.lines_of_file import ScenarioFile
 from motesim.why.replay import QUEUE, Replay
 from motesim.why.translate import Program, translated
@@ -218,12 +219,21 @@ class Source:
         self.traces = Traces(data)
         self.replays: dict[int, Replay] = {}
         self.translated: dict[str, Program] = {}
+        self.details: dict[str, Program] = {}
+        self.loops: dict[int, Endless | None] = {}
 
     def program(self, mote: int) -> Program:
         name = self.traces.programs[mote]
         if name not in self.translated:
             self.translated[name] = self.translate(name)
         return self.translated[name]
+
+    def detailed(self, mote: int) -> Program:
+        """The program of a mote, with code that notes each reached statement."""
+        name = self.traces.programs[mote]
+        if name not in self.details:
+            self.details[name] = self.translate(name, is_detailed=True)
+        return self.details[name]
 
     def translate(self, name: str, is_detailed: bool = False) -> Program:
         """A program of the scenario, with the place of its text in the scenario's file."""
@@ -235,10 +245,21 @@ class Source:
     def replay(self, mote: int) -> Replay:
         """The replay of a mote."""
         if mote not in self.replays:
-            room = self.scenario.queue.get(self.traces.programs[mote], QUEUE)
-            made = Replay(self.program(mote), mote, room, self.traces.lines(mote))
+            made = Replay(self.program(mote), mote, self.room(mote), self.traces.lines(mote))
             self.replays[mote] = made.to_end(self.scenario.end)
         return self.replays[mote]
+
+    def room(self, mote: int) -> int:
+        """The length of a mote's event queue."""
+        return self.scenario.queue.get(self.traces.programs[mote], QUEUE)
+
+    def loop(self, mote: int) -> Endless | None:
+        """The loop that used up the work of a mote that halted; None if the mote didn't halt, or if no loop did."""
+        if mote not in self.loops:
+            made = LastRun(self.detailed(mote), mote, self.room(mote), self.traces.lines(mote))
+            made.to_end(self.scenario.end)
+            self.loops[mote] = endless(made)
+        return self.loops[mote]
 
 
 def read_traces(path: str | Path, scenario: str | Path | None = None) -> tuple[bytes, Scenario | None]:
