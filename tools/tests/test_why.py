@@ -553,6 +553,52 @@ code p {
         self.assertTrue(any('c is a ctimer: its event goes to the process ctimer, which runs its block, so `fired(c)` '
                             'is never true here' in it for it in words), words)
 
+    def test_a_packet_that_another_wait_took(self) -> None:
+        """Mote 0 sends 7, 8 and 9. Mote 1 takes 7 at its first wait, and 8 while it waits for its timer."""
+        text = '''version = 2
+end = 40
+medium = { range = 10, base = 2, per = 100, collide = false }
+mote = [{ x = 0, y = 0, program = "sends" }, { x = 5, y = 0, program = "p" }]
+[programs]
+sends = """process a; autostart a;
+code a { etimer t; body {
+  send 7; set t 4; yield_until fired(t); send 8; set t 20; yield_until fired(t); send 9;
+} }"""
+p = """process p; autostart p; receiver p;
+code p { etimer t; body {
+  yield_until is(packet);
+  set t 10;
+  yield_until fired(t);
+  while 1 {
+    yield_until is(packet);
+    print data;
+  }
+} }"""
+'''
+        run = Source('test', answer(text.encode()).report, Scenario.parse(text))
+        wait = 'the wait at line 5: `yield_until fired(t)`'
+        seven = ('packet 0 of mote 0, with the value 7, was sent at 0: p took it at 2, and the packet ended the wait '
+                 'at line 3: `yield_until is(packet)`')
+        eight = ('packet 1 of mote 0, with the value 8, was sent at 4: p took it at 6, but the packet did not end '
+                 + wait)
+        other = '1 packet%%s did not end %s when p took this packet: packet 1 of mote 0, at 6' % wait
+        for question, wanted in (
+                ('mote 1 prints p 7', [seven, other % ' with another value']),
+                ('mote 1 prints p 8', [eight]),
+                ('mote 1 prints p 8 by 5', []),
+                ('mote 1 prints p 9 at least twice', [other % ' with another value']),
+                ('mote 1 prints p at least twice', [other % '']),
+                ('mote 1 sends 8', [eight]),
+                ('mote 1 receives 5', [])):
+            asker = Asker(run)
+            missing = asker.about(question)
+            assert isinstance(missing, Missing)
+            with self.subTest(question):
+                found = [it for it in misses(asker, missing)[0][1] if it.kind == 'taken']
+                self.assertEqual([it.words for it in found], wanted)
+                for it in found:
+                    self.assertRegex(run.traces.text(cast(At, run.traces.at_row(it.row))), r'^[0-9]+ take [0-9]+ p$')
+
     def test_a_process_that_ran_when_its_mote_halted_does_not_wait(self) -> None:
         """The call that halts has no end, so the end of the call before it doesn't show where the process waits."""
         halts = '''version = 2

@@ -1,8 +1,8 @@
 """The near misses of a line that a sentence wants but that doesn't exist.
 
 They are found in the trace, in the log of the medium, or in the replay of the mote: a line that is too late or has
-another value, a copy that was lost, a process that wasn't running, a condition that wasn't true, a neighbour that
-didn't send.
+another value, a copy that was lost, a packet that a process took at another wait, a process that wasn't running, a
+condition that wasn't true, a neighbour that didn't send.
 """
 from __future__ import annotations
 
@@ -14,6 +14,7 @@ from motesim.judge.sentences import Does, Value
 from motesim.report import Report
 from motesim.why.callers import Callers, times
 from motesim.why.chain import count, in_words, used_up
+from motesim.why.consumed import Consumed, consumed, in_a_wait, in_one_wait
 from motesim.why.fate import Fate, fate_of
 from motesim.why.question import ENDLESS, Asker, Missing
 from motesim.why.replay import Reached, Replay
@@ -65,6 +66,7 @@ class _Misses:
         yield from self.halted()
         yield from self.refused()
         yield from self.copies()
+        yield from self.consumed()
         yield from self.process()
         yield from self.statements()
         yield from self.silent()
@@ -192,6 +194,29 @@ class _Misses:
             yield Miss(fate.how, '%s%s did not reach a process here; the last, packet %s of mote %s, '
                        'was sent at %s: %s' % (count(len(lost[False]), 'copy', 'copies'), others, words[2], words[1],
                                                words[0], fate.words), fate.row or row, is_rest=True)
+
+    def consumed(self) -> Iterator[Miss]:
+        """Packets that a process took without writing the line: the last few with a wanted value; and those with other
+        values that didn't end the wait of the process."""
+        if self.kind not in ('print', 'send') or not any(' recv ' in line for line in self.lines):
+            return
+        replay, values = self.replayed(), self.values()
+        own = {it.where.place for it in self.missing.found if it.where.mote == self.mote}
+        wanted, others = list[Consumed](), dict[int, list[Consumed]]()
+        for it in consumed(replay, self.processes(self.program()), self.end):
+            if it.value in values and own.isdisjoint(it.lines):
+                wanted.append(it)
+            elif not it.is_end and it.value not in values:
+                others.setdefault(it.wait, []).append(it)
+        for it in wanted[-MOST_COPIES:]:
+            sent = self.source.traces.send_of(it.sender, it.number)
+            yield Miss('taken', '%s, with the value %d, was sent at %d: %s' % (
+                it.name(), it.value, self.source.traces.moment(sent) if sent else 0, in_a_wait(replay, it)),
+                self.source.traces.row(At(self.mote, it.lines.start)), True)
+        for its in sorted(others.values(), key=len)[-MOST_OTHERS:]:
+            more = '' if not values else ' with another value' if len(its) == 1 else ' with other values'
+            yield Miss('taken', in_one_wait(replay, its, more),
+                       self.source.traces.row(At(self.mote, its[-1].lines.start)), is_rest=True)
 
     def silent(self) -> Iterator[Miss]:
         """Neighbours from which nothing arrived, because they sent nothing."""
