@@ -226,14 +226,14 @@ class Texts(unittest.TestCase):
                 (DIAMOND, ['link 1 to 3 loses everything', 'link 2 to 3 loses everything'],
                  'cuts mote 3 off: no protocol can deliver to it'),
                 (DIAMOND, ['mote 0 is silent'],
-                 'cuts mote 0 off: no protocol can deliver from it; it cuts off no other mote'),
+                 'cuts mote 0 off: no protocol can deliver from it; no other mote is cut off'),
                 (DIAMOND, ['mote 1 is silent', 'mote 2 is silent'], 'cuts mote 3 off: no protocol can deliver to it'),
                 (line, ['mote 1 is silent'], 'cuts the net: no path is left from mote 0 to motes 2, 3'),
                 (DIAMOND, ['range is 5'], 'cuts mote 0 off: no protocol can deliver from it'),
                 (line, ['link 1 to 2 loses everything'], 'cuts the net: no path is left from mote 1 to motes 2, 3'),
                 (line, ['link 2 to 3 loses everything'], 'cuts mote 3 off: no protocol can deliver to it'),
                 (line + '[[loss]]\nfrom = 1\nto = 2\nevery = 1\n', ['mote 3 is silent'],
-                 'cuts mote 3 off: no protocol can deliver from it; it cuts off no other mote')):
+                 'cuts mote 3 off: no protocol can deliver from it; no other mote is cut off')):
             base = base_of(text)
             found = faults_by_words(base, kinds=('links', 'motes', 'values'), values={'range': (5,)})
             self.assertEqual(cut_of([found[it] for it in words], base), wanted)
@@ -568,7 +568,7 @@ class Searches(unittest.TestCase):
             rows = list(csv.DictReader((folder / 'found.csv').read_text().splitlines()))
             self.assertEqual(rows, [{'expectation': REACHED, 'size': '1', 'faults': 'mote 0 is silent',
                                      'file': 'here/diamond_silent_0.toml', 'cut': 'cuts mote 0 off: no protocol can '
-                                     'deliver from it; it cuts off no other mote'}])
+                                     'deliver from it; no other mote is cut off'}])
             self.assertEqual((folder / 'here/found.csv').read_text(), (folder / 'found.csv').read_text())
             text = (folder / 'here/diamond_silent_0.toml').read_text()
             self.assertTrue(text.startswith('# diamond.toml with a fault: mote 0 is silent.\n# This breaks:\n'), text)

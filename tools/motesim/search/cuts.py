@@ -12,7 +12,7 @@ from motesim.search.faults import FaultyPart, change_of
 
 FROM = 'cuts mote %d off: no protocol can deliver from it'
 # (a silent mote that isn't needed as a relay)
-NO_OTHER = '; it cuts off no other mote'
+NO_OTHER = '; no other mote is cut off'
 # The most motes that a line names.
 SHOWN = 8
 
