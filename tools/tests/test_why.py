@@ -553,6 +553,47 @@ code p {
         self.assertTrue(any('c is a ctimer: its event goes to the process ctimer, which runs its block, so `fired(c)` '
                             'is never true here' in it for it in words), words)
 
+    def test_a_statement_that_was_reached_outside_the_time_and_a_wait_for_two_timers(self) -> None:
+        text = '''version = 2
+end = 40
+medium = { range = 10, base = 2, per = 100, collide = false }
+mote = [{ x = 0, y = 0, program = "p" }]
+[programs]
+p = """
+process p; autostart p;
+code p {
+  var n = 0;
+  etimer t;
+  etimer u;
+  body {
+    set t 10;
+    set u 3;
+    while 1 {
+      yield_until (fired(t) || fired(u));
+      if fired(u) { print 5; }
+      n = (n + 1);
+      if (n == 1) { reset t; }
+      if (n > 4) { set u 3; }
+    }
+  }
+}
+"""
+'''
+        run = Source('test', answer(text.encode()).report, Scenario.parse(text))
+        words = self.misses('mote 0 prints p 5 from 12 on', run)
+        self.assertIn('line 11: `print 5` was never reached from 12 on, because line 11: `if fired(u)` was tested once '
+                      'from 12 on, and was never true, the last time at 20; the statement was reached once before, at '
+                      '3', words)
+        self.assertIn('p has waited at line 10: `yield_until (fired(t) || fired(u))` since 20, and nothing has called '
+                      'it since; line 7: `set t 10`, which sets the timer, was last reached at 0; line 13: `reset t`, '
+                      'which sets the timer, was last reached at 3, because line 13: `if (n == 1)` was tested twice, '
+                      'and was not true the last time, at 20; line 8: `set u 3`, which sets the timer, was last reached '
+                      'at 0; line 14: `set u 3`, which sets the timer, was never reached, because line 14: '
+                      '`if (n > 4)` was tested twice, and was never true, the last time at 20', words)
+        self.assertIn('line 11: `print 5` was never reached from 0 to 1; the statement was reached once later, at 3',
+                      self.misses('mote 0 prints p 5 by 1', run))
+        self.assertIn('line 11: `print 5` was reached once, at 3', self.misses('mote 0 prints p 5 twice', run))
+
     def test_a_packet_that_another_wait_took(self) -> None:
         """Mote 0 sends 7, 8 and 9. Mote 1 takes 7 at its first wait, and 8 while it waits for its timer."""
         text = '''version = 2

@@ -98,23 +98,22 @@ class Callers:
         """The statements that would have called a process, which has waited at the statement `waits` since the moment
         `since`."""
         it, name = self.program.statement(waits), self.program.processes[process].name
-        event, timer = OF_EVENT.search(it.text), OF_TIMER.search(it.text)
+        events, timers = (list(dict.fromkeys(form.findall(it.text))) for form in (OF_EVENT, OF_TIMER))
+        said, found = '', list[list[int]]()
         if it.kind == 'acquire':
-            found = self.numbered(('signal',), second(it))
-        elif timer and not event and (why := self.of_timer(process, timer[1], waits, since)):
-            return why
-        elif timer and not event:
-            found = self.numbered(SETS, timer[1], process)
-        elif event and event[1] in OF_KERNEL:
-            found = []
-        else:
-            found = self.numbered(SENDS, name)
-            if event:
-                wanted = ('poll',) if event[1] == 'poll' else ('post', 'synch')
-                found = [one for one in found if self.program.statement(one).kind in wanted and (
-                    event[1] in ('poll', 'msg') or ' %s' % event[1] in self.program.statement(one).text)]
-        return self.sentence([one for one in found if one != waits and not any(
-            here.at > since for here in self.reached(one))], 0)
+            found.append(self.numbered(('signal',), second(it)))
+        elif not events and not timers:
+            found.append(self.numbered(SENDS, name))
+        for timer in timers:
+            why = self.of_timer(process, timer, waits, since)
+            said += why
+            found += [] if why else [self.numbered(SETS, timer, process)]
+        for event in events:
+            wanted = () if event in OF_KERNEL else ('poll',) if event == 'poll' else ('post', 'synch')
+            found.append([one for one in self.numbered(wanted, name) if (
+                event in ('poll', 'msg') or ' %s' % event in self.program.statement(one).text)])
+        return said + ''.join(self.sentence([one for one in its if one != waits and not any(
+            here.at > since for here in self.reached(one))], 0) for its in found)
 
     def of_timer(self, process: int, name: str, waits: int, since: int) -> str:
         """The event of the timer for which a process waits went to another place: to the timer's block, or to another

@@ -9,7 +9,7 @@ from __future__ import annotations
 from collections.abc import Iterator
 from typing import Any, NamedTuple
 
-from motesim.judge.judge import Judge, Span
+from motesim.judge.judge import Judge, Span, _shown
 from motesim.judge.sentences import Does, Value
 from motesim.report import Report
 from motesim.why.callers import Callers, times
@@ -293,22 +293,31 @@ class _Misses:
     def statement(self, program: Program, replay: Replay, number: int) -> Miss:
         """Reports how often a statement was reached; and which condition around it wasn't true."""
         its = [it for it in replay.reached if it.statement == number and it.holds is None]
-        here = self.inside(its)
-        words = '%s was %s' % (in_words(program, number), self.reached(len(here)))
+        here, outside = self.inside(its), self.outside_of(its)
+        time = _shown(self.missing.span) if outside else ''
+        words = '%s was %s%s' % (in_words(program, number), self.reached(len(here)), time)
         if here:
             return Miss('reached', words + ', at ' + self.moments(here))
         for around in program.statement(number).around:
-            tests = self.inside([it for it in replay.reached if it.statement == around.number
-                                 and it.holds is not None])
+            every = [it for it in replay.reached if it.statement == around.number and it.holds is not None]
+            tests, wanted = self.inside(every), 'false' if around.is_else else 'true'
             right = [it for it in tests if it.holds != around.is_else]
             if tests and not right:
-                wanted = 'false' if around.is_else else 'true'
-                return Miss('condition', words + ', because %s was tested %s, and was never %s, the last time at %d' % (
-                    in_words(program, around.number), times(len(tests)), wanted, tests[-1].at))
+                time = _shown(self.missing.span) if any(it.holds != around.is_else for it in every) else ''
+                because = ', because %s was tested %s%s, and was never %s, the last time at %d' % (
+                    in_words(program, around.number), times(len(tests)), time, wanted, tests[-1].at)
+                return Miss('condition', words + because + outside)
             if not right:
                 break
         reason = self.callers(program).reason(number)
-        return Miss('condition' if reason else 'reached', words + reason)
+        return Miss('condition' if reason else 'reached', words + reason + outside)
+
+    def outside_of(self, its: list[Reached]) -> str:
+        """The moments outside the time of the sentence at which a statement was reached."""
+        before, after = [it for it in its if it.at < self.begin], [it for it in its if it.at > self.end]
+        found = ['%s %s, at %s' % (times(len(one)), when, self.moments(one))
+                 for one, when in ((before, 'before'), (after, 'later')) if one]
+        return '; the statement was reached %s' % ' and '.join(found) if found else ''
 
     def reached(self, number: int) -> str:
         return 'reached %s' % times(number) if number else 'never reached'
