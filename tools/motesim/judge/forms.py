@@ -38,14 +38,14 @@ MOTES = Table('MOTES', 'The sentence is about', ('%s sends', '%s send'), (
     (('every mote', 'each mote', 'all motes', 'every mote but 0', 'all motes but motes 0 and 1'),
      'each mote, except those after `but`'),
     (('motes 3 to 7 together', 'all motes together'),
-     'all lines of these motes, as if one mote had them; lines of one moment are ordered by mote'),
+     'all lines of these motes, as if one mote had them, sorted by moment, then by mote'),
     (('no mote', 'no mote but 0'),
-     'all motes, except those after `but`; the rest of the sentence must hold for none of these motes'),
+     'all motes that `but` doesn\'t name; the rest of the sentence must hold for none of them'),
     (('some mote',), 'all motes; the rest of the sentence must hold for at least one of them'),
     (('exactly 1 mote', 'at least 5 motes', 'at most 3 motes but 0'),
-     'all motes, except those after `but`; the rest of the sentence must hold for this number of them'),
+     'all motes that `but` doesn\'t name; the rest of the sentence must hold for this number of them'),
     (('at least 90 % of motes', 'at most 10 % of the motes', 'exactly 50 percent of all motes but 0',
-      'at least 80 % of motes 3 to 20'), 'the motes after `of`, except those after `but`; the rest of the sentence '
+      'at least 80 % of motes 3 to 20'), 'the motes after `of` that `but` doesn\'t name; the rest of the sentence '
       'must hold for this share of them'),
 ))
 DEED = Table('DEED', 'Lines of the report', ('mote 1 %s',), (
@@ -61,11 +61,11 @@ DEED = Table('DEED', 'Lines of the report', ('mote 1 %s',), (
     (('sends', 'sends VALUE'), '`send N V`'),
     (('receives', 'receives VALUE', 'receives VALUE from mote 2'), '`recv F N V`'),
     (('starts P', 'leaves P', 'halts'), '`start P`, `leave P`, `halt`'),
-    (("writes 'full echo msg'",), 'lines that continue with this text after the number of the moment'),
-    (("writes 'collide' or 'lost'",), 'lines that continue with one of these texts after the moment'),
+    (("writes 'full echo msg'",), 'lines with this text directly after the moment; more words may follow'),
+    (("writes 'collide' or 'lost'",), 'lines with one of these texts directly after the moment; more words may follow'),
     (('never sends', 'never prints P VALUE'),
-     'the lines of the deed after `never`, of which there must be none; allowed only with the forms of MOTES in the '
-     'first three rows of the table above, except `every mote together`'),
+     'the lines of the deed after `never`, of which there must be none. The MOTES in front of `never` must have a form '
+     'from the first three rows of the table MOTES'),
 ))
 VALUE = Table('VALUE', 'Is', ('mote 1 prints p %s',), (
     (('7',), 'this number'),
@@ -83,7 +83,7 @@ VALUE = Table('VALUE', 'Is', ('mote 1 prints p %s',), (
      'the number of any mote that the mote hears and that is one hop nearer to mote 0'),
 ))
 TIMES = Table('TIMES', 'How many lines', ('mote 1 sends %s',), (
-    (('at least 3 times', 'at most 3', 'exactly 3', 'more than 3', 'fewer than 3'), 'that many'),
+    (('at least 3 times', 'at most 3', 'exactly 3', 'more than 3', 'fewer than 3'), 'as many as the words say'),
     (('once', 'twice', 'at most once', 'at least 1 time'), '1, 2, at most 1, at least 1'),
     (('more than 2 times as often as motes 0 to 9 together',),
      'more than twice as many lines of the same deed as these motes have'),
@@ -113,8 +113,8 @@ ORDER = Table('ORDER', 'Meaning', ('mote 1 sends 1 %s',), (
      'each line is at most that many moments after a line of the event'),
     (('within 10 of each time it receives 1', 'within 10 of every time mote 0 sends'),
      'each line of the event is followed, at most that many moments later, by a line of the sentence; this ORDER has no '
-     'TIMES. If the run ends before these moments are over, a line of the event that has no such line is ignored. If all '
-     'lines of the event are ignored, the sentence is broken'),
+     'TIMES. The tool ignores a line of the event if no line of the sentence follows it and the run ends before these '
+     'moments are over. If the tool ignores all lines of the event, or if there are none, the sentence is broken'),
 ))
 OTHER = Table('Sentence', 'Is about', ('%s',), (
     (('no copy collides', 'some copy collides at mote 3'), 'lines `collide`'),
