@@ -385,6 +385,33 @@ class Files(unittest.TestCase):
         said = self.said('expect = ["mote 0 sends twice"]', str(self.expected))
         self.assertEqual(said, ('holds   mote 0 sends twice\n1 passed, 0 failed\n', '', 0))
 
+    def test_remarks_on_sentences_that_hold(self) -> None:
+        program = 'process flood, hears; code flood { body { print 1; } } code hears { body { yield; } }'
+        self.scenario.write_text(re.sub("(?m)^p = .*$", "p = '%s'" % program, SCENARIO))
+        end = 'the run ends at 100, before the period of this sentence, which begins at '
+        for sentence, remark in (
+                ('mote 0 never sends from 101 on', end + '101'),
+                ('no copy collides after 100', end + '101'),
+                ('no packet is sent at 105', end + '105'),
+                ('mote 0 sends at most 7 in each 10 from 200 to 240', end + '200'),
+                ('mote 0 never prints hears 3', 'process `hears` has no `print`, so this sentence holds in every run'),
+                ('no mote prints hears 77', 'process `hears` has no `print`, so this sentence holds in every run'),
+                ('mote 1 never sends 77', 'the program of mote 1 has no `send`, so this sentence holds in every run'),
+                ('no mote but 0 sends 77', 'the programs of these motes have no `send`, so this sentence holds in '
+                 'every run'),
+                ('no mote but motes 1 to 3 sends once', 'mote 0 has 2 such lines: this sentence is only about the '
+                 'exact number, `once`. To include greater numbers, write: no mote but motes 1 to 3 sends at least once'),
+                ('no mote prints flood 1 twice', ''),
+                ('at most 1 mote sends exactly 1 time by 40', ''),
+                ('mote 0 never prints flood 77', ''), ('no copy collides by 40', ''), ('mote 0 sends by 500', ''),
+                ('no mote halts twice', '')):
+            with self.subTest(sentence):
+                out = self.said('expect = ["%s"]' % sentence)[0]
+                self.assertEqual(out.splitlines(), ['holds   ' + sentence, *['          ' + remark] * bool(remark),
+                                                    '1 passed, 0 failed'])
+        self.scenario.write_text(self.scenario.read_text().replace('print 1;', 'send 1;'))
+        self.assertEqual(len(self.said('expect = ["mote 0 never sends 77"]')[0].splitlines()), 2)
+
     def test_a_run_that_meets_a_limit_is_told_of_the_scenario(self) -> None:
         with mock.patch.object(Runner, 'answer', side_effect=LimitMet('report', Limits())):
             out, err, code = self.said('expect = ["no mote halts"]')

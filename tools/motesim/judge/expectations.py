@@ -13,6 +13,7 @@ from typing import Any, NamedTuple
 from motesim.faults import Fault
 from motesim.explain.synonyms import nearest
 from motesim.judge.judge import Broken, Judge
+from motesim.judge.remarks import remark_on
 from motesim.report import Report
 from motesim.runner import LimitMet, ProgramFault
 from motesim.runner.run import Answer, answer, read_file, refuse_others
@@ -64,11 +65,13 @@ class Part:
 
 
 class Verdict(NamedTuple):
-    """A sentence, whether it holds, the lines to show if it doesn't, and whether the scenario has no report."""
+    """A sentence, whether it holds, the lines to show if it doesn't, whether the scenario has no report, and a remark on
+    a sentence that holds."""
     sentence: str
     holds: bool
     more: list[str]
     is_refused: bool = False
+    remark: str = ''
 
 
 def part_of(table: dict[str, Any], name: str, keys: set[str]) -> Part:
@@ -179,7 +182,8 @@ def of_report(part: Part, sentences: list[Sentence], judge: Judge) -> list[Verdi
     found = []
     for text, sentence in zip(part.sentences, sentences):
         broken = judge.broken(sentence)
-        found.append(Verdict(text, broken is None, more_of(broken, judge.rows) if broken else []))
+        found.append(Verdict(text, broken is None, more_of(broken, judge.rows) if broken else [],
+                             remark='' if broken else remark_on(text, sentence, judge)))
     return found + ([same_report(judge.rows, part.report)] if part.report is not None else [])
 
 
@@ -245,7 +249,7 @@ def expect(scenario: Path, expectations: Path, is_quiet: bool = False,
             passed, failed = passed + it.holds, failed + (not it.holds)
             words = it.sentence + REQUIRED * (number < part.required)
             if it.holds and not is_quiet:
-                print('holds   %s' % words)
+                print('\n          '.join(['holds   %s' % words, *filter(None, [it.remark])]))
             elif not it.holds:
                 print('\n          '.join(['broken  %s' % words, *it.more]))
         has_fault |= not part.replace and any(it.is_refused and not it.holds for it in verdicts)

@@ -1,0 +1,88 @@
+"""Remarks on sentences that hold, but say less than a reader may think: about a time after the end of the run, about
+lines that the programs can't write, or about an exact number of lines that a mote has more often."""
+from __future__ import annotations
+
+import re
+
+from motesim.explain.lint import Program
+from motesim.judge.judge import Judge, _Apart
+from motesim.judge.sentences import Copies, Does, Names, Packets, Sentence, SentenceFault, read_sentence
+from motesim.notation.keywords import SYSTEM
+
+AFTER_THE_END = 'the run ends at %d, before the period of this sentence, which begins at %d'
+NO_STATEMENT = '%s no %s, so this sentence holds in every run'
+MORE = 'mote %d has %d such lines: this sentence is only about the exact number, `%s`'
+# The forms of an exact number in sentences.
+EXACTLY = re.compile(r'\b(?:exactly )?(?:once|twice)\b|\bexactly (\d+)(?: times?)?\b')
+
+
+def remark_on(text: str, sentence: Sentence, judge: Judge) -> str:
+    """The remark on a sentence that holds; an empty text if there is none."""
+    if isinstance(sentence, (Does, Copies, Packets)) and sentence.window.begin > judge.scenario.end:
+        return AFTER_THE_END % (judge.scenario.end, sentence.window.begin)
+    if not isinstance(sentence, Does):
+        return ''
+    return of_programs(sentence, judge) or of_number(text, sentence, judge)
+
+
+def of_programs(it: Does, judge: Judge) -> str:
+    """The remark that the programs of the motes have no statement that writes the lines of a sentence."""
+    kind, process = str(it.deed.patterns[0][0]), it.deed.patterns[0][1:2]
+    if len(it.deed.patterns) > 1 or kind not in ('print', 'send') or it.than:
+        return ''
+    name, motes = str(process[0]) if kind == 'print' and process and process[0] else '', judge.chosen(it.motes)
+    programs = [Program(one, judge.scenario.programs[one])
+                for one in sorted({judge.scenario.places[mote].program for mote in motes})]
+    if name in SYSTEM or any(has_statement(program, kind, name) for program in programs) or any(
+            number_of(it, judge, mote) for mote in motes):
+        return ''
+    whose = 'the program of mote %d has' % motes[0] if len(motes) == 1 else 'the programs of these motes have'
+    if not name:
+        return NO_STATEMENT % (whose, '`%s`' % kind)
+    if not any(code_of(program, name) for program in programs):
+        return NO_STATEMENT % (whose, 'process `%s`' % name)
+    return NO_STATEMENT % ('process `%s` has' % name, '`%s`' % kind)
+
+
+def code_of(program: Program, process: str) -> list[str]:
+    """The words of the code of a process; an empty list if the program has no such process."""
+    code = program.first('code', process)
+    return program.code_around(program.tokens.index(code)) if code else []
+
+
+def has_statement(program: Program, kind: str, process: str) -> bool:
+    """Returns whether a program has a `print` or a `send`, in the code of a process if one is named."""
+    return kind in (code_of(program, process) if process else program.words)
+
+
+def of_number(text: str, it: Does, judge: Judge) -> str:
+    """The remark that a mote has such lines more often than a sentence with an exact number says. It is about sentences
+    that only few motes may fulfil, or no mote."""
+    few = it.motes.kind == 'no' or it.motes.count is not None and it.motes.count.compare in ('at most', 'fewer than')
+    found = EXACTLY.search(text)
+    if not few or not found or it.count.compare != 'exactly' or not it.count.number or it.than or it.relation:
+        return ''
+    for mote in judge.chosen(it.motes):
+        number = number_of(it, judge, mote)
+        if number > it.count.number:
+            return MORE % (mote, number, found[0]) + instead(text, found, it.count.number)
+    return ''
+
+
+def number_of(it: Does, judge: Judge, mote: int) -> int:
+    """The number of lines of a mote that show the action of a sentence, in its period."""
+    try:
+        return len(judge.within(judge.done(it.deed, (mote,)), it.window, (mote,)))
+    except _Apart:
+        return 0
+
+
+def instead(text: str, found: re.Match[str], number: int) -> str:
+    """The sentence about a greater number, if it can be read."""
+    other = text[:found.start()] + ('at least once' if number == 1 else 'more than %s' % (
+        'once' if number == 2 else '%d times' % (number - 1))) + text[found.end():]
+    try:
+        read_sentence(other, Names())
+    except SentenceFault:
+        return ''
+    return '. To include greater numbers, write: %s' % other
