@@ -310,9 +310,9 @@ class Deep(unittest.TestCase):
                 fault = scenario_faults.find_fault(text.encode())
                 assert fault
                 with self.subTest('%s, %d' % (body[:20], count)):
-                    before = time.monotonic()
+                    before = time.process_time()
                     self.assertTrue(explain.explanation('s', text.encode(), 'motesim: ' + fault.message))
-                    self.assertLess(time.monotonic() - before, 30)
+                    self.assertLess(time.process_time() - before, 30)
 
 
 class Cases(unittest.TestCase):
