@@ -238,26 +238,26 @@ class Judge:
             return None
         return Broken('the last such line of %s; wanted: %s' % (self.name(motes), either(allowed)), events[-1].row)
 
-    def than(self, it: Does, events: list[Event], motes: tuple[int, ...]) -> Broken | None:
-        """Compares the number of lines with the number of the other lines."""
-        assert it.than
-        beside = motes if it.than.motes is None else self.chosen(it.than.motes)
-        other = self.done(it.than.deed or it.deed, beside)
-        one, two = self.within(events, it.window, motes), self.within(other, it.than.window, motes)
+    def compared(self, it: Does, motes: tuple[int, ...]) -> list[Event]:
+        """The lines with which the lines of a sentence are compared, or the events that order them."""
+        other = it.than or it.relation
+        if not other:
+            return []
+        found = self.done(other.deed or it.deed, motes if other.motes is None else self.chosen(other.motes))
+        return self.within(found, it.than.window, motes) if it.than else found
+
+    def than(self, it: Does, one: list[Event], two: list[Event], name: str, span: Span) -> Broken | None:
+        """Compares the number of lines in a span with the number of the other lines."""
         if it.count.admits(len(one), len(two)):
             return None
-        why = '%s: %d lines, compared with %d; wanted: %s%s as many' % (
-            self.name(motes), len(one), len(two), it.count, '' if it.count.is_part else ' times')
+        why = '%s: %d lines%s, compared with %d; wanted: %s%s as many' % (
+            name, len(one), _shown(span), len(two), it.count, '' if it.count.is_part else ' times')
         most = it.count.number * len(two) // (100 if it.count.is_part else 1)
         return Broken(why, one[most].row if len(one) > most else one[-1].row if one else None)
 
-    def related(self, it: Does, events: list[Event], motes: tuple[int, ...]) -> Broken | None:
-        """Checks that lines are before, after or near others."""
-        assert it.relation
-        others = motes if it.relation.motes is None else (
-            self.chosen(it.relation.motes))
-        inside = self.within(events, it.window, motes)
-        why = relations.broken(it, self.name(motes), inside, self.done(it.relation.deed, others), self.scenario.end)
+    def related(self, it: Does, inside: list[Event], others: list[Event], name: str, span: Span) -> Broken | None:
+        """Checks that the lines in a span are before, after or near others."""
+        why = relations.broken(it, name, _shown(span), inside, others, self.scenario.end)
         return Broken(*why) if why else None
 
     def of_unit(self, it: Does, motes: tuple[int, ...]) -> Broken | None:
@@ -278,13 +278,16 @@ class Judge:
 
     def of_events(self, it: Does, events: list[Event], motes: tuple[int, ...]) -> Broken | None:
         """Checks a sentence for the lines that show its action."""
-        if it.than:
-            return self.than(it, events, motes)
-        if it.relation:
-            return self.related(it, events, motes)
+        others, name = self.compared(it, motes), self.name(motes)
         for span in self.spans(it.window, motes):
             inside = [event for event in events if _within(event.line.at, span)]
-            if it.deed.way == 'finally':
+            if it.than:
+                broken = self.than(it, inside, others, name, span)
+            elif it.relation and not (inside or it.is_counted or it.relation.kind == 'each'):
+                broken = self.counted(events, it.count, motes, span)
+            elif it.relation:
+                broken = self.related(it, inside, others, name, span)
+            elif it.deed.way == 'finally':
                 broken = self.last(it.deed, inside, motes)
             elif it.deed.way == 'just':
                 broken = self.ordered(it.deed, inside, motes)

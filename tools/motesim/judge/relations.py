@@ -17,7 +17,7 @@ from collections.abc import Callable, Sequence
 from typing import Protocol
 
 from motesim.judge.numbers import has, has_lines
-from motesim.judge.sentences import Count, Does, Relation
+from motesim.judge.sentences import Does, Relation
 
 
 class At(Protocol):
@@ -113,13 +113,13 @@ def _why_not(relation: Relation, line: Found, order: Order) -> str:
         here, line.line.at - event.line.at, relation.words, event.line.at, event.row, relation.moments)
 
 
-def _counted(it: Does, relation: Relation, name: str, lines: Sequence[Found], order: Order) -> Why | None:
+def _counted(it: Does, relation: Relation, name: str, when: str, lines: Sequence[Found], order: Order) -> Why | None:
     """Checks the number of lines with the relation."""
     fit = [line for line in lines if _holds(relation, line, order)]
     if it.count.admits(len(fit)):
         return None
-    why = '%s %s `%s`; wanted: %s' % (
-        has_lines(name, len(fit)), _kind_in_words(relation), relation.words, it.count)
+    why = '%s%s %s `%s`; wanted: %s' % (
+        has_lines(name, len(fit)), when, _kind_in_words(relation), relation.words, it.count)
     most = it.count.most
     return why, fit[max(most, 0)].row if most is not None and len(fit) > max(most, 0) else None
 
@@ -157,15 +157,14 @@ def _none_judged(relation: Relation, name: str, order: Order, end: int) -> Why:
         'write a smaller number of moments, or set a later `end`'), first.row
 
 
-def broken(it: Does, name: str, lines: Sequence[Found], events: Sequence[Found], end: int) -> Why | None:
-    """The reason why a sentence with a relation is broken, from the lines of a mote (or of several) and the events."""
+def broken(it: Does, name: str, when: str, lines: Sequence[Found], events: Sequence[Found], end: int) -> Why | None:
+    """The reason why a sentence with a relation is broken, from the lines of a mote (or of several) and the events.
+    `when` is the period of the lines, in words."""
     relation, order = it.relation, Order(events)
     assert relation
     if relation.kind == 'each':
         return _answered(relation, name, lines, order, end)
     if it.is_counted:
-        return _counted(it, relation, name, lines, order)
-    if not lines:
-        return '%s; wanted: %s' % (has_lines(name, 0), Count('at least', 1)), None
+        return _counted(it, relation, name, when, lines, order)
     line = next((line for line in sorted(lines, key=in_time) if not _holds(relation, line, order)), None)
     return (_why_not(relation, line, order), line.row) if line else None
