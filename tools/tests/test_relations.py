@@ -208,6 +208,23 @@ class Sentences(unittest.TestCase):
         self.assertEqual([SENTENCES[number][0] for number in quick.broken(REPORT.encode(), self.scenario)],
                          [sentence for sentence, why, _ in SENTENCES if why])
 
+    def test_first_lines_of_several_motes(self) -> None:
+        """Motes 1 and 2 have an event at moment 3, and another line before and after it."""
+        report = Report.parse('\n'.join([
+            'mote 0 p', '0 start a', 'mote 1 p', '3 recv 0 0 1', '3 print a 1', '3 send 0 1',
+            'mote 2 p', '3 recv 0 0 1', '3 print a 1', '3 send 0 1', 'mote 3 p', '0 start a', 'medium', 'left 0\n']))
+        judge, names = Judge(report, self.scenario), names_of(self.scenario)
+        for sentence, row in (
+                ('mote 1 sends after some mote prints a', None), ('mote 2 sends after some mote prints a', None),
+                ('mote 2 never sends after some mote prints a', 10),
+                ('mote 2 sends after mote 1 prints a', 10), ('mote 1 sends after mote 2 prints a', 6),
+                ('mote 1 receives before some mote prints a', 4), ('mote 2 receives before some mote prints a', 8),
+                ('mote 1 receives before mote 1 prints a', None), ('mote 0 starts a before some mote prints a', None),
+                ('motes 1 and 2 together send after printing a', None)):
+            with self.subTest(sentence):
+                broken = judge.broken(read_sentence(sentence, names))
+                self.assertEqual(broken.row if broken else None, row)
+
     def test_many_lines_of_one_moment(self) -> None:
         """Eight thousand packets come and go in one moment: square work would need 15 s."""
         count = 8000
@@ -217,7 +234,8 @@ class Sentences(unittest.TestCase):
         judge, names = Judge(report, self.scenario), names_of(self.scenario)
         begun = time.process_time()
         for sentence, number in ('receives exactly %d within 0 of sending', count - 1), (
-                'sends within 0 of each time it receives%.0s', 0):
+                'sends within 0 of each time it receives%.0s', 0), ('sends exactly %d after receiving', count), (
+                'receives exactly %d before sending', 1):
             self.assertIsNone(judge.broken(read_sentence('mote 0 ' + sentence % number, names)))
         self.assertLess(time.process_time() - begun, 3)
 

@@ -14,6 +14,8 @@ from __future__ import annotations
 
 import bisect
 from collections.abc import Callable, Sequence
+from functools import cached_property
+from itertools import islice
 from typing import Protocol
 
 from motesim.judge.numbers import has, has_lines
@@ -64,6 +66,24 @@ class Order:
     def first(self) -> Found | None:
         return self.events[0] if self.events else None
 
+    @cached_property
+    def earliest(self) -> dict[int, Found]:
+        """For each mote that has an event at the first moment, its first event. These events have no order among
+        themselves."""
+        found: dict[int, Found] = {}
+        for event in self.events[:bisect.bisect_right(self.keys, (self.keys[0][0], LAST)) if self.keys else 0]:
+            found.setdefault(event.line.mote, event)
+        return found
+
+    def is_after(self, line: Found) -> bool:
+        """True if a line is after one of the first events."""
+        first = self.first()
+        return first is not None and _is_after(line, self.earliest.get(line.line.mote, first))
+
+    def not_after(self, line: Found) -> Found | None:
+        """One of the first events, if a line isn't before all of them."""
+        return next((event for event in islice(self.earliest.values(), 2) if not _is_after(event, line)), None)
+
     def last_before(self, line: Found) -> Found | None:
         """The last event that is not after a line; an event of another mote at the same moment counts."""
         place = bisect.bisect_right(self.keys, (line.line.at, LAST))
@@ -87,11 +107,10 @@ class Order:
 
 def _holds(relation: Relation, line: Found, order: Order) -> bool:
     """True if a line has this relation to the events."""
-    first = order.first()
     if relation.kind == 'after':
-        return first is not None and _is_after(line, first)
+        return order.is_after(line)
     if relation.kind == 'before':
-        return first is None or _is_after(first, line)
+        return order.not_after(line) is None
     event = order.last_before(line)
     return event is not None and line.line.at - event.line.at <= relation.moments
 
@@ -104,6 +123,7 @@ def _why_not(relation: Relation, line: Found, order: Order) -> str:
     if relation.kind == 'after':
         return '%s is not after the first `%s`, at %d (line %d)' % (here, relation.words, first.line.at, first.row)
     if relation.kind == 'before':
+        first = order.not_after(line) or first
         return '%s is not before the first `%s`, at %d (line %d)' % (here, relation.words, first.line.at, first.row)
     event = order.last_before(line)
     if event is None:
