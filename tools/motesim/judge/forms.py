@@ -101,7 +101,8 @@ WHEN = Table('WHEN', 'Moments', ('mote 1 sends %s',), (
     (('at 40 plus 3 for each hop from mote 0',),
      'for each mote, the moment 40 + 3 h, if the mote is h hops from mote 0'),
     (('in each 120 from 0 to 1199',),
-     'the periods 0 to 119, 120 to 239, and so on; the sentence must hold in each of them'),
+     'the periods 0 to 119, 120 to 239, and so on; the last one may be shorter. The whole sentence must hold in each of '
+     'these periods: with `exactly 1 mote`, the mote may differ from period to period'),
 ))
 ORDER = Table('ORDER', 'Meaning', ('mote 1 sends 1 %s',), (
     (('after mote 0 sends 1', 'after mote 2'),

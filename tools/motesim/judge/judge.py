@@ -6,6 +6,7 @@ from __future__ import annotations
 
 from bisect import bisect_left, bisect_right
 from collections.abc import Iterator, Sequence
+from dataclasses import replace
 from functools import cached_property
 from itertools import compress, repeat
 from itertools import count as counting
@@ -75,6 +76,15 @@ def _without_value(pattern: Pattern) -> Pattern:
     while words[-1] is None:
         words = words[:-1]
     return words
+
+
+def periods(it: Does) -> list[Does]:
+    """The sentences about one period each that a sentence with `in each` means, if it is about a number of motes, such
+    as `no mote` or `exactly 1 mote`. For other sentences, the list is empty: a mote by itself can check all periods."""
+    begin, end, every = it.window.begin, it.window.end, it.window.every
+    if not every or end is None or it.motes.kind in ('each', 'together'):
+        return []
+    return [replace(it, window=Window(at, min(at + every - 1, end))) for at in range(begin, end + 1, every)]
 
 
 class Judge:
@@ -351,6 +361,14 @@ class Judge:
         return events[min(max(it.count.least, 1), len(events)) - 1].row if events else None
 
     def does(self, it: Does) -> Broken | None:
+        """Checks a sentence about motes."""
+        for period in periods(it):
+            broken = self.of_motes(period)
+            if broken:
+                return Broken('%s: %s' % (_shown(self.spans(period.window, ())[0]).strip(), broken.why), broken.row)
+        return None if periods(it) else self.of_motes(it)
+
+    def of_motes(self, it: Does) -> Broken | None:
         chosen = self.chosen(it.motes)
         if it.motes.kind == 'together':
             return self.of_unit(it, chosen)

@@ -11,7 +11,7 @@ from collections.abc import Callable, Iterable
 from dataclasses import fields, is_dataclass
 from functools import cache, cached_property, partial
 
-from motesim.judge.judge import Judge
+from motesim.judge.judge import Judge, periods
 from motesim.report import FIELDS, Report
 from motesim.scenario.scenario import Scenario
 from motesim.judge.sentences import (
@@ -288,7 +288,7 @@ def _chosen(motes: Motes, seen: Seen) -> list[int]:
 
 
 def _does(it: Does) -> Check:
-    if len(it.deed.patterns) > 1 or it.motes.kind == 'together':
+    if len(it.deed.patterns) > 1 or it.motes.kind == 'together' or periods(it):
         raise _Unknown
     kind = '' if _is_count(it) else str(it.deed.patterns[0][0])
     return partial(_judged, it.motes, partial(_or_not_reached, _unit(it)), kind)

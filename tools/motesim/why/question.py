@@ -7,11 +7,11 @@ wants a line that doesn't exist has no line: the answer is a `Missing`, for whic
 from __future__ import annotations
 
 import re
-from collections.abc import Sequence
+from collections.abc import Iterable, Sequence
 from dataclasses import dataclass, replace
 
 from motesim.faults import Fault
-from motesim.judge.judge import Judge, Span, _Apart
+from motesim.judge.judge import Judge, Span, _Apart, periods
 from motesim.judge.numbers import either, has, has_lines, there_are, verb
 from motesim.report import FIELDS, Report
 from motesim.judge.sentences import (
@@ -80,6 +80,14 @@ def does(answer: Answer) -> bool:
 def first_with_line(answers: Sequence[Answer]) -> Answer | None:
     """The first of these that has a line, or, if none has a line, the first one."""
     return next((it for it in answers if not isinstance(it, Lineless)), answers[0] if answers else None)
+
+
+def of_all(periods_of: Iterable[Answer]) -> Answer:
+    """The answer of several periods, in their order: of the first one that breaks the sentence; if none does, of the
+    last one that has a line."""
+    answers = list(periods_of)
+    broken = next((one for one in answers if not does(one)), None)
+    return broken or first_with_line(answers[::-1]) or Lineless(True, 'the question has no moment')
 
 
 def line_asked(traces: Traces, question: str) -> At | None:
@@ -252,6 +260,8 @@ class Asker:
         """The line of a sentence about motes."""
         if it.than or it.relation:
             return self.of_two(it)
+        if periods(it):
+            return of_all(map(self.of_motes, periods(it)))
         chosen = self.judge.chosen(it.motes)
         if it.motes.kind == 'together':
             return self.of_unit(it, chosen)
@@ -352,11 +362,9 @@ class Asker:
             spans = self.judge.spans(it.window, motes)
             lines = self.lines(it, motes)
             name = self.judge.name(motes)
-            answers = [self.of_span(it, motes, lines, span, name) for span in spans]
+            return of_all(self.of_span(it, motes, lines, span, name) for span in spans)
         except _Apart as apart:
             return Lineless(False, str(apart))
-        broken = next((one for one in answers if not does(one)), None)
-        return broken or first_with_line(answers[::-1]) or Lineless(True, 'the question has no moment')
 
     def of_span(self, it: Does, motes: tuple[int, ...], lines: list[Found], span: Span, name: str) -> Answer:
         inside = within(lines, span)
