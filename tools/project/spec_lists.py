@@ -42,7 +42,7 @@ def about(path: Path) -> str:
     if not comment:
         raise Fault('%s: the file has to begin with a comment; the lists show its first sentence' % path)
     text = ' '.join(it[2:].strip() for it in comment[0].splitlines())
-    return re.split(r'(?<=[.])\s+(?=[A-Z])', text, maxsplit=1)[0]
+    return re.split(r'(?<=[.])\s+(?=[A-Z`])', text, maxsplit=1)[0]
 
 
 def item(text: str) -> str:

@@ -33,7 +33,7 @@ use Rattle.simulation.specs.declared.input.InputError.TheVariants as fault
 pub use Rattle.low.specs.Near.{near}
 use Rattle.low.specs.declared.place.TheConstants.{MOST}
 ''',
-    'crates/low/specs/Near.antt': '-- What is near.\nuse lib.ListN.{get}\n',
+    'crates/low/specs/Near.antt': '-- What is near. `near` is in a second sentence.\nuse lib.ListN.{get}\n',
     'crates/low/src/place.rt': '',
     'docs/proof/HEADLINE.md': 'before\n%sbehind\n' % MARKS,
     'docs/dev/SPECS.md': 'before\n%sbehind\n' % MARKS,
