@@ -130,7 +130,7 @@ BROKEN = [
     ('mote 1 prints flood 2 by 60', 13), ('mote 1 prints flood 3', None), ('mote 1 never prints flood', 8),
     ('mote 1 prints flood at most 1', 13), ('mote 1 prints flood at least 3', None), ('no mote halts', 22),
     ('no mote sends', 3), ('no mote sends at least 2 times', 5), ('every mote prints flood 1', None),
-    ('every mote but 0 prints flood 1 by 45', 15), ('exactly 1 mote prints flood 2', 21),
+    ('every mote but 0 prints flood 1 by 45', 15), ('exactly 1 mote prints flood 2', 13),
     ('at least 3 motes print flood 2', None), ('some mote prints flood 3', None),
     ('mote 1 prints just flood 1', 13), ('mote 1 prints just flood 2', 8),
     ('mote 1 prints just flood 1, 2, 3', None), ('mote 1 prints just flood 2, 2 in any order', 8),

@@ -144,11 +144,21 @@ SENTENCES: list[tuple[str, str | None, int | None]] = [
     # Parts of motes: 1, 2 of 4 print a; 3 of 4 have a line `start`.
     ('at least 50 % of motes print a', None, None),
     ('at least 51% of motes print a',
-     '2 of 4 motes do; wanted: at least 51 %; the first that doesn\'t is\nmote 0 has 0 such lines; wanted: at least 1', None),
+     '2 of 4 motes do; wanted: at least 51 %\nmotes 1, 2 do; motes 0, 3 don\'t; the first that doesn\'t is\n'
+     'mote 0 has 0 such lines; wanted: at least 1', None),
+    ('at least 3 motes print a',
+     '2 motes do; wanted: at least 3\nmotes 1, 2 do; motes 0, 3 don\'t; the first that doesn\'t is\n'
+     'mote 0 has 0 such lines; wanted: at least 1', None),
+    ('exactly 1 mote prints a 77',
+     '0 motes do; wanted: exactly 1\nmotes 0, 1, 2, 3 don\'t; the first that doesn\'t is\n'
+     'mote 0 has 0 such lines; wanted: at least 1', None),
     ('at most 50 % of the motes print a', None, None),
     ('at least 66 % of motes but 0 print a', None, None),
     ('exactly 100 % of motes 1 to 2 print a', None, None),
-    ('fewer than 50 percent of motes print a', '2 of 4 motes do; wanted: fewer than 50 %', None),
+    # (mote 2 prints first, at 0, and mote 1 at 13)
+    ('fewer than 50 percent of motes print a', '2 of 4 motes do; wanted: fewer than 50 %', 9),
+    ('at most 1 mote prints a', '2 motes do; wanted: at most 1', 9),
+    ('no mote prints a', 'mote 2 does', 14),
     # Copies: 7 in all, of which 1 is late, 4 arrive and 2 are lost.
     ('at least 66 % of copies arrive', None, None),
     ('at least 67 % of copies arrive', '4 of 6 copies that were due do (66.7 %); wanted: at least 67 %', None),

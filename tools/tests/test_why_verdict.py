@@ -8,7 +8,7 @@ from itertools import product
 
 import here  # noqa: F401
 from motesim.judge.judge import Judge
-from motesim.judge.sentences import SentenceFault, names_of, read_sentence
+from motesim.judge.sentences import Does, SentenceFault, names_of, read_sentence
 from motesim.report import Report
 from motesim.scenario import Scenario
 from motesim.why.question import Asked, Asker, Missing, Unasked
@@ -110,7 +110,9 @@ class Verdicts(unittest.TestCase):
 
     def check(self, asker: Asker, judge: Judge, text: str) -> str:
         """Compares the verdicts on a sentence, and says which kind of answer there is."""
-        holds = judge.broken(read_sentence(text, names_of(judge.scenario))) is None
+        sentence = read_sentence(text, names_of(judge.scenario))
+        broken = judge.broken(sentence)
+        holds = broken is None
         try:
             found = asker.about(text)
         except Unasked as fault:
@@ -118,6 +120,9 @@ class Verdicts(unittest.TestCase):
             self.assertEqual(str(fault).startswith('the sentence holds: '), holds, (text, str(fault)))
             return 'holds, no line' if holds else 'broken, no line'
         self.assertEqual(isinstance(found, Asked) and found.holds, holds, (text, found))
+        is_of_number = isinstance(sentence, Does) and sentence.motes.kind in ('no', 'count')
+        if broken and isinstance(found, Asked) and is_of_number:
+            self.assertEqual(asker.traces.row(found.where), broken.row, (text, broken))
         return 'missing' if isinstance(found, Missing) else 'holds' if holds else 'broken'
 
     def test_every_form_on_random_reports(self) -> None:

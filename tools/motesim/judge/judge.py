@@ -14,7 +14,7 @@ from operator import and_
 from typing import NamedTuple
 
 from motesim.judge import relations
-from motesim.judge.numbers import TOGETHER, either, has, has_lines, there_are, verb
+from motesim.judge.numbers import TOGETHER, either, has, has_lines, motes_do, there_are, verb
 from motesim.judge.sentences import (
     Copies, Count, Deed, Does, Hears, Lines, MediumLine, Motes, Packets, Pattern, Refused, Sentence, Value, Window,
 )
@@ -355,10 +355,23 @@ class Judge:
         numbers = range(len(self.report.motes)) if motes.numbers is None else sorted(motes.numbers)
         return tuple(mote for mote in numbers if mote not in motes.but)
 
-    def shown_by(self, it: Does, mote: int) -> int | None:
-        """The row of the line that shows that a mote does what the sentence says."""
-        events = self.within(self.done(it.deed, (mote,)), it.window, (mote,))
-        return events[min(max(it.count.least, 1), len(events)) - 1].row if events else None
+    def shown_by(self, it: Does, mote: int) -> Event | None:
+        """The line with which a mote has done what the sentence says; of several periods, that in the last one."""
+        events = self.done(it.deed, (mote,))
+        for span in reversed(self.spans(it.window, (mote,))):
+            inside = [event for event in events if _within(event.line.at, span)]
+            if inside:
+                return inside[-1 if it.deed.way != 'any' else min(max(it.count.least, 1), len(inside)) - 1]
+        return None
+
+    def beyond(self, it: Does, doing: list[int], allowed: int) -> tuple[int, int | None]:
+        """The first mote in time that does what the sentence says beyond the allowed number, and the row that shows it. A
+        mote without a row has done it from the start."""
+        shown = [(mote, self.shown_by(it, mote)) for mote in doing]
+        lines = sorted((event.line.at, mote, event.row) for mote, event in shown if event)
+        # (the motes without a row come first, but a mote with a row is easier to look at)
+        later = lines[max(allowed - len(doing) + len(lines), 0):]
+        return later[0][1:] if later else (doing[0], None)
 
     def does(self, it: Does) -> Broken | None:
         """Checks a sentence about motes."""
@@ -377,26 +390,32 @@ class Judge:
         if it.motes.kind == 'each':
             return next((it for it in broken.values() if it), None)
         if it.motes.kind == 'no':
-            return Broken('mote %d does' % doing[0], self.shown_by(it, doing[0])) if doing else None
+            first = self.beyond(it, doing, 0) if doing else None
+            return Broken('mote %d does' % first[0], first[1]) if first else None
         if it.motes.kind == 'some':
             return None if doing else Broken('no mote does')
         assert it.motes.count
         if it.motes.count.admits(len(doing), len(chosen) if it.motes.count.is_part else 1):
             return None
-        why = '%s; wanted: %s' % ('1 mote does' if len(doing) == 1 else '%d motes do' % len(doing), it.motes.count)
-        if it.motes.count.is_part:
-            return self.part_of_motes(it.motes.count, doing, chosen, broken)
-        spare = _first_spare(doing, it.motes.count)
-        return Broken(why, None if spare is None else self.shown_by(it, spare))
+        return self.number_of_motes(it, doing, broken)
 
-    def part_of_motes(self, count: Count, doing: list[int], chosen: tuple[int, ...],
-                      broken: dict[int, Broken | None]) -> Broken:
-        """The reason why the share of the motes is too small or too great, with the first mote that doesn't do what
-        the sentence says."""
-        why = '%d of %d motes do; wanted: %s' % (len(doing), len(chosen), count)
-        first = next((mote for mote in chosen if mote not in doing), None)
-        more = broken[first] if first is not None and count.least else None
-        return Broken('%s; the first that doesn\'t is\n%s' % (why, more.why), more.row) if more else Broken(why)
+    def number_of_motes(self, it: Does, doing: list[int], broken: dict[int, Broken | None]) -> Broken:
+        """The reason why too many or too few motes do what a sentence says. For too many, it has the line of the first
+        mote in time beyond the allowed number; for too few, the motes that do and don't, and the first that doesn't."""
+        assert it.motes.count
+        count, whole = it.motes.count, len(broken) if it.motes.count.is_part else 1
+        do = '1 mote does' if len(doing) == 1 else '%d motes do' % len(doing)
+        why = '%s; wanted: %s' % ('%d of %d motes do' % (len(doing), len(broken)) if count.is_part else do, count)
+        admitted = [number for number in range(len(doing) + 1) if count.admits(number, whole)]
+        if doing and (admitted or count.compare in ('at most', 'fewer than')):
+            return Broken(why, self.beyond(it, doing, admitted[-1] if admitted else 0)[1])
+        others = [(mote, one) for mote, one in broken.items() if one]
+        if not others:
+            return Broken(why)
+        which = [motes_do(motes, verb) for motes, verb in (
+            (doing, 'does'), ([mote for mote, _ in others], "doesn't")) if motes]
+        first = others[0][1]
+        return Broken('%s\n%s; the first that doesn\'t is\n%s' % (why, '; '.join(which), first.why), first.row)
 
     def part_of_copies(self, it: Copies) -> Broken | None:
         """Checks which share of the copies that were due has an outcome."""

@@ -1,9 +1,11 @@
 """Subjects with their verbs in messages: `mote 3 has`, `the motes together have`."""
 from __future__ import annotations
 
-from collections.abc import Iterable
+from collections.abc import Iterable, Sequence
 
 TOGETHER = 'the motes together'
+# The most motes that a message names.
+MOST_MOTES = 8
 ONE_OF = {'such copies': 'such copy', 'packets': 'packet', 'lines': 'line'}
 
 
@@ -24,6 +26,12 @@ def either(values: Iterable[int]) -> str:
 def has_lines(name: str, number: int) -> str:
     """The number of lines that a mote has, or several have together."""
     return '%s %d such %s' % (has(name), number, 'line' if number == 1 else 'lines')
+
+
+def motes_do(motes: Sequence[int], one: str) -> str:
+    """Motes by their numbers, with a verb, such as `motes 1, 4 do`; `one` is the verb of one mote."""
+    shown = ', '.join(map(str, motes[:MOST_MOTES])) + ', ..' * (len(motes) > MOST_MOTES)
+    return 'mote %s %s' % (shown, one) if len(motes) == 1 else 'motes %s %s' % (shown, one.replace('does', 'do'))
 
 
 def there_are(number: int, what: str) -> str:
