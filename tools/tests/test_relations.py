@@ -91,6 +91,7 @@ SENTENCES: list[tuple[str, str | None, int | None]] = [
     ('mote 2 prints a within 20 of each time it receives', None, None),
     ('mote 3 prints a within 5 of each time mote 2 halts', 'no line shows `mote 2 halts`', None),
     ('mote 1 receives within 3 of each time mote 0 sends 1', None, None),
+    ('mote 1 prints a 7 within 3 of each time mote 2 sends', 'no line shows `mote 2 sends`', None),
     # Events whose moments go past the end, at 100: one counts if a line follows in time; not all may be left out.
     ('mote 2 receives within 60 of each time mote 0 sends', None, None),
     ('mote 2 receives within 60 of each time mote 0 sends 1', None, None),

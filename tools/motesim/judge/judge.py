@@ -279,7 +279,8 @@ class Judge:
             broken = self.of_events(it, events, motes)
             if broken is None:
                 return None
-            is_shown = broken.row is not None or events or it.than
+            is_event = it.relation is not None and it.relation.kind == 'each'
+            is_shown = broken.row is not None or events or it.than or is_event
             more = '' if is_shown else self.other_value(it, motes) or self.other_process(it, motes)
             more = '; ' + more if more else ''
             return Broken(broken.why + more + remark_on(it.deed, motes, self.values), broken.row)
