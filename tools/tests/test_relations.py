@@ -210,6 +210,11 @@ REFUSED = [
     ('mote 1 sends within 10', 'of'),
     ('mote 1 sends at least 3 times within 10 of each time it receives', 'the end'),
     ('mote 1 sends after every mote prints a', 'some mote'),
+    ('mote 1 never prints just a 1', 'prints, without `just` or `finally`'),
+    ('all motes never finally print a 1', 'print, without `just` or `finally`'),
+    ('mote 1 sends exactly 2 times as often as mote 2 prints just a 1', 'prints, without `just` or `finally`'),
+    ('mote 1 sends after printing just a 1', 'printing, without `just` or `finally`'),
+    ('mote 1 sends twice as often as mote 0 in each 10 from 0 to 99', 'Hint: write `in each` in front of the'),
     ('at least 50 % of packets are sent', 'copies'),
     ('mote 1 sends at least 50 %', 'as often as'),
 ]

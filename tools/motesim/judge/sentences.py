@@ -527,6 +527,15 @@ class _Reader:
             return Deed(tuple(patterns))
         raise self.fault()
 
+    def plain_deed(self) -> Deed:
+        """An action whose lines can be counted: the values of all lines together aren't counted."""
+        at = self.at
+        deed = self.deed()
+        if deed.way != 'any':
+            verb = self.words[at + 1 if deed.way == 'finally' else at]
+            raise SentenceFault(self.sentence, self.places[at], ['%s, without `just` or `finally`' % verb])
+        return deed
+
     def prints(self, way: str) -> Deed:
         if way == 'finally':
             process, value = self.needed_process(), self.value()
@@ -580,7 +589,7 @@ class _Reader:
             if can:
                 return Hears(motes.numbers, can == 'can hear mote', self.mote())
         never = motes.kind in ('each', 'together') and self.accept('never')
-        deed = self.deed()
+        deed = self.plain_deed() if never else self.deed()
         window, count, than = self.window(), None, None
         if deed.way != 'any':
             self.refuse_after(deed)
@@ -643,10 +652,8 @@ class _Reader:
         if motes and motes.kind not in ('some', 'together') and len(motes.numbers or ()) != 1:
             raise SentenceFault(self.sentence, self.places[at], ['mote 3', 'some mote', 'motes 1 to 3 together'])
         is_alone = motes is not None and (not self.word() or not self.is_verb())
-        deed = same if is_alone else self.deed()
+        deed = same if is_alone else self.plain_deed()
         self.is_event = False
-        if deed.way != 'any':
-            raise SentenceFault(self.sentence, self.places[at], ['prints, without `just` or `finally`'])
         return motes, deed
 
     def is_verb(self) -> bool:
@@ -658,9 +665,14 @@ class _Reader:
         """Reads the other count of a comparison."""
         self.is_event = True
         motes = None if self.accept('it') else self.others()
-        deed = self.deed() if self.is_verb() else None
+        deed = self.plain_deed() if self.is_verb() else None
         self.is_event = False
-        return Than(motes, deed, self.window() or Window())
+        begin = self.places[self.at]
+        window = self.window() or Window()
+        if window.every:
+            raise SentenceFault(self.sentence, begin, ['at', 'by', 'before', 'after', 'between', 'from'],
+                                'write `in each` in front of the comparison.')
+        return Than(motes, deed, window)
 
     def others(self) -> Motes | None:
         other = self.motes()
