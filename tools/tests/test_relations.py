@@ -134,13 +134,14 @@ SENTENCES: list[tuple[str, str | None, int | None]] = [
     ('exactly 1 mote sends at 10', None, None),
     ('exactly 2 motes send in each 50 from 0 to 99', None, None),
     ('exactly 1 mote sends twice in each 50 from 0 to 99',
-     'from 0 to 49: 0 motes do; wanted: exactly 1', None),
+     'from 0 to 49: 0 motes do; wanted: exactly 1\nmotes 0, 1, 2, 3 don\'t; the first that doesn\'t is\n'
+     'mote 0 has 1 such line from 0 to 49; wanted: exactly 2; the next is', 4),
     ('some mote sends in each 40 from 10 to 89', None, None),
     ('some mote sends in each 20 from 10 to 89', 'from 30 to 49: no mote does', None),
     ('no mote sends more than once in each 50 from 0 to 99', 'from 50 to 99: mote 0 does', 5),
     ('at least 50 % of motes send in each 50 from 0 to 99', None, None),
     ('at least 50 % of motes print a in each 50 from 0 to 99',
-     'from 50 to 99: 0 of 4 motes do; wanted: at least 50 %; the first that doesn\'t is\n'
+     'from 50 to 99: 0 of 4 motes do; wanted: at least 50 %\nmotes 0, 1, 2, 3 don\'t; the first that doesn\'t is\n'
      'mote 0 has 0 such lines from 50 to 99; wanted: at least 1', None),
     # Parts of motes: 1, 2 of 4 print a; 3 of 4 have a line `start`.
     ('at least 50 % of motes print a', None, None),
