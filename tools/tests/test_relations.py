@@ -91,6 +91,18 @@ SENTENCES: list[tuple[str, str | None, int | None]] = [
     ('mote 2 prints a within 20 of each time it receives', None, None),
     ('mote 3 prints a within 5 of each time mote 2 halts', 'no line shows `mote 2 halts`', None),
     ('mote 1 receives within 3 of each time mote 0 sends 1', None, None),
+    # With a period, only the events in it need a line, perhaps a later one.
+    ('mote 1 sends 1 by 13 within 16 of each time it receives 1', None, None),
+    ('mote 1 sends 1 within 16 of each time it receives 1 by 62', None, None),
+    ('mote 1 sends 1 from 63 on within 17 of each time it receives 1', None, None),
+    ('mote 1 sends 1 from 63 to 70 within 17 of each time it receives 1', None, None),
+    ('mote 1 sends 1 from 63 to 70 within 16 of each time it receives 1',
+     '`it receives 1` at 63 is this line, and mote 1 has no such line up to 79: the next is at 80 (line 12)', 11),
+    ('mote 1 sends 1 from 64 on within 17 of each time it receives 1',
+     'no line from 64 on shows `it receives 1`', None),
+    ('mote 1 sends 1 in each 50 from 0 to 99 within 17 of each time it receives 1', None, None),
+    ('mote 1 sends 1 in each 30 from 0 to 89 within 17 of each time it receives 1',
+     'no line from 30 to 59 shows `it receives 1`', None),
     ('mote 1 prints a 7 within 3 of each time mote 2 sends', 'no line shows `mote 2 sends`', None),
     # Events whose moments go past the end, at 100: one counts if a line follows in time; not all may be left out.
     ('mote 2 receives within 60 of each time mote 0 sends', None, None),

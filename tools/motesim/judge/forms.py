@@ -113,9 +113,10 @@ ORDER = Table('ORDER', 'Meaning', ('mote 1 sends 1 %s',), (
     (('within 10 of receiving 1', 'within 10 moments of it receives 1', 'within 1 moment of mote 2 sending 5'),
      'each line is at most that many moments after a line of the event'),
     (('within 10 of each time it receives 1', 'within 10 of every time mote 0 sends'),
-     'each line of the event is followed, at most that many moments later, by a line of the sentence; this ORDER has no '
-     'TIMES. The tool ignores a line of the event if no line of the sentence follows it and the run ends before these '
-     'moments are over. If the tool ignores all lines of the event, or if there are none, the sentence is broken'),
+     'each line of the event is followed, at most that many moments later, by a line of the sentence; this ORDER has '
+     'no TIMES, and its WHEN is about the lines of the event. The tool ignores a line of the event if no line of the '
+     'sentence follows it and the run ends before these moments are over. If the tool ignores all lines of the event, '
+     'or if there are none, the sentence is broken'),
 ))
 OTHER = Table('Sentence', 'Is about', ('%s',), (
     (('no copy collides', 'some copy collides at mote 3'), 'lines `collide`'),

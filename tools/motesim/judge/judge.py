@@ -265,9 +265,10 @@ class Judge:
         most = it.count.number * len(two) // (100 if it.count.is_part else 1)
         return Broken(why, one[most].row if len(one) > most else one[-1].row if one else None)
 
-    def related(self, it: Does, inside: list[Event], others: list[Event], name: str, span: Span) -> Broken | None:
-        """Checks that the lines in a span are before, after or near others."""
-        why = relations.broken(it, name, _shown(span), inside, others, self.scenario.end)
+    def related(self, it: Does, lines: list[Event], others: list[Event], name: str, span: Span) -> Broken | None:
+        """Checks that lines are before, after or near others. In `within 10 of each time`, the others are those in a
+        span; otherwise the lines are."""
+        why = relations.broken(it, name, _shown(span), lines, others, self.scenario.end)
         return Broken(*why) if why else None
 
     def of_unit(self, it: Does, motes: tuple[int, ...]) -> Broken | None:
@@ -294,7 +295,10 @@ class Judge:
             inside = [event for event in events if _within(event.line.at, span)]
             if it.than:
                 broken = self.than(it, inside, others, name, span)
-            elif it.relation and not (inside or it.is_counted or it.relation.kind == 'each'):
+            elif it.relation and it.relation.kind == 'each':
+                asked = [event for event in others if _within(event.line.at, span)]
+                broken = self.related(it, events, asked, name, span)
+            elif it.relation and not (inside or it.is_counted):
                 broken = self.counted(events, it.count, motes, span)
             elif it.relation:
                 broken = self.related(it, inside, others, name, span)

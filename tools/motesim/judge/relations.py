@@ -148,7 +148,8 @@ def _kind_in_words(relation: Relation) -> str:
     return 'within %d of' % relation.moments if relation.kind == 'within' else relation.kind
 
 
-def _answered(relation: Relation, name: str, lines: Sequence[Found], order: Order, end: int) -> Why | None:
+def _answered(relation: Relation, name: str, when: str, lines: Sequence[Found], order: Order,
+              end: int) -> Why | None:
     """Checks that each event has a line soon after it. An event without a line can't be judged if its moments go past
     the end of the run; at least one event must be judged."""
     answers, is_judged = Order(lines), False
@@ -162,14 +163,14 @@ def _answered(relation: Relation, name: str, lines: Sequence[Found], order: Orde
         is_judged = is_judged or found is not None
     if is_judged:
         return None
-    return _none_judged(relation, name, order, end)
+    return _none_judged(relation, name, when, order, end)
 
 
-def _none_judged(relation: Relation, name: str, order: Order, end: int) -> Why:
+def _none_judged(relation: Relation, name: str, when: str, order: Order, end: int) -> Why:
     """The reason why a sentence is broken if no event of it can be judged."""
     first, count = order.first(), len(order.events)
     if first is None:
-        return 'no line shows `%s`' % relation.words, None
+        return 'no line%s shows `%s`' % (when, relation.words), None
     its = '%d %s' % (relation.moments, 'moment' if relation.moments == 1 else 'moments')
     none = 'the only event doesn\'t have' if count == 1 else 'none of the %d events has' % count
     return '%s its %s before the end (%d): %s`%s` at %d is this line, and %s no such line up to the end; %s' % (
@@ -179,11 +180,11 @@ def _none_judged(relation: Relation, name: str, order: Order, end: int) -> Why:
 
 def broken(it: Does, name: str, when: str, lines: Sequence[Found], events: Sequence[Found], end: int) -> Why | None:
     """The reason why a sentence with a relation is broken, from the lines of a mote (or of several) and the events.
-    `when` is the period of the lines, in words."""
+    `when` is the period of the lines, in words; for `within 10 of each time`, the period of the events."""
     relation, order = it.relation, Order(events)
     assert relation
     if relation.kind == 'each':
-        return _answered(relation, name, lines, order, end)
+        return _answered(relation, name, when, lines, order, end)
     if it.is_counted:
         return _counted(it, relation, name, when, lines, order)
     line = next((line for line in sorted(lines, key=in_time) if not _holds(relation, line, order)), None)
