@@ -508,6 +508,30 @@ class Nets(Folder):
         self.assertIn(wanted[0], self.page())
         self.assertNotIn(wanted[1], self.page())
 
+    def test_loops_that_halted_and_broadcasts_meant_as_packets_are_named(self) -> None:
+        need_program(self)
+        self.stub = program_path()
+        head = 'process a;\nautostart a;\n'
+        self.hand_in('ben.mote', head + 'code a {\nvar x = 3; etimer t; body { wait_until (x == 3);\n'
+                     'while 1 { wait_until (x == 3);\nif (x > 9) { set t 1; yield_until fired(t); } } } }\n')
+        self.hand_in('cem.mote', 'event news; ' + head + 'receiver a;\ncode a { body {\nbroadcast news 1;\n'
+                     'yield_until is(packet); print data; } }\n')
+        self.hand_in('dan.mote', head + 'receiver a;\ncode a { body { while 1 {\n'
+                     'if (self < 9) { print 1; } else { yield; } } } }\n')
+        for name, wanted in (
+                ('ben', 'Warning: the `while` on line 5 of the program repeated '),
+                ('cem', 'Warning: the program waits for packets, but no program of a mote sends one by `send`; this '
+                 '`broadcast` posts'),
+                ('dan', 'Warning: the `while` on line 4 of the program waits in only one branch')):
+            with self.subTest(name):
+                shown = self.grade('--net', 'task.toml', '--why', name)
+                self.assertIn(wanted, shown)
+                self.assertEqual(shown.count('Warning'), 1, shown)
+        self.grade('--net', 'task.toml', '-o', 'marks.html')
+        self.assertIn('waits in only one branch', self.page())
+        self.grade('--hidden', 'task.toml', '-o', 'marks.html')
+        self.assertNotIn('waits in only one branch', self.page())
+
     def test_a_process_that_nothing_starts_is_named(self) -> None:
         need_program(self)
         self.stub = program_path()

@@ -476,14 +476,30 @@ def of_net(scenario: Scenario, programs: dict[str, Program], report: Report | No
     if report is not None:
         yield from of_losses(scenario, report)
         yield from of_moments(report)
-        for name in {mote.program: None for mote in report.motes if mote.halted() is not None}:
-            for text, token in programs[name].waiting_branches():
-                yield Warned(text, name, token, cause='loop')
+        yield from of_branches(programs, report)
         for mote in report.motes:
             halted = mote.halted()
             if halted is not None:
                 yield Warned('mote %d halts at %d: a kernel run used up its 10,000 units of work' % (
                     mote.number, halted), mote=mote.number, cause='halt %s' % mote.program)
+
+
+def of_branches(programs: dict[str, Program], report: Report) -> Iterator[Warned]:
+    """Yields the warnings about loops that wait in only one branch, in programs with a mote that halted."""
+    for name in {mote.program: None for mote in report.motes if mote.halted() is not None}:
+        for text, token in programs[name].waiting_branches():
+            yield Warned(text, name, token, cause='loop')
+
+
+def of_run(scenario: Scenario, report: Report) -> Iterator[Warned]:
+    """Yields the warnings about programs that a run shows: those about a `broadcast` that was meant as a `send`, and
+    about the loops that halted motes."""
+    programs = programs_of(scenario)
+    yield from of_silence(scenario, programs, report)
+    loops = list(of_branches(programs, report))
+    yield from loops
+    known = [it for program in programs.values() for it in of_program(program, False)]
+    yield from of_used_up(scenario, programs, report, known + loops)
 
 
 def warnings(scenario: Scenario, report: Report | None = None, text: str = '') -> list[Warned]:

@@ -8,7 +8,7 @@ from pathlib import Path
 from typing import NamedTuple
 
 from motesim.explain.explanation import explanation, of_program as fault_of_program, of_program_file, tables_or_none
-from motesim.explain.lint import ZERO_GIVEN, Program, by_cause, of_moments, of_program, of_start
+from motesim.explain.lint import ZERO_GIVEN, Program, by_cause, of_moments, of_program, of_run, of_start
 from motesim.explain.within import busiest
 from motesim.faults import Fault
 from motesim.files import replace_whole
@@ -256,7 +256,7 @@ class Task:
             marks.append(Mark(whole.sentence, whole.holds, (), tuple(whole.more)))
         run = Run('', report, scenario, file) if len(got.report) <= MOST_SHOWN else None
         return InNet(marks, lacks, '', run, [None if lack else next(places) for lack in lacks], bytes=len(got.report),
-                     halts=halt_of(report), moments=moments_of(report), warned=warned_of(
+                     halts=halt_of(report), moments=seen_of(scenario, report, program), warned=warned_of(
                          {program: scenario.programs[program]} if program else scenario.programs,
                          ZERO_GIVEN.search(text) is not None))
 
@@ -337,9 +337,14 @@ def warned_of(programs: Mapping[str, str], is_zero_given: bool = False) -> tuple
     return tuple('Warning: %s' % it for it in lines[:MOST_WARNED])
 
 
-def moments_of(report: Report) -> tuple[str, ...]:
-    """The warnings of tools/explain about packets of one moment that collided."""
-    return tuple('Warning: %s' % it.text for it in by_cause(list(of_moments(report)))[:MOST_WARNED])
+def seen_of(scenario: Scenario, report: Report, program: str) -> tuple[str, ...]:
+    """The warnings of tools/explain that need a run: about packets of one moment that collided, about a `broadcast`
+    that was meant as a `send`, and about the loops that halted motes. The last two are only about the program, if one
+    is named."""
+    its = [it for it in of_run(scenario, report) if it.token and program in ('', it.program)]
+    lines = ['%s (line %d of the program)' % (it.text, it.token.line) for it in its if it.token]
+    lines += [it.text for it in by_cause(list(of_moments(report)))]
+    return tuple('Warning: %s' % it for it in lines[:MOST_WARNED])
 
 
 def unmarked(name: str, why: str) -> Marks:
