@@ -609,6 +609,26 @@ class Warnings(unittest.TestCase):
                 self.assertEqual(len(seen), 1 if wanted else 0, seen)
                 self.assertIn(wanted, ''.join(seen))
 
+    def test_a_packet_that_is_taken_for_the_event_of_a_timer(self) -> None:
+        receives = CODE.replace('code a', 'receiver a; code a')
+        for body, has_warning in (
+                ('set t 9; yield_until is(packet); if fired(t) { print 1; }', True),
+                ('set t 9; while 1 { wait_until is(packet); if (fired(t) && (seq == 1)) { reset t; } yield; }', True),
+                ('set t 9; yield_until is(packet); if (seq == 1) { if fired(t) { print 1; } }', True),
+                ('set t 9; yield_until (is(packet) || fired(t)); if fired(t) { print 1; }', False),
+                ('set t 9; yield_until is(packet); yield_until fired(t);', False),
+                ('set t 9; yield_until is(packet); if expired(t) { print 1; }', False),
+                ('set t 9; yield_until is(packet); yield; if fired(t) { print 1; }', False),
+                ('set t 9; if (seq == 1) { yield_until is(packet); } if fired(t) { print 1; }', False),
+                ('set t 9; yield_until is(packet); while (seq < 3) { if fired(t) { print 1; } yield; }', False),
+                ('set t 9; yield_until is(timer); if fired(t) { print 1; }', False)):
+            with self.subTest(body):
+                seen = [it for it in self.seen(receives % body) if '`fired(t)` is never true here' in it]
+                self.assertEqual(len(seen), has_warning, seen)
+        self.assertIn('the process has just waited for `is(packet)`, and now has this event. To wait for both, write '
+                      '`yield_until (is(packet) || fired(t));`. `expired(t)` tests whether the timer is due',
+                      self.seen(receives % 'set t 9; yield_until is(packet); if fired(t) { print 1; }')[0])
+
     def test_one_warning_for_each_cause(self) -> None:
         loop = 'process a; autostart a; code a { body { while 1 { poll a; } } }'
         text = scenario(program=loop) + ''.join('[[mote]]\nx = %d\ny = 0\nprogram = "source"\n' % it for it in (1, 2))

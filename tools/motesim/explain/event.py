@@ -16,6 +16,9 @@ NEVER = ('`is(%s)` is never true here: the process has just waited for the timer
 HARDLY = ('`is(%s)` is hardly ever true here: the process has just set the timer `%s` and has waited until the timer '
           'is due. An event that arrives during this wait doesn\'t end the wait, and isn\'t kept. To wait for both, write '
           '`yield_until (fired(%s) || is(%s));`')
+NEVER_FIRED = ('`fired(%s)` is never true here: the process has just waited for `is(%s)`, and now has this event. '
+               'To wait for both, write `yield_until (is(%s) || fired(%s));`. `expired(%s)` tests whether the timer '
+               'is due')
 
 
 class Wait(NamedTuple):
@@ -32,6 +35,29 @@ def mistaken(words: Sequence[str], tokens: Sequence[Token]) -> Iterator[tuple[st
         # (a timer that was due long ago is still expired when a packet arrives)
         if wait and (wait.test == 'fired' or _is_set_before(words, at, wait.timer)):
             yield from _after(words, tokens, wait)
+
+
+def mistaken_timers(words: Sequence[str], tokens: Sequence[Token]) -> Iterator[tuple[str, Token]]:
+    """Each test `fired` of a timer directly after a wait for another event, with the warning."""
+    for at, word in enumerate(words):
+        event = words[at + 3] if word in FOR_TIMER and list(words[at + 1:at + 3]) == ['is', '('] else 'timer'
+        if event == 'timer' or words[at + 5] != ';':
+            continue
+        for here in _before_wait(words, at + 6):
+            if words[here] == 'fired':
+                timer = words[here + 2]
+                yield NEVER_FIRED % (timer, event, event, timer, timer), tokens[here]
+                break
+
+
+def _before_wait(words: Sequence[str], begin: int) -> Iterator[int]:
+    """The places from a place up to the next wait, or to the end of the block."""
+    level = 0
+    for at in range(begin, len(words)):
+        level += (words[at] == '{') - (words[at] == '}')
+        if level < 0 or words[at] in WAITS or words[at] == 'while' and _waits(words, at):
+            return
+        yield at
 
 
 def _wait(words: Sequence[str], at: int) -> Wait | None:
@@ -53,12 +79,9 @@ def _is_set_before(words: Sequence[str], at: int, timer: str) -> bool:
 
 def _after(words: Sequence[str], tokens: Sequence[Token], wait: Wait) -> Iterator[tuple[str, Token]]:
     """The warning about the first mistake from a wait up to the next wait, or to the end of the block."""
-    level, timer = 0, wait.timer
-    for at in range(wait.end, len(words)):
+    timer = wait.timer
+    for at in _before_wait(words, wait.end):
         word = words[at]
-        level += (word == '{') - (word == '}')
-        if level < 0 or word in WAITS or word == 'while' and _waits(words, at):
-            return
         if word == 'is' and words[at + 2] != 'timer':
             event = words[at + 2]
             what = NEVER if wait.test == 'fired' else HARDLY

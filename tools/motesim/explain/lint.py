@@ -376,7 +376,7 @@ def of_program(program: Program, is_zero_given: bool) -> Iterator[Warned]:
     for text, token in program.unset_timers():
         yield Warned(text, name, token)
     its = program.words, program.tokens
-    for text, token in (*event.mistaken(*its), *wraps.warnings(*its)):
+    for text, token in (*event.mistaken(*its), *event.mistaken_timers(*its), *wraps.warnings(*its)):
         yield Warned(text, name, token)
 
 
