@@ -800,6 +800,14 @@ program = "flood.mote"
             status, said, _ = search(folder, '--faults', 'links', '--at-most', '2', '--resume')
             self.assertIn('all 28 pairs: 28 run', said)
 
+    def test_limit_on_runs_is_exact(self) -> None:
+        with folder_with() as folder:
+            _, said, _ = search(folder, '--faults', 'links', '--most-runs', '3')
+            self.assertIn('; 3 runs\nNOT ALL WAS TRIED: the limit of 3 runs was reached', said)
+            _, said, _ = search(folder, '--faults', 'links', '--most-runs', '8')
+            self.assertIn('; 8 runs', said)
+            self.assertNotIn('NOT ALL WAS TRIED', said)
+
     def test_sample_is_called_one(self) -> None:
         with folder_with() as folder:
             sets, found, said = minimal_sets(folder, '--faults', 'links', '--random', '40', '--seed', '3')

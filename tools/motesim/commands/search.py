@@ -60,8 +60,8 @@ def arguments() -> argparse.ArgumentParser:
     words.add_argument('--random', type=int, default=0, metavar='N',
                        help='afterwards try N larger sets, drawn at random')
     words.add_argument('--seed', type=int, default=1, metavar='S', help='the seed of --random (1)')
-    words.add_argument('--most-runs', type=int, metavar='N', help='end after N runs')
-    words.add_argument('--most-seconds', type=float, metavar='N', help='end after N seconds')
+    words.add_argument('--most-runs', type=int, metavar='N', help='make at most N runs; --random may need a few more')
+    words.add_argument('--most-seconds', type=float, metavar='N', help='begin no more runs after N seconds')
     words.add_argument('--seconds', type=float, default=SECONDS, metavar='N',
                        help='the limit of a run, in seconds (10)')
     words.add_argument('--bytes', type=int, default=BYTES, metavar='N',

@@ -81,14 +81,15 @@ class Search:
         return time.monotonic() - self.begin
 
     def is_over(self) -> bool:
-        """Returns whether a limit is reached, or the user asked for the end."""
+        """Returns whether the limit of seconds is reached, or the user asked for the end. Then even the sets that a
+        runner has already fetched aren't begun; the limit of runs ends only the sets to fetch."""
         if self.is_stopped or self.asks_end():
             self.is_stopped, self.ended_by = True, 'it was stopped'
-        elif self.bounds.runs is not None and self.given >= self.bounds.runs:
-            self.ended_by = 'the limit of {:,} runs was reached'.format(self.bounds.runs)
         elif self.bounds.seconds is not None and self.seconds >= self.bounds.seconds:
             self.ended_by = 'the limit of %g seconds was reached' % self.bounds.seconds
-        return bool(self.ended_by)
+        else:
+            return False
+        return True
 
     def run(self, runner: Runner) -> None:
         """Tries the sets, one size after another."""
@@ -145,7 +146,8 @@ class Search:
         self.breaking = 0
 
     def tasks(self, sets: Iterator[Set], tally: Tally, found: list[Outcome]) -> Iterator[Task]:
-        """The sets that have to be run. Sets that are decided or known already are noted at once."""
+        """The sets that have to be run, up to the limit of runs. Sets that are decided or known already are noted at
+        once."""
         for it in sets:
             left = self.known.left(it)
             wanted = left & ~self.blind(it)
@@ -157,6 +159,9 @@ class Search:
             elif before is not None:
                 self.resumed += 1
                 self.note(before, tally, found)
+            elif self.bounds.runs is not None and self.given >= self.bounds.runs:
+                self.ended_by = 'the limit of {:,} runs was reached'.format(self.bounds.runs)
+                return
             else:
                 self.given += 1
                 yield Task(it, wanted)
