@@ -1,4 +1,4 @@
--- The copies that the workers and their inboxes hold at the start of a window: together they are those on the agenda.
+-- The copies on the agenda at the start of a window: each is held by a worker, or waits in an inbox.
 use Rattle.std.specs.Prelude.{ℕ, suc, ◌<◌, List, ◌++◌, length, slice_index_or, IsPermutation}
 use Rattle.std.specs.List.{flat_map}
 use Rattle.trace_lines.specs.declared.line.Line.{Line}

@@ -1,4 +1,4 @@
--- The steps before a window and those after it, inbox by inbox.
+-- The senders that a worker gets before a window, and the gathering of these senders after it.
 use Rattle.std.specs.Prelude.{◌≡◌, ◌≢◌, ℕ, ◌<◌, ◌==◌, Bool, false, cond, List, [], ◌∷◌, ◌++◌, length, slice_get}
 use Rattle.std.specs.Prelude.{slice_index_or, Option, Some, None}
 use Rattle.std.specs.List.{AllByRecursion as Each}

@@ -1,4 +1,4 @@
--- The counts that a taker keeps: it drops the counts of the first senders after they were gathered.
+-- The counts that a taker keeps for its senders. The senders before `first` were gathered, and have no count any more.
 use Rattle.std.specs.Prelude.{◌≡◌, ℕ, ◌+◌, ◌-◌, ◌^◌, ◌<◌, ◌≤◌, ◌⊎◌, Bool, true, List, length, drop, slice_index_or}
 use Rattle.std.specs.Prelude.{slice_set}
 use Rattle.copy_inbox.specs.declared.count.Count.{Count}

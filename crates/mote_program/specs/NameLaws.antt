@@ -1,4 +1,4 @@
--- The laws of programs, which are properties of the tree of any text.
+-- The laws of programs: properties of the tree of any text.
 use Rattle.std.specs.Prelude.{◌≡◌, ℕ, List}
 use Rattle.std.specs.List.{All}
 use Rattle.program_tree.specs.Code.{Tree}

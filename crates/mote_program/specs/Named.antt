@@ -1,4 +1,4 @@
--- The names in each part of a program, or their numbers, each with its class, in the order of the text.
+-- The names (or numbers) in each part of a program, in the order of the text, each with its class.
 use Rattle.std.specs.Prelude.{List, [], ◌∷◌, ◌++◌, Option, Some, None}
 use Rattle.program_tree.specs.EventNames as event
 use Rattle.program_tree.specs.EventNames.{BroadcastEvent, PostedEvent, TestedEvent}

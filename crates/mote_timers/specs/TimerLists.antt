@@ -1,4 +1,4 @@
--- The timers of a mote with its timer list, and the effect of each call on them.
+-- The timers and the timer list of a mote, and the effect of each call on them.
 use Rattle.std.specs.Prelude.{ℕ, ◌^◌, min, not, List, [], ◌∷◌, map, filter, replicate, slice_index_or, slice_set}
 use Rattle.std.specs.Prelude.{Option, Some, None}
 use Rattle.std.specs.Option.{option_map_or}

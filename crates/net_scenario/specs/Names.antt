@@ -1,4 +1,4 @@
--- The tables whose keys are names of programs: the programs, each with a text, and the lengths of their queues.
+-- The tables whose keys are names of programs: the texts of the programs, and the lengths of their queues.
 use Rattle.std.specs.Prelude.{◌==◌, ◌+◌, ◌&&◌, ◌||◌, ℕ, pos, Bool, false, not, nat_le, List, length, Option, Some, None}
 use Rattle.std.specs.Prelude.{is_some, if◌then◌else◌}
 use Rattle.std.specs.List.{list_all}

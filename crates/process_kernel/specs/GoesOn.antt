@@ -1,4 +1,4 @@
--- A mote in the middle of a turn, as long as its kernel has not failed.
+-- A step in the middle of a turn, for a mote whose kernel has not failed.
 use Rattle.std.specs.Prelude.{◌≡◌, Option, Some, option_map}
 use Rattle.trace_lines.specs.declared.out.Out.{Out}
 use Rattle.process_kernel.specs.KernelModel.{KernelModel}

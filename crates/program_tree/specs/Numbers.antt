@@ -1,4 +1,4 @@
--- The tree of a shape: the shape with each name replaced by its number.
+-- From a shape to a tree: each name is replaced by its number.
 use Rattle.std.specs.Prelude.{ℕ, ◌+◌, List, [], ◌∷◌, ◌++◌, map, option_map, Bool, true, false}
 use Rattle.program_tree.specs.Code.{Code, Tree}
 use Rattle.program_tree.specs.InScope.{NamesInScope, no_names, number_in, outside}

@@ -1,4 +1,4 @@
--- The shape of a tree: the tree with each number replaced by its name.
+-- From a tree to its shape: each number is replaced by its name.
 use Rattle.std.specs.Prelude.{ℕ, List, [], ◌++◌, map, drop, None, option_map, slice_index_or}
 use Rattle.std.specs.List.{zip}
 use Rattle.program_tree.specs.Canonical.{canonical_text}

@@ -1,4 +1,4 @@
--- The meaning of a thread's block, by the structure of the block. The reading refers to statements, blocks,
+-- The meaning of a thread's block, statement by statement. The meaning refers to statements, blocks,
 -- threads and sights, but not to the way in which a thread stores its place.
 use Rattle.std.specs.Prelude.{ℕ, ◌≡◌, true, false, List, [], ◌∷◌, ◌++◌, slice_set, Option, None, Some, if◌then◌else◌}
 use Rattle.program_tree.specs.declared.event.Event.{Event}

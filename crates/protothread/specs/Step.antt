@@ -1,4 +1,4 @@
--- The step of a protothread: from its remainder to its next operation or its answer.
+-- The step of a protothread: from its remainder to its next operation, or to the state that it returns.
 use Rattle.std.specs.Prelude.{ℕ, zero, suc, ◌-◌, ◌==◌, nat_lt, Bool, true, false, not, ◌&&◌, if◌then◌else◌, List, []}
 use Rattle.std.specs.Prelude.{◌∷◌, ◌++◌, None, Some, slice_set, slice_index, ◌<◌, ◌≤◌}
 use Rattle.program_tree.specs.declared.event.Event.{Event}
