@@ -609,6 +609,17 @@ class Warnings(unittest.TestCase):
                 self.assertEqual(len(seen), 1 if wanted else 0, seen)
                 self.assertIn(wanted, ''.join(seen))
 
+    def test_a_comparison_of_the_result_of_a_comparison(self) -> None:
+        for test, wanted in (
+                ('((0 < seq) < 256)', '`(0 < seq)` is 0 or 1, so `< 256` compares only this result. To test both '
+                 'conditions, write `((0 < seq) && (seq < 256))`'),
+                ('((9 >= seq) > self)', 'write `((9 >= seq) && (seq > self))`'),
+                ('((0 < seq) && (seq < 256))', ''), ('((seq + 1) < 256)', ''), ('((seq < 9) == 0)', '')):
+            with self.subTest(test):
+                seen = [it for it in self.seen(CODE % ('if %s { print 1; }' % test)) if 'is 0 or 1' in it]
+                self.assertEqual(len(seen), 1 if wanted else 0, seen)
+                self.assertIn(wanted, ''.join(seen))
+
     def test_a_packet_that_is_taken_for_the_event_of_a_timer(self) -> None:
         receives = CODE.replace('code a', 'receiver a; code a')
         for body, has_warning in (

@@ -60,6 +60,10 @@ OF_DIFFERENCE = ('no number is below 0, so this test is also true if `%s` is les
                  'them')
 # The words of a test whether a difference is above 0.
 DIFFERENCE = re.compile(r'\( \( ([a-z]\w*) - ([a-z]\w*) \) > 0 \)')
+# A comparison of the result of a comparison, such as `((0 < data) < 256)`.
+CHAIN = re.compile(r'\( \( (\w+) (<=?|>=?) (\w+) \) (<=?|>=?) (\w+) \)')
+OF_CHAIN = ('`(%s)` is 0 or 1, so `%s %s` compares only this result. To test both conditions, write '
+            '`((%s) && (%s %s %s))`')
 OF_TWO_VALUES = '`%s` can\'t be %s and %s at once, so this test is %s true'
 # The words of a test of one value by two numbers, such as `((x == 1) && (x == 2))`; and the results of such tests if
 # the numbers differ.
@@ -234,6 +238,14 @@ class Program:
             if found and found[1] != 'now':
                 yield OF_DIFFERENCE % (found.groups() * 2), self.tokens[at + 6]
 
+    def chains(self) -> Iterator[tuple[str, Token]]:
+        """Each comparison of the result of a comparison, with the warning."""
+        for at in range(len(self.words)):
+            found = CHAIN.fullmatch(' '.join(self.words[at:at + 9]))
+            if found:
+                inner, sign, last = ' '.join(found.group(1, 2, 3)), found[4], found[5]
+                yield OF_CHAIN % (inner, sign, last, inner, found[3], sign, last), self.tokens[at + 6]
+
     def tests_of_two_values(self) -> Iterator[tuple[str, Token]]:
         """Each test whether a value equals two different numbers, or differs from one of them, with the warning."""
         for at in range(len(self.words)):
@@ -369,7 +381,7 @@ def of_program(program: Program, is_zero_given: bool) -> Iterator[Warned]:
         yield Warned(OF_CTIMER % (token.text, token.text), name, token)
     for text, token in () if is_zero_given else (*program.tests_of_sign(), *program.tests_of_difference()):
         yield Warned(text, name, token)
-    for text, token in (*program.tests_of_two_values(), *program.endless_waits()):
+    for text, token in (*program.tests_of_two_values(), *program.chains(), *program.endless_waits()):
         yield Warned(text, name, token)
     for token in program.waits_before_set():
         yield Warned(BEHIND % token.text, name, token)
