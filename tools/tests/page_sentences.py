@@ -1,0 +1,252 @@
+"""Sentences by chance, each with its meaning for `page_judge`; and scenarios and reports by chance that they fit."""
+from __future__ import annotations
+
+import random
+
+from page_judge import LAST, Deed, Does, Event, Order, Sentence, Things, Times, Value, When
+
+END, SIDE, PROCESSES = 24, 10, ('a', 'b')
+VERBS = {'print': ('prints', 'printing'), 'send': ('sends', 'sending'), 'receive': ('receives', 'receiving'),
+         'start': ('starts', 'starting'), 'leave': ('leaves', 'leaving'), 'halt': ('halts', 'halting'),
+         'write': ('writes', 'writing')}
+OF_THINGS = {'packets': ('is sent', 'are sent'), 'collide': ('collides', 'collide'), 'lost': ('overflows', 'overflow'),
+             'recv': ('arrives', 'arrive'), 'medium': ('is lost', 'are lost')}
+COUNTS = {'once': Times('exactly', 1), 'twice': Times('exactly', 2), 'at most once': Times('at most', 1),
+          'more than once': Times('more than', 1), 'fewer than twice': Times('fewer than', 2)}
+Motes = tuple[int, ...]
+
+
+def net_of(chance: random.Random) -> tuple[str, str, int]:
+    """A scenario, a report that could be its own, and the number of motes."""
+    count, step = chance.randint(2, 5), chance.choice((4, 8, 8))
+    places = [(index * step, chance.choice((0, 0, 5))) for index in range(count)]
+    pairs = [(s, r) for s in range(count) for r in range(count) if s != r]
+    dead = chance.sample(pairs, chance.choice((0, 0, 1, min(3, len(pairs)))))
+    scenario = ['version = 2', 'end = %d' % END, '[medium]', 'range = %d' % SIDE, 'base = 1', 'per = 100',
+                'collide = true', '[programs]', "p = 'process a, b; code a { body { } } code b { body { } }'"]
+    scenario += ['[[mote]]\nx = %d\ny = %d\nprogram = "p"' % place for place in places]
+    scenario += ['[[loss]]\nfrom = %d\nto = %d\nevery = 1' % pair for pair in dead]
+    traces: list[list[tuple[int, str]]] = [[] for _ in places]
+    sent = sorted((chance.randint(0, END), mote) for mote in range(count) for _ in range(chance.choice((0, 1, 2, 3))))
+    medium = []
+    for mote in range(count):
+        for kind in chance.choices(('print a %d', 'print a %d', 'print b %d', 'start a', 'leave b'), k=4):
+            value = chance.choice((mote, chance.randint(0, 3), 1 << chance.randrange(count)))
+            traces[mote].append((chance.choice((0, 2, 5, chance.randint(0, END))), kind.replace('%d', str(value))))
+    for index, (at, mote) in enumerate(sent):
+        number = sum(sender == mote for _, sender in sent[:index])
+        value, copies = chance.randint(0, 3), ''
+        traces[mote].append((at, 'send %d %d' % (number, value)))
+        for to in range(count):
+            if to != mote and sum((one - two) ** 2 for one, two in zip(places[mote], places[to])) <= SIDE ** 2:
+                arrival, is_lost = at + chance.randint(1, 3), (mote, to) in dead or chance.random() < .2
+                copies += ' %d@%s' % (to, 'lost' if is_lost else arrival)
+                kind = chance.choice(('recv', 'recv', 'recv', 'collide', 'lost'))
+                if not is_lost and arrival <= END:
+                    traces[to].append((arrival, '%s %d %d' % (kind, mote, number) + ' %d' % value * (kind == 'recv')))
+        medium.append('%d %d %d %d%s' % (at, mote, number, value, copies))
+    report = []
+    for mote, trace in enumerate(traces):
+        chance.shuffle(trace)
+        report += ['mote %d p' % mote, *('%d %s' % line for line in sorted(trace, key=lambda line: line[0]))]
+        report += ['%d halt' % END] * (chance.random() < .2)
+    return '\n'.join(scenario), '\n'.join([*report, 'medium', *medium, 'left 0', '']), count
+
+
+class Sentences:
+    """Sentences about a net with so many motes."""
+
+    def __init__(self, chance: random.Random, motes: int):
+        self.chance, self.every = chance, tuple(range(motes))
+
+    def is_so(self, share: float) -> bool:
+        return self.chance.random() < share
+
+    def mote(self) -> int:
+        return self.chance.choice(self.every)
+
+    def some(self) -> tuple[str, Motes]:
+        """A list of motes."""
+        first, last = sorted(self.chance.sample(self.every, 2))
+        word = self.chance.choice((' to ', ' and ', ', '))
+        return '%d%s%d' % (first, word, last), tuple(range(first, last + 1)) if word == ' to ' else (first, last)
+
+    def but(self, motes: Motes) -> tuple[str, Motes]:
+        if self.is_so(.6):
+            return '', motes
+        text, left = self.some() if self.is_so(.4) else (str(self.mote()), ())
+        left = left or (int(text),)
+        return ' but ' + text, tuple(mote for mote in motes if mote not in left)
+
+    def compare(self, most: int) -> tuple[str, Times]:
+        compare = self.chance.choice(('at least', 'at most', 'exactly', 'more than', 'fewer than'))
+        number = self.chance.randint(0, most)
+        return '%s %d' % (compare, number), Times(compare, number)
+
+    def share(self) -> tuple[str, Times]:
+        text, times = self.compare(1)
+        number = self.chance.choice((0, 20, 50, 75, 100))
+        return '%s %d %%' % (times.compare, number), Times(times.compare, number, True)
+
+    def subject(self) -> tuple[str, Does]:
+        """The motes of a sentence, and a sentence without a deed."""
+        kind = self.chance.choice(('each', 'each', 'each', 'together', 'no', 'some', 'count', 'share'))
+        nothing = Deed('')
+        but, left = self.but(self.every)
+        text, listed = self.some()
+        if kind == 'each':
+            mote = self.mote()
+            words, motes = self.chance.choice((('mote %d' % mote, (mote,)), ('motes ' + text, listed), (
+                'each of motes ' + text, listed), ('every mote' + but, left), ('all motes' + but, left)))
+            return words, Does(kind, motes, nothing)
+        if kind == 'together':
+            return self.chance.choice((('motes %s together' % text, Does(kind, listed, nothing)),
+                                       ('all motes together', Does(kind, self.every, nothing))))
+        if kind in ('no', 'some'):
+            return '%s mote%s' % (kind, but), Does(kind, left, nothing)
+        number, many = self.share() if kind == 'share' else self.compare(3)
+        if many.is_share and self.is_so(.5):
+            return '%s of motes %s' % (number, text), Does('count', listed, nothing, many)
+        return '%s %smotes%s' % (number, 'of ' * many.is_share, but), Does('count', left, nothing, many)
+
+    def value(self) -> tuple[str, Value]:
+        mote, number = self.mote(), self.chance.randint(0, 4)
+        text, left = self.but(())[0], self.every
+        but = frozenset(left) - frozenset(self.left(text))
+        return self.chance.choice((
+            (str(number), Value('number', number)), (str(number), Value('number', number)),
+            (str(number), Value('number', number)), ('its number', Value('own')),
+            ('the greatest mote number', Value('greatest')),
+            ('its distance from mote %d' % mote, Value('distance', mote)),
+            ('the set of motes that it hears' + text, Value('hears', but=but)),
+            ('the set of motes linked with it' + text, Value('linked', but=but)),
+            ('a mote that it hears, one hop nearer to mote %d' % mote, Value('nearer', mote))))
+
+    def left(self, but: str) -> Motes:
+        """The motes that a text beginning with `but` leaves over."""
+        if not but:
+            return self.every
+        words = but.replace(',', '').split()[1:]
+        gone = range(int(words[0]), int(words[2]) + 1) if 'to' in words else map(int, set(words) - {'and'})
+        return tuple(set(self.every) - set(gone))
+
+    def deed(self, form: int) -> tuple[str, Deed]:
+        """A deed whose lines can be counted. form: 0 for one mote, 1 for `printing`."""
+        name, process = self.chance.choice([*VERBS, 'print', 'print', 'send', 'receive']), self.chance.choice('ab')
+        verb, (text, value) = VERBS[name][form], self.value()
+        has_value, mote = self.is_so(.5), self.mote()
+        if name == 'print':
+            if self.is_so(.1):
+                return verb, Deed(name)
+            return '%s %s%s' % (verb, process, (' ' + text) * has_value), Deed(
+                name, process, value if has_value else None)
+        if name == 'send':
+            return verb + (' ' + text) * has_value, Deed(name, value=value if has_value else None)
+        if name == 'receive':
+            sender = mote if self.is_so(.3) else None
+            return verb + (' ' + text) * has_value + ('' if sender is None else ' from mote %d' % mote), Deed(
+                'recv', value=value if has_value else None, sender=sender)
+        if name in ('start', 'leave'):
+            return '%s %s' % (verb, process), Deed(name, process)
+        if name == 'halt':
+            return verb, Deed(name)
+        texts = tuple(self.chance.sample(('print a', 'print b 1', 'send', 'recv %d' % mote, 'collide', 'start a'), 2))
+        return "%s '%s' or '%s'" % (verb, *texts), Deed('writes', texts=texts)
+
+    def whole(self) -> tuple[str, Deed]:
+        """A deed that is about all lines together."""
+        process, (text, value) = self.chance.choice('aab'), self.value()
+        values = tuple(self.chance.choices((0, 1, 2, 4), k=self.chance.randint(1, 2)))
+        listed = '%s %s' % (process, ', '.join(map(str, values)))
+        return self.chance.choice((
+            ('prints just ' + listed, Deed('just', process, values=values)),
+            ('prints just %s in any order' % listed, Deed('set', process, values=values)),
+            ('prints just %s %s' % (process, text), Deed('just', process, values=(value.number,)) if
+             value.kind == 'number' else Deed('only', process, value)),
+            ('finally prints %s %s' % (process, text), Deed('finally', process, value))))
+
+    def when(self, has_hops: bool = True, has_parts: bool = True) -> tuple[str, When]:
+        first, last = sorted((self.chance.randint(0, END + 1), self.chance.choice((2, 5, END))))
+        forms = [('at %d' % first, When(first, first)), ('by %d' % first, When(0, first)),
+                 ('before %d' % (first + 1), When(0, first)), ('after %d' % first, When(first + 1)),
+                 ('from %d on' % first, When(first)), ('from %d to %d' % (first, last), When(first, last)),
+                 ('between %d and %d' % (first, last), When(first, last))]
+        if has_hops and self.is_so(.2):
+            hop, root = self.chance.randint(0, 3), self.mote()
+            return 'at %d plus %d for each hop from mote %d' % (first, hop, root), When(first, first, hop, root)
+        if has_parts and self.is_so(.2):
+            every = self.chance.randint(1, 12)
+            return 'in each %d from %d to %d' % (every, first, last), When(first, last, every=every)
+        return self.chance.choice(forms)
+
+    def event(self, same: bool = False, several: str = 'some mote') -> tuple[str, Event]:
+        """An event; with `same`, one that may leave out the deed."""
+        form = self.chance.randint(0, 1)
+        text, deed = self.deed(form)
+        mote, (listed, motes) = self.mote(), self.some()
+        words, its = self.chance.choice((('mote %d' % mote, (mote,)), ('motes %s together' % listed, motes),
+                                         (several, self.every)))
+        if self.is_so(.4):
+            return text if form else 'it ' + text, Event(None, deed)
+        return (words, Event(its, None)) if same and self.is_so(.4) else ('%s %s' % (words, text), Event(its, deed))
+
+    def order(self, may_be_each: bool) -> tuple[str, Order]:
+        text, event = self.event(True)
+        moments = self.chance.choice((0, 0, 1, 3, 8))
+        kind = self.chance.choice(('after', 'before', 'within', *(['each'] * may_be_each)))
+        each = 'each time ' if kind == 'each' else ''
+        return ('%s %s' % (kind, text) if kind in ('after', 'before') else 'within %d of %s%s' % (moments, each, text),
+                Order(kind, moments, event))
+
+    def comparison(self) -> tuple[str, Times]:
+        """A number of lines that is compared with another number."""
+        number, times = self.share() if self.is_so(.4) else self.compare(2)
+        text, event = self.event(True, 'all motes together')
+        when, its = self.when(has_hops=False, has_parts=False)
+        if self.is_so(.3):
+            text, event = '%s %s' % (text, when), Event(event.motes, event.deed, its)
+        elif self.is_so(.3):
+            text, event = when, Event(None, None, its)
+        return '%s%s as often as %s' % (number, '' if times.is_share else ' times', text), Times(
+            times.compare, times.number, times.is_share, event)
+
+    def does(self) -> tuple[str, Sentence]:
+        text, it = self.subject()
+        is_whole = it.kind != 'together' and self.is_so(.2)
+        never = it.kind in ('each', 'together') and not is_whole and self.is_so(.15)
+        words, deed = self.whole() if is_whole else self.deed(0)
+        text += ' never ' * never + ' ' * (not never) + words
+        when, times, order = '', '', ''
+        its, counted, ordered = When(), None, None
+        if self.is_so(.4):
+            when, its = self.when(has_hops=it.kind != 'together')
+        if not (is_whole or never) and self.is_so(.5):
+            times, counted = self.chance.choice((self.compare(3), self.chance.choice(list(COUNTS.items())),
+                                                 self.comparison()))
+        if not is_whole and not (counted and counted.other) and self.is_so(.45):
+            order, ordered = self.order(not (counted or never))
+        return ' '.join(filter(None, (text, when, times, order))), Does(
+            it.kind, it.motes, deed, it.many, never, its, counted, ordered)
+
+    def things(self) -> tuple[str, Sentence]:
+        kind = self.chance.choice(list(OF_THINGS))
+        noun = 'packet' if kind == 'packets' else 'copy'
+        number, times = self.share() if kind != 'packets' and self.is_so(.4) else self.compare(6)
+        text = '%s %s %s' % (number, 'of copies' if times.is_share else noun.replace('copy', 'copie') + 's',
+                             OF_THINGS[kind][1])
+        if self.is_so(.3):
+            word, times = self.chance.choice((('no', Times('at most', 0)), ('some', Times('at least', 1))))
+            text = '%s %s %s' % (word, noun, OF_THINGS[kind][0])
+        elif kind != 'packets' and self.is_so(.2):
+            text, times = 'every copy ' + OF_THINGS[kind][0], Times('exactly', 100, True)
+        motes, when = None, When()
+        if kind != 'packets' and self.is_so(.4):
+            listed, motes = self.some()
+            text += ' at motes ' + listed
+        if not times.is_share and self.is_so(.5):
+            words, when = self.when(has_hops=False)
+            text += ' ' + words
+        return text, Things(kind, times, motes, when)
+
+    def sentence(self) -> tuple[str, Sentence]:
+        return self.things() if self.is_so(.2) else self.does()
