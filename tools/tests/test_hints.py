@@ -609,6 +609,12 @@ class Warnings(unittest.TestCase):
                 self.assertEqual(len(seen), 1 if wanted else 0, seen)
                 self.assertIn(wanted, ''.join(seen))
 
+    def test_two_comparisons_in_a_row(self) -> None:
+        text = CODE % 'if (0 < seq < 256) { print 1; }'
+        self.assertEqual(hints.of_program(text, fault_of(text)), (
+            'Each operator and its two values have parentheses of their own: `((0 < seq) < 256)`. This compares only '
+            'the result of `0 < seq`, which is 0 or 1. To test both conditions, write `((0 < seq) && (seq < 256))`.'))
+
     def test_a_comparison_of_the_result_of_a_comparison(self) -> None:
         for test, wanted in (
                 ('((0 < seq) < 256)', '`(0 < seq)` is 0 or 1, so `< 256` compares only this result. To test both '

@@ -18,6 +18,8 @@ from motesim.notation.faults import OPERATORS, STATEMENTS, ProgramError, Token, 
 from motesim.scenario.faults import LOSS, MEDIUM, MOTE, TOP, ScenarioError
 from motesim.toml import MANY_PARTS, TOO_DEEP
 
+# Two comparisons in a row, such as `((0 < x) < 9)`.
+CHAIN = re.compile(r'\(\((\w+ (?:<=?|>=?) (\w+))\) (<=?|>=?) (\w+)\)')
 # Forms that readers of other languages write, and the forms of the notation.
 WISHES = {
     'for': 'There is no `for`: write `i = 0; while (i < n) { .. i = (i + 1); }`.',
@@ -233,11 +235,21 @@ def _of_operator(tokens: list[Token], at: int, may: list[str]) -> str | None:
     word = tokens[at].text
     if word in OPERATORS and may == ['`)`']:
         shown = written(tokens, at) or '((a == 1) && (b == 2))'
-        return 'Each operator and its two values have parentheses of their own: `%s`.' % shown
+        return 'Each operator and its two values have parentheses of their own: `%s`.%s' % (shown, _of_chain(shown))
     if word in OPERATORS and ('`;`' in may or '`{`' in may or '`into`' in may):
         shown = written(tokens, at) or '(a %s b)' % word
         return 'Two values with `%s` between them are in parentheses: `%s`.' % (word, shown)
     return None
+
+
+def _of_chain(shown: str) -> str:
+    """The end of a hint about two comparisons in a row, which C reads in another way than mathematics."""
+    found = CHAIN.fullmatch(shown)
+    if not found:
+        return ''
+    both = '((%s) && (%s))' % (found[1], ' '.join(found.group(2, 3, 4)))
+    return ' This compares only the result of `%s`, which is 0 or 1. To test both conditions, write `%s`.' % (
+        found[1], both)
 
 
 def _of_unknown(before: list[Token], here: Token, behind: Token, may: list[str]) -> str | None:
