@@ -202,7 +202,7 @@ class Sentences:
         """A number of lines that is compared with another number."""
         number, times = self.share() if self.is_so(.4) else self.compare(2)
         text, event = self.event(True, 'all motes together')
-        when, its = self.when(has_hops=False, has_parts=False)
+        when, its = self.when(has_parts=False)
         if self.is_so(.3):
             text, event = '%s %s' % (text, when), Event(event.motes, event.deed, its)
         elif self.is_so(.3):
@@ -224,7 +224,7 @@ class Sentences:
             times, counted = self.chance.choice((self.compare(3), self.chance.choice(list(COUNTS.items())),
                                                  self.comparison()))
         if not is_whole and not (counted and counted.other) and self.is_so(.45):
-            order, ordered = self.order(not (counted or never))
+            order, ordered = self.order(not (counted or never or its.root is not None))
         return ' '.join(filter(None, (text, when, times, order))), Does(
             it.kind, it.motes, deed, it.many, never, its, counted, ordered)
 

@@ -187,6 +187,11 @@ SENTENCES: list[tuple[str, str | None, int | None]] = [
     ('mote 1 sends exactly 100 % as often as receiving', None, None),
     ('mote 2 receives at least 2 times as often as mote 1 prints a', None, None),
     ('mote 2 receives at least 100 % as often as mote 0 sends 1 by 60', None, None),
+    # Each mote has its own moment: 13 of mote 1, 16 of mote 2.
+    ('mote 1 receives twice as often as mote 2 receives at 10 plus 3 for each hop from mote 0', None, None),
+    ('mote 0 sends 2 exactly 1 times as often as mote 2 prints a at 10 plus 3 for each hop from mote 0', None, None),
+    ('mote 2 receives exactly 1 times as often as motes 1 and 2 together at 10 plus 3 for each hop from mote 0', None,
+     None),
     # One, and several.
     ('exactly 2 copies are left', 'there is 1 such copy; wanted: exactly 2', 26),
     ('at least 2 packets are sent by 10', 'there is 1 packet; wanted: at least 2', None),
@@ -222,6 +227,7 @@ REFUSED = [
     ('mote 1 sends until 30', 'Hint: two events are put in order by'),
     ('mote 1 sends within 10', 'of'),
     ('mote 1 sends at least 3 times within 10 of each time it receives', 'the end'),
+    ('mote 1 sends at 10 plus 3 for each hop from mote 0 within 10 of each time it receives', 'the end'),
     ('mote 1 sends after every mote prints a', 'some mote'),
     ('mote 1 never prints just a 1', 'prints, without `just` or `finally`'),
     ('all motes never finally print a 1', 'print, without `just` or `finally`'),

@@ -253,8 +253,11 @@ class Judge:
         other = it.than or it.relation
         if not other:
             return []
-        found = self.done(other.deed or it.deed, motes if other.motes is None else self.chosen(other.motes))
-        return self.within(found, it.than.window, motes) if it.than else found
+        others = motes if other.motes is None else self.chosen(other.motes)
+        if not it.than:
+            return self.done(other.deed or it.deed, others)
+        return [event for mote in others for event in self.within(
+            self.done(other.deed or it.deed, (mote,)), it.than.window, (mote,))]
 
     def than(self, it: Does, one: list[Event], two: list[Event], name: str, span: Span) -> Broken | None:
         """Compares the number of lines in a span with the number of the other lines."""

@@ -606,9 +606,10 @@ class _Reader:
         relation = self.relation(deed) if deed.way == 'any' and than is None else None
         if relation and window is None:
             window = self.window()
-        if relation and relation.kind == 'each' and (count or never):
+        has_hops = window is not None and window.root is not None
+        if relation and relation.kind == 'each' and (count or never or has_hops):
             raise SentenceFault(self.sentence, self.places[self.words.index('within')], ['the end'])
-        is_apart = deed.value is not None or (window is not None and window.root is not None)
+        is_apart = deed.value is not None or has_hops
         if motes.kind == 'together' and is_apart:
             place = self.places[self.words.index('together')]
             raise SentenceFault(self.sentence, place, ['the verb, without `together`'])
