@@ -41,7 +41,8 @@ MOTES = Table('MOTES', 'The sentence is about', ('%s sends', '%s send'), (
      'all lines of these motes, as if one mote had them, sorted by moment, then by mote'),
     (('no mote', 'no mote but 0'),
      'all motes that `but` doesn\'t name; the rest of the sentence must hold for none of them'),
-    (('some mote',), 'all motes; the rest of the sentence must hold for at least one of them'),
+    (('some mote', 'some mote but 0'),
+     'all motes that `but` doesn\'t name; the rest of the sentence must hold for at least one of them'),
     (('exactly 1 mote', 'at least 5 motes', 'at most 3 motes but 0'),
      'all motes that `but` doesn\'t name; the rest of the sentence must hold for this number of them'),
     (('at least 90 % of motes', 'at most 10 % of the motes', 'exactly 50 percent of all motes but 0',
@@ -76,8 +77,9 @@ VALUE = Table('VALUE', 'Is', ('mote 1 prints p %s',), (
     (('the set of motes that it hears', 'the set of motes that it hears but 5'),
      'a number in which bit n is set for each mote n that the mote hears, except those after `but`. A number has 16 '
      'bits, so the mote must hear only motes from 0 to 15'),
-    (('the set of motes linked with it',),
-     'a number in which bit n is set for each mote n that the mote hears and that hears the mote. A number has 16 '
+    (('the set of motes linked with it', 'the set of motes linked with it but 5'),
+     'a number in which bit n is set for each mote n that the mote hears and that hears the mote, except those after '
+     '`but`. A number has 16 '
      'bits, so these motes must be from 0 to 15'),
     (('a mote that it hears, one hop nearer to mote 0',),
      'the number of any mote that the mote hears and that is one hop nearer to mote 0'),
@@ -126,7 +128,8 @@ OTHER = Table('Sentence', 'Is about', ('%s',), (
      'copies that the medium loses; the moment of such a copy is the moment at which its packet was sent'),
     (('at least 90 % of copies arrive', 'at most 5 % of the copies collide at motes 1 to 3', 'every copy arrives',
       'each copy arrives at mote 3', 'all copies arrive'),
-     'a share of the copies that are due by the end, including those that the medium loses'),
+     'a share of all copies except those that are left. A copy that the medium loses counts, even if it would arrive '
+     'after the end. This sentence has no WHEN'),
     (('exactly 1 copy is left', 'exactly 2 copies are left'),
      'the last line of the report: the copies on the way at the end'),
     (('exactly 75 packets are sent', 'no packet is sent after 90'), 'lines of the medium'),
