@@ -199,7 +199,12 @@ class CProgram:
     def _while(self, scope: list[str], edge: str) -> list[str]:
         name = self._name(('w', 'u', 'q'))
         first = '%sint %s = %d;' % (edge, name, self.chance.randrange(1, 4))
-        step, inner = '%s  %s--;' % (edge, name), self._counted(scope, name, edge)
+        step = '%s  %s--;' % (edge, name)
+        if self._is(0.4):
+            lines = self._with_continue(scope, name, edge, step)
+            scope += [] if name in scope else [name]
+            return [first, '%swhile (%s > 0) {' % (edge, name), *lines, edge + '}']
+        inner = self._counted(scope, name, edge)
         if self._is(0.25):
             # (the variable isn't used after the loop: there it is -1, and a message says so)
             scope[:] = [it for it in scope if it != name]
@@ -210,11 +215,26 @@ class CProgram:
             ['%sdo {' % edge, step, *inner, '%s} while (%s > 0);' % (edge, name)],
             ['%swhile (1) {' % edge, step, *inner, '%s  if (%s == 0) break;' % (edge, name), edge + '}']))]
 
-    def _counted(self, scope: list[str], name: str, edge: str) -> list[str]:
+    def _with_continue(self, scope: list[str], name: str, edge: str, step: str) -> list[str]:
+        """The block of a `while` with a `continue`. If the step is at the end of the block, it is also on the way to
+        the `continue`: without it, the loop would have no end."""
+        is_last, others, edge = self._is(0.6), [it for it in scope if it != name], edge + '  '
+        test = self._one_of(self._test(others), '%s == %s' % (name, self._one_of('1', '2', '3')))
+        lines = [] if is_last else [step]
+        lines += [edge + self._print(scope)] if self._is(0.3) else []
+        if is_last or self._is(0.5):
+            lines += ['%sif (%s) {' % (edge, test), *([edge + '  ' + self._print(scope)] if self._is(0.5) else []),
+                      *(['  ' + step] if is_last else []), edge + '  continue;', edge + '}']
+        else:
+            lines += ['%sif (%s) continue;' % (edge, test)]
+        lines += self._counted(scope, name, edge[2:], not is_last)
+        return lines + ([step] if is_last else [])
+
+    def _counted(self, scope: list[str], name: str, edge: str, may_continue: bool = True) -> list[str]:
         """The block of a loop that counts with a variable."""
         was_counter = name in self.counters
         self.counters.add(name)
-        lines = self._nested([*(it for it in scope if it != name), name], edge, True)
+        lines = self._nested([*(it for it in scope if it != name), name], edge, may_continue)
         if not was_counter:
             self.counters.discard(name)
         return lines

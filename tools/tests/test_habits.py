@@ -18,7 +18,6 @@ NAME = 'typed.toml'
 SAID = {
     'c-break': 'and here `done = 1;`',
     'c-switch': '`if (mode == 1) { .. } else {', 'c-case': '`if (x == 2) { print 2; }`',
-    'c-continue': 'into the block of an `else`',
     'c-var-named-like-process': 'another name is needed here, such as `token2`',
     'c-thread-used-before-declared': 'A thread never spawns itself',
     'c-var-of-other-process': 'Declare another at the head',

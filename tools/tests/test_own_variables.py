@@ -276,18 +276,6 @@ class Flags(unittest.TestCase):
         self.check('int k = 0, i = 0, stop;\n while (k < 3) {\n k++;\n stop = 0;\n while (!stop) {\n i++;\n'
                    ' if (i > 2 * k) break;\n }\n printf("%d\\n", i);\n }', [3, 5, 7])
 
-    def test_a_continue_keeps_the_step_of_its_loop(self) -> None:
-        said = 'The step, `i = (i + 1);`, stays the last statement of the block, after this `else`.'
-        for form, is_said in (('for (i = 0; i < 4; i++) {\n if (i == 2) continue;\n print i;\n }', True),
-                              ('for (i = 0; i < 4; i++) { if (i == 2) continue; print i; }', True),
-                              ('while (i < 4) {\n i = (i + 1);\n if (i == 2) continue;\n print i;\n }', False)):
-            text = PROGRAM % ('var i = 0;', form)
-            while (fault := find_fault(text)) and (found := correction(text, fault)) and found.line is not None:
-                text = found.applied(text)
-            hint = advice(text, fault) if fault else None
-            with self.subTest(form):
-                self.assertEqual(hint and said in hint.hint, is_said)
-
     def test_two_breaks_of_one_loop(self) -> None:
         self.check('int i = 0;\n while (i < 9) {\n i++;\n if (i == 5) {\n break;\n } else {\n if (i == 3) {\n break;\n'
                    ' }\n }\n }\n printf("%d\\n", i);', [3])

@@ -253,19 +253,31 @@ class Loops(unittest.TestCase):
             self.assertIn('write it in an `else`', said)
 
     def test_a_break_on_a_line_of_its_own_has_the_advice_of_one_line(self) -> None:
-        for word in 'break', 'continue':
-            for test in '(n == 3)', '(m)', 'm', '(m && n == 3)':
-                text = PROGRAM % ('while 1 {\n if %s%s;\n yield;\n }' % (test, '%s' + word))
-                hints = []
-                for between in BREAKS:
-                    fault = find_fault(text % between)
-                    found = advice(text % between, fault) if fault else None
-                    assert found
-                    self.assertIsNone(found.line)
-                    hints.append(found.hint)
-                with self.subTest(word + test):
-                    self.assertIn('There is no `%s`' % word, hints[0])
-                    self.assertEqual(hints, hints[:1] * len(BREAKS))
+        for test in '(n == 3)', '(m)', 'm', '(m && n == 3)':
+            text = PROGRAM % ('while 1 {\n if %s%s;\n yield;\n }' % (test, '%sbreak'))
+            hints = []
+            for between in BREAKS:
+                fault = find_fault(text % between)
+                found = advice(text % between, fault) if fault else None
+                assert found
+                self.assertIsNone(found.line)
+                hints.append(found.hint)
+            with self.subTest(test):
+                self.assertIn('There is no `break`', hints[0])
+                self.assertEqual(hints, hints[:1] * len(BREAKS))
+
+    def test_a_continue_on_a_line_of_its_own_has_the_line_of_one_line(self) -> None:
+        for test in '(n == 3)', '(m)', 'm', '(m && n == 3)':
+            text = PROGRAM % ('while 1 {\n if %s%s;\n yield;\n }' % (test, '%scontinue'))
+            lines = []
+            for between in BREAKS:
+                fault = find_fault(text % between)
+                found = advice(text % between, fault) if fault else None
+                assert found and found.line
+                lines.append(found.line.partition(' //')[0])
+            with self.subTest(test):
+                self.assertEqual(lines, lines[:1] * len(BREAKS))
+                self.assertTrue(lines[0].startswith('if !'), lines)
 
     def test_a_break_of_a_flag_has_a_line(self) -> None:
         self.check('n = 0; i = 0;\n while (n == 0) {\n print i;\n if (i == 3) {\n break;\n }\n i = (i + 1);\n }',

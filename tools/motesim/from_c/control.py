@@ -7,10 +7,10 @@ from motesim.from_c.closings import Closing
 from motesim.from_c.counting import caution, is_changed, loop_of, natural, refuse_endless
 from motesim.from_c.expressions import ONE_TOO_MANY, QUALIFIERS, TYPES, WORDS, NoCounterpart
 from motesim.from_c.nodes import Node
-from motesim.from_c.own_names import OwnNames
 from motesim.from_c.places import conjuncts, ends_loop, last_statement
 from motesim.from_c.scope import allowed
 from motesim.from_c.sharing import is_needed
+from motesim.from_c.skips import Skips
 from motesim.from_c.tokens import Token, tokens_of
 
 NO_SWITCH = ('There is no `switch`: each `case` is a test of its own, `if (%s == %s) { .. } else { if (%s == %s) { .. '
@@ -50,7 +50,7 @@ def begins_statement(token: Token) -> bool:
     return token.kind in ('name', 'end') and token.text not in WORDS or token.text in (';', '{', '}', '++', '--', ':')
 
 
-class Control(OwnNames):
+class Control(Skips):
     """Reads blocks, tests and loops."""
 
     def why_with_rest(self, reason: str, rest: str) -> None:
@@ -249,12 +249,16 @@ class Control(OwnNames):
             self.why('A loop without a block would run forever: `wait_while` lets other events in while it waits.')
             return 'wait_while %s;' % test
         self.is_if = word == 'if'
+        is_own = word == 'if' and self.ahead(-2).text != 'else'
         test, outside, self.is_if = self.condition(), self.place, False
+        skipping = self.without_continue(test) if is_own else None
+        if skipping:
+            return 'if ' + skipping
         if word == 'while' and (self.before or self.after):
             return self.counting_loop(test)
         if word == 'while':
             refuse_endless(test)
-            self.place = outside._replace(loop=test, is_head=False, rest=())
+            self.place = outside._replace(loop=test, is_head=False, rest=(), kept_steps=0)
         block = self.body(is_if=word == 'if')
         text, self.place = '%s %s %s' % (word, test, block), outside
         danger = caution(test, block) if word == 'while' else ''
@@ -278,6 +282,7 @@ class Control(OwnNames):
         last = self.steps(self.before)
         self.before, self.after = [], []
         body = self.body(last)
+        self.note_step(last)
         if first:
             self.why('The step is at the start of the block, so `%s` isn\'t done when the test is false. In C, it is '
                      'done then too: after the loop, the variable is one step further.' % first)
@@ -324,9 +329,11 @@ class Control(OwnNames):
         test, undeclared = self.test_of_loop()
         loop = loop_of(first, test, self.steps_of_loop())
         rest = tuple(it.text for it in tokens_of(loop.last))
-        outside, self.place = self.place, self.place._replace(loop=loop.test, is_head=False, rest=rest)
+        outside, self.place = self.place, self.place._replace(loop=loop.test, is_head=False, rest=rest,
+                                                              kept_steps=loop.last.count(';'))
         body = self.body(loop.last)
         self.place = outside
+        self.note_step(loop.last)
         self.why_with_rest('There is no `for`: a `while` with the first step above it',
                            ', and `%s` at the end of its block' % loop.last if loop.last else '')
         if loop.reason:

@@ -52,8 +52,6 @@ ADVICE = {
     'broadcast_send': BROADCAST, 'abc_send': BROADCAST, 'packetbuf_copyfrom': BROADCAST, 'netstack_network': BROADCAST,
     'nullnet_buf': BROADCAST, 'sleep': WAIT, 'delay': WAIT, 'clock_delay': WAIT, 'clock_wait': WAIT, 'usleep': WAIT,
     'default': 'There is no `switch`: put the statements of `default` into the last `else { .. }`.',
-    'continue': 'There is no `continue` in loops: put the statements that it would skip into the block of an '
-    '`else`, `if .. { } else { .. }`.',
     'goto': NO_GOTO,
     'random_init': 'There is no generator to set up: a seed is a variable, `seed = self;`.',
     'srand': 'There is no generator to set up: a seed is a variable, `seed = self;`.',
@@ -61,7 +59,6 @@ ADVICE = {
     'typedef': 'There are no types: all values have 16 bits.', 'enum': 'There are no types: give '
     'each value a number, and note it in a comment.',
 }
-OF_STEP = ' The step, `%s;`, stays the last statement of the block, after this `else`.'
 SUMS = {'++': '+', '--': '-', '+=': '+', '-=': '-'}
 # A statement whose name is of another kind, with the statement that is meant.
 OTHER = {
@@ -214,6 +211,9 @@ class Statements(Declarations, Calls, Control):
             self.writer.insist(SENT_ALREADY + SENDS[lower])
             return self.end('').removesuffix(';')
         if lower == 'continue':
+            skipping = self.else_after_continue()
+            if skipping:
+                return skipping
             raise NoCounterpart(self.of_continue())
         if lower in ADVICE and not (word in self.scope.kinds and behind == '='):
             raise NoCounterpart(ADVICE[lower])
@@ -286,13 +286,6 @@ class Statements(Declarations, Calls, Control):
         self.at += 1
         self.why('A value that isn\'t used needs no statement.')
         return self.end('').removesuffix(';')
-
-    def of_continue(self) -> str:
-        """Advice on a `continue`, which in a `for` doesn't skip the step."""
-        words = [*(it.text for it in self.tokens[self.at + 1:]), *self.place.rest]
-        last = last_statement(words)
-        is_step = ' = ' in last and last.split()[0] in [it.text for it in tokens_of(self.place.loop)]
-        return ADVICE['continue'] + (OF_STEP % last.replace('( ', '(').replace(' )', ')') if is_step else '')
 
     def of_end(self) -> str:
         """A word that ends a block in other languages."""
