@@ -417,9 +417,29 @@ class Warnings(unittest.TestCase):
 
     def test_tests_of_two_values_that_may_be_meant(self) -> None:
         for test in ('((seq == 1) || (seq == 2))', '((seq != 1) && (seq != 2))', '((seq == 1) && (seen == 2))',
-                     '((seq - 1) > 0)', '((now - seq) > 0)', '((seq - seen) > 1)', '((seq + seen) > 0)',
+                     '((now - seq) > 0)', '((seq - seen) > 1)', '((seq + seen) > 0)', '((seq - 1) != 0)',
+                     '((3 - 2) > 0)', '(0 < (now - seq))', '((seq - 1) == 0)', '((seq - 1) > seen)',
+                     '((seq - seen) <= 1)', '((seq * (seq - 1)) > 0)',
                      '((seq == 1) && (seq == 1))', '((seq == 1) && (seq != 2))', '((1 == 1) && (seq == 2))'):
             self.assertEqual(self.seen(CODE % ('set t 1; if %s { pause; }' % test)), [], test)
+
+    def test_a_test_of_a_difference_by_a_number(self) -> None:
+        less, compares = 'also true if `%s` is less than `%s`', '%s compares'
+        equal = 'true only if `%s` and `%s` are equal'
+        for test, wanted in (
+                ('((seq - 5) > 0)', less % ('seq', '5')), ('((data - 5) > 0)', less % ('data', '5')),
+                ('((now - 20) > 0)', less % ('now', '20')), ('((5 - seq) > 0)', less % ('5', 'seq')),
+                ('(0 < (seq - seen))', less % ('seq', 'seen')), ('((seq - seen) >= 1)', less % ('seq', 'seen')),
+                ('(1 <= (seq - 5))', less % ('seq', '5')), ('((seq - 1) > 0)', less % ('seq', '1')),
+                ('(((now - seq) - 20) > 0)', less % ('(now - seq)', '20')),
+                ('((seq - seen) <= 0)', equal % ('seq', 'seen')), ('(0 >= (seq - 5))', equal % ('seq', '5')),
+                ('((seq - 5) < 1)', equal % ('seq', '5')), ('((seq - 5) > 0)', compares % '`(seq > 5)`'),
+                ('((seq - 5) >= 0)', 'always true'), ('((seq - 5) >= 0)', compares % '`(seq >= 5)`'),
+                ('((seq - seen) < 0)', 'never true'), ('((seq - seen) < 0)', compares % '`(seq < seen)`'),
+                ('(0 > (5 - seq))', compares % '`(5 < seq)`'), ('!((seq - 5) > 0)', less % ('seq', '5'))):
+            with self.subTest(test):
+                found = self.seen(CODE % ('set t 1; if %s { pause; }' % test))
+                self.assertEqual([wanted in it for it in found], [True], found)
 
     def test_a_timer_that_something_else_may_set(self) -> None:
         for body in ('set t 4; yield_until fired(t); set t 4;', 'yield_until (fired(t) || (seq > 3)); set t 4;',

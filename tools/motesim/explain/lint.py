@@ -9,7 +9,7 @@ import re
 from collections.abc import Iterator, Sequence
 from typing import NamedTuple
 
-from motesim.explain import busy, event, once, wraps
+from motesim.explain import busy, differences, event, once, wraps
 from motesim.explain.busy import OF_EVENT
 from motesim.explain.event import FOR_TIMER, SETS
 from motesim.explain.moments import bursts
@@ -56,10 +56,6 @@ WAIT_FOR_BOTH = ('it waits for the timer `%s`, too, and a packet must not end th
                  'statements for a packet instead of the dots')
 NATURAL = 'no number is below 0, so this test is %s true: values are 0 to 65,535, and 0 - 1 is 65,535'
 COUNT_DOWN = '; write `while (x > 0)` to count down'
-OF_DIFFERENCE = ('no number is below 0, so this test is also true if `%s` is less than `%s`: `(%s > %s)` compares '
-                 'them')
-# The words of a test whether a difference is above 0.
-DIFFERENCE = re.compile(r'\( \( ([a-z]\w*) - ([a-z]\w*) \) > 0 \)')
 # A comparison of the result of a comparison, such as `((0 < data) < 256)`.
 CHAIN = re.compile(r'\( \( (\w+) (<=?|>=?) (\w+) \) (<=?|>=?) (\w+) \)')
 OF_CHAIN = ('`(%s)` is 0 or 1, so `%s %s` compares only this result. To test both conditions, write '
@@ -227,16 +223,9 @@ class Program:
             is_right = sign in ('>=', '<') and self.words[at + 1] == '0'
             if is_right or sign in ('<=', '>') and self.words[at - 1] == '0' and self.words[at - 2] in (
                     '(', '!', '&&', '||'):
-                advice = COUNT_DOWN if self.statement_of(at) == 'while' else ''
+                advice = differences.comparison(self.words, at) or (
+                    COUNT_DOWN if self.statement_of(at) == 'while' else '')
                 yield NATURAL % ('always' if sign in ('>=', '<=') else 'never') + advice, self.tokens[at]
-
-    def tests_of_difference(self) -> Iterator[tuple[str, Token]]:
-        """Each test whether a difference of two values is above 0, with the warning: this is also true if the first one
-        is less than the second one. (The time from an earlier moment to now may be meant so.)"""
-        for at in range(len(self.words)):
-            found = DIFFERENCE.fullmatch(' '.join(self.words[at:at + 9]))
-            if found and found[1] != 'now':
-                yield OF_DIFFERENCE % (found.groups() * 2), self.tokens[at + 6]
 
     def chains(self) -> Iterator[tuple[str, Token]]:
         """Each comparison of the result of a comparison, with the warning."""
@@ -379,7 +368,8 @@ def of_program(program: Program, is_zero_given: bool) -> Iterator[Warned]:
         yield Warned(text, name, token)
     for token in program.awaited_ctimers():
         yield Warned(OF_CTIMER % (token.text, token.text), name, token)
-    for text, token in () if is_zero_given else (*program.tests_of_sign(), *program.tests_of_difference()):
+    for text, token in () if is_zero_given else (*program.tests_of_sign(),
+                                                 *differences.tests(program.words, program.tokens)):
         yield Warned(text, name, token)
     for text, token in (*program.tests_of_two_values(), *program.chains(), *program.endless_waits()):
         yield Warned(text, name, token)
