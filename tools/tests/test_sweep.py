@@ -784,6 +784,41 @@ class SweepTest(Bed):
         done = self.sweep('--vary', 'name=a,bee', '--measure', 'flow reached: print bee')
         self.assertEqual((done.returncode != 2, len(self.rows())), (True, 2), done.stderr)
 
+    def test_the_order_of_the_values_does_not_decide_which_measures_are_refused(self) -> None:
+        (self.folder / 'bee.mote').write_text(MOTE.replace(' a', ' bee'))
+        (self.folder / 'net.plan.toml').write_text(PLAN.replace('[places]', 'seed = 1\n[places]'))
+        # (the last sweep has more runs than are tried)
+        for parameter, values, measure, more in [
+            ('motes', '3,5', 'x = count: mote 4 prints a', 'seed=1'),
+            ('motes', '3,5', 'x = prints of mote 4', 'seed=1'),
+            ('name', 'a,bee', 'x = count: every mote prints bee', 'seed=1'),
+            ('name', 'a,bee', 'x = flow ratio: print bee', 'seed=1'),
+            ('motes', '3,4,5,6', 'x = count: mote 4 prints bee', 'name=a,bee'),
+            ('motes', '3,5,4', 'x = count: mote 4 prints a', 'period=1..14'),
+        ]:
+            found = []
+            for listed in values, ','.join(reversed(values.split(','))):
+                varied = ['--vary', '%s=%s' % (parameter, listed), '--vary', more]
+                done = self.sweep(*varied, '--measure', measure, '-o', 'x.csv')
+                self.assertNotEqual(done.returncode, 2, (measure, listed, done.stderr))
+                found.append((done.returncode, sorted(tuple(row.items()) for row in self.rows('x.csv'))))
+                (self.folder / 'x.csv').unlink()
+            self.assertEqual(found[0], found[1])
+
+    def test_a_measure_that_no_run_can_have_is_refused_with_the_names_of_all_runs(self) -> None:
+        (self.folder / 'bee.mote').write_text(MOTE.replace(' a', ' bee'))
+        for own in '', '[sweep]\nmeasure = ["count: mote 5 prints a"]\n':
+            (self.folder / 'net.plan.toml').write_text(PLAN + own)
+            words = () if own else ('--measure', 'count: mote 5 prints a')
+            done = self.sweep('--vary', 'motes=3,5,4', '--vary', 'name=a,bee', *words)
+            self.assertEqual((done.returncode, done.stdout), (2, ''))
+            self.assertIn('Allowed here: a mote, 0 to 4', done.stderr)
+        (self.folder / 'net.plan.toml').write_text(PLAN)
+        for measure in 'count: every mote prints cat', 'flow ratio: print cat':
+            done = self.sweep('--vary', 'name=a,bee', '--measure', measure)
+            self.assertEqual((done.returncode, done.stdout), (2, ''))
+            self.assertRegex(done.stderr, r'a, bee\b')
+
     def test_runs_that_make_no_scenario_are_rows_wherever_they_are(self) -> None:
         done = self.sweep('--vary', 'motes=0,3,5000', '--measure', 'motes: every mote prints a', '-o', 'odd.csv')
         self.assertEqual(done.returncode, 1, done.stderr)

@@ -8,6 +8,7 @@ from collections import Counter
 from collections.abc import Iterator, Mapping, Sequence
 from dataclasses import dataclass
 
+from motesim.analysis.points import is_seed
 from motesim.faults import Fault
 from motesim.experiments.draws import CHANCE, seeds_of
 from motesim.experiments.measures import file_of, imports_of, mote_of, processes_of_flow, read_measure
@@ -21,9 +22,10 @@ from motesim.scenario import Scenario
 from motesim.judge.sentences import Names, SentenceFault, names_of
 
 MOST_RUNS = 1_000_000
-# The greatest number of runs that are tried to find one for which the plan makes a scenario.
+# The greatest number of runs, from all over the sweep, that are tried before the first run: whether the plan makes a
+# scenario, and which names the files and the programs have.
 MOST_TRIED = 40
-# The greatest number of runs, each with one other value of one parameter, whose files are searched for names too.
+# The greatest number of runs, each with one other value of one parameter, that are tried too.
 MOST_TRIED_ALONE = 200
 SECONDS, MOST_SECONDS, MOST_BYTES = 60, 86_400, 200_000_000
 RANGE = re.compile(r'(-?[0-9]{1,9})\.\.(-?[0-9]{1,9})(?:\.\.([0-9]{1,9}))?')
@@ -148,11 +150,8 @@ def chance_seeds(plan: Plan, files: Sequence[str]) -> list[str]:
 
 def unused(sweep: Sweep) -> list[str]:
     """The parameters that vary, though neither the plan nor a file of the tried runs names them."""
-    tried = [*some_runs(sweep), *itertools.islice(
-        (sweep.plan.with_given({**sweep.run_at(0), name: value}) for name, values in sweep.vary.items()
-         for value in values), MOST_TRIED_ALONE)]
     texts = {'': sweep.plan.text}
-    for given in tried:
+    for given in tried_runs(sweep):
         with contextlib.suppress(Fault):
             for name in set(sweep.plan.used_files(given)).difference(texts):
                 texts[name] = sweep.plan.files.read(name).decode('utf-8', 'replace')
@@ -172,6 +171,15 @@ def some_runs(sweep: Sweep) -> Iterator[dict[str, Value]]:
         yield sweep.run_at(place)
 
 
+def tried_runs(sweep: Sweep) -> Iterator[dict[str, Value]]:
+    """Some of all runs; then, for each parameter, runs with each of its values. Those of seeds are last, because seeds
+    often have many values."""
+    yield from some_runs(sweep)
+    names = sorted(sweep.vary, key=is_seed)
+    yield from itertools.islice((sweep.plan.with_given({**sweep.run_at(0), name: value}) for name in names
+                                 for value in sweep.vary[name]), MOST_TRIED_ALONE)
+
+
 def known_names(sweep: Sweep) -> Names:
     """The names that sentences may use. Raises the first fault if none of the runs that are tried makes a scenario.
 
@@ -181,7 +189,7 @@ def known_names(sweep: Sweep) -> Names:
     first: Fault | None = None
     largest: Scenario | None = None
     needed = max((mote for mote in map(mote_of, sweep.measures) if mote is not None), default=0)
-    for given in some_runs(sweep):
+    for given in tried_runs(sweep):
         try:
             found = Scenario.parse(sweep.plan.scenario(given))
         except Fault as fault:
@@ -200,27 +208,49 @@ def known_names(sweep: Sweep) -> Names:
     return names_of(largest)
 
 
-def check_flow(sweep: Sweep, words: str, names: Names) -> None:
-    """Refuses a measure of a flow if none of the tried runs has its process. (Programs may vary from run to run.)"""
-    missing = set(processes_of_flow(words)).difference(names.processes or ())
-    others: set[str] = set(names.processes or ())
-    for given in some_runs(sweep) if missing else ():
+def all_names(sweep: Sweep) -> Names:
+    """The names that sentences may use in at least one of the tried runs: all processes of these runs, and the motes of
+    the largest net. (Programs and nets may vary from run to run.)"""
+    processes: dict[str, None] = {}
+    motes = 0
+    for given in tried_runs(sweep):
         with contextlib.suppress(Fault):
-            others.update(names_of(Scenario.parse(sweep.plan.scenario(given))).processes or ())
-        if missing <= others:
-            return
-    for process in sorted(missing):
+            found = names_of(Scenario.parse(sweep.plan.scenario(given)))
+            processes.update(dict.fromkeys(found.processes or ()))
+            motes = max(motes, found.motes or 0)
+    return Names(tuple(processes), motes)
+
+
+def lacks_name(words: str, names: Names) -> bool:
+    """Returns whether a measure names a process or a mote that is not among these names, or can't be read at all."""
+    if file_of(words):
+        return False
+    try:
+        read_measure(words, names)
+    except SentenceFault:
+        return True
+    return not set(processes_of_flow(words)) <= set(names.processes or ())
+
+
+def check_flow(words: str, names: Names) -> None:
+    """Refuses a measure of a flow whose process isn't among these names."""
+    for process in sorted(set(processes_of_flow(words)).difference(names.processes or ())):
         raise Fault('in the measure %r: no program has a process %s; %s' % (
-            words, process, known(process, sorted(others.difference(SYSTEM)))))
+            words, process, known(process, sorted(set(names.processes or ()).difference(SYSTEM)))))
 
 
 def columns_of(sweep: Sweep, names: Names, sources: Mapping[str, str]) -> list[str]:
-    """The columns of the results. A measure that can't be read is refused before any run."""
+    """The columns of the results. A measure that can't be read in any of the tried runs is refused before any run.
+
+    The given names are those of one run. The names of the other runs are needed only if a measure lacks a name.
+    """
+    if any(lacks_name(words, names) for words in sweep.measures):
+        names = all_names(sweep)
     measures = []
     for words in sweep.measures:
         try:
             measures.append(read_measure(words, names, sources).name)
-            check_flow(sweep, words, names)
+            check_flow(words, names)
         except SentenceFault as fault:
             raise Fault('in the measure %r\n%s' % (words, fault.explained)) from None
     columns = [*sweep.plan.parameters, *measures, *MADE]
