@@ -81,6 +81,15 @@ class Habits(unittest.TestCase):
     def test_no_more_than_a_tenth_is_left_to_the_reader(self) -> None:
         self.assertLessEqual(len(SAID) + len(LACKING), 15)
 
+    def test_the_page_has_these_counts(self) -> None:
+        shown = len(HABITS) - len(SAID)
+        run = shown - len(LACKING)
+        page = ' '.join((TOP / 'docs/use/EXPLAIN.md').read_text().split())
+        self.assertIn('For %d of the mistakes the message shows corrected lines. With only these corrections %d of the '
+                      '%d scenarios run, and %d of these %d write exactly the report' % (
+                          shown, run, shown, run - len(OTHERS), run), page)
+        self.assertIn('For the %d mistakes without corrected lines' % len(SAID), page)
+
 
 class Valid(unittest.TestCase):
     def test_what_is_in_order_needs_no_message(self) -> None:

@@ -76,7 +76,7 @@ VALUE = Table('VALUE', 'Is', ('mote 1 prints p %s',), (
      'the least number of hops from mote 0 to the mote, over links that don\'t lose every packet'),
     (('the set of motes that it hears', 'the set of motes that it hears but 5'),
      'a number in which bit n is set for each mote n that the mote hears, except those after `but`. A number has 16 '
-     'bits, so the mote must hear only motes from 0 to 15'),
+     'bits, so these motes must be from 0 to 15'),
     (('the set of motes linked with it', 'the set of motes linked with it but 5'),
      'a number in which bit n is set for each mote n that the mote hears and that hears the mote, except those after '
      '`but`. A number has 16 '
@@ -136,7 +136,8 @@ OTHER = Table('Sentence', 'Is about', ('%s',), (
     (("the medium writes '4 0 1 20 1@lost'",), 'a line of the medium that begins with this text'),
     (('the report has at most 2000 lines', 'the report has at least 1 line'), 'the length of the report'),
     (('mote 1 can hear mote 0', 'motes 2 and 3 cannot hear mote 0'),
-     'the scenario: whether the two motes are in range, and the link doesn\'t lose every packet'),
+     'the scenario: mote 1 can hear mote 0 if they are in range, and the link from mote 0 to mote 1 doesn\'t lose every '
+     'packet'),
     (("the scenario is refused with 'scenario fault 2'",), 'the result of `motesim`: this fault instead of a report'),
 ))
 TABLES = (MOTES, DEED, VALUE, TIMES, WHEN, ORDER, OTHER)
