@@ -12,7 +12,7 @@ import io
 import os
 import sys
 from collections.abc import Callable
-from typing import NoReturn
+from typing import NoReturn, TypeVar
 
 from motesim.terminal import plain_stream
 
@@ -22,9 +22,29 @@ CLOSED = 141
 # If this environment variable is set, an error of a tool itself is shown with its traceback.
 SHOW = 'MOTESIM_TRACEBACK'
 
+Result = TypeVar('Result')
+
 
 class Fault(Exception):
     """An error that is reported in one line."""
+
+
+def own_error(fault: Exception) -> str:
+    """The words about an error of a tool itself."""
+    return 'an error in the tool itself: %s: %s (%s=1 shows its place)' % (type(fault).__name__, fault, SHOW)
+
+
+def tried(work: Callable[[], Result], instead: Callable[[str], Result]) -> Result:
+    """The result of `work`, which isn't essential; if it fails by an error of the tool itself, the result of `instead`,
+    which gets the words about this error."""
+    try:
+        return work()
+    except (Fault, MemoryError, OSError):
+        raise
+    except Exception as fault:
+        if os.environ.get(SHOW):
+            raise
+        return instead(own_error(fault))
 
 
 def in_words(fault: OSError) -> str:
@@ -78,7 +98,7 @@ def status_of(tool: str, work: Callable[[], int]) -> int:
     except Exception as fault:
         if os.environ.get(SHOW):
             raise
-        message = 'an error in the tool itself: %s: %s (%s=1 shows its place)' % (type(fault).__name__, fault, SHOW)
+        message = own_error(fault)
     print('%s: %s' % (tool, message), file=sys.stderr)
     return FAILED
 

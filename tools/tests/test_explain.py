@@ -19,6 +19,7 @@ from motesim.commands import explain as command
 from motesim.explain import explanation as explain
 from motesim.explain import missing
 from motesim.notation import faults as program_faults
+from motesim.runner.run import Answer
 from motesim.scenario import encodings
 from motesim.scenario import faults as scenario_faults
 from motesim.scenario import Scenario
@@ -373,6 +374,42 @@ class Command(unittest.TestCase):
                             command.main()
                 self.assertEqual(end.exception.code, status)
                 self.assertTrue(said.getvalue().startswith(begin), said.getvalue())
+
+
+class Failing(unittest.TestCase):
+    """An error in a hint leaves the error that it is about, and its line."""
+
+    def explained(self, changes: dict[str, str], failing: str) -> str:
+        data, failed = changed(changes).encode(), IndexError('of a tuple')
+        fault = scenario_faults.find_fault(data)
+        assert fault
+        with mock.patch.object(explain, failing, side_effect=failed):
+            with mock.patch.dict(os.environ):
+                os.environ.pop('MOTESIM_TRACEBACK', None)
+                found = ' '.join(explain.explanation('a.toml', data, 'motesim: ' + fault.message))
+        self.assertIn('because of an error in the tool itself: IndexError: of a tuple', ' '.join(found.split()))
+        return found
+
+    def test_of_a_program(self) -> None:
+        found = self.explained({'print 1': 'print z'}, 'advice')
+        self.assertIn('print z', found)
+        self.assertIn('UnknownName: ', found)
+        self.assertIn('Allowed here: ', found)
+
+    def test_of_a_scenario(self) -> None:
+        found = self.explained({'end = 5': 'ende = 5'}, 'repair')
+        self.assertIn('ende = 5', found)
+        self.assertIn('Allowed here: ', found)
+
+    def test_of_a_place(self) -> None:
+        self.assertIn('UnknownName: ', self.explained({'print 1': 'print z'}, 'shown_program'))
+
+    def test_of_a_warning(self) -> None:
+        program, said = b'#', io.StringIO()
+        with mock.patch.object(explain, 'all_warnings', side_effect=IndexError('of a tuple')):
+            with mock.patch.object(explain, 'read_file', return_value=program), contextlib.redirect_stdout(said):
+                self.assertEqual(explain.explain('a.toml', lambda data: Answer(0, b'', b'')), 0)
+        self.assertIn('a.toml has a report, and no fault\nIts warnings aren\'t shown', said.getvalue())
 
 
 if __name__ == '__main__':

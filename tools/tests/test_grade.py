@@ -23,7 +23,7 @@ from unittest import mock
 from here import TOOLS
 from motesim.grading.command import remarks, status_of
 from motesim.grading.entries import Entry, anonymous, data_of, entries_of
-from motesim.grading.marking import Mark, Marks, Task, page_name
+from motesim.grading.marking import Mark, Marks, Task, page_name, warned_of
 from motesim.grading.nets import cut_off, nets_of, program_of
 from motesim.grading.page import page_of
 from motesim.grading.pages import HEAD
@@ -34,6 +34,7 @@ from motesim.grading.tables import table as table_of
 from motesim.faults import Fault
 from motesim.judge.expectations import parts_of
 from motesim.runner import Limits, program_path
+from motesim.runner.run import Answer
 from motesim.scenario import Scenario
 from skips import need_program
 from stub import write_stub
@@ -857,6 +858,24 @@ class Forms(Folder):
         self.assertNotIn('version', why)
         self.grade(*words, '-o', 'marks.html')
         self.assertIn('Write, as line 2:', (self.top / 'marks.html').read_text())
+
+    def test_an_error_in_a_hint_changes_no_mark(self) -> None:
+        entry = Entry('ben.mote', self.folder / 'ben.mote')
+        self.hand_in('ben.mote', (PROGRAM % 3).replace('print', 'prnt', 1))
+        part = parts_of('expect = ["every mote prints a 3"]', 'task.expect.toml')[0]
+        task = Task(part, tuple(nets_of([self.top / 'task.toml'], [], None)), Limits())
+        refused = Answer(1, b'', b'motesim: program task fault 3 line 3')
+        with mock.patch.object(Task, 'answer', return_value=refused):
+            with mock.patch('motesim.explain.explanation.advice', side_effect=IndexError('of a tuple')):
+                marks = task.of((1, entry))
+            self.assertEqual((marks.has_mark, marks.held), (True, 0))
+            self.assertIn('ben.mote, line 3:', marks.fix)
+            self.assertIn('because of an error in the tool itself: IndexError: of a tuple', ' '.join(marks.fix))
+            with mock.patch('motesim.grading.marking.of_program_file', side_effect=IndexError('of a tuple')):
+                marks = task.of((1, entry))
+            self.assertEqual((marks.has_mark, marks.held), (True, 0))
+        with mock.patch('motesim.grading.marking.of_start', side_effect=IndexError('of a tuple')):
+            self.assertEqual(warned_of({'task': PROGRAM % 3}), ())
 
     def test_why_says_what_to_do_if_something_was_renamed(self) -> None:
         self.hand_in('ben.toml', net((PROGRAM % 3).replace(' a', ' b')))

@@ -9,7 +9,7 @@ from typing import Any
 from motesim.explain import hints, missing, synonyms
 from motesim.explain.advice import advice
 from motesim.explain.repair import Repair, repair
-from motesim.faults import Fault
+from motesim.faults import Fault, tried
 from motesim.notation import faults as program_faults
 from motesim.scenario import encodings
 from motesim.scenario import faults as scenario_faults
@@ -134,9 +134,11 @@ def rule_and_advice(source: str, its: program_faults.ProgramError, offset: int |
     title, rule = program_faults.RULES[its.kind]
     if its.token.kind == 'end' and its.kind == 2:
         rule = 'The text ends here, but other words must follow those before it.'
-    found = advice(source, its)
-    hint = hinted(found.hint) + found.shown(source, offset) if found else []
-    return wrapped('%s: %s' % (title, rule)) + hint + allowed(', '.join(its.may))
+    def hint() -> list[str]:
+        found = advice(source, its)
+        return hinted(found.hint) + found.shown(source, offset) if found else []
+
+    return wrapped('%s: %s' % (title, rule)) + tried(hint, failed) + allowed(', '.join(its.may))
 
 
 def repaired(found: Repair) -> list[str]:
@@ -174,8 +176,19 @@ def rule_of(line: str) -> str:
     return scenario_faults.RULES.get('program' if program else line, 'docs/use/SCENARIO.md has the faults.')
 
 
+def failed(words: str) -> list[str]:
+    """The line instead of a hint that can't be given."""
+    return wrapped('This error has no hint here, because of %s.' % words)
+
+
 def explanation(name: str, data: bytes, line: str) -> list[str]:
     """The lines to show below the line of an error."""
+    return tried(lambda: whole_explanation(name, data, line),
+                 lambda words: [*wrapped(rule_of(line.removeprefix('motesim: '))), *failed(words)])
+
+
+def whole_explanation(name: str, data: bytes, line: str) -> list[str]:
+    """The lines to show below the line of an error, if the tool itself has none."""
     what, fault = line.removeprefix('motesim: '), scenario_faults.find_fault(data)
     if fault is None or fault.message != what:
         # (for instance of an error of memory, or of a text that only Python reads as TOML)
@@ -197,12 +210,17 @@ def explanation(name: str, data: bytes, line: str) -> list[str]:
         return wrapped(hints.OF_PLAN % (one_line(name), one_line(name)))
     may = allowed(missing.may_stand(fault.lacks) if fault.lacks else fault.may)
     lines = where_told(name, text, fault) + wrapped(rule_of(what))
+    its = fault
+    return lines + tried(lambda: hints_of(data, text, its), failed) + may
+
+
+def hints_of(data: bytes, text: str, fault: ScenarioError) -> list[str]:
+    """The hint on a fault outside the programs, with the corrected lines if they are known."""
     found = None if is_report(data) else repair(text, fault)
     if found:
-        return lines + repaired(found) + may
-    hint = OF_REPORT if is_report(data) else (
-        hints.of_scenario(tables_or_none(text), fault, text) or encodings.hint_of_byte(data))
-    return lines + hinted(hint) + may
+        return repaired(found)
+    return hinted(OF_REPORT if is_report(data) else (
+        hints.of_scenario(tables_or_none(text), fault, text) or encodings.hint_of_byte(data)))
 
 
 def where_told(name: str, text: str, fault: ScenarioError) -> list[str]:
@@ -270,7 +288,9 @@ def explain(name: str, run: Callable[[bytes], Answer] | None = None) -> int:
     got = (run or answer)(data)
     line = error_line(got)
     if line is None:
-        print('\n'.join(['%s has a report, and no fault' % one_line(name), *all_warnings(name, data, got.report)]))
+        warned = tried(lambda: all_warnings(name, data, got.report),
+                       lambda words: wrapped('Its warnings aren\'t shown, because of %s.' % words))
+        print('\n'.join(['%s has a report, and no fault' % one_line(name), *warned]))
         return 0
     print('\n'.join([line, *explanation(name, data, line)]))
     return 1

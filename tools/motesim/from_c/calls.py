@@ -38,6 +38,8 @@ NO_PROCESS = ('`%s` is `%s;` here, but no process is named `%s`: this program ha
               'the `process` line, and needs a `code`.')
 OF_CALLBACK = ('The timer calls no function: it runs its block, `ctimer %s { .. }` at the head of the `code`, which '
                'needs the statements of `%s`.')
+NO_NAME = 'A process has a name: `process a;` names it, and `code a { .. }` has its statements.'
+NO_THREAD = 'A protothread has a name: `thread t { .. }`, at the head of the `code` of the process that spawns it.'
 BROADCAST = 'A packet is one number, and goes to all motes that hear it: `send x;`. There is no buffer to fill first.'
 
 
@@ -143,9 +145,10 @@ class Calls(Lines):
                 return self.end_of_process
             return 'body {' if self.place.is_head and name == 'process_begin' else ''
         if name in ('process', 'process_name'):
+            inner = self.named_by(call, NO_NAME)
             self.accept(';')
             self.why(ONE_LINE)
-            return self.of_processes(call.parts[0].text)
+            return self.of_processes(inner)
         if name == 'autostart_processes':
             self.accept(';')
             self.why('The processes that start at boot are named by `autostart a, b;`.')
@@ -159,16 +162,24 @@ class Calls(Lines):
         if name == 'pt_sem_init':
             return self.of_count(call)
         if name in ('process_thread', 'pt_thread'):
+            inner = self.named_by(call, NO_NAME if name == 'process_thread' else NO_THREAD)
             if name == 'pt_thread' and self.place.is_top and self.token.text != ';':
-                return self.of_thread(allowed(call.parts[0].text))
+                return self.of_thread(allowed(inner))
             self.why('A process is a `code NAME { .. }` with a `body`; a protothread is a `thread NAME { .. }`.')
             if self.accept(';'):
                 return ''
             self.accept('{')
             head = 'code' if name == 'process_thread' else 'thread'
-            inner = call.parts[0].text
             return '%s %s {' % (head, self.of_process(inner) if head == 'code' else allowed(inner))
         return self.end(self.of_call(call))
+
+    def named_by(self, call: Node, lacking: str) -> str:
+        """The name that is the first argument of a macro. Raises the advice on a macro without one."""
+        its = next(iter(call.parts), call)
+        its = its.parts[0] if its.kind == 'unary' else its
+        if its.kind not in ('name', 'call') or its is call:
+            raise NoCounterpart(lacking)
+        return its.text
 
     def of_thread(self, name: str) -> str:
         """A protothread above the codes: a thread of the process that spawns it."""

@@ -26,6 +26,8 @@ OWN_ASSIGNMENT = ('An assignment in a test is a statement of its own, `%s`, befo
 WITHOUT_STEPS = ('yield_until', 'wait_until', 'wait_while')
 # The value of a limit that isn't declared.
 LIMIT = '10'
+NO_PARTS = ('There is no `for`: a loop that counts is `i = 0; while (i < 5) { .. i = (i + 1); }`, and `while 1 { .. }` '
+            'repeats its block without an end.')
 NO_BRACES = 'A block is in braces: write `%s %s {`, and `}` instead of the word that ends the block.'
 BY_COLUMNS = 'A block is in braces: write `%s %s {`, and `}` below its last statement.'
 # Words of other languages that end a block.
@@ -325,6 +327,8 @@ class Control(Skips):
     def for_loop(self) -> str:
         """A `for`, as a `while`; if its block continues below these lines, its last step is below them, too."""
         self.at += 2
+        if self.token.text == ')' or self.token.kind == 'end':
+            raise NoCounterpart(NO_PARTS)
         first = '' if self.accept(';') else self.first_of_loop()
         test, undeclared = self.test_of_loop()
         loop = loop_of(first, test, self.steps_of_loop())

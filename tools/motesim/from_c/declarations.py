@@ -27,6 +27,8 @@ OF_PACKETS = ('No function is called when a packet arrives: a packet is the even
 NO_CONNECTION = 'No connection is opened: `send x;` sends, and a packet is the event `packet`.'
 ABOVE = {'semaphore': 'A semaphore is declared above the `process` line, with its count.',
          'event': 'An event is declared by `event`, above the `process` line.'}
+LACKS_NAME = 'A name follows `%s`: `%s`.'
+WITH_NAME = {'semaphore': 'semaphore s = 1;', 'event': 'event go;', 'etimer': 'etimer t;'}
 OF_STRUCTURE = 'A protothread needs no structure: `thread NAME { .. }` declares it, `spawn NAME;` runs it.'
 # A name with its value for the preprocessor; without a value, or with parameters, it is another kind of line.
 DEFINED = re.compile(r'#\s*define\s+([A-Za-z_]\w*)\s+([^\s/"].*)')
@@ -357,6 +359,8 @@ class Declarations(OwnNames):
         """Names with commas between them, each declared by a line of its own."""
         found = []
         while True:
+            if self.token.kind != 'name':
+                raise NoCounterpart(LACKS_NAME % (word, WITH_NAME[word]))
             name = self.new_name(self.token.text)
             declared, is_moved = '%s %s;' % (word, form % name), word == 'etimer' and self.is_moved(word)
             if name in self.place.timers if is_moved else self.place.is_below and self.scope.kinds.get(name) == word:
@@ -373,6 +377,8 @@ class Declarations(OwnNames):
     def kept(self) -> str:
         """A declaration of the notation, unchanged: up to its semicolon, or its brace."""
         words = [self.ahead(at).text for at in range(3)]
+        if words[0] in ABOVE and self.ahead(1).kind != 'name':
+            raise NoCounterpart(LACKS_NAME % (words[0], WITH_NAME[words[0]]))
         if words[0] in ('etimer', 'event') and words[2] == ',' and self.accept(words[0]):
             self.why('Each name is declared on its own.')
             return self.of_names(words[0], '%s')

@@ -9,17 +9,17 @@ import re
 
 from motesim.from_c.absent import NO_ACTIVATION, NO_SENSORS, NO_SINK, SENDS, SENSORS, SENT_ALREADY, is_sensor
 from motesim.from_c.bits import bits_of, is_one
-from motesim.from_c.calls import BROADCAST, CALLS, Calls
+from motesim.from_c.calls import BROADCAST, CALLS, NO_NAME, Calls
 from motesim.from_c.control import ENDS, Control
 from motesim.from_c.declarations import ABOVE, OF_PACKETS, Declarations
 from motesim.from_c.expressions import (
-    DICE, FIRST, MOST, NO_CALLS, NO_CHANCE, NO_FIELDS, NO_POINTERS, NO_SIZES, QUALIFIERS, READ_ONLY, STEP, TYPES,
-    NoCounterpart,
+    DICE, FIRST, MOST, NO_CALLS, NO_CHANCE, NO_FIELDS, NO_POINTERS, NO_SIZES, QUALIFIERS, READ_ONLY, SMALL_LETTERS,
+    STEP, TYPES, NoCounterpart,
 )
 from motesim.from_c.nodes import MOMENTS_OF_SECOND, Node
 from motesim.from_c.places import last_statement
 from motesim.from_c.scope import allowed, nearest
-from motesim.from_c.tokens import tokens_of
+from motesim.from_c.tokens import END, tokens_of
 from motesim.notation.faults import MOST_LEVELS, STATEMENTS
 
 OF_ONE_BIT = 'There are no operators on bits: `+` sets a bit that is 0, and `-` clears a bit that is 1.'
@@ -80,6 +80,7 @@ UNIT = re.compile('(?:%s|ms|millis|milliseconds?|ticks?|moments?)' % '|'.join(SE
 TIME = re.compile('([0-9]+)(%s)' % UNIT.pattern)
 KEEPS = ('process', 'autostart', 'receiver', 'code', 'event', 'semaphore', 'etimer', 'ctimer', 'thread', 'body',
          'onpoll', 'onexit')
+ASSIGNS = ('=', '==', ':=', '+=', '-=', '*=', '/=', '%=', '&=', '|=', '^=', '<<=', '>>=')
 PLAIN = ('yield', 'pause', 'restart', 'exit')
 OF_EXPRESSION = ('print', 'send', 'yield_until', 'wait_until', 'wait_while')
 TARGETS = {'spawn': 'thread', 'acquire': 'semaphore', 'signal': 'semaphore', 'poll': 'process', 'start': 'process',
@@ -221,6 +222,8 @@ class Statements(Declarations, Calls, Control):
             return self.of_handler('onpoll' if 'poll' in lower else 'onexit')
         if word in STATEMENTS or lower in PRINTS and behind in ('(', '"'):
             return self.own()
+        if lower in (*KEEPS, 'process_name') and word != lower and behind != '(' and kind is None:
+            return self.in_small_letters(lower.removesuffix('_name'))
         if lower in CALLS or lower in ('process_begin', 'process_end', 'process', 'autostart_processes',
                                        'process_thread', 'pt_begin', 'pt_end', 'process_name', 'pt_thread', 'pt_init',
                                        'pt_sem_init'):
@@ -254,6 +257,17 @@ class Statements(Declarations, Calls, Control):
         self.tokens[self.at] = self.token._replace(kind='name', text=like)
         return self.statement()
 
+    def in_small_letters(self, word: str) -> str:
+        """A declaration of the notation whose first word has capitals."""
+        if self.ahead(1).kind != 'name' and word in ('process', 'code'):
+            raise NoCounterpart(NO_NAME)
+        if word == 'process' and self.scope.named:
+            self.at += 1
+            return self.of_processes(self.token.text)
+        self.why('%s: `%s`.' % (SMALL_LETTERS, word))
+        self.tokens[self.at] = self.token._replace(text=word)
+        return self.statement()
+
     def copied(self) -> str:
         """An address that is copied, as an assignment."""
         call = self.expression()
@@ -275,8 +289,8 @@ class Statements(Declarations, Calls, Control):
 
     def of_pointer(self) -> str:
         """An assignment to the variable at which a pointer points."""
-        name = next(it.text for it in self.tokens[self.at:] if it.text not in '(*')
-        raise NoCounterpart(NO_POINTERS % name)
+        its = next((it for it in self.tokens[self.at:] if it.text not in '(*'), END)
+        raise NoCounterpart(NO_POINTERS % its.text if its.line == self.token.line and its.kind == 'name' else '')
 
     def unused(self) -> str:
         """A value that isn't used, `(void) x;`, or a call whose value isn't used."""
@@ -364,6 +378,8 @@ class Statements(Declarations, Calls, Control):
             return self.of_event(name)
         if sign in '+-*/%&|' and self.accept('='):
             sign += '='
+        if sign not in ASSIGNS:
+            raise NoCounterpart
         variable = self.variable(name)
         if sign == ':=':
             self.why('`=` assigns.')

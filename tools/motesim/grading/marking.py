@@ -10,7 +10,7 @@ from typing import NamedTuple
 from motesim.explain.explanation import explanation, of_program as fault_of_program, of_program_file, tables_or_none
 from motesim.explain.lint import ZERO_GIVEN, Program, by_cause, of_moments, of_program, of_run, of_start
 from motesim.explain.within import busiest
-from motesim.faults import Fault
+from motesim.faults import Fault, tried
 from motesim.files import replace_whole
 from motesim.grading.entries import IN_C, Entry, data_of, without_program
 from motesim.grading.nets import NOT_UTF8, Net, NoProgram, program_of, unused_of
@@ -216,6 +216,10 @@ class Task:
 
     def fix(self, entry: Entry, data: bytes) -> tuple[str, ...]:
         """The place of the error in a solution, and its correction, as tools/explain shows them."""
+        return tried(lambda: self.correction(entry, data), lambda words: ('There is no correction here: %s' % words,))
+
+    def correction(self, entry: Entry, data: bytes) -> tuple[str, ...]:
+        """The place of the error in a solution, and its correction, if the tool itself has no error."""
         if entry.path.suffix == '.mote':
             source = data.decode('utf-8', 'replace').removeprefix(MARK)
             error = find_program_fault(source) if source else None
@@ -328,7 +332,12 @@ def halt_of(report: Report) -> str:
 
 def warned_of(programs: Mapping[str, str], is_zero_given: bool = False) -> tuple[str, ...]:
     """The warnings of tools/explain about programs, with their lines; those about processes that never start, and about
-    packets that no process gets, need no line."""
+    packets that no process gets, need no line. A mark doesn't depend on them, so an error in them leaves them out."""
+    return tried(lambda: all_warned_of(programs, is_zero_given), lambda words: ())
+
+
+def all_warned_of(programs: Mapping[str, str], is_zero_given: bool) -> tuple[str, ...]:
+    """The warnings of tools/explain about programs, with their lines if they need one."""
     lines = []
     for its in (Program(name, text) for name, text in programs.items()):
         whole = [it.text for it in of_start(its)]
