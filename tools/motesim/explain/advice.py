@@ -45,6 +45,11 @@ class Advice(NamedTuple):
         if not self.line and self.above and self.above[0] > self.last:
             # (in this order the second number is right after the first step)
             return [inserted[0].replace('and insert', 'Insert'), inserted[1], 'and leave %s out.' % which]
+        if not self.line and self.below:
+            # (the lines further down come first, because their numbers are still those of the file)
+            ranges = [_which(it.first, it.last, offset) for it in reversed(self.below)]
+            others = ['%s %s out,' % (word, it) for word, it in zip(['Leave', *['leave'] * len(ranges)], ranges)]
+            return [*others, 'and leave %s out.' % which]
         if not self.line:
             return ['Leave %s out%s' % (which, ',' if inserted else '.'), *inserted]
         # (a line that is inserted changes the numbers of those below it, which come first)

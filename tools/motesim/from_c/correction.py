@@ -9,6 +9,7 @@ from dataclasses import replace
 from typing import NamedTuple
 
 from motesim.from_c.closings import Edit, edits_of, repeated, with_renamed
+from motesim.from_c.conditional import conditional, kept_define
 from motesim.from_c.expressions import MIXED, NoCounterpart
 from motesim.from_c.heads import bare_body, end_of_body, process_block
 from motesim.from_c.scope import Scope
@@ -32,7 +33,8 @@ class Correction(NamedTuple):
     """The lines of a program (from 1) to be replaced; the new text, or None if none is known; and the reasons.
 
     above  a line that is to be inserted elsewhere, mostly further up, and the number of the line below which it belongs
-    below  the edits at the ends of blocks that continue below the lines, and at the start of their `body`
+    below  the edits at the ends of blocks that continue below the lines, and at the start of their `body`; lines whose
+           new text is empty are left out
     """
     first: int
     last: int
@@ -46,7 +48,7 @@ class Correction(NamedTuple):
         lines = text.split('\n')
         edits = [(self.first - 1, self.last, [] if self.line is None else [self.line])]
         edits += [(self.above[0], self.above[0], [self.above[1]])] if self.above else []
-        edits += [(it.first - 1, it.last, [it.line]) for it in self.below]
+        edits += [(it.first - 1, it.last, [it.line] if it.line else []) for it in self.below]
         for begin, end, new in sorted(edits, key=lambda it: it[:2], reverse=True):
             lines[begin:end] = new
         return '\n'.join(lines)
@@ -152,6 +154,21 @@ def _long_comment(text: str, fault: ProgramError) -> Correction | None:
     return Correction(first, last, rest.strip(), (OF_COMMENT,))
 
 
+def _of_preprocessor(text: str, fault: ProgramError) -> Correction | None:
+    """Leaves out the lines that the compiler of C doesn't read, or keeps a name that decides about such lines."""
+    line = fault.token.line
+    kept = kept_define(text, line)
+    if kept:
+        return Correction(line, line, kept[0], (kept[1],))
+    found = conditional(text, line)
+    if found is None:
+        return None
+    if not found.stretches:
+        return Correction(line, line, None, (found.reason,))
+    first, *others = found.stretches
+    return Correction(*first, '', (found.reason,), below=tuple(Edit(*it, '') for it in others))
+
+
 def _is_only_named(text: str, fault: ProgramError) -> bool:
     """True if a fault is an unknown name that is neither assigned nor called: then later lines aren't about it."""
     tokens = tokens_of(text)
@@ -180,7 +197,8 @@ def correction(text: str, fault: ProgramError) -> Correction | None:
     scope = Scope.of(text)
     signs = [it.text for it in tokens_of(text)]
     unclosed = signs.count('{') - signs.count('}')
-    whole = _long_comment(text, fault) or _structural(text, fault) or _heads(text, fault) or _process_lines(text, fault)
+    whole = _of_preprocessor(text, fault) or _long_comment(text, fault) or _structural(text, fault)
+    whole = whole or _heads(text, fault) or _process_lines(text, fault)
     if whole:
         return whole
     advice, is_only_named = '', _is_only_named(text, fault)
