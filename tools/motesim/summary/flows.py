@@ -132,8 +132,9 @@ def same_value(sources: Iterable[Line]) -> str:
         return ''
     first, line = again
     return ('%s: mote %d prints %d at moment %d and at moment %d. Messages are matched by value, so these two messages '
-            'count as one in a flow, and if the later one arrives, a `delivery` counts both as delivered. Print another '
-            'value for each message, or use another measure' % (TWICE, first.mote, first.value or 0, first.at, line.at))
+            'count as one in a flow, and in a `delivery` a duplicate of the later one counts as the earlier one. Print '
+            'another value for each message, or use another measure' % (
+                TWICE, first.mote, first.value or 0, first.at, line.at))
 
 
 def same_value_in_flow(report: Report, words: str) -> str:
