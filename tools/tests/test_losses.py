@@ -352,11 +352,11 @@ class ByChance(unittest.TestCase):
             self.assertTrue(least <= mean <= most, (name, mean))
 
     def test_without_the_mixing_they_lose_in_step(self) -> None:
-        # (equal steps on the cycle: what the mixing is for)
-        found = measured(Cycle(['((self * 7919) + ${seed})']), 50, 20, 13_107)
-        self.assertLess(found.within, 0.5)
-        self.assertGreater(found.lag, 0.5)
-        self.assertLess(found.covers, 0.7)
+        # (in each draw the values of successive motes differ by the same number: this is what the mixing is for)
+        cycle = Cycle(mixing_of('docs/use/EXPERIMENTS.md')[:1])
+        few, many = measured(cycle, 50, 20, 13_107), measured(cycle, 99, 100, 32_768)
+        self.assertTrue(few.spread < 0.2 and few.within < 0.2, few)
+        self.assertTrue(many.spread > 1.9 and many.within > 1.5 and many.lag > 0.6 and many.covers < 0.65, many)
 
     def test_the_program_draws_the_same(self) -> None:
         need_program(self)
