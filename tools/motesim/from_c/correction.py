@@ -14,6 +14,7 @@ from motesim.from_c.expressions import MIXED, NoCounterpart
 from motesim.from_c.heads import bare_body, end_of_body, process_block
 from motesim.from_c.scope import Scope
 from motesim.from_c.places import Surroundings, head_for, opens_endless_do, place_below, rest_of_loop
+from motesim.from_c.process_names import NewNames, new_names
 from motesim.from_c.seed import reasons_with, seed_for
 from motesim.from_c.statements import Statements
 from motesim.from_c.structure import (
@@ -193,6 +194,26 @@ def correction(text: str, fault: ProgramError) -> Correction | None:
     """The lines that repair a fault, or only advice if no line is known; None if nothing is known."""
     if len(text) > LONGEST_TEXT:
         return None
+    its = new_names(text, fault.token.line)
+    return its and _with_new_names(text, fault.token.line, its) or _correction(text, fault)
+
+
+def _with_new_names(text: str, line: int, its: NewNames) -> Correction | None:
+    """All lines with names that no process can have, each with another name; the line of the fault is corrected as a
+    whole."""
+    fault, made = find_fault(its.text), Correction(line, line, its.text.split('\n')[line - 1].strip(), ())
+    if fault and fault.token.line <= line:
+        found = _correction(its.text, fault)
+        if found is None or found.line is None:
+            return None
+        made = found
+    others = (it for it in with_renamed(text, its.text, made.below) if it in made.below or not (
+        made.first <= it.first <= made.last))
+    return made._replace(reasons=(*its.reasons, *made.reasons), below=tuple(others))
+
+
+def _correction(text: str, fault: ProgramError) -> Correction | None:
+    """The lines that repair a fault, if the names of all processes in its line are allowed."""
     lines = text.split('\n')
     scope = Scope.of(text)
     signs = [it.text for it in tokens_of(text)]

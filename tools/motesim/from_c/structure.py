@@ -7,7 +7,7 @@ from __future__ import annotations
 
 import re
 
-from motesim.from_c.scope import CODE, Scope, process_of
+from motesim.from_c.scope import CODE, Scope, nearest, process_of
 from motesim.notation.faults import Token, tokens_of
 
 Repair = tuple[int, str, str]
@@ -54,8 +54,21 @@ def process_line(text: str) -> Repair:
             names = tuple(re.split(r'\s*,\s*', found[1]))
             if names == codes or len(set(codes)) != len(codes):
                 return NOTHING
-            return number, 'process %s;' % ', '.join(codes), _of_names(names, codes)
+            return _misspelt_code(text, names, codes) or (
+                number, 'process %s;' % ', '.join(codes), _of_names(names, codes))
     return NOTHING
+
+
+def _misspelt_code(text: str, names: tuple[str, ...], codes: tuple[str, ...]) -> Repair | None:
+    """The first line of a code that has the name of a process with a mistake: this name occurs nowhere else."""
+    unnamed, lacking = [it for it in codes if it not in names], [it for it in names if it not in codes]
+    found = next((it for it in CODE.finditer(text) if [it[1]] == unnamed), None)
+    meant = nearest(unnamed[0], lacking) if found else None
+    if found is None or not meant or len(re.findall(r'\b%s\b' % unnamed[0], text)) > 1:
+        return None
+    number = text.count('\n', 0, found.start(1)) + 1
+    line = text.split('\n')[number - 1].replace(unnamed[0], meant, 1).strip()
+    return number, line, 'No process has the name `%s`: did you mean `%s`?' % (unnamed[0], meant)
 
 
 def _of_names(names: tuple[str, ...], codes: tuple[str, ...]) -> str:
