@@ -457,6 +457,23 @@ class Files(unittest.TestCase):
             self.scenario.with_name('other.expect.toml'), self.scenario)
         self.assertEqual(self.said('expect = ["mote 0 sends"]'), ('', seen, 2))
 
+    def test_remarks_on_numbers_of_motes_that_are_always_right_or_never(self) -> None:
+        about = 'this sentence is about 4 motes, so `%s` is %s true'
+        for sentence, remark in (
+                ('at least 110 % of motes send', about % ('at least 110 %', 'never')),
+                ('exactly 9 motes send', about % ('exactly 9', 'never')),
+                ('at most 4 motes send', about % ('at most 4', 'always')),
+                ('more than 2 motes but motes 0 and 1 send',
+                 'this sentence is about 2 motes, so `more than 2` is never true'),
+                ('exactly 30 % of motes send', about % ('exactly 30 %', 'never')),
+                ('at most 100 % of copies arrive', 'a share is 0 to 100 %, so `at most 100 %` is always true'),
+                ('at least 101 % of copies arrive', 'a share is 0 to 100 %, so `at least 101 %` is never true')):
+            with self.subTest(sentence):
+                self.assertIn('          ' + remark, self.said('expect = ["%s"]' % sentence)[0].splitlines())
+        for sentence in 'at most 3 motes send', 'exactly 25 % of motes send', 'at least 100 % of copies arrive':
+            with self.subTest(sentence):
+                self.assertNotIn('so `', self.said('expect = ["%s"]' % sentence)[0])
+
     def test_faults_have_status_2(self) -> None:
         change = 'expect = ["mote 0 sends"]\n[[change]]\nexpect = ["mote 0 sends"]\n'
         for text, seen in [
@@ -464,6 +481,15 @@ class Files(unittest.TestCase):
             ('expect = ["mote 0 prnts x 1"]', 'Did you mean: prints\n'),
             ('expect = ["evry mote halts"]', 'Did you mean: every\n'),
             ('expect = ["mote 0 sends twise"]', 'Did you mean: twice\n'), ('expect = [', 'is not TOML'),
+            ('expect = ["mote 0 sends 1 time"]', 'Did you mean: mote 0 sends exactly 1 time\n'),
+            ('expect = ["mote 0 prints flood 1 time"]', 'Did you mean: mote 0 prints flood exactly 1 time\n'),
+            ('expect = ["motes 1-3 send"]', 'Did you mean: motes 1 to 3 send\n'),
+            ('expect = ["motes 1..3 send"]', 'Did you mean: motes 1 to 3 send\n'),
+            ('expect = ["mote 0 prints flood -1"]', 'Did you mean: mote 0 prints flood 65535\n'),
+            ('expect = ["mote 0 sends -2 by 60"]', 'Did you mean: mote 0 sends 65534 by 60\n'),
+            ('expect = ["the report has 100 lines"]', 'Did you mean: the report has exactly 100 lines\n'),
+            ('expect = ["6 packets are sent"]', 'Did you mean: exactly 6 packets are sent\n'),
+            ('expect = ["1 copy is lost"]', 'Did you mean: exactly 1 copy is lost\n'),
             ('', 'expects nothing'), ('expect = "x"', 'is not an array'), ('wanted = []', 'has a key wanted'),
             ('expct = []', 'did you mean expect?'),
             ('version = 1', 'has a key version, as a scenario has;'),

@@ -13,7 +13,7 @@ from typing import Any, NamedTuple
 from motesim.faults import Fault
 from motesim.explain.synonyms import nearest
 from motesim.judge.judge import Broken, Judge
-from motesim.judge.remarks import remark_on
+from motesim.judge.remarks import of_certain, remark_on
 from motesim.report import Report
 from motesim.runner import LimitMet, ProgramFault
 from motesim.runner.run import Answer, answer, read_file, refuse_others
@@ -66,7 +66,7 @@ class Part:
 
 class Verdict(NamedTuple):
     """A sentence, whether it holds, the lines to show if it doesn't, whether the scenario has no report, and a remark on
-    a sentence that holds."""
+    the sentence."""
     sentence: str
     holds: bool
     more: list[str]
@@ -182,8 +182,8 @@ def of_report(part: Part, sentences: list[Sentence], judge: Judge) -> list[Verdi
     found = []
     for text, sentence in zip(part.sentences, sentences):
         broken = judge.broken(sentence)
-        found.append(Verdict(text, broken is None, more_of(broken, judge.rows) if broken else [],
-                             remark='' if broken else remark_on(text, sentence, judge)))
+        remark = of_certain(sentence, judge) if broken else remark_on(text, sentence, judge)
+        found.append(Verdict(text, broken is None, more_of(broken, judge.rows) if broken else [], remark=remark))
     return found + ([same_report(judge.rows, part.report)] if part.report is not None else [])
 
 
@@ -251,7 +251,7 @@ def expect(scenario: Path, expectations: Path, is_quiet: bool = False,
             if it.holds and not is_quiet:
                 print('\n          '.join(['holds   %s' % words, *filter(None, [it.remark])]))
             elif not it.holds:
-                print('\n          '.join(['broken  %s' % words, *it.more]))
+                print('\n          '.join(['broken  %s' % words, *it.more, *filter(None, [it.remark])]))
         has_fault |= not part.replace and any(it.is_refused and not it.holds for it in verdicts)
     if has_fault:
         print('tools/explain %s shows the place of the error, and what you may write there' % scenario)

@@ -24,6 +24,11 @@ def _times(found: re.Match[str]) -> str:
     return '%s %s%s' % (verb, bound, 'once' if (many, bound) == ('1', 'exactly ') else many + ' times')
 
 
+def _below_0(found: re.Match[str]) -> str:
+    """A number below 0 as a value of 16 bits."""
+    return '%s %d' % (found[1], -int(found[2]) % 65_536) if len(found[2]) <= 5 else found[0]
+
+
 FORMS: list[tuple[str, Replaced]] = [
     (r'\bnode(s?)\b', r'mote\1'),
     (r'''["'`](\w+)["'`]''', r'\1'),
@@ -49,7 +54,11 @@ FORMS: list[tuple[str, Replaced]] = [
     (r'^never (.*?) ((?:%s)s?)\b' % VERBS, r'\1 never \2'),
     (r'^(%s),? (.*?\b%s)' % (TIMES, DEED), r'\2 \1'),
     (r'\b(motes? .*?)\b(%s) (%s)' % (TIMES, DEED), r'\1\3 \2'),
-    (r'\b((?:%s)s?(?: [a-z]\w*(?: \d+)?)?) (\d+ times)' % VERBS, r'\1 exactly \2'),
+    (r'\b((?:%s)s?(?: [a-z]\w*(?: \d+)?)?) (\d+ times?)\b' % VERBS, r'\1 exactly \2'),
+    (r'\b(motes \d+) ?(?:-|\u2013|\.\.) ?(?=\d)', r'\1 to '),
+    (r'\b(prints? (?:just )?[a-z]\w*|sends?|receives?) -(\d+)\b', _below_0),
+    (r'^(the report has) (?=\d+ lines?\b)', r'\1 exactly '),
+    (r'^(?=\d+ (?:packets?|copies|copy)\b)', 'exactly '),
     (r'\b((?:%s)s?) never\b' % VERBS, r'never \1'),
     (r'\b(at|by|before|after|between|from|within|to|and) (?:the )?(?:moment|time|t ?=) ?(?=\d)', r'\1 '),
     (r'\b(at|by|before|after|from) (\d+) moments?\b', r'\1 \2'),

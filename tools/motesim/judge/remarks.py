@@ -1,5 +1,6 @@
 """Remarks on sentences that hold, but say less than a reader may think: about a time after the end of the run, about
-lines that the programs can't write, or about an exact number of lines that a mote has more often."""
+lines that the programs can't write, or about an exact number of lines that a mote has more often; and on sentences
+about a number of motes that is always right, or never."""
 from __future__ import annotations
 
 import re
@@ -12,6 +13,8 @@ from motesim.notation.keywords import SYSTEM
 AFTER_THE_END = 'the run ends at %d, before the period of this sentence, which begins at %d'
 NO_STATEMENT = '%s no %s, so this sentence holds in every run'
 MORE = 'mote %d has %d such lines: this sentence is only about the exact number, `%s`'
+OF_MOTES = 'this sentence is about %s, so `%s` is %s true'
+OF_COPIES = 'a share is 0 to 100 %%, so `%s` is %s true'
 # The forms of an exact number in sentences.
 EXACTLY = re.compile(r'\b(?:exactly )?(?:once|twice)\b|\bexactly (\d+)(?: times?)?\b')
 
@@ -20,9 +23,24 @@ def remark_on(text: str, sentence: Sentence, judge: Judge) -> str:
     """The remark on a sentence that holds; an empty text if there is none."""
     if isinstance(sentence, (Does, Copies, Packets)) and sentence.window.begin > judge.scenario.end:
         return AFTER_THE_END % (judge.scenario.end, sentence.window.begin)
-    if not isinstance(sentence, Does):
-        return ''
+    certain = of_certain(sentence, judge)
+    if certain or not isinstance(sentence, Does):
+        return certain
     return of_programs(sentence, judge) or of_number(text, sentence, judge)
+
+
+def of_certain(sentence: Sentence, judge: Judge) -> str:
+    """The remark that the number of motes in a sentence, or a share of motes or copies, is right in every run, or in
+    none."""
+    if isinstance(sentence, Does) and sentence.motes.count is not None:
+        count, whole = sentence.motes.count, len(judge.chosen(sentence.motes))
+        results = {count.admits(found, whole if count.is_part else 1) for found in range(whole + 1)}
+        words = '1 mote' if whole == 1 else '%d motes' % whole
+        return OF_MOTES % (words, count, 'always' if True in results else 'never') if len(results) == 1 else ''
+    if isinstance(sentence, Copies) and sentence.count.is_part:
+        shares = {sentence.count.admits(found, 100) for found in range(101)}
+        return OF_COPIES % (sentence.count, 'always' if True in shares else 'never') if len(shares) == 1 else ''
+    return ''
 
 
 def of_programs(it: Does, judge: Judge) -> str:
