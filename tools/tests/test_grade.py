@@ -232,6 +232,7 @@ class Entries(Folder):
         self.assertLess(len(rows['dora.toml']), 110)
         self.grade('--net', 'task.toml', '-o', 'marks.html')
         self.assertIn('<td title="%s">be' % name, self.page())
+        self.assertIn('\ntd:first-child { white-space: nowrap; }\n', self.page())
 
     def test_without_a_required_sentence_the_mark_is_0(self) -> None:
         (self.top / 'task.expect.toml').write_text(

@@ -19,6 +19,7 @@ HEAD = OF_PAGE + """<meta charset="utf-8">
 body { font: 15px/1.45 system-ui, "DejaVu Sans", sans-serif; margin: 24px auto; max-width: 1100px; padding: 0 16px; }
 table { border-collapse: collapse; width: 100%%; }
 th, td { text-align: left; vertical-align: top; padding: 4px 10px 4px 0; border-bottom: 1px solid #8884; }
+td:first-child { white-space: nowrap; }
 td.number, th.number { text-align: right; white-space: nowrap; font-variant-numeric: tabular-nums; }
 .all { color: #1a7f4b; } .some { color: #9a6200; } .none { color: #c0281f; }
 pre { margin: 2px 0 0; font: 12.5px/1.4 ui-monospace, "DejaVu Sans Mono", monospace; white-space: pre-wrap; opacity: 0.8;
