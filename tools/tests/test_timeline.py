@@ -233,6 +233,20 @@ class Pages(unittest.TestCase):
             for fate, outcome in zip(fates, outcomes):
                 self.assertIn(fate, words[outcome.what])
 
+    def test_a_run_whose_lines_are_all_at_its_beginning_opens_there(self) -> None:
+        text = (TOP / 'examples/small_network.toml').read_text()
+        report, last = small_network().report, 20
+        for end, is_whole in (100 * last, False), (2 * last, True):
+            net = Scenario.parse(re.sub('(?m)^end = .*$', 'end = %d' % end, text).encode())
+            self.open(Run('small', report, net))
+            begin, behind = self.value('[m.time.begin, m.time.begin + m.time.width / m.time.scale]')
+            with self.subTest(end):
+                self.assertEqual(behind > end, is_whole)
+                self.assertLessEqual(begin, 0)
+                self.assertGreater(behind, last)
+            self.key('0')
+            self.assertGreater(self.value('m.time.begin + m.time.width / m.time.scale'), end)
+
     def test_wheel_keys_and_buttons_zoom_and_pan(self) -> None:
         self.open(small_network())
         whole = self.value('m.time.scale')

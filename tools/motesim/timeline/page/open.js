@@ -25,11 +25,23 @@ function showAround(moment, mote) {
   }
 }
 
+/** The part of a run at its beginning, up to which all lines count as being together. */
+const SMALL_PART = 0.1;
+
+/** Shows the beginning of the run, if no line is later. The button for the whole run shows the rest. */
+function showBeginning() {
+  let last = 0;
+  for (const {run: {at, traceStart}} of panes) {
+    for (const end of traceStart) if (end > 0) last = Math.max(last, at[end - 1]);
+  }
+  if (last + 1 <= (time.end + 1) * SMALL_PART) showTime(0, Math.ceil(last * 1.2) + 2);
+}
+
 /** Shows the purpose of the page: its note, or a moment, or the whole run. */
 function openAt({start, mote, note}) {
   whole();
   if (note) return openAtNote(note);
-  if (start === null) return;
+  if (start === null) return showBeginning();
   showAround(start, mote);
   if (mote !== null) chooseAt(start, mote);
 }
