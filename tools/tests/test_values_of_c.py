@@ -226,7 +226,8 @@ class Bits(OfC):
 
 class Numbers(OfC):
     def test_an_octal_number_is_said(self) -> None:
-        self.says('n = 010;', 'A number has no zeros in front: `10`. In C, `010` is octal, with the value 8.', True)
+        self.says('n = 010;', 'In C, a number with a zero in front is octal: `010` is 8. If you mean 10, write it '
+                  'without the zero.', True)
         for lines in 'n = 007;', 'n = 09;':
             self.assertNotIn('octal', of_lines(lines).hint)
 

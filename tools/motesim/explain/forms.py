@@ -4,11 +4,9 @@ from __future__ import annotations
 import re
 
 from motesim.explain.names import declarations
+from motesim.from_c.statements import SPLIT
 from motesim.notation.faults import ProgramError, tokens_of
 
-# Two words that are one in the notation.
-SPLIT = {('yield', 'until'): 'yield_until', ('wait', 'until'): 'wait_until', ('wait', 'while'): 'wait_while',
-         ('restart', 'timer'): 'restart_timer'}
 CAPITALS = re.compile(r'\b[A-Za-z_]\w*[A-Z]\w*|\b[A-Z]\w*')
 
 

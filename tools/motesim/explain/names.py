@@ -16,8 +16,9 @@ DECLARES = {'event': 'event', 'semaphore': 'semaphore', 'process': 'process', 'v
             'ctimer': 'timer', 'thread': 'thread'}
 HEAD = {'variable': 'var %s = 0;', 'timer': 'etimer %s;'}
 # Words of other languages that name no variable.
-NO_VARIABLES = {'true', 'false', 'and', 'or', 'not', 'random', 'rand', 'rnd', 'sleep', 'printf', 'break', 'continue',
-                'return', 'goto', 'switch', 'case', 'for', 'do', 'struct', 'to', 'ev', *ELSE_IFS, *LOOPS, *TYPES, *QUALIFIERS}
+NO_VARIABLES = {'true', 'false', 'and', 'or', 'not', 'random', 'rand', 'rnd', 'sleep', 'wait', 'printf', 'break',
+                'continue', 'return', 'goto', 'switch', 'case', 'for', 'do', 'struct', 'to', 'ev', *ELSE_IFS, *LOOPS,
+                *TYPES, *QUALIFIERS}
 TOP = {'semaphore': 'semaphore %s = 0;', 'event': 'event %s;'}
 
 

@@ -69,8 +69,12 @@ class Calls(Lines):
 
     def of_packet(self, word: str) -> str:
         """A buffer that is filled or sent: the statement that fills it becomes the `send`."""
+        self.skip_sizes()
         call = self.expression()
         self.why(BROADCAST)
+        is_value = len(call.parts) == 1 and self.scope.kinds.get(call.parts[0].text) == 'variable'
+        if word != 'packetbuf_copyfrom' and self.place.last != 'send' and is_value and call.parts[0].kind == 'name':
+            return self.end('send ' + call.parts[0].text)
         if word != 'packetbuf_copyfrom' and self.place.last == 'send':
             self.accept(';')
             return ''
@@ -83,6 +87,15 @@ class Calls(Lines):
         if value.kind != 'name' or self.scope.kinds.get(value.text) != 'variable':
             raise NoCounterpart(BROADCAST)
         return self.end('send ' + value.text)
+
+    def skip_sizes(self) -> None:
+        """Replaces each `sizeof(..)` of a call by the number of bytes of a value."""
+        for at in range(self.at, len(self.tokens) - 3):
+            words = [it.text for it in self.tokens[at:at + 4]]
+            if words[0] == ';':
+                break
+            if words[:2] == ['sizeof', '('] and words[3] == ')':
+                self.tokens[at:at + 4] = [self.tokens[at]._replace(kind='number', text='2')]
 
     def printed(self, word: str) -> str:
         """A print, or one for each value of a `printf`."""

@@ -13,7 +13,7 @@ from motesim.from_c.absent import NO_SENSORS, OF_READING, READING, RUNICAST, is_
 from motesim.from_c.bits import SIGNS, bits_of, most_of, runs_of, unit_of
 from motesim.from_c.nodes import (
     ADDRESSES, MOMENTS_OF_SECOND, Choice, Node, Step, address_of, has_difference, has_negative, is_difference,
-    is_of_no_mote, is_test, is_upper_byte, names_of, number_of, opposite, value_of, with_values,
+    is_octal, is_of_no_mote, is_test, is_upper_byte, names_of, number_of, opposite, value_of, with_values,
 )
 from motesim.from_c.parameters import of_value
 from motesim.from_c.scope import Scope, abbreviated, allowed
@@ -124,7 +124,7 @@ NO_CHANCE = ('A mote has no random numbers: each run is the same. Use a generato
 SEEDED = ('A mote has no random numbers: each run is the same. Use a generator, as below, with a seed that differs by '
           'mote. The statements at the start of `body` mix the seed, so that motes don\'t draw in step, for at most 255 '
           'motes. ' + OF_DRAWN)
-OF_OCTAL = 'A number has no zeros in front: `%d`. In C, `%s` is octal, with the value %d.'
+OF_OCTAL = 'In C, a number with a zero in front is octal: `%s` is %d. If you mean %d, write it without the zero.'
 TOO_LARGE = ('Numbers have 16 bits, 0 to 65,535: a timer is set to 65535 moments at most. Count larger ones in parts, '
              'such as '
              'thousands in a second variable.')
@@ -423,8 +423,8 @@ class Writer:
             return self.refuse('')
         if value > MOST:
             return self.refuse(TOO_LARGE)
-        if word.isdecimal() and word != str(value) and not {'8', '9'}.intersection(word) and int(word, 8) != value:
-            self.insist(OF_OCTAL % (value, word, int(word, 8)))
+        if is_octal(word) and int(word) != value:
+            self.insist(OF_OCTAL % (word, value, int(word)))
         elif str(value) != word:
             self.why(self.of_number(word, value))
         return str(value)

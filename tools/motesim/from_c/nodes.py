@@ -65,12 +65,19 @@ def with_values(node: Node, values: dict[str, str]) -> Node:
     return Node(node.kind, node.text, tuple(with_values(it, values) for it in node.parts))
 
 
+def is_octal(text: str) -> bool:
+    """Returns whether a number of C is octal: it begins with a 0, and has other digits, but no 8 and no 9."""
+    return len(text) > 1 and text[0] == '0' and text.isdecimal() and not {'8', '9'}.intersection(text)
+
+
 def number_of(text: str) -> int | None:
     """The value of a number of C, or None."""
     plain = text.lower().rstrip('ul') or text
     try:
         if plain[:2] in ('0x', '0b'):
             return int(plain, 0)
+        if is_octal(plain):
+            return int(plain, 8)
         return int(plain.translate(str.maketrans('oi', '01')))
     except ValueError:
         return None

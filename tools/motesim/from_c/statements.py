@@ -74,6 +74,9 @@ WITHOUT = {
     'print': ('A `print` shows a number: `print 1;`.', 'print 1'),
     'yield_until': ('Without a test it is `yield`; a test follows `yield_until`, such as `is(packet)`.', 'yield'),
 }
+# Two words that are one in the notation.
+SPLIT = {('yield', 'until'): 'yield_until', ('wait', 'until'): 'wait_until', ('wait', 'while'): 'wait_while',
+         ('restart', 'timer'): 'restart_timer'}
 LOOPS = ('loop', 'forever', 'repeat')
 SECONDS = ('s', 'sec', 'secs', 'second', 'seconds')
 UNIT = re.compile('(?:%s|ms|millis|milliseconds?|ticks?|moments?)' % '|'.join(SECONDS))
@@ -183,6 +186,10 @@ class Statements(Declarations, Calls, Control):
         """A statement that begins with a name."""
         lower, behind = word.lower(), self.ahead(1).text
         kind = self.scope.kinds.get(word)
+        if (word, behind) in SPLIT:
+            self.why('`%s` is one word.' % SPLIT[word, behind])
+            self.tokens[self.at:self.at + 2] = [self.token._replace(text=SPLIT[word, behind])]
+            return self.statement()
         if lower in ('wait',
                      'sleep') and self.scope.kinds.get(self.ahead(1).text) == 'semaphore' and self.accept(word):
             self.why('A process waits for a semaphore by `acquire`.')
