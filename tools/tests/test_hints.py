@@ -809,5 +809,35 @@ class Flows(unittest.TestCase):
                 read_flow(words)
 
 
+class Structure(unittest.TestCase):
+    """Hints on the lines around the statements."""
+
+    def hint(self, text: str) -> str:
+        fault = find_fault(text)
+        found = advice(text, fault) if fault else None
+        return found.hint if found else ''
+
+    def test_statements_outside_a_body(self) -> None:
+        for lines in 'print 1;', 'var x = 0; x = 1;':
+            self.assertIn('are in its `body`', self.hint('process a;\ncode a {\n%s\n}' % lines))
+
+    def test_a_second_line_of_a_kind(self) -> None:
+        code = 'code a { body { } }'
+        self.assertIn('`autostart a, b;`', self.hint('process a;\nautostart a;\nautostart a;\n' + code))
+        self.assertIn('`receiver a;`', self.hint('process a;\nreceiver a;\nreceiver a;\n' + code))
+
+    def test_a_block_without_its_word(self) -> None:
+        self.assertIn('`code main {`', self.hint('process main;\nautostart main;\nmain {\n  body { print 1; }\n}'))
+
+    def test_a_failure_of_a_mote(self) -> None:
+        text = 'version = 2\nend = 9\nmedium = { range = 9, base = 2, per = 9, collide = false }\n' \
+               'mote = [{ x = 0, y = 0, program = "p" }]\n[programs]\np = "process a; code a { body { } }"\n' \
+               '[[failure]]\nmote = 0\nat = 5\n'
+        fault = scenario_faults.find_fault(text.encode())
+        assert fault
+        said = ' '.join(explain.explanation('a.toml', text.encode(), 'motesim: ' + fault.message))
+        self.assertIn('`tools/search --faults motes`', said)
+
+
 if __name__ == '__main__':
     unittest.main()

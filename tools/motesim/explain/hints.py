@@ -92,6 +92,13 @@ OF_QUOTES = 'These are quotes of another kind, as word processors make them: wri
 OF_WORD = '`%s` is a word of the notation%s. A variable needs another name, such as `my_%s`, declared at the head of ' \
           'its `code`.'
 MEANT = 'Did you mean `%s`?'
+FAILURES = ('failure', 'failures', 'fault', 'faults', 'crash', 'dead', 'death', 'kill')
+OF_FAILURE = ('No mote fails in a scenario. `tools/search --faults motes` tries the failure of each mote: tools/search '
+              '--help has the options.')
+ONCE = {'autostart': 'One line names all processes that start at boot: `autostart a, b;`.',
+        'receiver': 'One process of a program receives packets, so there is one line `receiver a;`.'}
+OF_BODY = 'The statements of a process are in its `body`, below its variables and timers: `code a { .. body { .. } }`.'
+OF_CODE = 'The block of a process begins with `code` and its name: `code %s {`.'
 # Words that are followed by a name in parentheses.
 CALLED = {'is', 'fired', 'expired', 'gone', 'running', 'count'}
 # Letters that look like digits.
@@ -175,6 +182,12 @@ def _of_unexpected(before: list[Token], here: Token, behind: Token, may: list[st
     last = before[-1] if before else None
     word = here.text
     named = before[-2].text if len(before) > 1 else ''
+    if word in ('autostart', 'receiver') and word in [it.text for it in before]:
+        return ONCE[word]
+    if '`body`' in may and (word in STATEMENTS or here.kind == 'name' and behind.text == '='):
+        return OF_BODY
+    if '`code`' in may and here.kind == 'name' and behind.text == '{':
+        return OF_CODE % word
     if word == '(' and named == 'thread' and may == ['`{`']:
         return OF_PARAMETERS
     if word == '(' and named == 'spawn':
@@ -335,6 +348,8 @@ def _of_key(path: tuple[str | int, ...], name: str, tables: dict[str, object] | 
         return 'Nothing happens by chance here: a loss `[[loss]]` from one mote to another loses every k-th packet ' \
                '(`every = k`). A receiver may ignore packets by a generator with a seed: docs/use/EXPERIMENTS.md has a ' \
                'tested pattern under "Losses by chance". tools/scenario makes nets, and losses by rule, from a seed.'
+    if len(path) == 1 and name in FAILURES:
+        return OF_FAILURE
     tables_of = {'medium': [*MEDIUM, 'collide'], 'loss': [*LOSS], 'mote': [*MOTE]}
     like = nearest(name, tables_of.get(str(path[0]), [*TOP]) if len(path) > 1 else [*TOP, 'queue'])
     if like:
