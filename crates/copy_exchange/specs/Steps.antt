@@ -1,4 +1,4 @@
--- The senders that a worker gets before a window, and the gathering of these senders after it.
+-- A worker's senders for one window: they are made before the window, and gathered after it.
 use Rattle.std.specs.Prelude.{◌≡◌, ◌≢◌, ℕ, ◌<◌, ◌==◌, Bool, false, cond, List, [], ◌∷◌, ◌++◌, length, slice_get}
 use Rattle.std.specs.Prelude.{slice_index_or, Option, Some, None}
 use Rattle.std.specs.List.{AllByRecursion as Each}

@@ -1,4 +1,4 @@
--- The depth to which calls nest in the rules doesn't limit a mote, because its units of work end first.
+-- No mote is limited by the depth of nested calls in the rules: its units of work end first.
 use Rattle.std.specs.Prelude.{ℕ, ◌≡◌, ◌<◌, List}
 use Rattle.program_tree.specs.declared.event.Proc.{Proc}
 use Rattle.program_tree.specs.declared.event.Event.{Event}

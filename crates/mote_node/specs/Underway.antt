@@ -1,4 +1,4 @@
--- Steps of a turn in progress.
+-- The effect of a step on a turn in progress.
 use Rattle.std.specs.Prelude.{List, ◌++◌, if◌then◌else◌}
 use Rattle.trace_lines.specs.declared.line.Line.{Line}
 use Rattle.process_kernel.specs.KernelModel.{KernelModel}

@@ -1,4 +1,4 @@
--- The lines of a report except the last, in order, and the text of some of them.
+-- The lines of a report without its last line, in order, and the text of a range of these lines.
 use Rattle.std.specs.Prelude.{ℕ, ◌+◌, List, [], ◌∷◌, ◌++◌, codes, decimal, map, take, drop}
 use Rattle.std.specs.List.{concat}
 use Rattle.trace_lines.specs.declared.line.Line.{Line}
