@@ -47,9 +47,8 @@ class Advice(NamedTuple):
             return [inserted[0].replace('and insert', 'Insert'), inserted[1], 'and leave %s out.' % which]
         if not self.line and self.below:
             # (the lines further down come first, because their numbers are still those of the file)
-            ranges = [_which(it.first, it.last, offset) for it in reversed(self.below)]
-            others = ['%s %s out,' % (word, it) for word, it in zip(['Leave', *['leave'] * len(ranges)], ranges)]
-            return [*others, 'and leave %s out.' % which]
+            others = [line for it in reversed(self.below) for line in _left_out(source, it, offset)]
+            return [others[0][0].upper() + others[0][1:], *others[1:], 'and leave %s out.' % which]
         if not self.line:
             return ['Leave %s out%s' % (which, ',' if inserted else '.'), *inserted]
         # (a line that is inserted changes the numbers of those below it, which come first)
@@ -73,8 +72,18 @@ def _inserted(above: tuple[int, str], offset: int | None) -> str:
     return 'below ' + _which(line, line, offset)
 
 
+def _left_out(source: str, edit: Edit, offset: int | None) -> list[str]:
+    """A line further down that is left out, inserted or replaced, if the line at the fault is left out."""
+    if edit.last >= edit.first and not edit.line:
+        return ['leave %s out,' % _which(edit.first, edit.last, offset)]
+    first, *others = _edited(source, edit, offset)
+    return [first.removeprefix('and '), *others]
+
+
 def _edited(source: str, edit: Edit, offset: int | None) -> list[str]:
-    """A line further down that is inserted or replaced."""
+    """A line further down that is inserted, replaced or left out."""
+    if edit.last >= edit.first and not edit.line:
+        return ['and leave %s out.' % _which(edit.first, edit.last, offset)]
     if edit.last >= edit.first:
         return ['and write, as %s:' % _which(edit.first, edit.last, offset), _indented(source, edit.first, edit.line)]
     # (if the next line closes a block, the inserted line is the last one in this block)

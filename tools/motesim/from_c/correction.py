@@ -9,6 +9,7 @@ from dataclasses import replace
 from typing import NamedTuple
 
 from motesim.from_c.closings import Edit, edits_of, repeated, with_renamed
+from motesim.from_c.bare_block import AFTER_IF, REASON, bare_block, lacks_else
 from motesim.from_c.conditional import conditional, kept_define
 from motesim.from_c.expressions import MIXED, NoCounterpart
 from motesim.from_c.heads import bare_body, end_of_body, process_block
@@ -135,6 +136,17 @@ def _heads(text: str, fault: ProgramError) -> Correction | None:
     return None
 
 
+def _bare_block(text: str, fault: ProgramError) -> Correction | None:
+    """Leaves out both braces of a block that belongs to no statement; only advice if an `else` may be missing."""
+    if fault.kind == 2 and lacks_else(text, fault.token):
+        return Correction(fault.token.line, fault.token.line, None, (AFTER_IF,))
+    edits = bare_block(text, fault.token)
+    if fault.kind != 2 or not edits:
+        return None
+    made = Correction(edits[0].first, edits[0].last, edits[0].line, (REASON,), below=edits[1:])
+    return made if _rank(text, made) else None
+
+
 def _process_lines(text: str, fault: ProgramError) -> Correction | None:
     """One line instead of several that name processes, if the fault is in one of them."""
     first, last, line = process_lines(text, fault.token.line)
@@ -219,7 +231,7 @@ def _correction(text: str, fault: ProgramError) -> Correction | None:
     signs = [it.text for it in tokens_of(text)]
     unclosed = signs.count('{') - signs.count('}')
     whole = _of_preprocessor(text, fault) or _long_comment(text, fault) or _structural(text, fault)
-    whole = whole or _heads(text, fault) or _process_lines(text, fault)
+    whole = whole or _heads(text, fault) or _process_lines(text, fault) or _bare_block(text, fault)
     if whole:
         return whole
     advice, is_only_named = '', _is_only_named(text, fault)
