@@ -743,10 +743,21 @@ class Warnings(unittest.TestCase):
         self.assertEqual(explain.explanation('the text', data, 'motesim: scenario fault 1')[:2],
                          ['the text has no error.', 'the text is the text of a program, not a scenario.'])
         self.assertNotIn('an error', self.explained('a.mote', 'process a;\ncode a { body { print 1; } }\n'))
+        for first in 'Process a;', 'Receiver a;\nprocess a;', '// mine\nAUTOSTART a;\nprocess a;':
+            self.assertIn('a.txt is the text of a program', self.explained('a.txt', first + '\ncode a { body { } }\n'))
         plan = 'end = 9\nmedium = { range = 9, base = 2, per = 9 }\n[places]\nrule = "line"\ncount = 2\nstep = 5\n'
         found = self.explained('a.plan.toml', plan)
         self.assertRegex(found, r'a\.plan\.toml is a plan, not a scenario: tools/scenario \S+ -o NAME\.toml makes')
         self.assertNotIn('version', found)
+
+    def test_a_file_with_the_name_of_a_program_is_one_unless_it_begins_as_a_scenario(self) -> None:
+        for first in '#include "contiki.h"', 'PROCESS(a, "A");', '/* mine */', 'int n;', 'code a {':
+            found = self.explained('a.mote', first + '\nprocess a;\n')
+            self.assertRegex(found, r'a\.mote is the text of a program, not a scenario\.')
+            self.assertRegex(found, r'The program has an error, too: \S+, line 1: ')
+            self.assertNotIn('Python says', found)
+        for scenario_text in 'end = 5', '# mine\n[medium]', '':
+            self.assertNotIn('the text of a program', self.explained('a.mote', scenario_text))
 
     def test_explain_shows_them(self) -> None:
         text = scenario(program='process a; code a { body { print 1; } }')

@@ -18,7 +18,7 @@ from motesim.report import Report
 from motesim.runner.run import Answer, NoReport, answer, is_report, read_file
 from motesim.scenario import Scenario
 from motesim.scenario.faults import Place, ScenarioError
-from motesim.scenario.kinds import begins_as_c, begins_as_program
+from motesim.scenario.kinds import begins_as_c, is_program_file
 from motesim.terminal import one_line
 from motesim.toml import MARK, NoToml, read_toml
 
@@ -193,7 +193,7 @@ def whole_explanation(name: str, data: bytes, line: str) -> list[str]:
     if fault is None or fault.message != what:
         # (for instance of an error of memory, or of a text that only Python reads as TOML)
         return wrapped(rule_of(what)) + ['This tool can\'t show the place of the error.']
-    if begins_as_program(data):
+    if is_program_file(name, data):
         return program_instead(name, data)
     text = data.decode('utf-8', 'replace')
     if begins_as_c(data) and tables_or_none(text) is None:
@@ -282,7 +282,7 @@ def refused(name: str, data: bytes, fault: NoReport) -> Fault:
 def explain(name: str, run: Callable[[bytes], Answer] | None = None) -> int:
     """Prints the explanation of a file, as tools/explain does; returns the status. `run` runs the scenario."""
     data = read_file(name)
-    if begins_as_program(data):
+    if is_program_file(name, data):
         print('\n'.join(program_instead(name, data)))
         return 1
     got = (run or answer)(data)

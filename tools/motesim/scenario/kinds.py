@@ -4,8 +4,12 @@ from __future__ import annotations
 
 import re
 
-# A program begins with a declaration, below comments; a scenario begins with a comment, a table or a key.
-PROGRAM = re.compile(rb'(?:\xef\xbb\xbf)?(?:\s|//[^\n]*+\n)*+(?:process|event|semaphore)[ \t]++[a-z]')
+from motesim.scenario.encodings import encoding_of, is_text
+
+# A program begins with a declaration, below comments, even if its first word has capitals by mistake; a scenario begins
+# with a comment, a table or a key.
+PROGRAM = re.compile(rb'(?:\xef\xbb\xbf)?(?:\s|//[^\n]*+\n)*+'
+                     rb'(?:(?i:process|receiver|autostart)[ \t]++[A-Za-z]|(?:event|semaphore)[ \t]++[a-z])')
 SCENARIO = re.compile(rb'(?:\xef\xbb\xbf)?(?:\s|#[^\n]*+\n)*+(?:\[|[A-Za-z0-9_"\'-]++[ \t]*+=)')
 
 # A text in C begins with an `#include`, a macro of Contiki or a declaration, below comments.
@@ -40,6 +44,13 @@ def begins_as_results(data: bytes) -> bool:
 def begins_as_program(data: bytes) -> bool:
     """Returns whether a text begins like a program, and not like TOML."""
     return PROGRAM.match(data) is not None
+
+
+def is_program_file(name: str, data: bytes) -> bool:
+    """Returns whether a file has the text of a program, by its beginning or, if it begins in another way than a
+    scenario, by its name."""
+    is_named = name.lower().endswith('.mote') and bool(data.strip()) and not begins_as_scenario(data)
+    return begins_as_program(data) or is_named and encoding_of(data) is None and is_text(data)
 
 
 def begins_as_c(data: bytes) -> bool:
