@@ -635,6 +635,22 @@ class Warnings(unittest.TestCase):
             'Each operator and its two values have parentheses of their own: `((0 < seq) < 256)`. This compares only '
             'the result of `0 < seq`, which is 0 or 1. To test both conditions, write `((0 < seq) && (seq < 256))`.'))
 
+    def test_the_line_for_two_comparisons_in_a_row_tests_both_conditions(self) -> None:
+        for test, wanted in (
+                ('0 < seq < 256', '((0 < seq) && (seq < 256))'), ('(0 < seq <= 256)', '((0 < seq) && (seq <= 256))'),
+                ('9 > (seq) >= 1', '((9 > seq) && (seq >= 1))'),
+                ('(0 < seq < 9 && seq != 3)', '(((0 < seq) && (seq < 9)) && (seq != 3))'),
+                ('(seq + 1) < self < 9', '(((seq + 1) < self) && (self < 9))'),
+                ('1 < seq < self < 9', '(((1 < seq) && (seq < self)) && (self < 9))')):
+            text = CODE % ('if %s { print 1; }' % test)
+            found = advice(text, fault_of(text))
+            with self.subTest(test):
+                self.assertIn('if %s {' % wanted, str(found and found.line))
+                self.assertIn('C reads it in another way', str(found and found.hint))
+        for test in '(0 < seq) < 256', '0 < seq > 9', '0 < (seq + 1) < 9', '1 == seq < 9':
+            text = CODE % ('if %s { print 1; }' % test)
+            self.assertNotIn('C reads it', str(advice(text, fault_of(text))))
+
     def test_a_comparison_of_the_result_of_a_comparison(self) -> None:
         for test, wanted in (
                 ('((0 < seq) < 256)', '`(0 < seq)` is 0 or 1, so `< 256` compares only this result. To test both '

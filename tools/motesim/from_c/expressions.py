@@ -131,6 +131,8 @@ TOO_LARGE = ('Numbers have 16 bits, 0 to 65,535: a timer is set to 65535 moments
 TICKS = ('There is no `CLOCK_SECOND`: a timer is set in moments. Decide how many moments a second has; with %d it is '
          'the line '
          'below.' % MOMENTS_OF_SECOND)
+OF_ROW = ('`%s` becomes a test of two conditions. C reads it in another way: it compares the result of the first '
+          'comparison, which is 0 or 1, with the last value.')
 SMALL_LETTERS = 'Names have small letters'
 NO_END = 'A `)` is missing.'
 ONE_TOO_MANY = 'One `)` is too many.'
@@ -217,7 +219,7 @@ class Expressions:
         if number == len(LEVELS):
             return self.unary()
         begin = self.place_here
-        left = self.level(number + 1)
+        left, is_second = self.level(number + 1), False
         while self.token.kind in ('sign', 'name') and self.token.text in LEVELS[number]:
             sign = self.accept(*LEVELS[number])
             place = self.place_here
@@ -227,8 +229,20 @@ class Expressions:
                 self.only_if(left if choice.sign == '&&' else opposite(left), choice, begin, place)
             if sign not in ('=', '&&', '||', 'and', 'or'):
                 left, right = self.assigned(left), self.assigned(right)
-            left = Node('binary', WORDS.get(sign, sign), (left, right))
+            both = self.both(left, sign, right, begin) if is_second else None
+            left, is_second = both or Node('binary', WORDS.get(sign, sign), (left, right)), True
         return left
+
+    def both(self, left: Node, sign: str, right: Node, begin: tuple[int, int, int]) -> Node | None:
+        """A comparison behind another one, `0 < x < 9`, as a test of both conditions; None if it is another form."""
+        first = left.parts[1] if left.text == '&&' else left
+        if first.text not in ORDERS or sign[0] != first.text[0]:
+            return None
+        middle, has_steps = first.parts[1], begin[1:] != self.place_here[1:]
+        if has_steps or middle.kind not in ('name', 'number'):
+            return None
+        self.insist(OF_ROW % ' '.join(it.text for it in self.tokens[begin[0]:self.at]))
+        return Node('binary', '&&', (left, Node('binary', sign, (middle, right))))
 
     def assigned(self, node: Node) -> Node:
         """The variable of an assignment in parentheses whose value is compared or calculated with; this assignment is
