@@ -110,6 +110,19 @@ class Entries(Folder):
             '  1  1 of 4  every mote prints a 3\n  2  1 of 4  mote 1 prints a at 6\n'
             '  3  3 of 4  no mote halts\n'))
 
+    def test_a_remark_on_a_sentence_that_needs_no_evidence(self) -> None:
+        said = 'the programs of these motes have no `send`, so this sentence holds in every run'
+        (self.top / 'task.expect.toml').write_text('expect = ["no mote sends 9", "every mote prints a 3"]\n')
+        self.hand_in('ben.toml', net(PROGRAM % 4))
+        self.hand_in('carla.toml', net('// refuse\n' + PROGRAM % 3))
+        below = self.grade().split('\n\n')[1]
+        self.assertEqual(below, (
+            '  1  2 of 3  no mote sends 9\n     in all solutions and nets, this or a similar remark: %s\n'
+            '  2  1 of 3  every mote prints a 3\n' % said))
+        self.assertIn('holds   no mote sends 9\n          %s\n' % said, self.grade('--why', 'anna'))
+        self.hand_in('dora.toml', net((PROGRAM % 3).replace('print 3;', 'print 3; if (self == 9) { send 9; }')))
+        self.assertNotIn(said, self.grade())
+
     def test_whatever_there_is_becomes_a_row_and_none_stops_the_others(self) -> None:
         (self.folder / 'x.toml').mkdir()
         (self.folder / 'gone.toml').symlink_to('nowhere')

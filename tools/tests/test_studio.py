@@ -476,6 +476,13 @@ class Answering(unittest.TestCase):
         checks = self.judge(self.run_text(text)['number'], 0)['checks']
         self.assertEqual((checks['about'], checks['fault']), ('another value', ''))
         self.assertEqual([(it['sentence'], it['holds']) for it in checks['marks']], [('mote 1 prints talker 9', True)])
+        self.assertEqual([it['remark'] for it in checks['marks']], [''])
+
+    def test_a_remark_is_below_a_sentence_that_needs_no_evidence(self) -> None:
+        self.file.with_suffix('.expect.toml').write_text('expect = ["no mote sends from 90 to 99"]')
+        checks = self.judge(self.run_text(NET)['number'], 0)['checks']
+        self.assertEqual([(it['holds'], it['remark']) for it in checks['marks']], [
+            (True, 'the run ends at 60, before the period of this sentence, which begins at 90')])
 
 
 class Guides(unittest.TestCase):

@@ -18,7 +18,8 @@ from motesim.judge.expectations import (
     REFUSED, REQUIRED, Part, UnknownSentence, known_of, more_of, read_all, refused, same_report,
 )
 from motesim.judge.judge import Broken, Judge
-from motesim.judge.sentences import lacking
+from motesim.judge.remarks import remark_of
+from motesim.judge.sentences import Sentence, lacking
 from motesim.notation.faults import find_fault as find_program_fault
 from motesim.report import Report
 from motesim.runner import LimitMet, Limits, Runner
@@ -55,6 +56,7 @@ class Mark(NamedTuple):
 
     shown        the net and the reason as a page may show them to students: nothing of a hidden net
     is_required  whether a solution that doesn't meet the sentence earns nothing
+    remark       in the first net, if each net has one: the remark that the sentence says less than a reader may think
     """
     sentence: str
     holds: bool
@@ -62,6 +64,7 @@ class Mark(NamedTuple):
     more: tuple[str, ...] = ()
     shown: tuple[str, ...] = ()
     is_required: bool = False
+    remark: str = ''
 
     @property
     def words(self) -> str:
@@ -111,7 +114,8 @@ class Marks:
     def in_lines(self) -> Marks:
         """These marks, with each text in one line: names in a solution may have characters that would end or change a
         row."""
-        marks = tuple(it._replace(more=lines_of(it.more), shown=lines_of(it.shown)) for it in self.marks)
+        marks = tuple(it._replace(more=lines_of(it.more), shown=lines_of(it.shown), remark=one_line(it.remark))
+                      for it in self.marks)
         lacks = tuple(cut(one_line(it), LONGEST_WHY) for it in self.lacks)
         return replace(self, marks=marks, why=cut(one_line(self.why), LONGEST_WHY), lacks=lacks,
                        fix=lines_of(self.fix), unused=cut(one_line(self.unused), LONGEST_WHY))
@@ -251,8 +255,9 @@ class Task:
         report = Report.parse(got.report)
         judge = Judge(report, scenario)
         broken = [judge.broken(it) for it in sentences]
-        held = iter([Mark(words, it is None, (), tuple(more_of(it, judge.rows)) if it else ())
-                     for words, it in zip(part.sentences, broken)])
+        held = iter([Mark(words, it is None, (), tuple(more_of(it, judge.rows)) if it else (),
+                          remark=remark_or_none(words, sentence, judge, it is None))
+                     for words, sentence, it in zip(part.sentences, sentences, broken)])
         places = iter(broken)
         marks = self.spread(held, lacks)
         if self.part.report is not None:
@@ -286,7 +291,8 @@ class Task:
             failed = [(its, mark) for its, mark in zip(found, each) if not mark.holds]
             first = failed[0][1] if failed else None
             marks.append(Mark(each[0].sentence, not failed, tuple(its.net for its, _ in failed if its.net),
-                              first.more if first else (), shown_of(failed), place < self.part.required))
+                              first.more if first else (), shown_of(failed), place < self.part.required,
+                              each[0].remark if all(it.remark for it in each) else ''))
         why = ' '.join(next((its.why for its in found if its.why), '').split())[:LONGEST_WHY]
         lacks = [next((it for it in each if it), '') for each in zip(*(its.lacks for its in found))]
         halts, shown = (next((it.halts + (' in %s' % it.net if it.net else '') for it in its if it.halts), '')
@@ -322,6 +328,11 @@ def first_shown(marks: Marks, found: Sequence[InNet]) -> tuple[int, InNet | None
             if not mark.holds and not its.marks[place].holds and not its.is_hidden:
                 return place, its
     return 0, None
+
+
+def remark_or_none(text: str, sentence: Sentence, judge: Judge, holds: bool) -> str:
+    """The remark on a sentence. A mark doesn't depend on it, so an error in it leaves it out."""
+    return tried(lambda: remark_of(text, sentence, judge, holds), lambda words: '')
 
 
 def halt_of(report: Report) -> str:

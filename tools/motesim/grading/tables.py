@@ -19,6 +19,7 @@ OF_FORMULA = ('=', '+', '-', '@', '\t', '\r', '|', '%')
 RENAMED = 'Hint: sentences use the names of the task: if a process was renamed, rename it back, and grade again'
 UNUSED = ('Hint: in a net of --net or --hidden the motes run only one program of a solution. Move the code of the '
           'other motes into this program, below tests such as `if (self == 0)`, and grade again')
+SHARED = 'in all solutions and nets, this or a similar remark: %s'
 ESCAPES = {'\\': '\\\\', '"': '\\"', '\n': '\\n', '\t': '\\t', '\r': '\\r'}
 
 
@@ -52,10 +53,15 @@ def table(marked: Sequence[Marks], sentences: Sequence[str]) -> list[str]:
 
 
 def below(marked: Sequence[Marks], sentences: Sequence[str]) -> list[str]:
-    """The sentences, each with how many solutions meet it."""
+    """The sentences, each with how many solutions meet it, and with a remark if each solution has one."""
     required, solutions = required_of(marked), [it for it in marked if it.is_solution]
-    return ['%3d  %d of %d  %s%s' % (number, sum(holds(it, number) for it in solutions), len(solutions), sentence,
-                                     REQUIRED * (number in required)) for number, sentence in enumerate(sentences, 1)]
+    rows = []
+    for number, sentence in enumerate(sentences, 1):
+        rows.append('%3d  %d of %d  %s%s' % (number, sum(holds(it, number) for it in solutions), len(solutions),
+                                             sentence, REQUIRED * (number in required)))
+        remarks = [it.marks[number - 1].remark for it in solutions if len(it.marks) >= number and not it.why]
+        rows += ['     ' + SHARED % remarks[0]] if remarks and all(remarks) else []
+    return rows
 
 
 def pointer(marked: Sequence[Marks]) -> list[str]:
@@ -142,7 +148,7 @@ def why(marks: Marks) -> list[str]:
     for it in marks.marks if not marks.why else ():
         lines.append(('holds   ' if it.holds else 'broken  ') + it.words)
         nets = [in_nets(it.nets)] if it.nets else []
-        lines += ['          ' + row for row in [*nets, *it.more]]
+        lines += ['          ' + row for row in [*nets, *it.more, *filter(None, [it.remark])]]
     lines += ['%s: it used up its work there, maybe in a loop without a wait' % marks.halts] if marks.halts else []
     if marks.first_failed is not None:
         lines += [*marks.warned, *([marks.unused, UNUSED] if marks.unused else [])]

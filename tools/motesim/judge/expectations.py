@@ -13,7 +13,7 @@ from typing import Any, NamedTuple
 from motesim.faults import Fault
 from motesim.explain.synonyms import nearest
 from motesim.judge.judge import Broken, Judge
-from motesim.judge.remarks import of_certain, remark_on
+from motesim.judge.remarks import remark_of
 from motesim.report import Report
 from motesim.runner import LimitMet, ProgramFault
 from motesim.runner.run import Answer, answer, read_file, refuse_others
@@ -182,7 +182,7 @@ def of_report(part: Part, sentences: list[Sentence], judge: Judge) -> list[Verdi
     found = []
     for text, sentence in zip(part.sentences, sentences):
         broken = judge.broken(sentence)
-        remark = of_certain(sentence, judge) if broken else remark_on(text, sentence, judge)
+        remark = remark_of(text, sentence, judge, broken is None)
         found.append(Verdict(text, broken is None, more_of(broken, judge.rows) if broken else [], remark=remark))
     return found + ([same_report(judge.rows, part.report)] if part.report is not None else [])
 

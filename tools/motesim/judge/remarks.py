@@ -19,6 +19,11 @@ OF_COPIES = 'a share is 0 to 100 %%, so `%s` is %s true'
 EXACTLY = re.compile(r'\b(?:exactly )?(?:once|twice)\b|\bexactly (\d+)(?: times?)?\b')
 
 
+def remark_of(text: str, sentence: Sentence, judge: Judge, holds: bool) -> str:
+    """The remark on a sentence; an empty text if there is none. Most remarks are only about sentences that hold."""
+    return remark_on(text, sentence, judge) if holds else of_certain(sentence, judge)
+
+
 def remark_on(text: str, sentence: Sentence, judge: Judge) -> str:
     """The remark on a sentence that holds; an empty text if there is none."""
     if isinstance(sentence, (Does, Copies, Packets)) and sentence.window.begin > judge.scenario.end:

@@ -13,6 +13,7 @@ from motesim.explain.lint import warnings
 from motesim.faults import Fault
 from motesim.judge import expectations
 from motesim.judge.judge import Judge
+from motesim.judge.remarks import remark_of
 from motesim.judge.sentences import names_of
 from motesim.report import Report
 from motesim.runner.run import Run
@@ -170,13 +171,14 @@ def marks(part: expectations.Part, done: Finished) -> list[dict[str, Any]]:
         broken = judge.broken(sentence)
         found.append({'sentence': words, 'holds': broken is None, 'required': len(found) < part.required,
                       'row': broken.row if broken else None,
-                      'more': expectations.more_of(broken, judge.rows) if broken else []})
+                      'more': expectations.more_of(broken, judge.rows) if broken else [],
+                      'remark': remark_of(words, sentence, judge, broken is None)})
     if part.report is not None:
         whole = expectations.same_report(judge.rows, part.report)
         row = next((row for row, (ours, wanted) in enumerate(zip_longest(judge.rows, part.report.splitlines()), 1)
                     if ours != wanted), None)
         found.append({'sentence': whole.sentence, 'holds': whole.holds, 'required': False, 'row': row,
-                      'more': whole.more})
+                      'more': whole.more, 'remark': ''})
     return found
 
 

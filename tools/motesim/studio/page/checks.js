@@ -64,7 +64,8 @@ function checkItem(it) {
     inside.append(button);
   }
   if (it.required) inside.append(' (required)');
-  if (!it.holds) inside.append(Object.assign(element('span', it.more.join('\n')), {className: 'why'}));
+  const why = [...(it.holds ? [] : it.more), ...(it.remark ? [it.remark] : [])].join('\n');
+  if (why) inside.append(Object.assign(element('span', why), {className: 'why'}));
   const item = element('li', '', [sign, inside]);
   item.className = it.holds ? 'holds' : 'broken';
   return item;
