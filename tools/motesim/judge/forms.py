@@ -115,10 +115,10 @@ ORDER = Table('ORDER', 'Meaning', ('mote 1 sends 1 %s',), (
     (('within 10 of receiving 1', 'within 10 moments of it receives 1', 'within 1 moment of mote 2 sending 5'),
      'each line is at most that many moments after a line of the event'),
     (('within 10 of each time it receives 1', 'within 10 of every time mote 0 sends'),
-     'each line of the event is followed, at most that many moments later, by a line of the sentence; this ORDER has '
-     'no TIMES, and its WHEN is about the lines of the event. The tool ignores a line of the event if no line of the '
-     'sentence follows it and the run ends before these moments are over. If the tool ignores all lines of the event, '
-     'or if there are none, the sentence is broken'),
+     'each line of the event is followed, at most that many moments later, by a line of the sentence. A sentence with '
+     'this ORDER has no TIMES, and its WHEN is about the lines of the event. The tool ignores a line of the event if '
+     'no line of the sentence follows it and the run ends before these moments are over. If the tool ignores all lines '
+     'of the event, or if there are none, the sentence is broken'),
 ))
 OTHER = Table('Sentence', 'Is about', ('%s',), (
     (('no copy collides', 'some copy collides at mote 3'), 'lines `collide`'),
@@ -128,8 +128,8 @@ OTHER = Table('Sentence', 'Is about', ('%s',), (
      'copies that the medium loses; the moment of such a copy is the moment at which its packet was sent'),
     (('at least 90 % of copies arrive', 'at most 5 % of the copies collide at motes 1 to 3', 'every copy arrives',
       'each copy arrives at mote 3', 'all copies arrive'),
-     'a share of all copies except those that are left. A copy that the medium loses counts, even if it would arrive '
-     'after the end. This sentence has no WHEN'),
+     'a share of all copies, except those that are still on the way at the end. A copy that the medium loses counts, '
+     'even if it would arrive after the end. This sentence has no WHEN'),
     (('exactly 1 copy is left', 'exactly 2 copies are left'),
      'the last line of the report: the copies on the way at the end'),
     (('exactly 75 packets are sent', 'no packet is sent after 90'), 'lines of the medium'),
