@@ -4,7 +4,7 @@ from __future__ import annotations
 import re
 
 WRITTEN = re.compile(r'(?:and )?(?:[Ww]rite, as|[Ll]eave) lines? (\d+)(?: to (\d+))?(?::| out)')
-INSERTED = re.compile(r'(?:and insert|Insert) below line (\d+):')
+INSERTED = re.compile(r'(?:and insert|Insert) (below|above) line (\d+):')
 
 
 def followed(text: str, message: list[str]) -> str | None:
@@ -19,7 +19,8 @@ def followed(text: str, message: list[str]) -> str | None:
         if written:
             edits.append((int(written[1]) - 1, int(written[2] or written[1]), [] if ' out' in line else shown))
         elif inserted:
-            edits.append((int(inserted[1]), int(inserted[1]), shown))
+            place = int(inserted[2]) - (inserted[1] == 'above')
+            edits.append((place, place, shown))
     rows = text.split('\n')
     for first, last, lines in sorted(edits, key=lambda it: it[:2], reverse=True):
         rows[first:last] = lines

@@ -23,7 +23,7 @@ class Advice(NamedTuple):
     """A hint, the correct line, and the lines (from 1) that it replaces. If the correct line is empty, these lines are
     left out.
 
-    above  another line to be inserted, usually further up, and the number of the line below which it belongs
+    above  another line, or lines, to be inserted, usually further up, and the number of the line below which it belongs
     below  other lines, mostly further down, to be inserted or replaced
     """
     hint: str
@@ -38,13 +38,12 @@ class Advice(NamedTuple):
         other lines, and the numbers are those of the scenario's lines; otherwise they are those of the program's.
         """
         if self.line is None:
-            return ['Insert %s:' % _inserted(self.above, offset), _indented(source, *self.above)] if self.above else []
+            return self._shown_above(source, offset, 'Insert')
         which = _which(self.first, self.last, offset)
-        inserted = ['and insert %s:' % _inserted(self.above, offset), _indented(source, *self.above)] \
-            if self.above else []
+        inserted = self._shown_above(source, offset, 'and insert')
         if not self.line and self.above and self.above[0] > self.last:
             # (in this order the second number is right after the first step)
-            return [inserted[0].replace('and insert', 'Insert'), inserted[1], 'and leave %s out.' % which]
+            return [*self._shown_above(source, offset, 'Insert'), 'and leave %s out.' % which]
         if not self.line and self.below:
             # (the lines further down come first, because their numbers are still those of the file)
             others = [line for it in reversed(self.below) for line in _left_out(source, it, offset)]
@@ -54,6 +53,11 @@ class Advice(NamedTuple):
         # (a line that is inserted changes the numbers of those below it, which come first)
         below = [line for it in reversed(self.below) for line in _edited(source, it, offset)]
         return ['Write, as %s:' % which, _indented(source, self.first, self.line), *below, *inserted]
+
+    def _shown_above(self, source: str, offset: int | None, verb: str) -> list[str]:
+        """The lines to be inserted elsewhere, below their place."""
+        its = self.above
+        return ['%s %s:' % (verb, _inserted(its, offset)), *_all_indented(source, *its)] if its else []
 
 
 def _which(first: int, last: int, offset: int | None) -> str:
@@ -91,6 +95,14 @@ def _edited(source: str, edit: Edit, offset: int | None) -> list[str]:
     below = next((it for it in range(edit.first, len(rows)) if rows[it - 1].strip()), edit.first)
     return ['and insert below %s:' % _which(edit.last, edit.last, offset),
             '  ' * rows[below - 1].lstrip().startswith('}') + _indented(source, below, edit.line)]
+
+
+def _all_indented(source: str, number: int, lines: str) -> list[str]:
+    """Lines of which the first one begins in the same column as a line of the program, or further right."""
+    first, *others = lines.split('\n')
+    begin = _indented(source, number, first)
+    indent = ' ' * (len(begin) - len(begin.lstrip()) - len(first) + len(first.lstrip()))
+    return [begin, *(indent + it if it.strip() else it for it in others)]
 
 
 def _indented(source: str, number: int, line: str) -> str:

@@ -34,7 +34,8 @@ LONGEST_TEXT, LONGEST_LINES = 200_000, 2_000
 class Correction(NamedTuple):
     """The lines of a program (from 1) to be replaced; the new text, or None if none is known; and the reasons.
 
-    above  a line that is to be inserted elsewhere, mostly further up, and the number of the line below which it belongs
+    above  a line or several lines to be inserted elsewhere, mostly further up, and the number of the line below which
+           they belong
     below  the edits at the ends of blocks that continue below the lines, and at the start of their `body`; lines whose
            new text is empty are left out
     """
@@ -189,8 +190,11 @@ def _is_only_named(text: str, fault: ProgramError) -> bool:
     return fault.kind == 3 and at is not None and tokens[at + 1].text not in ('(', '[', '=')
 
 
-def _insertions(text: str, reader: Statements) -> list[tuple[int, str] | None]:
-    """The lines that may be inserted with a reading, the best one first."""
+def _insertions(text: str, source: str, reader: Statements) -> list[tuple[int, str] | None]:
+    """The lines that may be inserted with a reading of some lines, the best one first."""
+    if reader.moved:
+        head = head_for(text, 'thread ' + reader.moved)
+        return [(head, source)] if head else []
     if not reader.declares:
         return [(_above_processes(text, reader.events[0]), ' '.join(reader.events)) if reader.events else None]
     if reader.events:
@@ -262,7 +266,7 @@ def _correction(text: str, fault: ProgramError) -> Correction | None:
             reasons = reasons_with(bool(seed) or MIXED in text, reader.writer.shown())
             below = with_renamed(text, renamed, (*seed, *below))
             made = Correction(first, last, written, reasons, below=below)
-            for above in _insertions(text, reader):
+            for above in _insertions(text, source, reader):
                 made = made._replace(above=above)
                 found.append((0 if _same(source, written) else _rank(text, made), made))
         best = max(found, key=lambda it: it[0], default=None)

@@ -10,6 +10,7 @@ from motesim.from_c.expressions import (
 from motesim.from_c.nodes import Node, number_of, value_of
 from motesim.from_c.own_names import OTHERS, OwnNames
 from motesim.from_c.parameters import KEPT, OF_COMMENT, READ_BY_NAME, SHARED
+from motesim.from_c.places import codes_with
 from motesim.from_c.scope import LONGEST, allowed
 from motesim.from_c.tokens import tokens_of
 
@@ -19,6 +20,9 @@ CALLBACK = ('There are no functions. A callback timer runs its own block, `ctime
             'put other steps into a `thread`, which `spawn` runs.')
 OF_BLOCK = ('There are no functions: callback timer `%s` runs its own block, at the head of the `code`. This block has '
             'the statements of the function: `ctimer %s { %s}`.')
+OF_FUNCTION = ('There are no functions: a `thread` serves as one, at the head of the `code` that calls it, below its '
+               'variables and timers. Move the lines of the function there first.')
+OF_PROTOTYPE = 'A function needs no line above it: a `thread` is declared above the statements that spawn it.'
 # A function with such a parameter is called for each packet.
 CONNECTION = re.compile(r'\w+_conn|rimeaddr_t|linkaddr_t|uip_ipaddr_t')
 OF_PACKETS = ('No function is called when a packet arrives: a packet is the event `packet`. Above the first `code`, '
@@ -242,14 +246,36 @@ class Declarations(OwnNames):
         self.at += 1
         if timer:
             return self.of_timer(timer)
+        if self.is_prototype():
+            self.why(OF_PROTOTYPE)
+            return self.rest_left_out()
         if any(CONNECTION.fullmatch(it.text) for it in self.tokens[self.at:]):
             return self.of_receiver()
         self.why('There are no functions: a `thread` serves as one, without parameters, and `spawn %s;` runs it. A '
                  'callback timer runs its own block, `ctimer c { .. }`.' % name)
+        if self.is_moved_whole(name):
+            return ''
         self.parameters(self.place.is_head)
         if not self.place.is_head or not self.accept('{') or self.token.kind != 'end':
             raise NoCounterpart(CALLBACK)
         return 'thread %s {' % name
+
+    def is_prototype(self) -> bool:
+        """Returns whether a semicolon follows the parameters of a function."""
+        words = [it.text for it in self.tokens[self.at:]]
+        return ')' in words and words[words.index(')') + 1:][:1] == [';']
+
+    def is_moved_whole(self, name: str) -> bool:
+        """Moves a function above the codes, unchanged, into the code that calls it. Returns False if these lines aren't
+        the whole function, or if not exactly one code calls it."""
+        words = [it.text for it in self.tokens if it.kind != 'end']
+        is_whole = words[-1:] == ['}'] and words.count('{') == words.count('}')
+        if not self.place.is_top or not is_whole or codes_with(self.place.below, name) != 1:
+            return False
+        self.at = len(words)
+        self.moved = name
+        self.writer.reasons = [OF_FUNCTION]
+        return True
 
     def of_timer(self, timer: str) -> str:
         """A function that a callback timer calls: the block of the timer."""

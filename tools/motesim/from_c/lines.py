@@ -44,6 +44,8 @@ class Lines(Expressions):
         # codes); and declarations of events.
         self.declares: list[str] = []
         self.events: list[str] = []
+        # The name of a function that moves to the head of a code, or nothing.
+        self.moved = ''
 
     def why(self, reason: str) -> None:
         self.writer.why(reason)

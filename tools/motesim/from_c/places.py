@@ -18,11 +18,14 @@ ENDS = [
     (re.compile(r'!(%s)' % NAME), r'\1 = 1'), (re.compile(r'\((%s) == 0\)' % NAME), r'\1 = 1'),
     (re.compile('(%s)' % NAME), r'\1 = 0'),
 ]
+BRACE, WORD = re.compile('[{}]'), re.compile(r'\w+')
+# A function of C, from its first line to its brace.
+FUNCTION = re.compile(r'^[A-Za-z_][\w \t*]*\s(\w+)\s*\([^(){};]*\)\s*\{', re.M)
 # The words of a code above which its variables are declared.
 BEHIND_VARIABLES = {'etimer', 'ctimer', 'thread', 'onpoll', 'onexit', 'body'}
-# The beginning of a code, up to its last variable, or up to its last event timer.
 # A line above which a thread belongs.
 BELOW_THREADS = re.compile(r'^[ \t]*(?:thread|onpoll|onexit|body|PROCESS_BEGIN)\b', re.M)
+# The beginning of a code, up to its last variable, or up to its last event timer.
 HEADS = {word: re.compile(r'\{(?:(?:\s*+//.*+)*+\s*+(?:%s)\b.*+)*+' % words)
          for word, words in (('var', 'var'), ('etimer', 'var|etimer'), ('ctimer', 'var|etimer'))}
 
@@ -147,14 +150,47 @@ def head_for(text: str, declared: str, code: str = '') -> int:
     if not codes:
         return 0
     word, name = declared.rstrip(';').split()[:2]
-    ends = [it.start() for it in codes[1:]] + [len(text)]
-    users = [code for code, end in zip(codes, ends) if re.search(r'\b%s\b' % name, text[code.end():end], re.I)]
+    names = _with_functions(text, name)
+    users = [it for it in codes if _uses(text, it, names)]
     begin = text.index('{', (users or codes)[0].end())
     if word == 'thread':
         below = BELOW_THREADS.search(text, begin)
         return text.count('\n', 0, below.start()) if below else 0
     head = HEADS[word].match(text, begin)
     return text.count('\n', 0, head.end()) + 1 if head else 0
+
+
+def codes_with(text: str, name: str) -> int:
+    """The number of codes that have a name, or call a function that has it."""
+    names = _with_functions(text, name)
+    return sum(_uses(text, it, names) for it in CODE.finditer(text))
+
+
+def _with_functions(text: str, name: str) -> set[str]:
+    """A name, and the functions of C that have it or call such a function."""
+    bodies = {it[1]: set(WORD.findall(text, it.end(), _end_of_block(text, it.end() - 1)))
+              for it in FUNCTION.finditer(text)}
+    found, count = {name}, 0
+    while len(found) > count:
+        count = len(found)
+        found |= {function for function, words in bodies.items() if words & found}
+    return found
+
+
+def _uses(text: str, code: re.Match[str], names: set[str]) -> bool:
+    """Returns whether a code has one of some names, also with capitals."""
+    words = WORD.findall(text, code.end(), _end_of_block(text, code.end()))
+    return not {it.lower() for it in names}.isdisjoint(map(str.lower, words))
+
+
+def _end_of_block(text: str, begin: int) -> int:
+    """The place of the brace that closes the first block behind a place; the end of the text if nothing closes it."""
+    depth = 0
+    for brace in BRACE.finditer(text, begin):
+        depth += 1 if brace[0] == '{' else -1
+        if not depth:
+            return brace.start()
+    return len(text)
 
 
 def last_statement(words: list[str]) -> str:
