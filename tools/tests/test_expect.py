@@ -474,6 +474,15 @@ class Files(unittest.TestCase):
             with self.subTest(sentence):
                 self.assertNotIn('so `', self.said('expect = ["%s"]' % sentence)[0])
 
+    def test_remarks_on_sentences_about_no_mote(self) -> None:
+        about = ('          this sentence is about no mote, because `but` leaves out all of its motes, '
+                 'so it is %s in every run')
+        for sentence, result in (('every mote but 0 to 3 sends', 'true'), ('no mote but 0 to 3 sends', 'true'),
+                                 ('some mote but 0 to 3 sends', 'false')):
+            with self.subTest(sentence):
+                self.assertIn(about % result, self.said('expect = ["%s"]' % sentence)[0].splitlines())
+        self.assertNotIn('about no mote', self.said('expect = ["every mote but 0 to 2 sends"]')[0])
+
     def test_faults_have_status_2(self) -> None:
         change = 'expect = ["mote 0 sends"]\n[[change]]\nexpect = ["mote 0 sends"]\n'
         for text, seen in [

@@ -182,7 +182,11 @@ SENTENCES: list[tuple[str, str | None, int | None]] = [
     # Counts compared with others: mote 1 sends 2, mote 0 sends 3, mote 1 receives 2.
     ('mote 1 sends at least 66 % as often as mote 0', None, None),
     ('mote 1 sends at least 67 % as often as mote 0',
-     'mote 1: 2 lines, compared with 3; wanted: at least 67 % as many', 12),
+     'mote 1: 2 lines, compared with 3; wanted: at least 67 % as many; the last such line is', 12),
+    ('mote 0 sends fewer than 1 times as often as mote 0 sends',
+     'mote 0: 3 lines, compared with 3; wanted: fewer than 1 times as many', 5),
+    ('mote 3 sends fewer than 1 times as often as mote 3 receives',
+     'mote 3: 0 lines, compared with 0; wanted: fewer than 1 times as many', None),
     ('mote 1 sends exactly 100 % as often as it receives', None, None),
     ('mote 1 sends exactly 100 % as often as receiving', None, None),
     ('mote 2 receives at least 2 times as often as mote 1 prints a', None, None),
@@ -204,7 +208,7 @@ SENTENCES: list[tuple[str, str | None, int | None]] = [
      'mote 2 has 0 such lines from 11 on; wanted: at least 1; it prints a 1 at moment 16', None),
     ('mote 0 sends 7', 'mote 0 has 0 such lines; wanted: at least 1; it sends 1 at moment 10, and 2 others', None),
     ('mote 2 receives 9 from mote 1',
-     'mote 2 has 0 such lines; wanted: at least 1; it receives 1 at moment 16, and 1 other', None),
+     'mote 2 has 0 such lines; wanted: at least 1; it receives 1 from mote 1 at moment 16, and 1 other', None),
     ('motes 1 to 3 together print a 5',
      'the motes together have 0 such lines; wanted: at least 1; mote 2 prints a 1 at moment 0, and 2 others', None),
     # Each, all.

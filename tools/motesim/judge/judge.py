@@ -266,7 +266,9 @@ class Judge:
         why = '%s: %d lines%s, compared with %d; wanted: %s%s as many' % (
             name, len(one), _shown(span), len(two), it.count, '' if it.count.is_part else ' times')
         most = it.count.number * len(two) // (100 if it.count.is_part else 1)
-        return Broken(why, one[most].row if len(one) > most else one[-1].row if one else None)
+        if len(one) > most or one and it.count.compare == 'fewer than':
+            return Broken(why, one[min(most, len(one) - 1)].row)
+        return Broken(why + '; the last such line is', one[-1].row) if one else Broken(why)
 
     def related(self, it: Does, lines: list[Event], others: list[Event], name: str, span: Span) -> Broken | None:
         """Checks that lines are before, after or near others. In `within 10 of each time`, the others are those in a
@@ -328,8 +330,9 @@ class Judge:
         line = inside[0].line
         who = 'it' if len(motes) == 1 else 'mote %d' % line.mote
         what = DOES[line.kind] + (' %s' % line.process if line.process else '')
+        sender = ' from mote %s' % line.sender if line.kind == 'recv' else ''
         more = ', and %d other%s' % (len(inside) - 1, '' if len(inside) == 2 else 's') if len(inside) > 1 else ''
-        return '%s %s %s at moment %d%s' % (who, what, line.value, line.at, more)
+        return '%s %s %s%s at moment %d%s' % (who, what, line.value, sender, line.at, more)
 
     def other_process(self, it: Does, motes: tuple[int, ...]) -> str:
         """The process that prints the wanted values instead of the process of the sentence, and what it prints, in

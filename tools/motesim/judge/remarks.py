@@ -1,6 +1,6 @@
 """Remarks on sentences that hold, but say less than a reader may think: about a time after the end of the run, about
 lines that the programs can't write, or about an exact number of lines that a mote has more often; and on sentences
-about a number of motes that is always right, or never."""
+about no mote at all, or about a number of motes that is always right, or never."""
 from __future__ import annotations
 
 import re
@@ -14,6 +14,7 @@ AFTER_THE_END = 'the run ends at %d, before the period of this sentence, which b
 NO_STATEMENT = '%s no %s, so this sentence holds in every run'
 MORE = 'mote %d has %d such lines: this sentence is only about the exact number, `%s`'
 OF_MOTES = 'this sentence is about %s, so `%s` is %s true'
+OF_NO_MOTE = 'this sentence is about no mote, because `but` leaves out all of its motes, so it is %s in every run'
 OF_COPIES = 'a share is 0 to 100 %%, so `%s` is %s true'
 # The forms of an exact number in sentences.
 EXACTLY = re.compile(r'\b(?:exactly )?(?:once|twice)\b|\bexactly (\d+)(?: times?)?\b')
@@ -37,6 +38,9 @@ def remark_on(text: str, sentence: Sentence, judge: Judge) -> str:
 def of_certain(sentence: Sentence, judge: Judge) -> str:
     """The remark that the number of motes in a sentence, or a share of motes or copies, is right in every run, or in
     none."""
+    kind = sentence.motes.kind if isinstance(sentence, Does) and not judge.chosen(sentence.motes) else ''
+    if kind in ('each', 'no', 'some'):
+        return OF_NO_MOTE % ('false' if kind == 'some' else 'true')
     if isinstance(sentence, Does) and sentence.motes.count is not None:
         count, whole = sentence.motes.count, len(judge.chosen(sentence.motes))
         results = {count.admits(found, whole if count.is_part else 1) for found in range(whole + 1)}
