@@ -12,6 +12,7 @@ from motesim.analysis.estimates import mean_by_t
 from motesim.explain.hints import WISHES
 from motesim.experiments.one_run import warned
 from motesim.explain import resonance
+from motesim.explain.idle import idle_losses
 from motesim.explain.lint import SAME_DRAWS, warnings
 from motesim.explain.resonance import RARE, Together, all_at_once, at_least, hit, kinds_of, resonances
 from motesim.from_c.expressions import NO_CHANCE
@@ -55,6 +56,22 @@ def report(values: list[int], every: int) -> Report:
     medium = ''.join('%d 0 %d %d 1@%s\n' % (at, at, value, at + 2 if (at + 1) % every else 'lost')
                      for at, value in enumerate(values))
     return Report.parse('mote 0 p\n%smote 1 p\n%smedium\n%sleft 0\n' % (sent, got, medium))
+
+
+class Idle(unittest.TestCase):
+    """A run has a warning if its scenario has losses, and none of them loses a packet."""
+
+    def test_losses_that_lose_nothing_have_a_reason(self) -> None:
+        near, three = SCENARIO % 4, report([7, 7, 7], 4)
+        far, other_way = near.replace('x = 5', 'x = 50'), near.replace('from = 0\nto = 1', 'from = 1\nto = 0')
+        nothing = 'no packet was lost, though the scenario has losses: '
+        self.assertEqual([idle_losses(Scenario.parse(text), three) for text in (near, far, other_way)], [
+            nothing + 'a loss with `every = N` loses the packet N of its sender, but no mote with losses sent more than '
+            '3 packets, and the least N is 4',
+            nothing + 'each loss is between two motes that do not hear each other',
+            nothing + 'a loss loses packets of its mote `from`, but the motes whose links have losses sent no packet'])
+        self.assertEqual(idle_losses(Scenario.parse(SCENARIO % 3), report([7, 7, 7], 3)), '')
+        self.assertEqual(idle_losses(Scenario.parse(near.split('[[loss]]')[0]), three), '')
 
 
 class Resonances(unittest.TestCase):

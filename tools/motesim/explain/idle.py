@@ -1,7 +1,8 @@
-"""Losses that lose nothing, because no sender sends enough packets for their periods.
+"""Losses that lose nothing, so that a sweep that seems to have losses has none.
 
 A loss with `every = 20` loses the 20th packet of its sender, the 40th, and so on. If each mote sends 10 packets, such
-losses are without effect, and a sweep that seems to have losses has none.
+losses are without effect. The same is true of losses whose senders send no packets, and of losses between motes that
+don't hear each other.
 """
 from __future__ import annotations
 
@@ -14,13 +15,20 @@ IDLE = 'no packet was lost, though the scenario has losses'
 
 
 def idle_losses(scenario: Scenario, report: Report) -> str:
-    """The warning that all losses between motes in range lost nothing; empty if a packet was lost, or if there are no
-    such losses, or no packets on their links."""
+    """The warning that the losses of a scenario lost nothing; empty if a packet was lost, or if there are no losses."""
     sent = Counter(report.log.sender)
-    if any(every <= sent[s] and scenario.hears(r, s) for (s, r), every in scenario.losses.items()):
+    links = {(s, r): every for (s, r), every in scenario.losses.items() if scenario.hears(r, s)}
+    if not scenario.losses or any(every <= sent[s] for (s, _), every in links.items()):
         return ''
-    links = {(s, r): every for (s, r), every in scenario.losses.items() if sent[s] and scenario.hears(r, s)}
+    return '%s: %s' % (IDLE, _reason(sent, links))
+
+
+def _reason(sent: Counter[int], links: dict[tuple[int, int], int]) -> str:
+    """Why losses on these links lost nothing."""
     if not links:
-        return ''
-    return '%s: a loss with `every = N` loses the packet N of its sender, but no mote with losses sent more than %d ' \
-           'packets, and the least N is %d' % (IDLE, max(sent[s] for s, _ in links), min(links.values()))
+        return 'each loss is between two motes that do not hear each other'
+    most = max(sent[s] for s, _ in links)
+    if not most:
+        return 'a loss loses packets of its mote `from`, but the motes whose links have losses sent no packet'
+    return 'a loss with `every = N` loses the packet N of its sender, but no mote with losses sent more than %d ' \
+           'packets, and the least N is %d' % (most, min(every for (s, _), every in links.items() if sent[s]))
