@@ -1,0 +1,167 @@
+"""Nets by chance: tools/summary and the measures of tools/sweep have the numbers that a second program computes, which
+was written from the pages alone."""
+import math
+import os
+import random
+import unittest
+from collections import Counter
+from collections.abc import Callable
+from typing import Any
+
+import here  # noqa: F401
+import motesim
+from motesim.experiments.measures import Bench, read_measure
+from motesim.judge.sentences import names_of
+from motesim.scenario import Scenario
+from motesim.summary.counts import summary
+from motesim.summary.flows import flow_rows, flow_rows_by
+from motesim.why.series import Series
+from motesim.why.source import traces_of
+from page_measures import NEVER, Lines, PageMeasures
+from skips import need_program
+
+NETS, SENTENCES = range(int(os.environ.get('PAGE_MEASURES_NETS', '30'))), 3
+VERBS = {'print': ('prints', 'print'), 'send': ('sends', 'send'), 'recv': ('receives', 'receive')}
+VALUES = '((self * 256) + n)', 'n', '(n % 3)', '(self + n)', '7'
+KINDS: dict[str, Callable[[PageMeasures, Lines], int | None]] = {
+    'holds': PageMeasures.holds, 'moment': PageMeasures.moment, 'last': PageMeasures.last, 'count': PageMeasures.count,
+    'motes': PageMeasures.reaching}
+# Flows: source and sink, and the range of values.
+FLOWS = ('', 'hear', ''), ('say', 'hear', ''), ('say', 'hear', ' 1 to 99'), ('', 'note', ''), ('hear', 'hear', '')
+
+
+def program(chance: random.Random, motes: int) -> str:
+    """A process `say` sends, `hear` prints and sends again, and `note` prints what they post."""
+    def maybe(share: float, text: str) -> str:
+        return text if chance.random() < share else ''
+
+    def some(most: int) -> int:
+        return chance.randint(1, most)
+    value = chance.choice(VALUES)
+    says = [maybe(.6, 'print %s;' % value), maybe(.2, 'print %s;' % value), 'send %s;' % value,
+            maybe(.2, 'send (%s + 1);' % value), maybe(.2, 'post note msg n;' * some(5)), maybe(.2, 'broadcast com n;'),
+            maybe(.2, 'if ((self == %d) && (n == %d)) { while 1 { n = n; } }' % (chance.randrange(motes), some(4)))]
+    hears = [maybe(.8, 'print data;'), maybe(.2, 'print data;'), maybe(.2, 'post note msg data;'),
+             maybe(.4, 'if (data > newest) { newest = data; send data; }'), maybe(.1, 'broadcast msg data;'),
+             maybe(.2, 'if (data < 1000) { send (1000 + data); }'), maybe(.1, 'if (data == 3) { exit; }')]
+    return '''process say, hear, note; autostart %s; %s
+code say { var n = 0; etimer t; body { if (self %s) { set t (1 + (self %% %d)); yield_until fired(t);
+  while (n < %d) { n = (n + 1); %s set t %d; yield_until fired(t); } } } }
+code hear { var newest = 0; body { while 1 { yield; if is(packet) { %s } } } }
+code note { body { while 1 { yield; if is(msg) { %s } } } }''' % (
+        chance.choice(('say, hear, note', 'hear, note, say', 'say, hear')), maybe(.9, 'receiver hear;'),
+        chance.choice(('== 0', '< 2', '>= 0')), some(3), some(6), ' '.join(says), some(9), ' '.join(hears),
+        chance.choice(('print data;', 'print data; if (data == 2) { exit; }', 'print now;')))
+
+
+def net_of(chance: random.Random) -> tuple[str, int, int]:
+    """A scenario, its number of motes, and its end."""
+    motes, end = chance.randint(2, 9), chance.choice((12, 25, 40, 60))
+    places = chance.sample([(x, y) for x in range(0, 25, 3) for y in range(0, 13, 3)], motes)
+    pairs = [(s, r) for s in range(motes) for r in range(motes) if s != r]
+    losses = chance.sample(pairs, chance.choice((0, len(pairs) // 3, len(pairs))))
+    text = ['version = 2', 'end = %d' % end, '[medium]', 'range = %d' % chance.choice((6, 9, 12, 30)),
+            'base = %d' % chance.randint(1, 4), 'per = %d' % chance.choice((5, 20, 100)),
+            'collide = %s' % chance.choice(('true', 'false')), '[programs]', "p = '''%s'''" % program(chance, motes)]
+    text += ['[queue]', 'p = %d' % chance.randint(1, 4)] * (chance.random() < .3)
+    text += ['[[mote]]\nx = %d\ny = %d\nprogram = "p"' % place for place in places]
+    text += ['[[loss]]\nfrom = %d\nto = %d\nevery = %d' % (*pair, chance.choice((1, 2, 3))) for pair in losses]
+    return '\n'.join(text), motes, end
+
+
+def motes_of(chance: random.Random, motes: int, alone: bool) -> tuple[str, str, tuple[int, ...], bool]:
+    """Motes of a sentence: the text, how the sentence is about them, the motes, and whether the verb is singular."""
+    first = chance.randrange(motes - 1)
+    some, but = tuple(range(first, motes)), tuple(mote for mote in range(motes) if mote != first)
+    return chance.choice([
+        ('mote %d' % first, 'each', (first,), True), ('every mote but %d' % first, 'each', but, True),
+        ('motes %d to %d' % (first, motes - 1), 'each', some, False), ('some mote but %d' % first, 'some', but, True),
+        ('motes %d to %d together' % (first, motes - 1), 'together', some, False)][:4 if alone else 5])
+
+
+def lines_of(chance: random.Random, motes: int, end: int, *, process: str = '', least: bool = False,
+             alone: bool = False) -> tuple[str, Lines]:
+    """A sentence with its meaning."""
+    text, how, its, singular = motes_of(chance, motes, alone)
+    kind = 'print' if process else chance.choice(('print', 'print', 'send', 'recv'))
+    words = [kind] + [process or chance.choice(('say', 'hear', 'note'))] * (kind == 'print')
+    words += [str(chance.choice((1, 2, 7)))] * (not process and chance.random() < .4)
+    first = chance.randint(0, end)
+    when, begin, until = chance.choice([('', 0, NEVER)] * 4 + [
+        (' by %d' % first, 0, first), (' after %d' % first, first + 1, NEVER), (' before %d' % (first + 1), 0, first),
+        (' from %d to %d' % (first // 2, first), first // 2, first)])
+    times, number = chance.choice([('', 1)] * 2 + [(' more than once', 2), (' at least 3', 3)]) if least else ('', 1)
+    deed = ' '.join([VERBS[kind][not singular], *words[1:]])
+    return '%s %s%s%s' % (text, deed, times, when), Lines(how, its, tuple(words), begin, until, number)
+
+
+class Numbers(unittest.TestCase):
+    def setUp(self) -> None:
+        need_program(self)
+
+    def assert_same(self, its: Any, page: Any, about: str) -> None:
+        if isinstance(its, float) and isinstance(page, (int, float)):
+            self.assertTrue(math.isclose(its, page, rel_tol=1e-9), '%s: %r, and by the page %r' % (about, its, page))
+        else:
+            self.assertEqual(its, page, about)
+
+    def assert_rows(self, its: list[dict[str, Any]], page: list[dict[str, Any]], about: str) -> None:
+        self.assertEqual(len(its), len(page), about)
+        for one, other in zip(its, page):
+            for name in one.keys() - {'mote', 'program', 'origin'}:
+                self.assert_same(one[name], other[name], '%s, %s' % (about, name))
+
+    def test_the_tables_of_a_run_are_those_of_the_page(self) -> None:
+        seen: Counter[str] = Counter()
+        for seed in NETS:
+            chance = random.Random(seed)
+            text, _, end = net_of(chance)
+            run, by = motesim.run(text.encode()), chance.choice((1, 3, 7, 10, 200))
+            report = run.report.text()
+            page, (motes, net, links) = PageMeasures(text, report), summary(run)
+            with self.subTest(seed=seed):
+                of_motes, of_net = page.summary()
+                self.assert_rows([*motes, net], [*of_motes, of_net], 'motes')
+                self.assert_rows(links, page.links(), 'links')
+                self.assert_rows(list(Series(traces_of('', report.encode()), by, end).rows()),
+                                 [page.interval(*part) for part in page.parts(by)], 'over time')
+                for source, sink, values in FLOWS:
+                    words = 'print %s -> ' % source * bool(source) + 'print %s%s' % (sink, values)
+                    found = page.messages(source, sink, *((1, 99) if values else ()))
+                    rows = flow_rows(run.report, run.scenario, words)
+                    origins = sorted({it[0] for it in found})
+                    self.assertEqual([row['origin'] for row in rows], [*origins, 'net'])
+                    its = [[it for it in found if it[0] == origin] for origin in origins]
+                    self.assert_rows(rows, [*map(page.flow_row, its), page.flow_row(found)], words)
+                    its = [[it for it in found if first <= it[1] <= last] for first, last in page.parts(by)]
+                    rows = [{**page.flow_row(one), 'from': first, 'to': last}
+                            for one, (first, last) in zip(its, page.parts(by))]
+                    self.assert_rows(flow_rows_by(run.report, run.scenario, words, by), rows, words)
+            seen.update(name for name, value in net.items() if value)
+        self.assertGreater(min(seen[name] for name in net.keys() - {'program'}), 0, seen)
+
+    def test_the_measures_of_a_sweep_are_those_of_the_page(self) -> None:
+        for seed in NETS:
+            chance = random.Random(seed)
+            text, motes, end = net_of(chance)
+            run = motesim.run(text.encode())
+            page, bench = PageMeasures(text, run.report.text()), Bench(run)
+            names = names_of(Scenario.parse(text))
+            wanted: list[tuple[str, Any]] = [('loss', page.loss()), ('reachable', page.reachable())]
+            wanted += [('%s of mote 1' % name, value) for name, value in page.summary()[0][1].items()]
+            for _ in range(SENTENCES):
+                for kind, of in KINDS.items():
+                    words, its = lines_of(chance, motes, end, least=kind in ('holds', 'moment', 'motes'),
+                                          alone=kind == 'motes')
+                    wanted.append(('%s: %s' % (kind, words), of(page, its)))
+                (one, begin), (other, then) = (lines_of(chance, motes, end, least=True) for _ in '12')
+                wanted.append(('delay: %s -> %s' % (one, other), page.delay_between(begin, then)))
+                (one, begin), (other, then) = (lines_of(chance, motes, end, process=its) for its in ('say', 'hear'))
+                wanted.append(('delivery: %s -> %s' % (one, other), page.delivery(begin, then)))
+            for words, value in wanted:
+                with self.subTest(seed=seed, measure=words):
+                    self.assert_same(read_measure(words, names).of(bench), value, words)
+
+
+if __name__ == '__main__':
+    unittest.main()
