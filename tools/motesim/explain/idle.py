@@ -24,7 +24,7 @@ def idle_losses(scenario: Scenario, report: Report) -> str:
 
 
 def _reason(sent: Counter[int], links: dict[tuple[int, int], int]) -> str:
-    """Why losses on these links lost nothing."""
+    """The reason for which losses on these links lost nothing."""
     if not links:
         return 'each loss is between two motes that do not hear each other'
     most = max(sent[s] for s, _ in links)
