@@ -891,6 +891,18 @@ class Forms(Folder):
         with mock.patch('motesim.grading.marking.of_start', side_effect=IndexError('of a tuple')):
             self.assertEqual(warned_of({'task': PROGRAM % 3}), ())
 
+    def test_why_warns_of_losses_and_seeds(self) -> None:
+        lost = "Warning: a loss from mote 0 to mote 2, which doesn't hear it, loses nothing"
+        draws = (PROGRAM % 4).replace('body {', 'var dice = 1; body { dice = ((self * 257) + 1);')
+        self.hand_in('ben.toml', net(draws, 257) + loss(0, 2))
+        self.assertIn(lost, self.grade('--why', 'ben').split('\n'))
+        (self.top / 'wide.toml').write_text(net(PROGRAM % 9, 257) + loss(0, 2))
+        why = self.grade('--why', 'ben', '--net', 'wide.toml')
+        self.assertIn('Warning: in a net of more than 255 motes, ', why)
+        self.assertNotIn(lost, why)
+        self.hand_in('cem.toml', net(PROGRAM % 3, 3) + loss(0, 2))
+        self.assertNotIn('Warning', self.grade('--why', 'cem'))
+
     def test_why_says_what_to_do_if_something_was_renamed(self) -> None:
         self.hand_in('ben.toml', net((PROGRAM % 3).replace(' a', ' b')))
         other = "[programs]\nother = 'process b; code b { body { } }'\n"

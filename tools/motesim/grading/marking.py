@@ -8,7 +8,9 @@ from pathlib import Path
 from typing import NamedTuple
 
 from motesim.explain.explanation import explanation, of_program as fault_of_program, of_program_file, tables_or_none
-from motesim.explain.lint import ZERO_GIVEN, Program, by_cause, of_moments, of_program, of_run, of_start
+from motesim.explain.lint import (
+    ZERO_GIVEN, Program, by_cause, of_moments, of_net, of_program, of_run, of_seeds, of_start, programs_of,
+)
 from motesim.explain.within import busiest
 from motesim.faults import Fault, tried
 from motesim.files import replace_whole
@@ -45,6 +47,9 @@ LONGEST_NAME = 80
 OF_HIDDEN = 'in a hidden net'
 # The most lines of an error, and the most warnings, that are shown.
 MOST_LINES, MOST_WARNED = 40, 3
+
+# The causes of warnings about a net: those that depend on a solution's packets, and the others.
+OF_PACKETS, OF_OWN_NET = ('step', 'together', 'seeds'), ('range', 'loss')
 
 
 class Ended(Fault):
@@ -89,7 +94,8 @@ class Marks:
     no_page  the reason why there is no such page, though pages were asked for
     fix      for a refused scenario or program, the place of its error, and the correction
     halts    the first mote that halts in a net, if one does; and `shown_halts` in a net that isn't hidden
-    warned   the warnings about its programs, and about packets of one moment in a net that isn't hidden
+    warned   the warnings about its programs; and in a net that isn't hidden, those about packets of one moment and,
+             if a sentence is broken, about losses, ranges and seeds
     unused   its programs that no mote of the nets runs, in words
     """
     name: str
@@ -215,6 +221,8 @@ class Task:
         if any(its.is_refused for its in found):
             return replace(marks, fix=self.fix(entry, data))
         place, net = first_shown(marks, found)
+        if net and net.run and net.run.scenario:
+            marks = replace(marks, warned=(*marks.warned, *net_warned(net.run.scenario, net.run.report, not self.nets)))
         picture, no_page = self.picture(number, marks, place, net) if net else ('', '')
         return replace(marks, picture=picture, pictured=place if picture else None, no_page=no_page)
 
@@ -365,6 +373,19 @@ def seen_of(scenario: Scenario, report: Report, program: str) -> tuple[str, ...]
     lines = ['%s (line %d of the program)' % (it.text, it.token.line) for it in its if it.token]
     lines += [it.text for it in by_cause(list(of_moments(report)))]
     return tuple('Warning: %s' % it for it in lines[:MOST_WARNED])
+
+
+def net_warned(scenario: Scenario, report: Report, is_own: bool) -> tuple[str, ...]:
+    """The warnings of tools/explain about losses in step with packets and about seeds; if a solution has its own net,
+    also those about its ranges and losses. A mark doesn't depend on them, so an error in them leaves them out."""
+    causes = OF_PACKETS + OF_OWN_NET * is_own
+
+    def found() -> tuple[str, ...]:
+        programs = programs_of(scenario)
+        its = (*of_seeds(scenario, programs), *of_net(scenario, programs, report))
+        return tuple('Warning: %s' % it.text for it in by_cause([it for it in its if it.cause.startswith(causes)]))
+
+    return tried(found, lambda words: ())[:MOST_WARNED]
 
 
 def unmarked(name: str, why: str) -> Marks:
