@@ -1,4 +1,4 @@
-"""Proves everything on this machine, and builds the proved binary: ./prove
+"""Proves the crates of motesim on this machine, and builds the proved binary: ./prove
 
 After that, ./run and all tools run the proved binary; until then they run the binary that is already built. A proof
 needs about 20 to 40 minutes on four cores, at a low priority. `rt ci` does the work, on a copy of the crates in

@@ -147,7 +147,7 @@ The last packets and events of mote 2 before this difference:
         self.assertIn('''
 The first collision that only B has:
   B: at moment 8 mote 1 loses packet 1 of mote 0 (sent at 5) and packet 0 of mote 2 (sent at 5)
-  copies that met others, in all: 0 in A, 2 in B
+  copies that collided, in all: 0 in A, 2 in B
 ''', compared(A, B)[0])
         text = compared(B.replace('8 collide 2 0\n', '').replace('8 collide 0 1', '8 recv 0 1 2'), B)[0]
         self.assertIn('The first collision that only B has, which is the first difference:\n', text)

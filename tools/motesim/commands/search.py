@@ -49,7 +49,7 @@ def arguments() -> argparse.ArgumentParser:
                        help='the kinds of faults (links,motes; with --set: values, parameters or both, whichever '
                             '--set names)')
     words.add_argument('--at-most', type=int, default=1, metavar='K',
-                       help='the greatest number of simultaneous faults (1)')
+                       help='the greatest number of faults in one run (1)')
     words.add_argument('--every', default='2', metavar='NUMBERS', help='for `every`: the values of k (2)')
     words.add_argument('--moments', metavar='NUMBERS', help='for `deaths` and `late`: the moments')
     words.add_argument('--queues', default='8,4,2,1', metavar='NUMBERS', help='for `queues`: the lengths')

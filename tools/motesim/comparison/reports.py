@@ -273,7 +273,7 @@ def compared(a: Run, b: Run, most: int) -> tuple[list[str], Difference | None, b
     if collision:
         lines += ['', *collision_in_words(collision, reports, found[0])]
         totals = tuple(sum(map(len, it.values())) for it in met)
-        lines += ['  copies that met others, in all: %d in A, %d in B' % totals]
+        lines += ['  copies that collided, in all: %d in A, %d in B' % totals]
     if found:
         lines += ['', *counted(only_in(reports, found), most)]
     if a.report.left != b.report.left:
