@@ -629,6 +629,30 @@ class Warnings(unittest.TestCase):
                 self.assertEqual(len(seen), 1 if wanted else 0, seen)
                 self.assertIn(wanted, ''.join(seen))
 
+    def test_an_event_that_no_process_posts(self) -> None:
+        text = 'event msg; process a, b; autostart a, b; %scode a { body { yield_until %s; print data; } } %s'
+        other, said = 'code b { body { %s } }', 'no process posts the event `msg`, so `is(msg)` is never true'
+        receiver = 'receiver a; '
+        for program, wanted in (
+                (text % ('', 'is(msg)', other % ''), said),
+                (text % (receiver, 'is(msg)', other % 'send 1;'),
+                 said + '; a packet has an event of its own: `is(packet)`'),
+                (text % (receiver, 'is(msg)', other % 'post a msg 1;'), ''),
+                (text % ('', 'is(msg)', other % 'broadcast msg 1;'), ''),
+                (text % (receiver, 'is(packet)', other % 'send 1;'), '')):
+            with self.subTest(program):
+                self.assertEqual([it for it in self.seen(program) if 'no process posts' in it], [wanted] * bool(wanted))
+
+    def test_a_timer_that_is_set_only_behind_its_wait_in_a_loop(self) -> None:
+        for body, is_seen in (
+                ('while (seq < 3) { yield_until fired(t); seq = (seq + 1); set t 5; }', True),
+                ('while 1 { if seq { yield_until fired(t); set t 5; } yield; }', True),
+                ('while 1 { if seq { yield_until fired(t); } set t 5; seq = 1; }', False),
+                ('set t 5; while (seq < 3) { yield_until fired(t); seq = (seq + 1); set t 5; }', False),
+                ('while (seq < 3) { set t 5; yield_until fired(t); seq = (seq + 1); }', False)):
+            with self.subTest(body):
+                self.assertEqual(any('is set only after this wait' in it for it in self.seen(CODE % body)), is_seen)
+
     def test_two_comparisons_in_a_row(self) -> None:
         text = CODE % 'if (0 < seq < 256) { print 1; }'
         self.assertEqual(hints.of_program(text, fault_of(text)), (

@@ -73,6 +73,8 @@ OF_BROADCAST = ('; this `broadcast` posts an event to the processes of its own m
 # The line of a scenario from a plan with a parameter that is 0: a 0 of a program may be its value.
 ZERO_GIVEN = re.compile(r'^# Parameters: (?:.*, )?\w+ = 0(?:,|$)', re.M)
 BEHIND = 'the timer `%s` is set only after this wait for it, so the wait never ends: set it before'
+NEVER_POSTED = 'no process posts the event `%s`, so `is(%s)` is never true'
+OF_PACKET = '; a packet has an event of its own: `is(packet)`'
 NEVER_SET = 'the timer `%s` is never set'
 # The results of tests of a timer that is never set.
 ALWAYS = {'expired': ', so `expired(%s)` is always true', 'fired': ', so `fired(%s)` is never true'}
@@ -266,22 +268,36 @@ class Program:
     def waits_before_set(self) -> Iterator[Token]:
         """Each timer whose first wait can't be skipped, if the timer is only set after that wait."""
         for code, body in self.bodies():
-            # (for each block around a place, whether it is always entered)
-            around: list[bool] = []
+            # (for each block around a place, its first place, and whether it is always entered)
+            around: list[tuple[int, bool]] = []
             done: set[str] = set()
             for at in body:
                 word = self.words[at]
                 if word == '{':
-                    around.append(at == body.start or self.words[at - 2] == 'while' and self.words[at - 1].isdigit()
-                                  and self.words[at - 1] != '0')
+                    is_endless = self.words[at - 2] == 'while' and self.words[at - 1].isdigit()
+                    around.append((at, at == body.start or is_endless and self.words[at - 1] != '0'))
                 elif word == '}':
                     around.pop()
                 elif word in FOR_TIMER and self.words[at + 1] == 'fired' and self.words[at + 5] == ';':
                     timer = self.words[at + 3]
                     sets = [it for it in code if self.words[it] in SETS and self.words[it + 1] == timer]
-                    if timer not in done and all(around) and sets and sets[0] > at and sets[-1] < body.stop:
+                    # (if a block has all sets, none of them is done before the block is entered)
+                    if timer not in done and sets and sets[0] > at and sets[-1] < body.stop and all(
+                            is_entered or sets[-1] < self.end_of_block(begin) for begin, is_entered in around):
                         yield self.tokens[at + 3]
                     done.add(timer)
+
+    def unposted_events(self) -> Iterator[tuple[str, Token]]:
+        """The first test for each event that the program never posts, with the warning."""
+        posts = {it for at, word in enumerate(self.words) if word in ('post', 'synch', 'broadcast')
+                 for it in self.words[at + 1:at + 3]}
+        for at, word in enumerate(self.words):
+            name = self.words[at + 1] if word == 'event' and self.words[at - 1:at] in ([], [';'], [',']) else ''
+            first = self.first('is', '(', name, ')') if name and name not in posts else None
+            if first:
+                code = self.code_around(self.tokens.index(first))
+                is_receiver = any(it.text in code[1:2] for it in self.receivers)
+                yield NEVER_POSTED % (name, name) + OF_PACKET * is_receiver, first
 
     def unset_timers(self) -> Iterator[tuple[str, Token]]:
         """Each timer that its code never sets, with the warning. (Another code may have a timer of this name.)"""
@@ -375,7 +391,7 @@ def of_program(program: Program, is_zero_given: bool) -> Iterator[Warned]:
         yield Warned(text, name, token)
     for token in program.waits_before_set():
         yield Warned(BEHIND % token.text, name, token)
-    for text, token in program.unset_timers():
+    for text, token in (*program.unset_timers(), *program.unposted_events()):
         yield Warned(text, name, token)
     its = program.words, program.tokens
     for text, token in (*event.mistaken(*its), *event.mistaken_timers(*its), *wraps.warnings(*its)):
