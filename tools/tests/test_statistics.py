@@ -437,6 +437,19 @@ class Pairs(unittest.TestCase):
         self.assertGreater(estimates.mean_by_t([it.other - it.one for it in few], 0.95).high or 0, 1)
         self.assertLessEqual(differences(Paired(few, {}), 0.95, 'auto')[0].difference.high or 2, 1)
 
+    def test_differences_and_means_of_nets_that_rounding_makes_unequal_count_as_equal(self) -> None:
+        self.assertNotEqual(0.3 - 0.1, 0.4 - 0.2)
+        one, other = 'one net', 'another net'
+        for pairs in ([Pair(1, 0.1, 0.3), Pair(1, 0.2, 0.4), Pair(1, 1.1, 1.3)],
+                      Paired([Pair(1, 0.0, it, (net,)) for net, values in ((one, (.1, .2, .3)), (other, (.2, .2, .2)))
+                              for it in values], {}).by_net().pairs):
+            for interval in ('auto', 't', 'bootstrap'):
+                found, = differences(Paired(pairs, {}), 0.95, interval)
+                self.assertEqual(found.difference[2:], (None, None, 'alike'), interval)
+                self.assertAlmostEqual(found.difference.middle, 0.2)
+        found, = differences(Paired([Pair(1, 0.0, 1e-9), Pair(1, 0.0, 2e-9), Pair(1, 3e8, 3e8 + .5)], {}), 0.95, 't')
+        self.assertEqual((found.difference.method, found.greater), ('t', 3))
+
     def test_the_difference_of_shares_ends_at_1(self) -> None:
         its = [Pair(1, 0.1, 1.0), Pair(1, 0.1, 0.9), Pair(1, 0.6, 0.9)]
         found, = differences(Paired(its, {}), 0.95, 'auto')

@@ -36,6 +36,8 @@ ENOUGH_RUNS = 30
 NEAR, SKEWED = 0.1, 1.0
 # The assumed limit of the losses of other runs, as a multiple of the runs' greatest loss, if runs are nearly equal.
 RANGE = 2
+# The digits of a number in results; beyond them, equal numbers may differ because of rounding.
+DIGITS = 12
 # The name that asks for a method that fits the runs.
 AUTO = 'auto'
 Value = TypeVar('Value')
@@ -49,6 +51,12 @@ class Estimate(NamedTuple):
     low: float | None
     high: float | None
     method: str = ''
+
+
+def mean_of_net(values: Sequence[float]) -> float:
+    """The mean of the runs of a net, with the digits of a number in results: so means that are equal in decimal digits
+    are equal here."""
+    return float('%.*g' % (DIGITS, statistics.fmean(values)))
 
 
 def quartiles(values: Sequence[float]) -> tuple[float, float, float]:

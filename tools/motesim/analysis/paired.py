@@ -16,7 +16,8 @@ from collections import Counter
 from collections.abc import Callable, Mapping, Sequence
 from typing import NamedTuple
 
-from motesim.analysis.estimates import AUTO, DRAWS, Estimate, Measured, is_skewed, mean_by_wilson, mean_of, measured
+from motesim.analysis.estimates import AUTO, DIGITS, DRAWS, Estimate, Measured, is_skewed, mean_by_wilson, mean_of
+from motesim.analysis.estimates import mean_of_net, measured
 from motesim.analysis.points import PLACES, Net, name_of_net, order
 from motesim.experiments.measures import Cell
 from motesim.experiments.results import Row
@@ -33,6 +34,13 @@ class Pair(NamedTuple):
     # The net's name and its places on both sides, and the number of pairs of runs whose mean this is.
     net: tuple[Cell, ...] = ()
     runs: int = 1
+
+    @property
+    def gap(self) -> float:
+        """The difference, to the twelfth digit of the greater value: differences that are equal in decimal digits
+        are equal here, although 0.3 - 0.1 and 0.4 - 0.2 aren't."""
+        size = max(abs(self.one), abs(self.other))
+        return round(self.other - self.one, DIGITS - math.ceil(math.frexp(size)[1] * math.log10(2)))
 
 
 class Paired(NamedTuple):
@@ -53,7 +61,7 @@ class Paired(NamedTuple):
         for it in self.pairs:
             groups.setdefault((it.against, *it.net), []).append(it)
         return self._replace(pairs=[
-            Pair(its[0].against, statistics.fmean(it.one for it in its), statistics.fmean(it.other for it in its),
+            Pair(its[0].against, mean_of_net([it.one for it in its]), mean_of_net([it.other for it in its]),
                  its[0].net, len(its)) for its in groups.values()])
 
     def nets(self) -> list[Net]:
@@ -161,7 +169,7 @@ def differences(paired: Paired, confidence: float, interval: str,
     found = []
     nets = paired.nets()
     for against, its in groups.items():
-        gaps = [pair.other - pair.one for pair in its]
+        gaps = [pair.gap for pair in its]
         left = sum(count for (place, _), count in paired.left_out.items() if place == against)
         found.append(Difference(against, statistics.fmean(it.one for it in its),
                                 statistics.fmean(it.other for it in its),
@@ -173,7 +181,7 @@ def differences(paired: Paired, confidence: float, interval: str,
 
 def _difference(pairs: Sequence[Pair], confidence: float, interval: str, kind: Measured, draws: int) -> Estimate:
     """The mean difference of some pairs, with an interval by a method that fits them."""
-    gaps = [pair.other - pair.one for pair in pairs]
+    gaps = [pair.gap for pair in pairs]
     if kind == 'yes or no' and len(pairs) > 1 and interval == AUTO:
         return difference_by_newcombe(pairs, confidence)
     found = mean_of(gaps, confidence, interval, draws=draws)

@@ -2,10 +2,10 @@
 from __future__ import annotations
 
 import re
-import statistics
 from collections import Counter
 from collections.abc import Sequence
 
+from motesim.analysis.estimates import mean_of_net
 from motesim.analysis.points import MOST_VALUES, NET, PLACES, PLAN, PROGRAM, RUNS, SELECTS, SEPARATES, WITH, WITHOUT
 from motesim.analysis.points import Joint, Wish, changed_files, measures_of, name_of_net, names_of_nets, number_of
 from motesim.analysis.points import parameters_of, repeats_of
@@ -149,6 +149,6 @@ def _of_several(column: str, rows: Sequence[Row], has_lines: bool) -> list[str]:
 
 
 def mean_of(rows: Sequence[Row], measure: str) -> float | None:
-    """The mean of a measure in some runs; None if none of them has a value."""
+    """The mean of a measure in some runs of a net; None if none of them has a value."""
     values = [value for value in (number_of(row, measure) for row in rows) if value is not None]
-    return statistics.fmean(values) if values else None
+    return mean_of_net(values) if values else None
