@@ -1329,12 +1329,89 @@ class Command(unittest.TestCase):
         for words, seen in (
                 (('--interval', 'bootstrap', *ONE), '--interval bootstrap is for intervals of means: add --show mean'),
                 (('--interval', 't', '--show', 'points', *ONE), 'add --show mean'),
+                (('--confidence', '99', *ONE), '--confidence 99 is for intervals: add --show mean, or leave it out'),
+                (('--confidence', '99', '--show', 'points', *ONE), '--confidence 99 is for intervals'),
+                (('--count', *ONE), '--count is for intervals of means: add --show mean, or leave it out'),
+                (('--draws', '300', *ONE), '--draws 300 is for intervals: add --show mean, or leave it out'),
+                (('--draws', '300', '--show', 'mean', '--interval', 't', *ONE),
+                 '--draws 300 is for intervals by the bootstrap: use another --interval, or leave it out'),
+                (('--threshold', 'nan', *ONE), "a threshold is a number, and not 'nan'"),
+                (('--threshold', 'inf', '--show', 'mean', *ONE), "a threshold is a number, and not 'inf'"),
+                (('--plan', 'a.plan.toml'), '--measure has no effect with --plan: use the key `measure` in'),
                 (('--by', 'density', '--pair', 'density=thin,dense'), '--by density separates nothing'),
                 (('--by', 'density', '--by', 'period'), '--by period separates nothing'),
                 (('--by', 'seed,density', '--pair', 'density=thin,dense'), '--by density separates nothing')):
             self.plot('--measure', 'sent', '--against', 'period', *words, status=2)
             self.assertIn(seen, self.seen)
         self.plot('--measure', 'sent', '--against', 'period', '--pair', 'density=thin,dense', '--interval', 't')
+        # (a crossing has an interval too, in every view)
+        for show in 'median', 'points':
+            rows = self.plot('--measure', 'sent', '--against', 'period', '--show', show, '--threshold', '42',
+                             '--confidence', '99', '--draws', '300', *ONE)
+            self.assertIn('with 99 %, by the bootstrap of 5 runs', '\n'.join(map(' '.join, rows)))
+        self.plot('--measure', 'sent', '--over', 'seed,period,density', '--show', 'cdf', '--threshold', '12',
+                  '--confidence', '99', status=2)
+        self.plot('--plan', 'a.plan.toml', '-o', 'a.svg', status=2)
+        self.assertIn('-o has no effect with --plan: use the key `file` in', self.seen)
+
+    def write_nets(self) -> None:
+        """Writes skewed shares near 1: 12 runs in 4 nets at each point."""
+        (self.folder / 'net.csv').write_text('period,density,seed,share,fault,places_sha256,parameters\n' + ''.join(
+            '%d,%s,%d,%s,,net %d,period density seed\n' % (
+                period, density, seed, 0.8 + net / 100 if seed == 11 else 0.99 - net / 1000, net)
+            for period in (1, 2) for density in ('thin', 'dense') for net in range(4)
+            for seed in range(3 * net, 3 * net + 3)))
+
+    def test_a_map_has_the_estimates_lines_and_options_of_means(self) -> None:
+        self.write_nets()
+        words = '--measure', 'share', '--against', 'period', '--by', 'density'
+        cases: list[tuple[tuple[str, ...], str]] = [
+            ((), '2,000 draws'), (('--confidence', '99'), 'intervals of 99 % by'), (('--interval', 't'), 'skewed runs'),
+            (('--interval', 'bootstrap-t', '--draws', '300'), '300 draws'), (('--nets',), 'averaged by net first'),
+            (('--count',), 'Student'), (('--threshold', '0.5'), 'cross 0.5')]
+        for more, line in cases:
+            found = []
+            for show in 'heat', 'mean':
+                rows = self.plot(*words, '--show', show, *more)
+                found.append(('\n'.join(map(' '.join, rows)), self.seen))
+            self.assertEqual(*found)
+            self.assertIn(': means with intervals of ', found[0][0])
+            self.assertIn(line, found[0][0], more)
+            for text in found[0]:
+                self.assertEqual('12 runs in 4 nets: intervals' in text, '--nets' not in more)
+
+    def test_a_map_needs_a_parameter_on_its_axis(self) -> None:
+        self.plot('--measure', 'sent', '--against', 'ratio', '--by', 'density', '--over', 'seed,period', '--show',
+                  'heat', status=2)
+        self.assertIn('ratio is a measure, and a map (heat) has a cell for each value of a parameter', self.seen)
+
+    def test_the_origin_of_a_map_has_the_lines_of_means(self) -> None:
+        interpreter_with(self, 'matplotlib')
+        self.write_nets()
+        found = []
+        for show in 'heat', 'mean':
+            self.plot('--measure', 'share', '--against', 'period', '--by', 'density', '--show', show, '-o', 'a.svg')
+            self.assertIn('12 runs in 4 nets', self.seen)
+            origin = (self.folder / 'a.origin.csv').read_text().replace('--show ' + show, '')
+            found.append((origin, (self.folder / 'a.table.csv').read_text()))
+        self.assertEqual(*found)
+        self.assertIn('means with intervals of 95 % by', found[0][0])
+        self.assertIn('12 runs in 4 nets', found[0][0])
+
+    def test_the_quartiles_on_the_axis_of_a_measure_are_named(self) -> None:
+        words = '--measure', 'sent', '--against', 'ratio', '--over', 'seed', '--by', 'density'
+        for show, ends in ('median', ('first quartile', 'third quartile')), ('mean', ('low', 'high')):
+            header = ' '.join(self.plot(*words, '--show', show)[1])
+            self.assertIn(' '.join('ratio ' + it for it in ends), header)
+
+    def test_skewed_means_on_the_axis_of_a_measure_are_named_too(self) -> None:
+        self.write_nets()
+        text = (self.folder / 'net.csv').read_text()
+        text = text.replace('share,fault', 'share,sent,fault').replace(',,net', ',7,,net')
+        (self.folder / 'net.csv').write_text(text)
+        rows = self.plot('--measure', 'sent', '--against', 'share', '--by', 'density', '--show', 'mean', '--interval',
+                         't')
+        self.assertIn('4 means of fewer than 30 skewed runs are near 0 or 1', '\n'.join(map(' '.join, rows)))
 
     def test_the_confidence_may_be_a_decimal(self) -> None:
         words = '--measure', 'sent', '--against', 'period', '--show', 'mean', *ONE, '--confidence'

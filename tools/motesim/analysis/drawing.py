@@ -341,8 +341,9 @@ def _note(shown: Shown, wish: Wish) -> str:
     runs = between([curve.runs for curve in shown.curves()] if wish.show == 'cdf' else of_points)
     of_nets = ' of %s runs' % between(list(shown.runs_at.values())) if shown.runs_at and wish.show != 'cdf' else ''
     of_mean = 'mean, and intervals of %g %% %s' % (wish.confidence, by_methods(shown.methods()))
-    what = {'median': 'median, and quartiles', 'points': 'all runs', 'cdf': 'part of the runs', 'heat': 'mean'}.get(
-        wish.show, of_mean if shown.methods() else 'mean')
+    of_heat = 'mean (the table has its interval)'
+    what = {'median': 'median, and quartiles', 'points': 'all runs', 'cdf': 'part of the runs'}.get(
+        wish.show, (of_heat if wish.show == 'heat' else of_mean) if shown.methods() else 'mean')
     note = '%s over %s (%s %s%s)' % (what, ', '.join(shown.over), runs, counted(wish), of_nets) if shown.over else ''
     lines = [note, *selected_below(wish), *left_out(shown, wish, MOST_BELOW), *remarks(shown, wish)]
     first = '; '.join(filter(None, lines))

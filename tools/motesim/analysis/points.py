@@ -13,6 +13,8 @@ from motesim.faults import Fault
 
 MEDIAN = 'median'
 SHOWS = (MEDIAN, 'mean', 'points', 'cdf', 'heat')
+# The views of means, which have intervals.
+OF_MEANS = ('mean', 'heat')
 # Runs that differ only in a parameter of this name, or in one that ends in `_seed`, repeat one another.
 SEED, SEEDS = 'seed', '_seed'
 MOST_VALUES = 4
@@ -98,6 +100,11 @@ class Wish(NamedTuple):
     @property
     def part(self) -> float:
         return self.confidence / 100
+
+    @property
+    def has_means(self) -> bool:
+        """True if the view shows means, which have intervals."""
+        return self.show in OF_MEANS
 
     def columns_of_by(self, value: Cell) -> dict[str, Cell]:
         """The values of the parameters that separate lines, by their names, for a value of `by`."""
@@ -252,6 +259,9 @@ def _check(rows: Sequence[Row], wish: Wish) -> None:
         raise Fault('there is no parameter %s; %s' % (wish.against, known(wish.against, parameters, measures)))
     if wish.measure not in measures:
         raise Fault('there is no measure %s; %s' % (wish.measure, known(wish.measure, measures)))
+    if wish.show == 'heat' and wish.against in measures:
+        raise Fault('%s is a measure, and a map (heat) has a cell for each value of a parameter: name a parameter with '
+                    '--against, or use another --show' % wish.against)
 
 
 def number_of(row: Row, measure: str) -> float | None:

@@ -151,7 +151,8 @@ def _of_against(point: Point, wish: Wish) -> Row:
         return {}
     row: Row = {wish.against: point.against}
     if point.across:
-        row.update({'%s low' % wish.against: point.across.low, '%s high' % wish.against: point.across.high})
+        ends = ('first quartile', 'third quartile') if wish.show == 'median' else ('low', 'high')
+        row.update(zip(('%s %s' % (wish.against, it) for it in ends), (point.across.low, point.across.high)))
     return row
 
 
@@ -189,7 +190,7 @@ def selected_below(wish: Wish) -> list[str]:
 def how(shown: Shown, wish: Wish) -> str:
     """The method of the intervals, if there are intervals."""
     found = by_methods(shown.methods())
-    if wish.show != 'mean' or not found:
+    if not wish.has_means or not found:
         return ''
     return ': means with intervals of %g %% %s' % (wish.confidence, found)
 
@@ -290,9 +291,9 @@ def remarks(shown: Shown, wish: Wish) -> list[str]:
     """Notes on the limits of what the intervals mean."""
     has_crossing = any(it and it.low is not None for it in crossings_of(shown, wish).values()) or any(
         it is not None for it in shares_that_cross(shown, wish).values())
-    found = of_nets(shown.shared) if wish.show == 'mean' or wish.threshold and wish.show != 'cdf' else []
+    found = of_nets(shown.shared) if wish.has_means or wish.threshold and wish.show != 'cdf' else []
     found += [*of_bars(shown, wish), *shown.warnings]
-    if wish.show != 'mean':
+    if not wish.has_means:
         return [*([words_of(wish.draws)] if has_crossing else []), *found]
     found += of_intervals([it for point in shown.points for it in point.estimates], has_crossing, wish.draws)
     return found + of_skewed(shown, wish)
@@ -300,12 +301,21 @@ def remarks(shown: Shown, wish: Wish) -> list[str]:
 
 def of_skewed(shown: Shown, wish: Wish) -> list[str]:
     """The warning that intervals of few skewed runs near 0 or 1 are too narrow."""
-    kind = wish.kind_of(wish.measure, [value for point in shown.points for value in point.values])
-    its = [it for it in shown.points if it.estimate.method in NARROW and it.estimate.runs < ENOUGH_RUNS and
-           is_skewed_near_an_end(it.values)] if kind == 'share' else []
+    along = [(point.across, point.others) for point in shown.points if point.across]
+    its = [it for name, found in ((wish.measure, [(point.estimate, point.values) for point in shown.points]),
+                                  (wish.against, along)) for it in _skewed(wish, name, found)]
     return ['%d mean%s of fewer than %d skewed runs %s near 0 or 1: the interval of such a mean contains the true mean '
             'less often than its confidence says; make more runs, or use --interval bootstrap-t' % (
                 len(its), 's' if len(its) > 1 else '', ENOUGH_RUNS, 'are' if len(its) > 1 else 'is')] if its else []
+
+
+def _skewed(wish: Wish, name: str, found: Sequence[tuple[Estimate, tuple[float, ...]]]) -> list[Estimate]:
+    """The means of a measure with intervals that are too narrow, because their runs are few, skewed, and near 0 or
+    1."""
+    if wish.kind_of(name, [value for _, values in found for value in values]) != 'share':
+        return []
+    return [it for it, values in found if it.method in NARROW and it.runs < ENOUGH_RUNS
+            and is_skewed_near_an_end(values)]
 
 
 def of_bars(shown: Shown, wish: Wish) -> list[str]:
@@ -354,9 +364,12 @@ def of_intervals(estimates: Sequence[Estimate], is_drawn: bool = False, draws: i
 def threshold_of(wish: Wish) -> float | None:
     """The threshold, or None."""
     try:
-        return float(wish.threshold) if wish.threshold else None
+        found = float(wish.threshold) if wish.threshold else None
     except ValueError:
-        raise Fault('a threshold is a number, and not %r' % wish.threshold) from None
+        found = math.nan
+    if found is not None and not math.isfinite(found):
+        raise Fault('a threshold is a number, and not %r' % wish.threshold)
+    return found
 
 
 def shown_threshold(wish: Wish) -> str:

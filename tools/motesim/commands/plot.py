@@ -45,9 +45,9 @@ def arguments() -> argparse.Namespace:
                        help='the method for intervals of means (auto: t, or a method for shares)')
     words.add_argument('--count', action='store_true',
                        help="the measure is a count: it isn't a share, even if all its values are 0 and 1")
-    words.add_argument('--confidence', type=float, default=95, metavar='PERCENT',
+    words.add_argument('--confidence', type=float, metavar='PERCENT',
                        help='the confidence of the intervals (95)')
-    words.add_argument('--draws', type=int, default=2000, metavar='N',
+    words.add_argument('--draws', type=int, metavar='N',
                        help='the number of draws of a bootstrap (2000)')
     words.add_argument('--threshold', metavar='VALUE',
                        help='report where each curve crosses this value; with --show cdf, the share of runs with at '
@@ -75,7 +75,7 @@ def arguments() -> argparse.Namespace:
     words.add_argument('--plan', metavar='PLAN', help="show what this plan's `plot` describes")
     words.add_argument('-o', dest='output', metavar='FILE', help='the picture, NAME.svg, NAME.pdf or NAME.png')
     asked = words.parse_args()
-    if not 50 <= asked.confidence <= 99.9:
+    if asked.confidence is not None and not 50 <= asked.confidence <= 99.9:
         words.error('--confidence is 50 to 99.9, not %g' % asked.confidence)
     return asked
 

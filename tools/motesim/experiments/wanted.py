@@ -66,10 +66,10 @@ def _check_names(plan: Plan, path: Path, wish: Wish, columns: Columns) -> None:
     is_paired = bool(wish.pair or wish.compare)
     if wish.measure not in columns.measures:
         raise _unknown(plan, (*path, 'measure'), 'measure', wish.measure, columns.measures)
-    if wish.against and wish.against not in [*parameters, *([] if is_paired else columns.measures)]:
-        kinds = 'parameter' if is_paired else 'parameter or measure'
-        raise _unknown(plan, (*path, 'against'), kinds, wish.against,
-                       [*parameters, *([] if is_paired else columns.measures)])
+    measures = [] if is_paired or wish.show == 'heat' else columns.measures
+    if wish.against and wish.against not in [*parameters, *measures]:
+        kinds = 'parameter or measure' if measures else 'parameter'
+        raise _unknown(plan, (*path, 'against'), kinds, wish.against, [*parameters, *measures])
     for key, names in ('by', wish.by), ('over', wish.over):
         for name in filter(None, names.split(',')):
             if name not in [*parameters, *digests]:

@@ -9,7 +9,7 @@ from typing import Any, NamedTuple
 from motesim.analysis import drawing, text
 from motesim.analysis.drawing import FORMATS
 from motesim.analysis.estimates import AUTO, DRAWS, LEAST_DRAWS, MEANS, MOST_DRAWS
-from motesim.analysis.points import MEDIAN, SHOWS, Wish
+from motesim.analysis.points import MEDIAN, OF_MEANS, SHOWS, Wish
 from motesim.faults import Fault
 from motesim.plan.plan import Plan
 from motesim.plan.tables import PlanFault, Tables, any_kind, needed, optional, text_of_value
@@ -31,6 +31,26 @@ PLOT = {'file': needed(str), 'measure': needed(str), 'against': optional(str, ''
 NOT_UPWARDS = ('cdf', 'heat')
 # Options that have no effect in a comparison run by run, and are refused; it shows means.
 NOT_IN_PAIRS = ('show', 'threshold', 'log_y')
+
+
+# The confidence of intervals, in per cent, unless a number is given.
+CONFIDENCE = 95
+# The names of a command line that are used together with --plan (`given_once` isn't an option), and the keys of a plan
+# with other names than their options.
+WITH_PLAN = ('results', 'plan', WHERE, 'given_once')
+KEYS = {'output': 'file', 'label': LABELS}
+
+
+def without_effect(show: str, is_paired: bool, threshold: object, interval: str) -> dict[str, str]:
+    """The options about intervals that have no effect in a view, each with the reason."""
+    if not is_paired and show not in OF_MEANS:
+        reasons = dict.fromkeys(('interval', 'count'), 'is for intervals of means')
+        if threshold in (None, '') or show == 'cdf':
+            reasons |= dict.fromkeys(('confidence', 'draws'), 'is for intervals')
+        return reasons
+    if interval == 't' and threshold in (None, ''):
+        return {'draws': 'is for intervals by the bootstrap'}
+    return {}
 
 
 def table_path(picture: Path) -> Path:
@@ -55,8 +75,8 @@ class _Plot(NamedTuple):
         """Refuses keys and values that aren't allowed; `pictures` are the tables of the pictures before this one."""
         self.check_file(pictures)
         self.check_comparison()
-        self.check_view()
         self.check_numbers()
+        self.check_view()
 
     def check_file(self, pictures: set[Path]) -> None:
         file = Path(self.values['file'])
@@ -91,9 +111,11 @@ class _Plot(NamedTuple):
         if shown == 'heat' and not values['by']:
             raise self.tables.fault(self.path, 'A plot with this `show` needs the key `by`: the parameter of the '
                                                'vertical axis.', '`by`: a text', False)
-        if values['interval'] != AUTO and shown != 'mean' and not self.is_paired():
-            raise self.fault('interval', 'Only means have such intervals, and this plot shows none.',
-                             '`show = "mean"` as well')
+        unused = without_effect(shown, self.is_paired(), values['threshold'], values['interval'])
+        for key, reason in unused.items():
+            if key in self.given and self.given[key] not in (AUTO, False):
+                raise self.fault(key, 'The key `%s` %s, and this plot shows none.' % (key, reason),
+                                 '`show = "mean"` as well' if shown not in OF_MEANS else 'another `interval`')
 
     def check_numbers(self) -> None:
         confidence, draws = self.values['confidence'], self.values['draws']
@@ -122,7 +144,7 @@ class _Plot(NamedTuple):
         values, threshold, confidence = dict(self.values), self.values['threshold'], self.values['confidence']
         values |= {WHERE: self.where(), LABELS: self.labels(), 'is_count': values.pop('count'),
                    'threshold': '' if threshold is None else str(threshold),
-                   'confidence': 95 if confidence is None else confidence}
+                   'confidence': CONFIDENCE if confidence is None else confidence}
         wish = Wish(**values)
         self.check_texts(wish)
         if not wish.against and wish.show != 'cdf':
@@ -163,6 +185,11 @@ def _text_of_where(tables: Tables, path: tuple[str | int, ...], value: object) -
     return ','.join(text_of_value(it) for it in found)
 
 
+def text_of_option(value: object) -> str:
+    """The value of an option, as in the command line."""
+    return '%g' % value if isinstance(value, float) else str(value)
+
+
 def _refusals(asked: argparse.Namespace) -> Iterator[tuple[bool, str]]:
     """The reasons for which the options of a command line are refused, each with whether it applies."""
     is_paired, is_other = bool(asked.pair or asked.compare), asked.show not in (None, 'mean')
@@ -175,8 +202,11 @@ def _refusals(asked: argparse.Namespace) -> Iterator[tuple[bool, str]]:
            '%s: a picture is SVG, PDF or PNG: its name ends in .svg, .pdf or .png' % asked.output)
     yield (is_paired and bool(is_other or asked.threshold), 'a comparison run by run shows the mean of the differences:'
            ' leave out %s' % ('--show' if is_other else '--threshold'))
-    yield (asked.interval != AUTO and asked.show != 'mean' and not is_paired,
-           '--interval %s is for intervals of means: add --show mean, or leave it out' % asked.interval)
+    for name, reason in without_effect(asked.show or MEDIAN, is_paired, asked.threshold, asked.interval).items():
+        value = getattr(asked, name)
+        way = 'use another --interval' if is_paired or asked.show in OF_MEANS else 'add --show mean'
+        yield (value not in (None, False, AUTO), '--%s%s %s: %s, or leave it out' % (
+            name, '' if value is True else ' ' + text_of_option(value), reason, way))
     yield bool(asked.label and not asked.by), '--label is the text of a line of --by: add --by NAME, or leave it out'
     yield (bool(asked.log_y and (is_paired or asked.show in NOT_UPWARDS)),
            '--log-y is for medians, means and points: leave it out')
@@ -184,12 +214,14 @@ def _refusals(asked: argparse.Namespace) -> Iterator[tuple[bool, str]]:
            '--log is for an axis with a scale, which --show heat doesn\'t have: leave it out')
     yield bool(asked.pair and asked.compare), '--pair and --compare are two comparisons: leave out one'
     yield asked.show == 'heat' and not asked.by, '--show heat needs --by: the parameter of the vertical axis'
-    yield not LEAST_DRAWS <= asked.draws <= MOST_DRAWS, '--draws is %d to %d' % (LEAST_DRAWS, MOST_DRAWS)
+    yield (asked.draws is not None and not LEAST_DRAWS <= asked.draws <= MOST_DRAWS,
+           '--draws is %d to %d' % (LEAST_DRAWS, MOST_DRAWS))
 
 
 def wishes(asked: argparse.Namespace) -> list[Wish]:
     """Returns the requests of a command line: those of its plan, or the one that its options describe."""
     if asked.plan:
+        check_plan_only(asked)
         return wishes_of(Plan.read(asked.plan))
     for is_wrong, reason in _refusals(asked):
         if is_wrong:
@@ -197,12 +229,23 @@ def wishes(asked: argparse.Namespace) -> list[Wish]:
     drawing.size_of(asked.size)
     wish = Wish(asked.measure, asked.against or '', ','.join(asked.by), asked.output or '', asked.title, asked.x,
                 asked.y, log=asked.log, show=asked.show or MEDIAN, interval=asked.interval,
-                confidence=asked.confidence, threshold=asked.threshold or '', over=asked.over or '',
-                footer=asked.footer, size=asked.size, log_y=asked.log_y, nets=asked.nets, pair=asked.pair or '',
-                compare=asked.compare or '', labels=labels_of(asked.label), is_count=asked.count,
-                y_limits=asked.y_limits, draws=asked.draws)
+                confidence=CONFIDENCE if asked.confidence is None else asked.confidence,
+                threshold=asked.threshold or '', over=asked.over or '', footer=asked.footer, size=asked.size,
+                log_y=asked.log_y, nets=asked.nets, pair=asked.pair or '', compare=asked.compare or '',
+                labels=labels_of(asked.label), is_count=asked.count, y_limits=asked.y_limits,
+                draws=asked.draws or DRAWS)
     drawing.limits_of(wish)
+    text.threshold_of(wish)
     return [wish]
+
+
+def check_plan_only(asked: argparse.Namespace) -> None:
+    """Refuses options that have no effect together with --plan, because the plan describes its pictures."""
+    for name, value in vars(asked).items():
+        is_given = value is not None if name in ('title', 'footer') else value not in (None, '', [], False, AUTO)
+        if is_given and name not in WITH_PLAN:
+            raise Fault('%s has no effect with --plan: use the key `%s` in the plan\'s `plot`, or leave out --plan' % (
+                '-o' if name == 'output' else '--' + name.replace('_', '-'), KEYS.get(name, name)))
 
 
 def labels_of(words: Sequence[str]) -> tuple[tuple[str, str], ...]:
