@@ -10,7 +10,7 @@ from motesim.from_c.expressions import (
 from motesim.from_c.nodes import Node, number_of, value_of
 from motesim.from_c.own_names import OTHERS, OwnNames
 from motesim.from_c.parameters import KEPT, OF_COMMENT, READ_BY_NAME, SHARED
-from motesim.from_c.places import codes_with
+from motesim.from_c.places import has_one_user
 from motesim.from_c.scope import LONGEST, allowed
 from motesim.from_c.tokens import tokens_of
 
@@ -36,6 +36,9 @@ WITH_NAME = {'semaphore': 'semaphore s = 1;', 'event': 'event go;', 'etimer': 'e
 OF_STRUCTURE = 'A protothread needs no structure: `thread NAME { .. }` declares it, `spawn NAME;` runs it.'
 # A name with its value for the preprocessor; without a value, or with parameters, it is another kind of line.
 DEFINED = re.compile(r'#\s*define\s+([A-Za-z_]\w*)\s+([^\s/"].*)')
+# The places of a name that is an event in C.
+OF_EVENT = r'\bprocess_post(?:_synch)?\s*\([^,;]*,\s*NAME\b|\bev\s*[!=]=\s*NAME\b|\bNAME\s*[!=]=\s*ev\b'
+DEFINED_EVENT = 'An event isn\'t a number: `event` declares its name, and `is(..)` tests it.'
 # An expression with parameters, for the preprocessor.
 MACRO = re.compile(r'#\s*define\s+([A-Za-z_]\w*\([^()]*\))\s*(\S.*)')
 NO_MACROS = ('There is no preprocessor, and there are no macros: write the expression of `%s`, which is `%s`, at each '
@@ -92,6 +95,9 @@ class Declarations(OwnNames):
         if not defined:
             self.why('Leave this line out: there is no preprocessor, and no file has to be included.')
             return ''
+        if self.is_event(defined[1]):
+            self.writer.insist(DEFINED_EVENT)
+            return self.at_top('event %s;' % self.new_name(defined[1]))
         name = defined[1].lower()
         name = name if self.scope.kinds.get(name, 'variable') == 'variable' else 'my_' + name
         value = self.constant(defined[2])
@@ -102,6 +108,10 @@ class Declarations(OwnNames):
         if is_sum(defined[2]):
             self.writer.insist(OF_TEXT % (defined[1], value, defined[1], defined[2].strip()))
         return self.declared(name, str(value % (MOST + 1)))
+
+    def is_event(self, name: str) -> bool:
+        """Returns whether the program below posts a name as an event, or compares it with the event of a call."""
+        return re.search(OF_EVENT.replace('NAME', name), self.place.below) is not None
 
     def constant(self, text: str) -> int | None:
         """The value of an expression of numbers, or None if it has none."""
@@ -270,7 +280,7 @@ class Declarations(OwnNames):
         the whole function, or if not exactly one code calls it."""
         words = [it.text for it in self.tokens if it.kind != 'end']
         is_whole = words[-1:] == ['}'] and words.count('{') == words.count('}')
-        if not self.place.is_top or not is_whole or codes_with(self.place.below, name) != 1:
+        if not self.place.is_top or not is_whole or not has_one_user(self.place.below, name):
             return False
         self.at = len(words)
         self.moved = name

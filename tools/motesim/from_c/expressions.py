@@ -457,7 +457,8 @@ class Writer:
     def name(self, word: str) -> str:
         lower = word.lower()
         if lower in VALUES and word not in self.scope.kinds:
-            self.why('A truth value is a number: 1 is true, 0 is false.' if VALUES[lower].isdigit() else
+            self.why('There are no pointers: `NULL` is 0.' if lower == 'null' else
+                     'A truth value is a number: 1 is true, 0 is false.' if VALUES[lower].isdigit() else
                      'The number of the mote is `self`.' if VALUES[lower] == 'self' else 'The moment is `now`.')
             return VALUES[lower]
         if lower == 'clock_second' and word not in self.scope.kinds:

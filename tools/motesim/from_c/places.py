@@ -160,10 +160,11 @@ def head_for(text: str, declared: str, code: str = '') -> int:
     return text.count('\n', 0, head.end()) + 1 if head else 0
 
 
-def codes_with(text: str, name: str) -> int:
-    """The number of codes that have a name, or call a function that has it."""
-    names = _with_functions(text, name)
-    return sum(_uses(text, it, names) for it in CODE.finditer(text))
+def has_one_user(text: str, name: str) -> bool:
+    """Returns whether one code has a name, or calls a function that has it; or whether the text has only one code."""
+    names, codes = _with_functions(text, name), [*CODE.finditer(text)]
+    users = [it for it in codes if _uses(text, it, names)]
+    return len(users) == 1 or len(codes) == 1
 
 
 def _with_functions(text: str, name: str) -> set[str]:

@@ -22,7 +22,9 @@ CHANGED = re.compile(r'(?<!\w)(?:(?<!var )(\w++)\s*+(?:(?:[-+*/%&|^]|<<|>>)?=(?!
                      r'|(?:\+\+|--|into\s)\s*+(\w++))')
 MACRO = re.compile(r'^[ \t]*PROCESS(?:_NAME)?[ \t]*\([ \t]*(\w+)', re.M)
 LONGEST = 16
-# The least similarity of a misspelt name to the name of a variable.
+# The kinds of which a program may have several with similar names.
+ALIKE = ('variable', 'timer', 'event')
+# The least similarity of a misspelt name to a name of these kinds.
 MISSPELT = 0.8
 LONG = re.compile(r'\b[A-Za-z]\w{%d,}' % LONGEST)
 
@@ -66,12 +68,20 @@ def words_of(name: str) -> list[str]:
     return re.sub(r'(?<=[a-z0-9])(?=[A-Z])', '_', name).lower().split('_')
 
 
+def _are_alike(one: str, other: str) -> bool:
+    """Returns whether two words are similar, without the words that two names share."""
+    return nearest(one, [other]) is not None or sorted(one) == sorted(other)
+
+
 def is_misspelt(word: str, name: str) -> bool:
     """Returns whether a word is so similar to a name that it is this name with a mistake. A word with a number or with
     words more or less is another name."""
     its, others = words_of(word), words_of(name)
     if re.sub(r'\D', '', word) != re.sub(r'\D', '', name) or set(its) < set(others) or set(others) < set(its):
         return ''.join(its) == ''.join(others)
+    both = set(its) & set(others)
+    if both and not _are_alike(*(''.join(it for it in parts if it not in both) for parts in (its, others))):
+        return False
     ratio = difflib.SequenceMatcher(None, word.lower(), name).ratio()
     return ratio >= MISSPELT or sorted(word.lower()) == sorted(name)
 
@@ -163,4 +173,4 @@ class Scope:
                 return its
         # (a name that is known as something else isn't a misspelling)
         found = None if name in self.kinds else nearest(name, self.of_kind(kind))
-        return found if found and (kind != 'variable' or is_misspelt(name, found)) else name
+        return found if found and (kind not in ALIKE or is_misspelt(name, found)) else name
