@@ -33,8 +33,11 @@ def of_text(name: str, a: str, b: str) -> Iterator[str]:
     pairs = [(row, one, other) for row, (one, other) in enumerate(zip_longest(a.split('\n'), b.split('\n')), 1)
              if one != other]
     row, one, other = pairs[0]
-    rest = '' if len(pairs) == 1 else ', the first of %d lines that differ in their places' % len(pairs)
-    yield 'program %s differs in its line %d%s' % (name, row, rest)
+    if len(pairs) == 1:
+        yield 'program %s differs in its line %d' % (name, row)
+    else:
+        yield ('program %s: %d lines differ if the texts are compared line by line; the first is line %d'
+               % (name, len(pairs), row))
     for letter, line in ('A', one), ('B', other):
         yield '  %s: %s' % (letter, 'it has no such line' if line is None else line.strip() or '(an empty line)')
 
