@@ -1,21 +1,22 @@
-"""Refuses each request for memory of a run, one in each run: tools/dev/refuse_memory [FILE [-- WORD ..]]
+"""Runs motesim once for each of its requests for memory, and refuses this request: tools/dev/refuse_memory [FILE]
 
-`motesim` simulates a scenario. In the first run its first request is refused, in the second run its second, and so on,
-until a run makes fewer requests. The start of a thread is a request too, for its stack. Each run has to end in one of
-three ways:
+`motesim` simulates a scenario. In the first run its first request is refused, in the second run its second request,
+and so on, until a run has no further request. The start of a thread is a request too, for the thread's stack. Each run
+has to end in one of three ways:
 
-- with the whole report and status 0;
-- with `motesim: out of memory`, status 1 and a beginning of the report, unless a start was refused;
+- with the report and the status of a run in which no request is refused;
+- with `motesim: out of memory`, status 1 and a beginning of the report, unless the request was the start of a thread;
 - with workers only: with `motesim: run fault 5`, status 1 and no report.
 
 If a request of a worker's thread is refused inside the executor, the run ends with `run fault 5`, and otherwise with
-`out of memory`; at least one run has to end with `out of memory`. If a report has so many lines that threads format
-it, a refused start of one of them leads to the whole report.
+`out of memory`. The refused requests of workers must not all lead to `run fault 5`. If a report has so many lines that
+threads format it, and the start of one of these threads is refused, the run has to write the whole report.
 
-The words after FILE are the arguments of motesim, as in `-- --workers 2 --sync marks`. Without FILE, small scenarios
-are tried, on one thread and with two and three workers of both kinds: packets that meet and are heard, a full ring, a
-full queue, a refused timer, and a scenario with a fault. Two motes with many lines are tried with two workers of both
-kinds.
+After FILE and `--` there may be arguments of motesim, as in `-- --workers 2 --sync marks`. Without FILE, small
+scenarios are tried on one thread, and with two and three workers of both kinds of synchronisation. These scenarios have
+packets of two senders, a full ring, a full queue, a refused timer, and a fault. Two motes with many lines are tried
+with two workers of both kinds.
+
 A test of crates/part_tests, as `rt ci` builds it, is tried in the same way. It calls kernels and motes after they have
 run out of memory. It has to pass, or to end with its own error if it has no kernel or mote to call.
 

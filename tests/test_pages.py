@@ -1,7 +1,7 @@
 """Checks that the commands of the pages print what the pages show: tools/dev/check_tutorial [PAGE ..]
 
-The pages are those of docs/use/. Blocks of commands begin with ```sh, and the next block, which begins with ```, has
-the output of the commands. If there is no such block, they must print nothing. A block that begins with ```console has
+The pages are those of docs/use/. A block of commands begins with ```sh. The next block, which begins with ```, has the
+output of these commands. Commands without a block of output must print nothing. A block that begins with ```console has
 commands that open a window, and is not run. A block that begins with ```toml NAME, ```mote NAME or ```python NAME is a
 file that the reader saves under that name. The commands of a page are run in a separate folder, in which ./run, tools/
 and examples/ exist.

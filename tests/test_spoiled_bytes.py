@@ -4,8 +4,8 @@ tools/dev/spoil_bytes
 The scenario is tests/cases/motes/print_then_yield.toml. Each of its bytes is replaced by each byte of a short list
 (SPOILED in tests/test_spoiled_bytes.py). For such a text motesim writes a report and ends with status 0, or writes
 only the line of a fault and ends with status 1. The number of texts with each result, and the total length of the
-reports, have to be those of another simulator with the same rules. A prefix of the scenario is not TOML (fault 1) or
-lacks a key (fault 2), except the one that lacks only the last line feed.
+reports, have to be those of another simulator with the same rules. Each prefix of the scenario must have fault 1,
+because it isn't TOML, or fault 2, because it lacks a key. Only the prefix without the last line feed has the report.
 """
 from __future__ import annotations
 

@@ -2,8 +2,9 @@
 
 Each scenario is run on one thread, and then with 1, 2, 3, 7 and 16 workers with both partitions and both kinds of
 synchronisation; status, report and fault line have to be the same. Without a name, the examples are run, and a net of
-beacons with so many lines that workers write them in several rounds. If there is a file NAME.expected next to
-NAME.toml, the run on one thread has to write the text of this file: a report, or the one line of a fault.
+beacons. The report of this net has so many lines that workers write them in several rounds. If there is a file
+NAME.expected next to NAME.toml, the run on one thread has to write the text of this file: a report, or the one line of
+a fault.
 """
 from __future__ import annotations
 

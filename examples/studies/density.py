@@ -2,13 +2,13 @@
 
 
 def neighbours(run):
-    """How many others a mote hears, on average."""
+    """The number of other motes that a mote hears, on average."""
     motes = run.scenario.motes
     return sum(len(run.scenario.hearers(mote)) for mote in range(motes)) / motes
 
 
 def aloha(run):
-    """The part of the copies that slotted ALOHA would deliver: no other neighbour of the receiver sends at the moment."""
+    """The share of the copies that slotted ALOHA would deliver, because no other neighbour of the receiver sends then."""
     ends = [packet.sender for packet in run.report.medium]
     period = (run.scenario.end + 1) * run.scenario.motes / max(1, len(ends))
     heard = [len(run.scenario.hearers(mote)) for mote in range(run.scenario.motes)]

@@ -36,11 +36,10 @@ class Words(argparse.ArgumentParser):
 
 def add_limits(words: argparse.ArgumentParser, seconds: float = 120, memory: int = 2048, report: int = 256) -> None:
     """Adds the options for the limits of a run."""
-    for name, default, kind, what in (('seconds', seconds, float, 'a run, in seconds of processor time'),
-                                      ('memory', memory, int, 'the memory of a run, in megabytes'),
-                                      ('report', report, int, 'a report, in megabytes')):
-        words.add_argument('--' + name, type=kind, default=default, metavar='N',
-                           help='the limit of %s (%g)' % (what, default))
+    for name, default, kind, what in (('seconds', seconds, float, 'the limit of a run, in seconds of processor time'),
+                                      ('memory', memory, int, "the limit of a run's memory, in megabytes"),
+                                      ('report', report, int, 'the limit of a report, in megabytes')):
+        words.add_argument('--' + name, type=kind, default=default, metavar='N', help='%s (%g)' % (what, default))
 
 
 def words_of(about: str | None, prog: str | None = None) -> argparse.ArgumentParser:

@@ -1,10 +1,11 @@
 """Measures motesim: tools/dev/bench [NAME ..] [--against PROGRAM] [--rounds N]
 
-Runs motesim on the scenarios of bench/, on one thread and with workers of both kinds. If --against names an earlier
-binary, the two run alternately. For each way to run, the tool prints the seconds of processor time (user time, the
-best round), the seconds of the clock, and the most memory. Each round has a ratio of this binary to the earlier one:
-the tool prints the median of these ratios, the least and the greatest. Each report is compared with the first one of
-its scenario; the status is 1 if one differs. docs/dev/SPEED.md says how to count instructions.
+Runs motesim on the scenarios of bench/, on one thread and with workers of both kinds of synchronisation. For each
+scenario and each way to run it, the tool prints three measures: the seconds of processor time (user time), the seconds
+of the clock, and the memory. Each of them is the least value of all rounds. If --against names an earlier binary, the
+two binaries run alternately. Then the tool also divides each measure by that of the earlier binary in the same round,
+and prints the median, the least and the greatest of these ratios. The status is 1 if a scenario has two different
+reports, and otherwise 0. docs/dev/SPEED.md says how to count instructions.
 """
 from __future__ import annotations
 
@@ -95,9 +96,10 @@ def measure_scenario(name: str, programs: Sequence[str], rounds: int) -> bool:
 def main() -> int:
     words = words_of(__doc__)
     words.add_argument('names', nargs='*', metavar='NAME', choices=SCENARIOS,
-                       help='scenarios: %s; without one, all' % ', '.join(SCENARIOS))
+                       help='scenarios: %s; without a name, all' % ', '.join(SCENARIOS))
     words.add_argument('--against', metavar='PROGRAM', help='an earlier motesim, which runs alternately with this one')
-    words.add_argument('--rounds', type=int, default=5, metavar='N', help='N runs of each (5)')
+    words.add_argument('--rounds', type=int, default=5, metavar='N',
+                       help='make N runs of each scenario in each way (5)')
     asked = words.parse_args()
     programs = [str(optimized_path()), *([os.path.abspath(asked.against)] if asked.against else [])]
     if len(programs) > 1:

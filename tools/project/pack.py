@@ -6,17 +6,18 @@ Its tools need Python 3.11 or newer. Nothing is installed, and nothing is fetche
 
     tar xzf motesim-VERSION.tar.gz && cd motesim-VERSION && ./run examples/flooding.toml
 
-The archive has the files that git knows. To add folders and files of your own, such as an exercise and its worksheet,
-name them: tools/pack examples/mylab worksheet.pdf. Files from outside this tree are at the top of the archive. A
-file isn't packed if a word of its name, or of its folder's name, begins with `solution`, `hidden`, `answer` or
-`marks`, even if you name it; nor are key.csv and docs/use/TEACH.md. With --for-teachers all these files are packed too.
-Files and folders whose names begin with a dot are never packed, and neither are copies that an editor made, NAME~.
-tools/pack lists the files that it adds to the repository's own files, and the files that it leaves out.
+The archive has only files that git knows. To add folders and files of your own, such as an exercise and its worksheet,
+list them: tools/pack examples/mylab worksheet.pdf. Files from outside this tree are at the top of the archive.
 
-The archive has the binary that the environment variable MOTESIM names. If MOTESIM isn't set, it has the proved
-`motesim` that ./prove has built from these sources, and a page PROVED.md about the proof and the kit. If there is no
-proved one, it has a binary that is compiled without a proof, and tools/pack and the archive's ./run say so. The same
-tree and binary yield the same archive, byte for byte.
+Without --for-teachers, some files are left out, even if you list them: docs/use/TEACH.md, key.csv, and each file with
+a word in its name, or in its folder's name, that begins with `solution`, `hidden`, `answer` or `marks`. Files and
+folders whose names begin with a dot are always left out, and so are backup copies of an editor, NAME~. tools/pack
+lists the files that it adds to the repository's own files, and the files that it leaves out.
+
+The archive has the binary that the environment variable MOTESIM names. If MOTESIM isn't set, the archive has the proved
+`motesim` that ./prove has built from these sources, and a page PROVED.md about the proof and the kit. If ./prove hasn't
+built it, the archive has a binary that is compiled without a proof. Then tools/pack and the archive's ./run say so. The
+same tree and binary yield the same archive, byte for byte.
 """
 from __future__ import annotations
 
@@ -254,7 +255,7 @@ def main() -> int:
     words.add_argument('own', metavar='OWN', type=Path, nargs='*',
                        help='a folder or file of your own that goes into the archive too')
     words.add_argument('--for-teachers', action='store_true',
-                       help='pack solutions, hidden nets and the page for teachers too')
+                       help='also pack solutions, hidden nets and the page for teachers')
     asked = words.parse_args()
     its = sorted_files(parts(), asked.own, has_all=asked.for_teachers)
     folder = 'motesim-%s' % VERSION

@@ -2,10 +2,10 @@
 
 After that, ./run and all tools run the proved binary; until then they run the binary that is already built. A proof
 needs about 20 to 40 minutes on four cores, at a low priority. `rt ci` does the work, on a copy of the crates in
-out/proof. Some kits, such as rattle-kit-13f, keep the results of each proved crate for all clones on this machine. So
-you can interrupt ./prove at any time: the next ./prove, or ./test, continues with the remaining crates. ./prove prints
-a line for each crate. The prover's output is in out/proof.log, and is shown for a crate that isn't proved. ./test is
-the gate, which also proves and runs all tests.
+out/proof. You can interrupt ./prove at any time. Some kits, such as rattle-kit-13f, keep the results of each proved
+crate for all clones on this machine. With such a kit the next ./prove, or ./test, continues with the remaining crates;
+with another kit it begins again. ./prove prints a line for each crate. The prover's output is in out/proof.log. If a
+crate isn't proved, ./prove also prints the output about this crate. To run all tests too, use ./test, the gate.
 """
 from __future__ import annotations
 

@@ -27,9 +27,9 @@ NAME = 'motesim'
 # (the help text of motesim, for which it needn't be built)
 HELP = Path(__file__).with_name('help.txt')
 HELP_OF_RUN = """
-Options of ./run itself, which compiles the program if none is built:
-      --unproved     Runs a program that is compiled without a proof, even if a proved one is built
-      --version      Prints the version, and whether the program that would run is proved"""
+Options of ./run itself, which compiles motesim if it isn't built:
+      --unproved     Runs a motesim that is compiled without a proof, even if a proved one is built
+      --version      Prints the version, and whether the motesim that would run is proved"""
 FAILED, MISUSED = 1, 2
 
 

@@ -15,9 +15,10 @@ from motesim.runner.programs import TOP, program_path
 
 TESTS = TOP / 'tools/tests'
 # The names that a module of tests/ may get, for its help; None if its tests have no names.
-NAMES = {'test_memory.py': 'a scenario, or a scenario, -- and arguments; without it, the small scenarios',
+NAMES = {'test_memory.py': 'a scenario, and -- with arguments of motesim if there are any; without a name, the small '
+                           'scenarios',
          'test_spoiled_bytes.py': None}
-CASES = 'the case, example, page or scenario to test; without a name, all'
+CASES = 'selects tests, as the text above says; without a name, all are run'
 MINUTES = 30
 NO_PYTEST = ('the tests need pytest: on Debian `apt-get install python3-pytest python3-pytest-xdist` installs it '
              'for %s (.ci/run installs all that the tests need)' % SYSTEM)

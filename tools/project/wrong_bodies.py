@@ -1,15 +1,15 @@
-"""Tries mutants of the crates' functions, many in one check: the prover must refuse each because of its effect.
+"""Tries mutants of the crates' functions, several in one check: the prover must refuse each because of its effect.
 
-A mutant is a file NAME.edit of crates/CRATE/must-fail, gate-bodies or wrong-bodies (docs/proof/WRONG_BODIES.md). It is
-refused for its meaning if a goal of a contract fails for which nobody has written a proof. If only a proof by hand no
-longer fits, or the prover stops at a limit, the refusal says little about the contract: such a mutant is reported as
-open, and counts as skipped, until it is written so that the contract decides. A control comes first: it has to prove
-the crate without an edit.
+A mutant is a file NAME.edit of crates/CRATE/must-fail, gate-bodies or wrong-bodies (docs/proof/WRONG_BODIES.md). A
+mutant counts as refused if the prover doesn't prove some goal of a contract, or of a loop's invariant, and if nobody
+has written a proof of this goal by hand. If only a proof by hand no longer fits, or if the prover stops at a limit, the
+refusal says little about the contract. Then the mutant is reported as open, and counts as skipped, until somebody
+rewrites it so that the contract decides. A control comes first: it has to prove the crate without an edit.
 
-The tool uses the libraries in crates/*/out, and first builds those that are missing or outdated. With --built it uses
-them unchanged, because rt ci has just built them. Each verdict is noted in log/wrong_bodies.tsv, with a digest of
-everything on which it depends. As many checks run in parallel as processors and memory allow, or as RT_JOBS says. The
-last line is `N passed, M failed, K skipped`, and the status 1 if one failed.
+The tool uses the libraries in crates/*/out, and first builds those that are missing or outdated. With --built it builds
+none, because rt ci has just built them. Each verdict is noted in log/wrong_bodies.tsv, with a digest of everything on
+which it depends. As many checks run in parallel as processors and memory allow, or as RT_JOBS says. The last line is
+`N passed, M failed, K skipped`. The status is 1 if a mutant failed, and otherwise 0.
 """
 from __future__ import annotations
 
@@ -39,9 +39,10 @@ def words() -> argparse.Namespace:
     asked = words_of(__doc__)
     asked.add_argument('--built', action='store_true', help='use the libraries as rt ci has left them, and build none')
     asked.add_argument('--changed', action='store_true',
-                       help='leave out mutants that were refused with exactly the same texts')
+                       help='leave out mutants that were refused, or left open, with exactly the same texts')
     asked.add_argument('--gate', action='store_true',
-                       help='try those mutants in %s that have changed, and a tenth of all' % GATE)
+                       help="try the gate's choice: the mutants in %s that have changed, and a tenth of all that "
+                            "aren't known to be open" % GATE)
     asked.add_argument('names', nargs='*', metavar='CRATE or CRATE/NAME', help='crates, or mutants (all)')
     return asked.parse_args()
 

@@ -1,12 +1,12 @@
 """Compares two reports, and shows the first difference: tools/compare A B [--rows N] [--html FILE]
 
-A and B are reports, or scenarios, which are run. The first difference is the difference at the earliest moment, not on
-the first line. It is shown with the mote, the moment, the line of each side, and the last packets and events of that
-mote before the difference. Differences between two scenarios are listed too. The tool also shows the first collision
-that only one of the two reports has, and the number of lines that differ, for each mote and for each kind of line.
-`--html FILE` writes a page with one timeline above the other.
+A and B are reports, or scenarios, which are run. If both are scenarios, the tool also lists the differences between the
+scenarios. The first difference between two reports is the one at the earliest moment; `diff` may show another one
+first. The tool shows its moment and mote, the line of each report, and the last packets and events of this mote before
+the difference. It also shows the first collision that only one of the two reports has, and the number of lines that
+differ, for each mote and for each kind of line. `--html FILE` writes a page with one timeline above the other.
 
-The tool ends with status 0 if the reports are the same, 1 if they differ, and 2 if a report can't be read.
+The tool ends with status 0 if the reports are the same, 1 if they differ, and 2 if A or B can't be read.
 """
 from __future__ import annotations
 
@@ -20,7 +20,7 @@ def main() -> int:
     words.add_argument('a', metavar='A', help='a report, or a scenario')
     words.add_argument('b', metavar='B', help='another report or scenario')
     words.add_argument('--rows', type=int, default=20, metavar='N',
-                       help='the greatest number of motes in the table (20)')
+                       help='show at most N motes in the table of lines that differ (20)')
     words.add_argument('--html', metavar='FILE',
                        help='write both timelines to this page, which opens at the first difference')
     asked = words.parse_args()

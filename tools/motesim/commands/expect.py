@@ -5,12 +5,13 @@ scenario NAME.toml:
 
     expect = ["mote 6 prints flood 1 by 60", "no mote halts", "every mote but 0 receives at least 3"]
 
-The scenario is run. For each sentence a line says whether the sentence holds and, if it doesn't, which line of the
-report is the first to break it. docs/use/EXPECTATIONS.md has all forms of sentences. The last line is
-`N passed, M failed`.
+The scenario is run. For each sentence a line says whether the sentence holds. If it doesn't, further lines have the
+reason, and the first line of the report that breaks it. docs/use/EXPECTATIONS.md has all forms of sentences. The last
+line is `N passed, M failed`.
 
-The tool ends with status 0 if all sentences hold, 1 if one is broken, and 2 if there is no result: a sentence or a
-file can't be read, or `motesim` isn't built (the environment variable MOTESIM names another binary).
+The tool ends with status 0 if all sentences hold, 1 if one is broken, and 2 if there is no result: if a sentence or a
+file can't be read, if the run reaches a limit, or if `motesim` isn't built. To use another `motesim`, name its file in
+the environment variable MOTESIM.
 """
 from __future__ import annotations
 

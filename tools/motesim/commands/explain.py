@@ -1,12 +1,13 @@
 """Explains why a scenario has no report: tools/explain FILE
 
-The tool runs the scenario. If `motesim` reports an error, the tool shows this message, the line of the scenario or of
-the program with a mark under the error, the rule that this line breaks, and the words that are allowed there. If the
-tool can guess what you meant, it also shows the corrected line. If the scenario has a report, the tool warns of parts
-that are legal but probably not meant.
+The tool runs the scenario. If `motesim` reports an error, the tool shows the message, the line with the error, a mark
+under the error, the rule that this line breaks, and the words that are allowed there. If the tool can guess what you
+meant, it also shows the corrected line. If the scenario has a report, the tool warns of parts that are legal but
+probably not meant.
 
-The tool ends with status 0 if the scenario has a report, 1 if an error is explained, and 2 if the file can't be read
-or `motesim` isn't built (the environment variable MOTESIM names another binary).
+The tool ends with status 0 if the scenario has a report, 1 if an error is explained, and 2 if the file can't be read,
+if the run reaches a limit, or if `motesim` isn't built. To use another `motesim`, name its file in the environment
+variable MOTESIM.
 """
 from __future__ import annotations
 

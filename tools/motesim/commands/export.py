@@ -1,11 +1,11 @@
-"""Writes a run for other programs, or a scenario as C: tools/export REPORT --to vcd|pcapng|perfetto|csv
+"""Writes a run in the format of another program, or a scenario in C: tools/export REPORT --to vcd|pcapng|perfetto|csv
 
   tools/export net.toml --to vcd        net.vcd: waveforms of processes, event queues and radio (GTKWave)
   tools/export net.toml --to pcapng     net.pcapng: packets and their copies (Wireshark)
   tools/export net.toml --to perfetto   net.perfetto.json: a trace (ui.perfetto.dev)
   tools/export net.toml --to csv        net.lines.csv, net.packets.csv, net.copies.csv (pandas, R)
   tools/export net.toml --form contiki -o net_c         a folder of C files for a Contiki 2.x tree
-  tools/export net.toml --form contiki -o net_c --host  with a simulator in C that runs them here
+  tools/export net.toml --form contiki -o net_c --host  the same folder, and a simulator in C for this machine
 
 REPORT is a report, or a scenario, which is run. A moment counts as a millisecond. docs/use/EXPORTS.md describes the
 formats and how to open the files; docs/use/CONTIKI.md is about the C files.
@@ -29,8 +29,8 @@ def main() -> int:
     forms.add_argument('--to', choices=FORMS, help='the format of a run')
     forms.add_argument('--form', choices=['contiki'], help='the format of a scenario: C files for Contiki 2.x')
     words.add_argument('-o', dest='output', metavar='FILE',
-                       help='the file to write: for CSV the beginning of the names, for C the folder (named '
-                       'after REPORT)')
+                       help="the file to write; for CSV, the beginning of the three files' names; for C, the folder. "
+                            "Without -o, the name is made from REPORT's")
     words.add_argument('--host', action='store_true',
                        help='with --form contiki: add a simulator in C that runs the files')
     asked = words.parse_args()

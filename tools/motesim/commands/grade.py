@@ -1,24 +1,26 @@
 """Grades a folder of solutions: tools/grade FOLDER EXPECTATIONS [--net NET]
 
   tools/grade answers task.expect.toml                                 each solution in its own net
-  tools/grade answers task.expect.toml --net task.toml                 only its program, in your net
+  tools/grade answers task.expect.toml --net task.toml                 only each solution's program, in your net
   tools/grade answers task.expect.toml --net task.toml --hidden hidden.toml -o marks.html
   tools/grade answers task.expect.toml --net task.plan.toml --vary seed=1..5 \\
     --hidden task.plan.toml --vary-hidden seed=77..79
 
-A solution is a scenario NAME.toml, or with --net also a program NAME.mote. With --net the tool takes only the text of
-one program from a solution: the program that --program names, or the only one. So nobody gains by changing the net.
-With several nets, a sentence counts only if it holds in each of them. A net that --hidden names counts in the same
-way, but a page of marks shows nothing of it.
+A solution is a scenario NAME.toml. With --net, a program NAME.mote is a solution too, and the tool uses only the text
+of one program of a scenario: the program that --program names, or the only one. So nobody gains by changing the net.
+With several nets, a sentence counts only if it holds in each of them. A net that --hidden names counts like the other
+nets, but a page of marks doesn't show it.
 
-Each entry of the folder has a row, and an error in one entry doesn't affect the others. Each run has limits (--seconds
-of processor time, --memory, --report), and several run at once (--jobs). If a run lasts 10 times its --seconds because
-the machine has other work, the solution isn't marked: grade it again.
+The tool prints a table of marks, with a row for each entry of the folder. An error in one entry doesn't affect the
+others. Each run has limits (--seconds of processor time, --memory, --report), and several runs are made at once
+(--jobs). On a busy machine, a run may last 10 times its --seconds in real time. Then the solution isn't marked: grade
+it again.
 
-Tables `[[change]]` of EXPECTATIONS are not tried: they replace texts of one solution. -o writes the marks to a file:
-NAME.csv for a spreadsheet, NAME.toml, or NAME.html, a page that links each first failed sentence to its timeline.
---why NAME shows what breaks the sentences in one solution or, if it is refused, the place of its error. --write FOLDER
-writes each program in each net as a scenario, FOLDER/anna.toml_in_hidden.toml, for the studio and the other tools.
+The tool ignores tables `[[change]]` of EXPECTATIONS, because they replace texts of one particular solution. -o writes
+the marks to a file: NAME.csv for a spreadsheet, NAME.toml, or a page NAME.html. The page links the first broken
+sentence of each solution to a timeline. --why NAME shows, for one solution, what breaks each sentence. If `motesim`
+refuses the solution, --why shows the place of the error. --write FOLDER writes each program in each net as a scenario,
+such as FOLDER/anna.toml_in_hidden.toml, for the studio and the other tools.
 
 The tool ends with status 0; with 1 if a solution isn't marked; with 2 if the sentences or the nets can't be read.
 """
@@ -40,18 +42,18 @@ def arguments() -> argparse.Namespace:
     words.add_argument('folder', metavar='FOLDER', type=Path, help='a folder with solutions')
     words.add_argument('expectations', metavar='EXPECTATIONS', type=Path, help='a file of sentences, NAME.expect.toml')
     words.add_argument('--net', action='append', default=[], metavar='NET', type=Path,
-                       help='run the programs in this net, a scenario or a plan; several may be named')
+                       help='run the programs in this net, a scenario or a plan; you can repeat the option')
     words.add_argument('--hidden', action='append', default=[], metavar='NET', type=Path,
-                       help='run the programs in this net too, but keep it out of a page of marks')
+                       help="run the programs in this net too, but don't show it on a page of marks")
     words.add_argument('--vary', action='append', default=[], metavar='NAME=VALUES',
-                       help='values of a parameter of the plans that --net names, such as seed=1..5')
+                       help='for the plans that --net names: the values of a parameter, such as seed=1..5')
     words.add_argument('--vary-hidden', action='append', default=[], metavar='NAME=VALUES',
-                       help='values of a parameter of the plans that --hidden names, such as seed=77..79')
+                       help='for the plans that --hidden names: the values of a parameter, such as seed=77..79')
     words.add_argument('--program', metavar='NAME', help='the program that the students write, if a net has several')
     words.add_argument('--seconds', type=float, default=SECONDS, metavar='N',
                        help='the limit of a run, in seconds of processor time (20)')
     words.add_argument('--memory', type=int, default=MEGABYTES, metavar='MEGABYTES',
-                       help='the limit of the memory of a run (1024)')
+                       help="the limit of a run's memory (1024)")
     words.add_argument('--report', type=int, default=16, metavar='MEGABYTES',
                        help='the limit of a report (16)')
     words.add_argument('--jobs', type=int, metavar='N',
@@ -59,11 +61,11 @@ def arguments() -> argparse.Namespace:
     words.add_argument('-o', dest='output', action='append', default=[], metavar='FILE', type=Path,
                        help='write the marks: NAME.csv, NAME.toml or NAME.html')
     words.add_argument('--anonymous', action='store_true',
-                       help='show numbers instead of the names of solutions; each marking draws new numbers')
+                       help='show numbers instead of the names of solutions; each call of the tool draws new numbers')
     words.add_argument('--key', metavar='FILE', type=Path,
                        help='with --anonymous: write the number of each solution to this file, which is only for you')
     words.add_argument('--write', metavar='FOLDER', type=Path,
-                       help='also write each program in each net as a scenario, to look at it in the studio')
+                       help='also write each program in each net as a scenario, which the studio can open')
     words.add_argument('--excel', action='store_true',
                        help='write NAME.csv with a byte order mark, and with `;` between the cells')
     words.add_argument('--csv', action='store_true', help='print the marks in CSV')

@@ -2,7 +2,7 @@
 
   tools/scenario net.plan.toml -o net.toml
   tools/scenario net.plan.toml --set period=20 --set seed=3 | ./run
-  tools/scenario --from net.toml -o net.plan.toml            the other way: a plan, with files next to it
+  tools/scenario --from net.toml -o net.plan.toml            writes a plan that yields the net of net.toml
 
 Without -o the scenario is written to standard output. The same plan, files and parameters always produce the same
 bytes. docs/use/EXPERIMENTS.md describes plans.
@@ -20,11 +20,12 @@ from motesim.words import words_of
 def main() -> int:
     words = words_of(__doc__)
     words.add_argument('plan', metavar='PLAN', nargs='?', help='a plan, a TOML file')
-    words.add_argument('--from', dest='source', metavar='SCENARIO', help='write a plan that makes this scenario')
+    words.add_argument('--from', dest='source', metavar='SCENARIO',
+                       help='write a plan that yields the net of this scenario, and the files that the plan needs')
     words.add_argument('--set', action='append', default=[], metavar='NAME=VALUE',
                        help='change the value of a parameter')
     words.add_argument('-o', dest='output', metavar='FILE',
-                       help='the scenario to write; by default standard output; with --from, the plan')
+                       help='the scenario to write (standard output); with --from, the plan to write (NAME.plan.toml)')
     asked = words.parse_args()
     if (asked.plan is None) == (asked.source is None) or asked.source and asked.set:
         words.error('name a PLAN, or a scenario with --from')

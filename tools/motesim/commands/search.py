@@ -46,8 +46,8 @@ def arguments() -> argparse.ArgumentParser:
     words.add_argument('--expect', action='append', default=[], metavar='SENTENCE',
                        help='an expectation, instead of a file of expectations')
     words.add_argument('--faults', default='', metavar='KINDS',
-                       help='the kinds of faults (links,motes; with --set: values, parameters or both, whichever '
-                            '--set names)')
+                       help='the kinds of faults. Without this option: links,motes or, with --set, the kinds of the '
+                            'names in --set: values, parameters, or both')
     words.add_argument('--at-most', type=int, default=1, metavar='K',
                        help='the greatest number of faults in one run (1)')
     words.add_argument('--every', default='2', metavar='NUMBERS', help='for `every`: the values of k (2)')
@@ -58,29 +58,32 @@ def arguments() -> argparse.ArgumentParser:
     words.add_argument('--step', type=int, default=0, metavar='N',
                        help='for `places`: the distance by which a mote is moved (a quarter of the range)')
     words.add_argument('--random', type=int, default=0, metavar='N',
-                       help='afterwards try N larger sets, drawn at random')
+                       help='after all sets up to --at-most, try N larger sets, drawn at random')
     words.add_argument('--seed', type=int, default=1, metavar='S', help='the seed of --random (1)')
-    words.add_argument('--most-runs', type=int, metavar='N', help='make at most N runs; --random may need a few more')
+    words.add_argument('--most-runs', type=int, metavar='N',
+                       help='try sets in at most N runs; with --random, the runs that make a drawn set minimal don\'t '
+                            'count')
     words.add_argument('--most-seconds', type=float, metavar='N', help='begin no more runs after N seconds')
     words.add_argument('--seconds', type=float, default=SECONDS, metavar='N',
-                       help='the limit of a run, in seconds (10)')
+                       help='the limit of a run, in seconds of real time (10)')
     words.add_argument('--bytes', type=int, default=BYTES, metavar='N',
                        help='the limit of a report, in bytes (16,000,000)')
     words.add_argument('--jobs', type=int, default=os.cpu_count() or 1, metavar='N',
                        help='the number of simultaneous runs (one for each processor)')
     words.add_argument('--dask', metavar='ADDRESS', help='send the runs to the Dask scheduler at this address')
     words.add_argument('-o', dest='output', metavar='FOLDER', help='the folder of the written files (NAME.search)')
-    words.add_argument('--csv', metavar='FILE', help='write a table of the sets that were found')
+    words.add_argument('--csv', metavar='FILE', help='write a table of the sets that break an expectation')
     words.add_argument('--json', metavar='FILE',
                        help='write all results in JSON to this file; - is standard output')
-    words.add_argument('--all', action='store_true', help='show all sets, not only ten for each expectation')
+    words.add_argument('--all', action='store_true',
+                       help='show all sets that break an expectation, not only ten for each expectation')
     words.add_argument('--shrink', action='store_true',
-                       help='reduce one counter-example of each broken expectation, the smallest that was found, as far '
-                            'as possible')
+                       help='for each broken expectation, write a scenario that breaks it, as small as possible, as '
+                            'tools/shrink does')
     words.add_argument('--progress', action='store_true', help='report progress in lines of JSON, on standard error')
     words.add_argument('--studies', nargs='+', metavar='FILE',
-                       help='check that the searches in these files have the results that the files state')
-    words.add_argument('--resume', action='store_true', help='continue the same search after it was stopped')
+                       help='make the searches in these files, and check that their results are those in the files')
+    words.add_argument('--resume', action='store_true', help='continue a search that ended with Ctrl-C or at a limit')
     return words
 
 

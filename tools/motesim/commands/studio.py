@@ -1,7 +1,7 @@
 """Opens a page on which you write a protocol and see its run at once: tools/studio [FILE.toml]
 
-The page is served on this machine only. Without FILE it shows the first of the examples. Ctrl-C ends the studio.
-docs/use/STUDIO.md describes the page.
+The page is served on this machine only. Without FILE.toml the page shows the example flooding.toml. Ctrl-C ends the
+studio. docs/use/STUDIO.md describes the page.
 """
 from __future__ import annotations
 
@@ -24,14 +24,15 @@ def positive(word: str) -> int:
 @command('studio')
 def main() -> int:
     words = words_of(__doc__, 'tools/studio')
-    words.add_argument('file', nargs='?', metavar='FILE.toml', help='a scenario; if it does not exist, a new one')
+    words.add_argument('file', nargs='?', metavar='FILE.toml',
+                       help="a scenario; if the file doesn't exist, the studio begins a new scenario with this name")
     words.add_argument('--against', metavar='OTHER.toml',
-                       help='begin at the first difference from the run of this scenario')
+                       help='open the page at the first difference from the run of this scenario')
     words.add_argument('--no-open', action='store_true', help='print the address, and open no browser')
     words.add_argument('--seconds', type=positive, default=SECONDS, metavar='N',
-                       help='the limit of a run, in seconds (%(default)s)')
+                       help='the limit of a run, in seconds of real time (%(default)s)')
     words.add_argument('--memory', type=positive, default=MEMORY, metavar='N',
-                       help='the limit of the memory of a run, in megabytes (%(default)s)')
+                       help="the limit of a run's memory, in megabytes (%(default)s)")
     words.add_argument('--report', type=positive, default=REPORT, metavar='N',
                        help='the limit of a report, in megabytes (%(default)s)')
     asked = words.parse_args()

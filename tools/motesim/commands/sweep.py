@@ -2,32 +2,36 @@
 
   tools/sweep net.plan.toml --vary period=10,20,40 --vary seed=1..30 --measure sent --measure ratio -o net.csv
 
-Each combination becomes a row of net.csv (CSV, or SQLite if the name ends in .sqlite), with its parameters. If you
-start the same command again, the tool makes only the missing runs. After Ctrl-C the finished rows stay in the file. A
-run with an error has a row with the error; a measure that fails has an empty cell and a note. A plan can have values
-and measures in its table `sweep`: --vary replaces the plan's values of the same parameter, and --measure adds to the
-plan's measures. --plot draws what the plan's `plot` describes.
+The tool makes a run for each combination of the values. Each run has a row with its parameters and measures in net.csv
+(CSV, or SQLite if the name ends in .sqlite). If you start the same command again, the tool makes only the missing runs.
+After Ctrl-C the finished rows stay in the file. A run with an error has a row with the error. If a measure fails, its
+cell is empty, and the row has a note. A plan can have values and measures in its table `sweep`: --vary replaces the
+plan's values of the same parameter, and --measure adds to the plan's measures. --plot draws what the plan's `plot`
+describes.
 
-Values are 10,20,40 or 1..30 or 0..100..25 (in steps of 25). Measures are
-  sent, ratio, collided, ..     the columns of tools/summary, for the net; `sent of mote 3`
+The forms of values are 10,20,40 (these numbers), 1..30 (all whole numbers from 1 to 30), and 0..100..25 (0, 25, 50, 75
+and 100). With `name = MEASURE` the column of a measure gets this name. The measures are:
+  sent, ratio, collided, ..     a column of tools/summary, for the net
+  sent of mote 3                a column of tools/summary, for one mote
   reachable                     the share of the motes that packets of mote 0 can reach, directly or through others
   loss                          the share of the copies that are lost by the scenario's losses
-  flow most: print sink         the columns of tools/summary --flow, for the net
-  holds: no mote halts          1 if a sentence of tools/expect holds, otherwise 0
+  flow most: print sink         a column of tools/summary --flow, for the net
+  holds: no mote halts          1 if this sentence of tools/expect holds, otherwise 0
   moment: every mote prints flood 1
                                 the first moment at which each mote has printed it
-  last: SENTENCE                the moment of the last line of the sentence
-  count: SENTENCE               the number of lines of the sentence
-  motes: SENTENCE               the number of motes of the sentence that fulfil it
+  last: SENTENCE                the moment of the last line that the sentence is about
+  count: SENTENCE               the number of lines that the sentence is about
+  motes: SENTENCE               the number of motes that do what the sentence says
   delay: mote 0 sends 1 -> every mote but 0 prints flood 1
-                                the time from the first event to the second; earlier lines of the second don't count
+                                the time from the first event to the second event; lines of the second event that are
+                                earlier than the first event don't count
   delivery: motes 1 to 9 print source -> mote 0 prints sink
-                                the share of the lines of the first sentence that are followed by a line of the second
-                                with the same value; messages on the way at the end count as lost. With `every mote`
-                                or `motes 1 to 9` in the second sentence, each pair of a message and a mote counts;
-                                with `some mote`, any of the motes is enough
-  python: measures.py:energy    your function in a file next to the plan; its argument is the run
-and `name = MEASURE` names its column.
+                                the share of the messages that are delivered. Each line of the first sentence is a
+                                message. It is delivered if a line of the second sentence with the same value follows.
+                                Messages on the way at the end count as lost. With `every mote` or `motes 1 to 9` in
+                                the second sentence, each pair of a message and a mote counts; with `some mote`, a
+                                message needs a line from only one of the motes
+  python: measures.py:energy    the result of your function in a file next to the plan; its argument is the run
 
 docs/use/EXPERIMENTS.md shows a sweep from its beginning to a plot.
 
@@ -60,8 +64,8 @@ def main() -> int:
                        help='the limit of a report, in bytes (200,000,000)')
     words.add_argument('--dask', metavar='ADDRESS', help='send the runs to the Dask scheduler at this address')
     words.add_argument('--renew', action='store_true',
-                       help='repeat the rows from before a change of the plan, motesim or the measures; the tool '
-                            'refuses if some of these rows have values that the command lacks')
+                       help='repeat the runs of rows that are older than a change of the plan, of motesim or of the '
+                            'measures; this is an error if one of these rows has values that the command lacks')
     words.add_argument('--retry', action='store_true', help='repeat runs with an error or without a measure')
     words.add_argument('--plot', action='store_true', help="draw what the plan's `plot` describes")
     asked = words.parse_args()

@@ -14,7 +14,7 @@ def main() -> int:
     words.add_argument('file', metavar='FILE',
                        help='a scenario or a report; - is standard input')
     words.add_argument('--scenario', metavar='FILE',
-                       help='the scenario from which the report was made; it has the places of the motes')
+                       help='if FILE is a report: its scenario, which has the places of the motes')
     words.add_argument('-o', dest='page', metavar='PAGE',
                        help='the page to write; by default NAME.html, next to FILE')
     words.add_argument('--title', help='the title of the page; by default the name of the file')

@@ -1,7 +1,8 @@
 """Explains the cause of a line of a report: the chain of causes, back to the start of a mote.
 
-QUESTION is a sentence, such as "mote 24 prints flood 2", or a line of the report: its number, such as 24:977 or 977,
-or its mote and text, such as "24:64 print flood 1"."""
+QUESTION is a sentence, such as "mote 24 prints flood 2", or a line of the report. A line has one of these forms: 977,
+its number in the report; 24:977, its mote and its number; or "24:64 print flood 1", its mote and its text, which begins
+with the moment, 64."""
 from __future__ import annotations
 
 import shlex
@@ -15,20 +16,21 @@ def main() -> int:
     words = words_of(__doc__, 'why')
     words.add_argument('file', metavar='FILE', help='a scenario, or a report; - is standard input')
     words.add_argument('question', metavar='QUESTION', nargs='?', help='a sentence, or a line of the report')
-    words.add_argument('--scenario', metavar='FILE', help="the report's scenario")
+    words.add_argument('--scenario', metavar='FILE', help='if FILE is a report: its scenario')
     words.add_argument('--other', metavar='FILE',
-                       help='a second run: show the first line of the chain that this run lacks')
-    words.add_argument('--other-scenario', metavar='FILE', help='the scenario of the report that --other names')
+                       help='a second scenario or report: show the first line of the chain that the second run lacks')
+    words.add_argument('--other-scenario', metavar='FILE', help='if --other names a report: its scenario')
     words.add_argument('--watch', metavar='WORD', nargs='+',
                        help='show the values of variables over time: --watch mote 3 newest, distance')
     words.add_argument('--replay', action='store_true',
-                       help="with --watch: don't add `print` statements to the program; show only the values that a "
+                       help='with --watch: add no `print` statements to the program, and show only the values that a '
                             'replay finds')
     words.add_argument('--state', metavar='WORD', nargs='+',
                        help='show the state of a mote: --state mote 3 at 46, or after a line: --state 3:114')
     words.add_argument('--json', action='store_true', help='write the result in JSON')
     words.add_argument('--short', action='store_true',
-                       help='show only the first and the last line of the chain, and lines that waited for something')
+                       help='show only the first and the last line of the chain, and the lines that are later than '
+                            'their cause')
     asked, more = words.parse_known_intermixed_args()
     if any(it.startswith('-') for it in more):
         words.error('unrecognized arguments: %s' % ' '.join(more))

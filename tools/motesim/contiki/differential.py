@@ -1,18 +1,19 @@
 """Compares motesim with the host on random scenarios: tools/differential [--seed S] [--count N]
 
-Each scenario is run by motesim, on one thread and with workers of both kinds, and by the host, a second simulator in C
-(docs/use/CONTIKI.md). All of these runs have to write the same bytes. If a report differs, the tool reduces the
-scenario to the smallest one whose reports still differ, and writes it to a file.
+The host is a second simulator, in C (docs/use/CONTIKI.md). The host runs each scenario once. motesim runs it on one
+thread, and with workers of both kinds of synchronisation. All these runs have to write the same bytes. If a report
+differs, the tool reduces the scenario as long as its reports still differ, and writes the reduced scenario to a file.
 
-  tools/differential --count 1000              the scenarios of the seeds from 0 on
-  tools/differential --seed 7000 --count 50000 the scenarios of the seeds from 7000 on
+  tools/differential --count 1000              the scenarios of the seeds 0 to 999
+  tools/differential --seed 7000 --count 50000 the scenarios of the seeds 7000 to 56999
 
   tools/differential net.toml ..               scenarios of your own
   tools/differential --gate                    all examples and cases, and 300 scenarios with the commit as seed
 
-The last lines list the features that the scenarios reached.
+After random scenarios, the last lines list the parts of the notation, the limits and the lines of reports that the
+scenarios have reached, and those that they haven't.
 
-The tool ends with status 0 if all agree, 1 if some differ, and 2 if there is no `motesim` or no C compiler.
+The tool ends with status 0 if all reports agree, 1 if some differ, and 2 if there is no `motesim` or no C compiler.
 """
 from __future__ import annotations
 
@@ -190,14 +191,17 @@ def main() -> int:
     words = words_of(__doc__)
     words.add_argument('scenario', nargs='*', metavar='SCENARIO', help='scenarios to compare instead of random ones')
     words.add_argument('--seed', default='0',
-                       help='the first seed: a number, or a word, to which -0, -1, .. are added')
+                       help='the first seed, a number (0); or a word, to which -0, -1, .. are added')
     words.add_argument('--count', type=int, default=100, metavar='N', help='the number of random scenarios (100)')
     words.add_argument('--jobs', type=int, metavar='N', help='the number of processes (one for each processor)')
     words.add_argument('--one-thread', action='store_true', help='leave out the runs with workers')
-    words.add_argument('--strict', action='store_true', help='have gcc or clang look for warnings in the programs too')
+    words.add_argument('--strict', action='store_true',
+                       help='a warning of gcc or clang about the C code counts as a difference in random scenarios '
+                            'too')
     words.add_argument('--gate', action='store_true', help='compare all examples and cases, and %d random scenarios '
                        'with the commit as seed' % GATE_COUNT)
-    words.add_argument('-o', dest='folder', default='.', metavar='FOLDER', help='the folder for scenarios that differ')
+    words.add_argument('-o', dest='folder', default='.', metavar='FOLDER',
+                       help='the folder for the scenarios whose reports differ (.)')
     asked = words.parse_args()
     compilers()
     runner = Runner(program=program_path(), limits=LIMITS)
