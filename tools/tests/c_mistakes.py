@@ -210,6 +210,13 @@ RIGHT: list[tuple[str, str, str]] = [
     (BODY, 'if (ev == full) {\n}', 'if is(full) {\n}'),
     (BODY, 'if (ev != PROCESS_EVENT_INIT) {\n}', 'if !is(init) {\n}'),
     (BODY, 'if (ev == PROCESS_EVENT_TIMER && data == &t) {\n}', 'if fired(t) {\n}'),
+    (BODY, 'PROCESS_WAIT_EVENT_UNTIL(ev == PROCESS_EVENT_TIMER && data != &t);',
+     'yield_until (is(timer) && !fired(t));'),
+    (BODY, 'if(ev == PROCESS_EVENT_TIMER && data != &t && n > 2) {\n}',
+     'if ((is(timer) && !fired(t)) && (n > 2)) {\n}'),
+    (BODY, 'PROCESS_WAIT_EVENT_UNTIL(ev == PROCESS_EVENT_EXITED && data == &other);', 'yield_until gone(other);'),
+    (BODY, 'if(ev == PROCESS_EVENT_EXITED && data != &other) {\n}', 'if (is(exited) && !gone(other)) {\n}'),
+    (BODY, 'if (data == &other) {\n}', 'if gone(other) {\n}'),
     # Timers and the clock.
     (BODY, 'etimer_set(&t, 10);', 'set t 10;'),
     (BODY, 'etimer_set(&t, x + 5);', 'set t (x + 5);'),

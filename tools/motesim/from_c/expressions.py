@@ -616,8 +616,15 @@ class Writer:
         if sign in ('==', '!=') and self.is_of_timer(left, right):
             timer = 'fired(%s)' % self.of_kind(right, 'timer')
             return timer if sign == '==' else '!' + timer
-        if sign == '&&' and self.is_timer_event(left) and right.kind == 'binary' and self.is_of_timer(*right.parts):
+        if sign in ('==', '!=') and self.is_of_process(left, right):
+            process = self.of_kind(right, 'process')
+            self.why('`gone(%s)` is true in a call with the event `exited` of this process.' % process)
+            return 'gone(%s)' % process if sign == '==' else '!gone(%s)' % process
+        is_equal = sign == '&&' and right.kind == 'binary' and right.text in ('==', '=')
+        if is_equal and self.is_event(left, 'timer') and self.is_of_timer(*right.parts):
             self.why('`fired(..)` tests both: the event is that of a timer, and the timer is this one.')
+            return self.text(right)
+        if is_equal and self.is_event(left, 'exited') and self.is_of_process(*right.parts):
             return self.text(right)
         if 'signed' in (left.kind, right.kind) and sign in PLAIN or sign in ORDERS and has_negative(left, right):
             return self.with_sign(sign, left, right)
@@ -707,9 +714,18 @@ class Writer:
         named = right.parts[0] if right.kind == 'unary' and right.text == '&' else right
         return left == Node('name', 'data') and self.scope.kinds.get(named.text) == 'timer' and named.kind == 'name'
 
-    def is_timer_event(self, node: Node) -> bool:
+    def is_of_process(self, left: Node, right: Node) -> bool:
+        """Returns whether `data == &w` is compared, with a process `w`."""
+        named = right.parts[0] if right.kind == 'unary' and right.text == '&' else right
+        its = self.scope.meant(named.text, 'process') if named != right else named.text
+        return left == Node('name', 'data') and named.kind == 'name' and self.scope.kinds.get(its) == 'process'
+
+    def is_event(self, node: Node, event: str) -> bool:
+        """Returns whether `ev` is compared with an event of the kernel, or `is(..)` tests it."""
         names = {it.text.lower() for it in node.parts}
-        return node.kind == 'binary' and node.text in ('==', '=') and names == {'ev', 'process_event_timer'}
+        if node.kind == 'call' and node.text == 'is':
+            return names == {event}
+        return node.kind == 'binary' and node.text in ('==', '=') and names == {'ev', 'process_event_' + event}
 
     def shift(self, sign: str, left: Node, right: Node) -> str:
         if right.kind != 'number':
