@@ -204,6 +204,10 @@ RIGHT: list[tuple[str, str, str]] = [
     (BODY, 'process_post(PROCESS_BROADCAST, full, 1);', 'broadcast full 1;'),
     (BODY, 'process_poll(&other);', 'poll other;'),
     (BODY, 'process_start(&other, NULL);', 'start other;'),
+    (BODY, 'process_start(&other, (process_data_t)5);', 'start other;'),
+    (BODY, 'process_poll(PROCESS_CURRENT());', 'poll sender;'),
+    (BODY, 'process_post(&other, full, (void *)(uintptr_t)n);', 'post other full n;'),
+    (BODY, 'x = clock_seconds() - y;', 'x = ((now / 10) - y);'),
     (BODY, 'process_exit(&other);', 'kill other;'),
     (BODY, 'if (process_is_running(&other)) {\n}', 'if running(other) {\n}'),
     (BODY, 'if (ev == PROCESS_EVENT_POLL) {\n}', 'if is(poll) {\n}'),
@@ -268,6 +272,8 @@ RIGHT: list[tuple[str, str, str]] = [
 ]
 
 SAID: list[tuple[str, str, str]] = [
+    (BODY, 'process_start(&other, (void *)n);', 'Post the value below the start: `post other e n;`'),
+    (BODY, 'x = clock_seconds();', 'Decide how many moments a second has; with 10, `(now / 10)` is'),
     (BODY, 'print t.interval;', 'There are no fields: the tests of `t` are `fired(t)` and `expired(t)`.'),
     (BODY, 'x = sizeof(int);', 'There are no sizes: each value has 16 bits, or 2 bytes.'),
     (BODY, '*y = 7;', 'leave out the declaration of `y`, and write the name of the other variable'),

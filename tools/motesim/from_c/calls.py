@@ -6,7 +6,7 @@ import re
 from motesim.from_c.declarations import OF_STRUCTURE
 from motesim.from_c.expressions import TICKS, NoCounterpart
 from motesim.from_c.lines import Lines
-from motesim.from_c.nodes import MOMENTS_OF_SECOND, Node
+from motesim.from_c.nodes import MOMENTS_OF_SECOND, Node, value_of
 from motesim.from_c.parameters import ASSIGNED, IN_CIRCLE, OF_ARGUMENTS, assignments
 from motesim.from_c.scope import allowed
 from motesim.from_c.structure import ONE_LINE
@@ -40,6 +40,9 @@ OF_CALLBACK = ('The timer calls no function: it runs its block, `ctimer %s { .. 
                'needs the statements of `%s`.')
 NO_NAME = 'A process has a name: `process a;` names it, and `code a { .. }` has its statements.'
 NO_THREAD = 'A protothread has a name: `thread t { .. }`, at the head of the `code` of the process that spawns it.'
+NO_DATA = ('`start` passes no value, so `%s` is left out: in the call with `init`, `data` is 0. Post the value below '
+           'the start: `post %s e %s;`, with `event e;` above the `process` line. The started process waits for it, '
+           '`yield_until is(e);`, and then reads `data`.')
 BROADCAST = 'A packet is one number, and goes to all motes that hear it: `send x;`. There is no buffer to fill first.'
 
 
@@ -239,6 +242,8 @@ class Calls(Lines):
         if spawns and given(spawns[0]):
             return self.spawned(spawns[0])
         self.why('`%s` is `%s` here.' % (call.text, form.split()[0]))
+        if name == 'process_start' and len(call.parts) == 2:
+            self.lose_data(*call.parts)
         self.writer.of_timer = 'fired' if form.startswith('yield_until') else 'expired'
         # (a name can be declared only inside a code)
         self.writer.unknown = {} if self.place.head else None
@@ -257,7 +262,8 @@ class Calls(Lines):
                 return '(%d * %s)' % (MOMENTS_OF_SECOND, self.writer.text(part))
             if found[1] == 'event':
                 return self.writer.event(part)
-            named = self.writer.of_kind(part, found[1])
+            is_own = part.text.lower() == 'process_current' and found[1] == 'process' and self.place.code
+            named = self.place.code if is_own else self.writer.of_kind(part, found[1])
             if found[1] == 'timer':
                 self.declare_timer(named, call.text)
                 self.name_callback(named, call)
@@ -272,6 +278,13 @@ class Calls(Lines):
             self.declare(word, kind, its, '20' if form.startswith('set') else '0')
         self.writer.unknown = None
         return written
+
+    def lose_data(self, process: Node, value: Node) -> None:
+        """Notes how a process gets the value that `process_start` passes in C."""
+        if value_of(value) == 0 or value.text.lower() == 'null':
+            return
+        lost = self.writer.text(value.parts[0] if (value.kind, value.text) == ('unary', '&') else value)
+        self.writer.insist(NO_DATA % (lost, self.writer.of_kind(process, 'process'), lost))
 
     def spawned(self, call: Node) -> str:
         """The call of a function that is a thread here: its arguments are assigned to the parameters before."""

@@ -28,7 +28,7 @@ WORDS = {'and': '&&', 'or': '||'}
 TYPES = frozenset((
     'int', 'char', 'short', 'long', 'unsigned', 'signed', 'bool', 'float', 'double', 'void', 'size_t', 'clock_time_t',
     'uint8_t', 'uint16_t', 'uint32_t', 'int8_t', 'int16_t', 'int32_t', 'u8_t', 'u16_t', 'process_event_t',
-    'process_data_t', 'rimeaddr_t', 'linkaddr_t', 'let', 'auto'))
+    'process_data_t', 'rimeaddr_t', 'linkaddr_t', 'uintptr_t', 'intptr_t', 'let', 'auto'))
 QUALIFIERS = frozenset(('static', 'const', 'volatile', 'extern', 'register'))
 # Types of 8 bits without a sign, and with one (or without, by the compiler); and larger types than the notation has.
 BYTES, SMALL, LONG = frozenset(('uint8_t', 'u8_t')), frozenset(('int8_t', 'char')), frozenset((
@@ -53,10 +53,12 @@ TESTS_OF = {'timer': ('fired', 'expired'), 'process': ('gone', 'running'), 'sema
 CALLS = {'etimer_expired': 'expired', 'ctimer_expired': 'expired', 'timer_expired': 'expired',
          'stimer_expired': 'expired',
          'process_is_running': 'running', 'pt_sem_count': 'count', 'sem_count': 'count'}
-# Calls for which the notation has a word.
+SECONDS = ('The moment is `now`. Decide how many moments a second has; with %d, `(now / %d)` is the number of seconds.'
+           % (MOMENTS_OF_SECOND, MOMENTS_OF_SECOND))
+# Calls for which the notation has a word or a value.
 WORDS_OF_CALLS = {
-    'clock_time': ('now', 'The moment is `now`.'), 'clock_seconds': ('now', 'The moment is `now`.'),
-    'rtimer_now': ('now', 'The moment is `now`.'),
+    'clock_time': ('now', 'The moment is `now`.'),
+    'rtimer_now': ('now', 'The moment is `now`.'), 'clock_seconds': ('(now / %d)' % MOMENTS_OF_SECOND, SECONDS),
     'packetbuf_dataptr': ('data', 'A packet is one number, and `data` is that number.'),
     'packetbuf_addr': ('from', 'The mote that sent a packet is `from`.'),
 }
@@ -530,7 +532,7 @@ class Writer:
         lower, parts = node.text.lower(), node.parts
         if lower in WORDS_OF_CALLS:
             word, reason = WORDS_OF_CALLS[lower]
-            self.why(reason)
+            (self.insist if reason == SECONDS else self.why)(reason)
             return word
         if lower in ('random_rand', 'rand', 'random', 'rnd'):
             self.insist(NO_CHANCE)
