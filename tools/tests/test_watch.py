@@ -88,6 +88,8 @@ class States(unittest.TestCase):
         self.assertEqual([(it['name'], it['started'], it['polled']) for it in state['processes']],
                          [('a', True, False), ('b', True, True), ('c', False, False)])
         self.assertEqual(state['timers'], [])
+        self.assertEqual(state['call']['process'], 'a')
+        self.assertIsNone(as_json(after_moment(self.source, 0, 4), 4)['call'])
 
     def test_what_is_asked(self) -> None:
         self.assertEqual(read_state(self.source, 'mote 0 at 6')[1:], (6, 'mote 0 at the end of moment 6'))

@@ -22,6 +22,26 @@ from motesim.why.studio import Causes
 READY = 'window.motesim && motesim.ready && motesim.studio.judged'
 
 
+POLLED = """version = 2
+end = 20
+medium = { range = 10, base = 2, per = 100, collide = false }
+mote = [{ x = 0, y = 0, program = "p" }, { x = 5, y = 0, program = "p" }]
+[programs]
+p = '''
+process a, b;
+autostart a, b;
+receiver b;
+code a {
+  etimer t;
+  body { set t 5; yield_until fired(t); poll b; print 1; yield; }
+}
+code b {
+  body { while 1 { yield_until is(poll); send 7; print 2; } }
+}
+'''
+"""
+
+
 class Answers(unittest.TestCase):
     """The server's answers on the report of test_why."""
 
@@ -43,6 +63,11 @@ class Answers(unittest.TestCase):
         for asked in {'mote': 0, 'row': 28}, {'mote': 7, 'at': 3}, {'mote': 0}, {'row': 9}:
             self.assertIn('said', self.ask('state', **asked))
 
+    def test_the_call_that_runs(self) -> None:
+        """After a's post it is still a that is called, and after the last line of a call no process is."""
+        self.assertEqual(self.ask('state', mote=0, row=9)['call']['process'], 'a')
+        self.assertIsNone(self.ask('state', mote=0, at=4)['call'])
+
     def test_lines_of_a_sentence(self) -> None:
         self.assertEqual(self.ask('lines', sentence='mote 0 prints'), {'rows': [11, 12, 16, 19]})
         self.assertIn('said', self.ask('lines', sentence='mote 0 frobs'))
@@ -53,7 +78,7 @@ class Answers(unittest.TestCase):
 
 class Page(unittest.TestCase):
     browser: Browser
-    room: 'tempfile.TemporaryDirectory[str]'
+    room: tempfile.TemporaryDirectory[str]
 
     @classmethod
     def setUpClass(cls) -> None:
@@ -68,7 +93,7 @@ class Page(unittest.TestCase):
 
     def setUp(self) -> None:
         skips.need_program(self)
-        room = tempfile.TemporaryDirectory()
+        self.room = room = tempfile.TemporaryDirectory()
         self.addCleanup(room.cleanup)
         file = Path(room.name, 'flooding.toml')
         file.write_text((TOP / 'examples/flooding.toml').read_text())
@@ -156,6 +181,20 @@ class Page(unittest.TestCase):
         self.browser.run("document.getElementById('values-asked').value = 'newest';"
                          "document.getElementById('values-asked').nextSibling.click()")
         self.browser.wait('motesim.states.values && motesim.states.values.length === 25 + 25 * 3')
+
+    def test_the_process_that_runs_after_a_poll(self) -> None:
+        """The report has no line for the call of a poll: the replay names the process that is called."""
+        (Path(self.room.name) / 'flooding.toml').write_text(POLLED)
+        self.browser.run('motesim.studio.asks = false')
+        self.browser.visit(self.server.address, READY)
+        self.tab('steps')
+        for line, shown in ('mote 0 takes timer', 'a, called with timer 0'), ('mote 0 sends', 'b, called with poll'), (
+                'mote 0 prints 2', 'nothing'):
+            self.browser.run("document.getElementById('stop-at').value = %s" % json.dumps(line))
+            self.press_step('On ›')
+            self.browser.settle()
+            self.wait('cards', 'Runs now\n%s\n' % shown)
+            self.wait('state-cards', 'b\nis being called' if 'poll' in shown else 'b\nwaits at')
 
     def test_hover_over_a_variable(self) -> None:
         if not has_editor(CODEMIRROR):

@@ -59,6 +59,14 @@ def waits(replay: Replay, process: int) -> str:
     return 'waits at %s' % ', in '.join(in_words(replay.program, it) for it in reversed(statements))
 
 
+def call_now(replay: Replay) -> dict[str, Any] | None:
+    """The innermost call that runs now."""
+    frame = replay.frame
+    if frame is None or replay.is_halted or frame.how == 'boot':
+        return None
+    return {'process': replay.name(frame.process), 'how': frame.how, 'event': frame.event, 'word': frame.word}
+
+
 def as_json(replay: Replay, at: int) -> dict[str, Any]:
     """A state for programs, and for the pages."""
     program = replay.program
@@ -81,7 +89,7 @@ def as_json(replay: Replay, at: int) -> dict[str, Any]:
                           for variable, place in program.processes[number].variables.items()},
             'polled': number in replay.needs_poll})
     return {
-        'mote': replay.mote, 'at': at, 'halted': replay.is_halted, 'processes': processes,
+        'mote': replay.mote, 'at': at, 'halted': replay.is_halted, 'call': call_now(replay), 'processes': processes,
         'timers': sorted(timers, key=lambda it: (it['due'], it['number'])),
         'queue': [{'serial': it.serial, 'for': replay.name(it.target), 'event': it.event, 'word': it.word,
                    'from': it.sender, 'posted_at': int(replay.trace[it.line].partition(' ')[0])}

@@ -20,6 +20,18 @@ export function card(title, items, empty) {
   return made;
 }
 
+/** A process that is being called. */
+export const runningItem = text => Object.assign(element('span', text), {className: 'running'});
+
+/** Shows the call that runs before the next line of the mote, as the replay has it. */
+function showCall({call}) {
+  const box = byId('runs-now');
+  if (!box) return;
+  const event = call && (['init', 'exit', 'poll'].includes(call.event) ? call.event : `${call.event} ${call.word}`);
+  const how = call && (call.how === 'callback' ? 'in the callback of its timer' : `called with ${event}`);
+  box.replaceChildren(...(call ? [runningItem(`${call.process}, ${how}`)] : ['nothing']));
+}
+
 /** Asks for the state after a line, and shows it unless another one was asked for meanwhile. */
 export async function showMoteState(pane, mote, line, key) {
   const {run} = pane, asked = {number: studio.number, mote, row: run.numberOf(line, mote)};
@@ -27,6 +39,7 @@ export async function showMoteState(pane, mote, line, key) {
   const state = await attempt(() => ask('state', asked));
   if (!state || states.key !== key) return;
   states.shown = state.said ? null : state;
+  if (states.shown) showCall(state);
   byId('state-cards').replaceChildren(...(state.said ? [card('State', [], state.said)] : stateCards(state)));
 }
 

@@ -5,7 +5,7 @@ import {byId, element, makeButton} from '../../timeline/page/dom.js';
 import {chosen, overlays, panes, play} from '../../timeline/page/stage.js';
 import {isCall, nextLine, nextMoment, nextPlace, orderOf, placeOf, placesOf, stateAfter} from './chronology.js';
 import {studio} from './state.js';
-import {beginStates, card, showMoteState} from './states.js';
+import {beginStates, card, runningItem, showMoteState} from './states.js';
 import {searchesOf} from './stops.js';
 
 /** The run and the state that are shown. */
@@ -65,16 +65,23 @@ function printedName(program, process) {
   return found && found.length ? found.join(' or ') : 'a value';
 }
 
+/** What runs after a line, as far as the report shows it: a call that writes no line at its start, such as that of a
+    poll, isn't in the report. */
+function runningAt(run, line, state) {
+  if (state.running < 0) return [];
+  const i = state.running, name = run.process(run.p[i]);
+  const how = run.kind[i] === START ? 'called with init' : `called with ${run.events[run.e[i]]} ${run.w[i]}`;
+  return [runningItem(`${line === i ? '' : 'called last: '}${name}, ${how}`)];
+}
+
 function cardsOf(pane, mote, line) {
-  const {run} = pane, program = run.programs[run.begins[mote]], state = stateAfter(run, mote, line);
-  const runs = [];
-  if (state.running >= 0) {
-    const i = state.running, name = run.process(run.p[i]);
-    const how = run.kind[i] === START ? 'called with init' : `called with ${run.events[run.e[i]]} ${run.w[i]}`;
-    runs.push(Object.assign(element('span', `${name}, ${how}`), {className: 'running'}));
-  }
+  const {run} = pane, state = stateAfter(run, mote, line);
+  const program = run.programs[run.begins[mote]], runs = element('span', '', runningAt(run, line, state));
+  // (the line that begins a call names it; after another line the replay knows more than the report)
+  runs.id = line === state.running ? 'runs' : 'runs-now';
   const others = state.list.map(it => run.process(it)).join(', ');
-  const cards = [card('Runs now', [...runs, ...(others ? [`started: ${others}`] : [])], 'nothing')];
+  if (!runs.childNodes.length) runs.textContent = 'nothing';
+  const cards = [card('Runs now', [[runs], ...(others ? [`started: ${others}`] : [])], 'nothing')];
   cards.push(card('Printed last', [...state.printed].map(([process, i]) =>
     [element('code', printedName(program, run.process(process))), ` = ${run.w[i]}`,
       ` (${run.process(process)}, at ${run.at[i]})`]), 'nothing yet'));
