@@ -664,6 +664,35 @@ class Page(unittest.TestCase):
         self.wait('!text.includes("x = 8\\n") && m.studio.judged === m.studio.number && run.places[1][1] > 0')
         self.assertIn('# the first', self.value('text'))
 
+    def test_each_change_of_a_plain_text_area_is_undone(self) -> None:
+        self.open(codemirror=None)
+        self.type_behind('print 1;', ' ')
+        self.browser.type('print 7;')
+        texts = [self.value('text')]
+        self.value('m.editor().replace("send 5;", "send 55;\\n    send 56;")')
+        texts.append(self.value('text'))
+        x, y = self.on_map(1)
+        self.browser.drag(x, y, x + 60, y + 40)
+        self.wait('!text.includes("x = 8\\n")')
+        self.value('m.editor().replace("print 1;", "")')
+        texts.append(self.value('text'))
+        self.assertEqual(len(set(texts)), 3)
+        self.value('m.editor().area.focus()')
+        for _ in range(2):
+            self.undo()
+        self.assertEqual(self.value('text'), texts[1])
+        self.undo()
+        self.assertEqual(self.value('text'), texts[0])
+        self.undo()
+        self.assertNotIn('print 7;', self.value('text'))
+        self.wait('m.studio.judged === m.studio.number && !Array.from(run.w).includes(7)')
+
+    def undo(self) -> None:
+        """Presses Ctrl-Z."""
+        key = {'key': 'z', 'code': 'KeyZ', 'modifiers': 2, 'windowsVirtualKeyCode': 90}
+        self.browser.call('Input.dispatchKeyEvent', type='rawKeyDown', commands=['undo'], **key)
+        self.browser.call('Input.dispatchKeyEvent', type='keyUp', **key)
+
     def test_a_scenario_that_begins_with_a_fault_is_opened(self) -> None:
         self.file.write_text(NET.replace('base = 3', 'base = 0'))
         self.open()

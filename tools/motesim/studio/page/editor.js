@@ -1,7 +1,7 @@
 // The editor of the text: CodeMirror, if Debian's package is installed, otherwise a plain text area.
 import {byId} from '../../timeline/page/dom.js';
 import {defineMode} from './notation.js';
-import {offsetOf, replacements} from './text.js';
+import {differing, movedOffset, offsetOf, replacements} from './text.js';
 
 // Pixels above and below the line that the reader types.
 const MARGIN = 8;
@@ -76,10 +76,33 @@ export class Editor {
       });
       return;
     }
-    const whole = this.area.value, {scrollTop} = this.area;
-    for (const {from, to, text} of changes) this.area.setRangeText(text, offsetOf(whole, from), offsetOf(whole, to));
+    const whole = this.area.value, {scrollTop, selectionStart, selectionEnd} = this.area;
+    let changed = whole;
+    const moved = [selectionStart, selectionEnd];
+    for (const {from, to, text} of changes) {
+      const begin = offsetOf(whole, from), end = offsetOf(whole, to);
+      changed = changed.slice(0, begin) + text + changed.slice(end);
+      moved.forEach((it, i) => { moved[i] = movedOffset(it, begin, end, text.length); });
+    }
+    this.write(differing(whole, changed));
+    this.area.setSelectionRange(...moved);
     this.area.scrollTop = scrollTop;
-    this.area.dispatchEvent(new Event('input'));
+  }
+
+  /** Writes a piece of the plain text area as if the reader typed it, so that Ctrl-Z undoes it. */
+  write({begin, end, text}) {
+    if (begin === end && !text) return;
+    const {area} = this, before = document.activeElement;
+    area.focus({preventScroll: true});
+    area.setSelectionRange(begin, end);
+    // (the browser sends the event `input` for what it writes)
+    if (!document.execCommand(text ? 'insertText' : 'delete', false, text)) {
+      area.setRangeText(text, begin, end);
+      area.dispatchEvent(new Event('input'));
+    }
+    if (before === area) return;
+    area.blur();
+    if (before) before.focus({preventScroll: true});
   }
 
   /** Replaces a piece of the text by another one everywhere, and selects the first. */

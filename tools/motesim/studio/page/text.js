@@ -23,6 +23,21 @@ export function replacements(whole, old, text) {
   return changes;
 }
 
+/** The smallest piece of a text, from `begin` to `end`, that another text has differently: as `text`. */
+export function differing(old, text) {
+  const least = Math.min(old.length, text.length);
+  let begin = 0, same = 0;
+  while (begin < least && old[begin] === text[begin]) begin++;
+  while (same < least - begin && old[old.length - 1 - same] === text[text.length - 1 - same]) same++;
+  return {begin, end: old.length - same, text: text.slice(begin, text.length - same)};
+}
+
+/** The new offset of a place after the piece from `begin` to `end` became `length` characters long. */
+export function movedOffset(offset, begin, end, length) {
+  if (offset <= begin) return offset;
+  return offset >= end ? offset + length - (end - begin) : Math.min(offset, begin + length);
+}
+
 /** A piece of a program on one line, shortened if it is long. */
 export function oneLine(text) {
   const line = text.trim().replace(/\s+/g, ' ');
