@@ -66,9 +66,10 @@ BODIES = [
     ('while seq < 3:\n  print 1;\n  yield;', 'write `while (seq < 3) {`'), ('elif seq { }', 'no `elif`'),
     ('if seq {\nprint 1;\nelif seen:\n', 'write `} else { if seen {`'), ('if seq or not seen { }', 'if (seq || !seen)'),
     ('if not seq { }', 'if !seq'), ('seq = (seq and seen);', '(seq && seen)'),
-    ('seq = f(3);', 'write `a = 3; spawn f;`, and here `result` instead of `f(3)`'),
-    ('if (most(seq, 2) > 3) { }', 'write `a = seq; b = 2; spawn most;`, and here `result` instead of `most(seq, 2)`'),
-    ('seq = f(seq + 1) + 2;', '`a = (seq + 1); spawn f;`'), ('print level();', '`spawn level;`'),
+    ('seq = f(3);', 'write `.. = 3; spawn f;`, with the names of these variables instead of the dots, and here '
+     '`result` instead of `f(3)`'),
+    ('if (most(seq, 2) > 3) { }', 'write `.. = seq; .. = 2; spawn most;`, with the names of these variables'),
+    ('seq = f(seq + 1) + 2;', '`.. = (seq + 1); spawn f;`'), ('print level();', '`spawn level;`'),
     ('return seq * 2;', '`result = (seq * 2);`'), ('if seq { return 3; }', '`exit;` ends'),
     ('#define TWICE(v) ((v) * 2)\n', '`TWICE(v)`, which is `((v) * 2)`, at each place'),
     ('#define TWICE(v) ((v) * 2)\n', '// TWICE(v) is ((v) * 2)'),
@@ -163,6 +164,18 @@ class Hints(unittest.TestCase):
         text = 'process a;\nautostart a;\ncode a {\n  var v = 0;\n  thread f { // parameters: v\n    v = (v * 2);\n' \
                '  }\n  body {\n    v = f(v + 1);\n  }\n}\n'
         self.assertIn('write `v = (v + 1); spawn f;`, and here `result` instead of `f((v + 1))`', self.hint(text))
+        unknown = self.hint(text.replace('// parameters: v', ''))
+        self.assertIn('assign the arguments to the variables that the thread uses as its parameters: write `.. = (v + '
+                      '1); spawn f;`', unknown)
+        self.assertNotIn('`v = ', unknown)
+
+    def test_a_call_in_the_test_of_a_loop(self) -> None:
+        text = 'process a;\nautostart a;\ncode a {\n  var result = 0;\n  thread f { result = 0; }\n  body {\n' \
+               '    %s (f()) { print 1; }\n  }\n}\n'
+        again = 'The `while` tests `result` in each turn, so write the same statements at the end of its block again.'
+        self.assertIn('Above this line write `spawn f;`', self.hint(text % 'while'))
+        self.assertIn(again, self.hint(text % 'while'))
+        self.assertNotIn('in each turn', self.hint(text % 'if'))
 
     def test_a_name_that_is_declared_twice_before_lines_of_contiki(self) -> None:
         for body in 'send 1;', 'packetbuf_copyfrom(&x, 2);\nbroadcast_send(&bc);':

@@ -7,6 +7,7 @@ from motesim.from_c.closings import Closing
 from motesim.from_c.counting import caution, is_changed, loop_of, natural, refuse_endless
 from motesim.from_c.expressions import ONE_TOO_MANY, QUALIFIERS, TYPES, WORDS, NoCounterpart
 from motesim.from_c.nodes import Node
+from motesim.from_c.parameters import in_loop
 from motesim.from_c.places import conjuncts, ends_loop, last_statement
 from motesim.from_c.scope import allowed
 from motesim.from_c.sharing import is_needed
@@ -246,13 +247,13 @@ class Control(Skips):
 
     def choice_or_loop(self, word: str) -> str:
         if word == 'while' and self.is_empty_loop():
-            test = self.condition()
+            test = self.test_of(word)
             self.accept(';')
             self.why('A loop without a block would run forever: `wait_while` lets other events in while it waits.')
             return 'wait_while %s;' % test
         self.is_if = word == 'if'
         is_own = word == 'if' and self.ahead(-2).text != 'else'
-        test, outside, self.is_if = self.condition(), self.place, False
+        test, outside, self.is_if = self.test_of(word), self.place, False
         skipping = self.without_continue(test) if is_own else None
         if skipping:
             return 'if ' + skipping
@@ -273,6 +274,13 @@ class Control(Skips):
         elif word == 'if' and self.token.kind == 'end' and not self.is_cut:
             self.lacks_else = True
         return text
+
+    def test_of(self, word: str) -> str:
+        """The test of an `if` or a `while`."""
+        try:
+            return self.condition()
+        except NoCounterpart as said:
+            raise NoCounterpart(in_loop(str(said)) if word == 'while' else str(said)) from None
 
     def counting_loop(self, test: str) -> str:
         """A `while` whose test has `++` or `--`: after the name, the step is at the start of the block; in front of

@@ -14,10 +14,14 @@ ASSIGNED = 'A thread is run by `spawn`. Its parameters are variables: assign the
 IN_CIRCLE = ('The arguments of `%s` are parameters of the thread in another order: keep one of them in a variable of '
              'its own, and assign before `spawn %s;`.')
 KEPT = 'parameters: %s'
-OF_VALUE = ('A call has no value. A `thread` without waits serves as a function, and stores its result in a variable '
-            'of the process, such as `result`. Above this line write `%s`, and here `result` instead of `%s`.')
-# The parameters of a function that the text doesn't have.
-PARAMETERS = ('a', 'b', 'c', 'd')
+NO_VALUE = ('A call has no value. A `thread` without waits serves as a function, and stores its result in a variable '
+            'of the process, such as `result`.')
+OF_VALUE = NO_VALUE + ' Above this line write `%s`, and here `result` instead of `%s`.'
+# The text doesn't say which variables are the parameters: the names of the arguments belong to the caller.
+OF_UNKNOWN = NO_VALUE + (' Above this line, assign the arguments to the variables that the thread uses as its '
+                         'parameters: write `%s`, with the names of these variables instead of the dots, and here '
+                         '`result` instead of `%s`.')
+IN_LOOP = ' The `while` tests `result` in each turn, so write the same statements at the end of its block again.'
 OF_COMMENT = ('A thread uses the variables of its process. The comment keeps the order of the parameters for the lines '
               'that call it.')
 READ_BY_NAME = '`%s` has another meaning in a program, so write `%s` for this parameter in the thread, too.'
@@ -33,10 +37,15 @@ def parameters_of(text: str) -> dict[str, tuple[str, ...]]:
 
 def of_value(function: str, names: tuple[str, ...], values: list[str]) -> str:
     """Advice on a call whose value is used, with the statements that call the thread."""
-    its = names if len(names) == len(values) else PARAMETERS
-    assigned = assignments(its, values) if len(values) <= len(its) else None
+    is_known = len(names) == len(values)
+    assigned = assignments(names, values) if is_known else ['.. = %s;' % it for it in values]
     call = ' '.join([*(['..'] if assigned is None else assigned), 'spawn %s;' % function])
-    return OF_VALUE % (call, '%s(%s)' % (function, ', '.join(values)))
+    return (OF_VALUE if is_known else OF_UNKNOWN) % (call, '%s(%s)' % (function, ', '.join(values)))
+
+
+def in_loop(advice: str) -> str:
+    """Advice on the test of a `while`: a call in the test is made before each turn."""
+    return advice + IN_LOOP * advice.startswith(NO_VALUE)
 
 
 def assignments(names: tuple[str, ...], values: list[str]) -> list[str] | None:
