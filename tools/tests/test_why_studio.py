@@ -182,19 +182,33 @@ class Page(unittest.TestCase):
                          "document.getElementById('values-asked').nextSibling.click()")
         self.browser.wait('motesim.states.values && motesim.states.values.length === 25 + 25 * 3')
 
-    def test_the_process_that_runs_after_a_poll(self) -> None:
-        """The report has no line for the call of a poll: the replay names the process that is called."""
-        (Path(self.room.name) / 'flooding.toml').write_text(POLLED)
+    def stop_at(self, line: str, runs: str) -> None:
+        """Goes on to a line, and looks at what runs then."""
+        self.browser.run("document.getElementById('stop-at').value = %s" % json.dumps(line))
+        self.press_step('On ›')
+        self.browser.settle()
+        self.wait('cards', 'Runs now\n%s\n' % runs)
+
+    def open_steps(self, text: str) -> None:
+        (Path(self.room.name) / 'flooding.toml').write_text(text)
         self.browser.run('motesim.studio.asks = false')
         self.browser.visit(self.server.address, READY)
         self.tab('steps')
-        for line, shown in ('mote 0 takes timer', 'a, called with timer 0'), ('mote 0 sends', 'b, called with poll'), (
-                'mote 0 prints 2', 'nothing'):
-            self.browser.run("document.getElementById('stop-at').value = %s" % json.dumps(line))
-            self.press_step('On ›')
-            self.browser.settle()
-            self.wait('cards', 'Runs now\n%s\n' % shown)
-            self.wait('state-cards', 'b\nis being called' if 'poll' in shown else 'b\nwaits at')
+
+    def test_the_process_that_runs_after_a_poll(self) -> None:
+        """The report has no line for the call of a poll: the replay names the process that is called."""
+        self.open_steps(POLLED)
+        self.stop_at('mote 0 takes timer', 'a, called with timer 0')
+        self.wait('state-cards', 'b\nwaits at')
+        self.stop_at('mote 0 sends', 'b, called with poll')
+        self.wait('state-cards', 'b\nis being called')
+        self.stop_at('mote 0 prints 2', 'nothing')
+        self.wait('state-cards', 'b\nwaits at')
+
+    def test_the_process_that_runs_after_another_has_exited(self) -> None:
+        self.open_steps(POLLED.replace('is(poll); send 7;', 'gone(a); send 7;').replace('print 1; yield;', 'print 1;'))
+        self.stop_at('mote 0 sends', 'b, called with exited: a has exited')
+        self.stop_at('mote 0 leaves', 'nothing')
 
     def test_hover_over_a_variable(self) -> None:
         if not has_editor(CODEMIRROR):

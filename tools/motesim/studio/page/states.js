@@ -23,12 +23,18 @@ export function card(title, items, empty) {
 /** A process that is being called. */
 export const runningItem = text => Object.assign(element('span', text), {className: 'running'});
 
+/** The event of a call, with its data. */
+function eventOf({event, how, word}, processes) {
+  if (how === 'exited') return `exited: ${processes[word].name} has exited`;
+  return ['init', 'exit', 'poll'].includes(event) ? event : `${event} ${word}`;
+}
+
 /** Shows the call that runs before the next line of the mote, as the replay has it. */
-function showCall({call}) {
+function showCall({call, processes}) {
   const box = byId('runs-now');
   if (!box) return;
-  const event = call && (['init', 'exit', 'poll'].includes(call.event) ? call.event : `${call.event} ${call.word}`);
-  const how = call && (call.how === 'callback' ? 'in the callback of its timer' : `called with ${event}`);
+  const how = call && (call.how === 'callback' ? 'in the callback of its timer' :
+    `called with ${eventOf(call, processes)}`);
   box.replaceChildren(...(call ? [runningItem(`${call.process}, ${how}`)] : ['nothing']));
 }
 
