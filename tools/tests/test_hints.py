@@ -603,7 +603,8 @@ class Warnings(unittest.TestCase):
         self.assertIn('the process `a` waits for packets, but they go to the `receiver`, which is `b`; write '
                       '`receiver a;`', self.seen(two % ('b', ''))[0])
         alone = CODE.replace('code', 'receiver a; code') % 'set t 1; yield_until fired(t);'
-        self.assertIn('packets go to the process `a`, which never waits for them', self.seen(alone)[0])
+        self.assertIn('packets go to the process `a`, which never waits for them: while it runs, it takes them without '
+                      'a look, and after its end, the report shows them as `drop`', self.seen(alone)[0])
         self.assertIn('replace it by `yield_until (is(packet) || fired(t)); while is(packet) { .. yield_until '
                       '(is(packet) || fired(t)); }`', self.seen(alone)[0])
         self.assertIn('wait by `yield_until is(packet);`', self.seen(

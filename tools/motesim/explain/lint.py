@@ -48,8 +48,8 @@ SAME_DRAWS = ('in a net of more than 255 motes, mote k + 255 with one seed draws
               'use at most 255 motes')
 OTHER_RECEIVER = ('the process `%s` waits for packets, but they go to the `receiver`, which is `%s`; write `receiver '
                   '%s;` if `%s` is meant')
-NEVER_RECEIVES = ('packets go to the process `%s`, which never waits for them: the report calls them `busy` or drops '
-                  'them unseen; %s, or leave the `receiver` out')
+NEVER_RECEIVES = ('packets go to the process `%s`, which never waits for them: while it runs, it takes them without a '
+                  'look, and after its end, the report shows them as `drop`; %s, or leave the `receiver` out')
 WAIT_FOR_PACKET = 'wait by `yield_until is(packet);`'
 WAIT_FOR_BOTH = ('it waits for the timer `%s`, too, and a packet must not end this wait, so replace it by `yield_until '
                  '(is(packet) || fired(%s)); while is(packet) { .. yield_until (is(packet) || fired(%s)); }`, with the '
