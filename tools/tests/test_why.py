@@ -33,6 +33,29 @@ from motesim.why.replay import Parted, Reached, Replay
 from motesim.why.source import At, Source
 from motesim.why.translate import translated
 
+# Mote 0 sends 7 at 10. Each other mote prints and sends 7 once, 5 moments for each mote of its number later.
+RELAYED = """version = 2
+end = 60
+medium = { range = 10, base = 2, per = 100, collide = false }
+mote = [{ x = 0, y = 0, program = "p" }, { x = -10, y = 0, program = "p" }, { x = 6, y = 0, program = "p" },
+        { x = 5, y = 5, program = "p" }]
+[programs]
+p = '''
+process p; autostart p; receiver p;
+code p {
+  var known = 0;
+  etimer t;
+  body {
+    if (self == 0) { known = 1; set t 10; yield_until fired(t); send 7; }
+    while 1 {
+      yield;
+      if is(packet) { if !known { known = 1; set t (5 * self); yield_until fired(t); print 7; send 7; } }
+    }
+  }
+}
+'''
+"""
+
 # Mote 0 boots a, which posts to b, calls c at once, and polls b; b sends when it is polled. Mote 1 hears it.
 SCENARIO = '''version = 1
 end = 20
@@ -672,8 +695,26 @@ code p {
                       'line 10: `post idle msg 0`, which calls it, was never reached',
                       self.misses('mote 1 prints idle', found))
         # (before the halt, p waits)
-        self.assertIn('p has waited at line 7: `yield_until is(packet)` since 0, and nothing has called it since',
+        self.assertIn('p waited at line 7: `yield_until is(packet)` from 0 until 1, and nothing called it in this time',
                       self.misses('mote 1 prints p by 1', found))
+
+    def test_a_wait_that_ends_after_the_time_of_the_sentence(self) -> None:
+        found = Source('test', answer(RELAYED.encode()).report, Scenario.parse(RELAYED))
+        waited = 'p waited at line 9: `yield_until fired(t)` from 12 until 20, and nothing called it in this time'
+        self.assertTrue(any(it.startswith(waited) for it in self.misses('mote 3 prints p 7 by 20', found)))
+        self.assertIn('p has waited at line 9: `yield_until fired(t)` since 12',
+                      [it.partition(';')[0] for it in self.misses('mote 3 prints p 7 by 12', found)])
+
+    def test_a_wait_for_a_semaphore_names_the_statements_that_call_the_process(self) -> None:
+        text = RELAYED[:RELAYED.index('process p;')] + """semaphore items = 0; process p, taker; autostart taker, p;
+code p { body { signal items; poll taker; yield; } }
+code taker { body { while 1 { acquire items; print 7; } } }
+'''
+"""
+        found = Source('test', answer(text.encode()).report, Scenario.parse(text))
+        words = next(it for it in self.misses('mote 0 prints taker exactly 3 times', found) if 'taker has' in it)
+        self.assertIn('`signal items`, which adds 1 to the semaphore, was last reached at 0', words)
+        self.assertIn('`poll taker`, which calls it, was last reached at 0', words)
 
     def test_a_condition_that_was_false_the_last_time(self) -> None:
         text = CALLED.replace('if (n == 9)', 'if (n == 2)').replace('print n;', 'if (n == 3) { print n; } n = 0;')
@@ -956,6 +997,24 @@ class Runs(unittest.TestCase):
         self.assertEqual(shown.returncode, 1)
         self.assertIn('examples/flooding.toml has the line: mote 1, line 41: 43 print flood 1', shown.stdout)
         self.assertIn('lossy.toml: the medium lost it, because it loses all packets from 0 to 1', shown.stdout)
+
+    def test_the_first_mote_without_the_line_is_the_one_of_the_second_run(self) -> None:
+        """Mote 0 never prints. Motes 1 and 3 lack the line if the links from mote 0 are lost."""
+        with tempfile.TemporaryDirectory() as room:
+            good, bad = (Path(room, name) for name in ('good.toml', 'bad.toml'))
+            good.write_text(RELAYED)
+            bad.write_text(RELAYED + ''.join('[[loss]]\nfrom = 0\nto = %d\nevery = 1\n' % it for it in (1, 3)))
+            for motes in ('every mote but 0 prints', 'motes 1 to 3 print', 'each of motes 1 to 3 prints',
+                          'at least 90 % of motes but 0 print', 'at least 3 motes print'):
+                for question in (motes + ' p 7', motes + ' p 7 by 30'):
+                    with self.subTest(question=question):
+                        said = self.why(str(bad), question, '--other', str(good)).stdout
+                        self.assertIn('good.toml has the line: mote 1, line 28: 18 print p 7\n', said)
+                        self.assertIn('bad.toml: the medium lost it, because it loses all packets from 0 to 1\n', said)
+                        self.assertEqual('good.toml does not have the line of mote 0 either.\n' in said,
+                                         motes.startswith('at least 3'))
+            said = self.why(str(bad), 'motes 1 and 2 print p 8', '--other', str(good)).stdout
+            self.assertIn('good.toml does not have the line either: mote 1 has 0 such lines', said)
 
     def test_a_second_run_without_the_mote_at_which_the_chain_begins(self) -> None:
         head, *motes = (TOP / 'examples/flooding.toml').read_text().split('[[mote]]')

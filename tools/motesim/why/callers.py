@@ -15,8 +15,9 @@ from motesim.why.translate import Program, Statement
 MOST_CALLERS, DEEPEST = 3, 3
 SENDS, SETS = ('post', 'synch', 'poll'), ('set', 'reset', 'restart_timer')
 OF_EVENT, OF_TIMER, OF_SEMAPHORE = (re.compile(form % r'\(\s*(\w+)\s*\)') for form in ('is%s', 'fired%s', 'count%s'))
-# The effect of a statement on the process, its thread or its timer, if the statement isn't a call.
-DOES = {'start': 'starts it', 'spawn': 'runs it', 'restart': 'runs it', **dict.fromkeys(SETS, 'sets the timer')}
+# The effect of a statement on the process, its thread, timer or semaphore, if the statement isn't a call.
+DOES = {'start': 'starts it', 'spawn': 'runs it', 'restart': 'runs it', 'signal': 'adds 1 to the semaphore',
+        **dict.fromkeys(SETS, 'sets the timer')}
 NEVER, LAST = 'was never %s, the last time at %d', 'was not %s the last time, at %d'
 ELSEWHERE = '; timer %s was due at %d: its event was taken while %s waited at %s'
 # Events that only the kernel makes, never a statement.
@@ -101,7 +102,7 @@ class Callers:
         events, timers = (list(dict.fromkeys(form.findall(it.text))) for form in (OF_EVENT, OF_TIMER))
         said, found = '', list[list[int]]()
         if it.kind == 'acquire':
-            found.append(self.numbered(('signal',), second(it)))
+            found += [self.numbered(('signal',), second(it)), self.numbered(SENDS, name)]
         elif not events and not timers:
             found.append(self.numbered(SENDS, name))
         for timer in timers:

@@ -83,15 +83,30 @@ def answered(asker: Asker, asked: argparse.Namespace) -> Asked | Missing:
         raise Fault('%s: %s' % (asker.source.name, fault)) from None
 
 
-def show_other(source: Source, asked: argparse.Namespace) -> None:
+def of_first(asker: Asker, other: Asker, question: str) -> Asked | None:
+    """The line in another run of the first mote that has it there and lacks it in this run. None if the question isn't
+    a sentence about motes, or if no such mote has the line in the other run."""
+    for one in asker.lacking(asker.read(question)):
+        if all(mote < other.traces.motes for mote in other.judge.chosen(one.motes)):
+            found = other.answer(one)
+            if isinstance(found, Asked):
+                return found
+    return None
+
+
+def show_other(asker: Asker, missing: Missing, asked: argparse.Namespace) -> None:
     """Shows the point at which a run leaves the chain of another run, in which the line exists."""
-    other = read_source(asked.other, asked.other_scenario)
-    found = answered(Asker(other), asked)
+    source, other = asker.source, read_source(asked.other, asked.other_scenario)
+    there = Asker(other)
+    found = answered(there, asked)
+    first = of_first(asker, there, asked.question)
     print()
+    if first and first.where.mote != missing.motes[0]:
+        print('%s does not have the line of mote %d either.' % (other.name, missing.motes[0]))
+    found = first or found
     if isinstance(found, Asked):
-        first = other.traces.text(found.where)
         print('%s has the line: mote %d, line %d: %s' % (other.name, found.where.mote, other.traces.row(found.where),
-                                                         first))
+                                                         other.traces.text(found.where)))
         print('\n'.join(parted_rows(other, source, diverged(other, source, found.where))))
     else:
         print('%s does not have the line either: %s' % (other.name, found.remark))
@@ -106,7 +121,7 @@ def show_why(source: Source, asked: argparse.Namespace) -> int:
         print(json.dumps({'question': asked.question, **missed(found, near)}, indent=1) if asked.json else
               '\n'.join(near_rows(found, near)))
         if asked.other is not None:
-            show_other(source, asked)
+            show_other(asker, found, asked)
         return 1
     if asked.other is not None:
         other = read_source(asked.other, asked.other_scenario)

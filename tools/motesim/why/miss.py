@@ -344,14 +344,22 @@ class _Misses:
         here = [it for it in replay.reached if it.statement == waits and it.at <= self.end]
         came = max(place for place, it in enumerate(here) if it.holds is None)
         tests = len(here) - came - 1
-        words = '%s has waited at %s since %d' % (program.processes[process].name, in_words(program, waits),
-                                                  here[came].at)
-        if tests:
-            words += '; its condition has been tested %s since then, and was never true' % times(tests)
-        else:
-            words += ', and nothing has called it since'
+        words = self.waited(program.processes[process].name, in_words(program, waits), here[came].at, tests,
+                            any(it.at > self.end for it in replay.calls_of(process, self.source.scenario.end)))
         words += self.callers(program).calls(process, waits, here[came].at)
         yield Miss('waits', words)
+
+    def waited(self, name: str, where: str, since: int, tests: int, is_called_later: bool) -> str:
+        """The time for which a process has waited, and how often its condition was tested. If the process is called
+        after the last moment of the sentence, the words name this moment."""
+        if is_called_later and since < self.end:
+            return '%s waited at %s from %d until %d%s' % (
+                name, where, since, self.end, '; its condition was tested %s in this time, and was never true' % times(
+                    tests) if tests else ', and nothing called it in this time')
+        words = '%s has waited at %s since %d' % (name, where, since)
+        if tests:
+            return words + '; its condition has been tested %s since then, and was never true' % times(tests)
+        return words + ('' if is_called_later else ', and nothing has called it since')
 
 
 def misses(asker: Asker, missing: Missing) -> list[tuple[int, list[Miss]]]:

@@ -15,7 +15,7 @@ from motesim.judge.judge import Judge, Span, _Apart, periods
 from motesim.judge.numbers import either, has, has_lines, there_are, verb
 from motesim.report import FIELDS, Report
 from motesim.judge.sentences import (
-    Copies, Count, Does, Hears, Packets, Pattern, Sentence, Value, names_of, read_sentence,
+    Copies, Count, Does, Hears, Motes, Packets, Pattern, Sentence, Value, names_of, read_sentence,
 )
 from motesim.why.source import At, Found, Source, Traces
 
@@ -24,6 +24,8 @@ TEXT = re.compile(r'\s*(?:mote\s+)?(\d+)\s*:\s*(\d+ [a-z]+.*?)\s*', re.I)
 BARE = re.compile(r'\s*(\d+ [a-z]+(?: \S+)*)\s*')
 KINDS = {'collided': b'collide', 'received': b'recv', 'full': b'lost'}
 ENDLESS = 1_000_000
+# The kinds of sentences about motes of which each one by itself can have the line or lack it.
+EACH_ITSELF = ('each', 'some', 'count')
 
 
 @dataclass(frozen=True)
@@ -195,6 +197,15 @@ class Asker:
         if isinstance(it, Hears):
             raise Unasked('who hears whom follows from the scenario: the range, the places and the losses')
         raise Unasked('this sentence is about no line of a trace')
+
+    def lacking(self, it: Sentence) -> list[Does]:
+        """For each mote that lacks the line of a sentence about several motes: the same sentence about this mote only.
+
+        The list is empty for other sentences, and for those about several motes together."""
+        if not isinstance(it, Does) or it.motes.kind not in EACH_ITSELF:
+            return []
+        own = [replace(it, motes=Motes('each', frozenset((mote,)))) for mote in self.judge.chosen(it.motes)]
+        return [one for one in own if isinstance(self.of_motes(one), Missing)]
 
     def of_copies(self, it: Copies) -> list[Found]:
         motes = range(self.traces.motes) if it.motes is None else sorted(it.motes)
