@@ -207,6 +207,8 @@ RIGHT: list[tuple[str, str, str]] = [
     (BODY, 'process_start(&other, (process_data_t)5);', 'start other;'),
     (BODY, 'process_poll(PROCESS_CURRENT());', 'poll sender;'),
     (BODY, 'process_post(&other, full, (void *)(uintptr_t)n);', 'post other full n;'),
+    (BODY, 'if (x == PROCESS_ERR_FULL) {\n}', 'if (x == 1) {\n}'),
+    (BODY, 'if(linkaddr_cmp(from, &x)) {\n}', 'if (from == x) {\n}'),
     (BODY, 'x = clock_seconds() - y;', 'x = ((now / 10) - y);'),
     (BODY, 'process_exit(&other);', 'kill other;'),
     (BODY, 'if (process_is_running(&other)) {\n}', 'if running(other) {\n}'),
@@ -272,6 +274,10 @@ RIGHT: list[tuple[str, str, str]] = [
 ]
 
 SAID: list[tuple[str, str, str]] = [
+    (BODY, 'if(process_post(&other, full, NULL) == PROCESS_ERR_FULL) { print 1; }',
+     'Above this line write `post other full 0 into is_full;`'),
+    (BODY, 'if(linkaddr_cmp(from, &addr)) { print 1; }', 'Write the number of the mote that is meant'),
+    (BODY, 'if(linkaddr_cmp(&addr, from)) { print 1; }', 'No variable is named `addr`.'),
     (BODY, 'process_start(&other, (void *)n);', 'Post the value below the start: `post other e n;`'),
     (BODY, 'x = clock_seconds();', 'Decide how many moments a second has; with 10, `(now / 10)` is'),
     (BODY, 'print t.interval;', 'There are no fields: the tests of `t` are `fired(t)` and `expired(t)`.'),

@@ -84,6 +84,16 @@ MOST_RUNS = 2
 # A form that repeats a value isn't written for a longer one.
 LONGEST_OPERAND = 200
 OF_ADDRESS = 'An address is one number: `from` of the sender, `self` of the mote itself.'
+NO_ADDRESS = (OF_ADDRESS + ' No variable is named `%s`. Write the number of the mote that is meant, such as '
+              '`(from == 2)`, or declare a variable with this number.')
+# Names for the result of a `post`, and Contiki's names of its values.
+RESULTS = ('x', 'is_full', 'post_result')
+ERRORS = {'process_err_ok': '0', 'process_err_full': '1'}
+OF_POST = ('A `post` is a statement, and `into` stores its result. Above this line write `{post} into {x};`, with '
+           '`var {x} = 0;` at the head of the `code`, and use `{x}` here instead of the call: `({x} == 1)` is true if '
+           'the queue was full (`PROCESS_ERR_FULL`), and `({x} == 0)` if not. A `while` needs the `post` also at the '
+           'end of its block.')
+OF_ERROR = 'The result of a `post` is 0 if the queue had room, and 1 if not.'
 UPPER_BYTE = 'This number replaces `u8[0]`, and 0 replaces the other bytes.'
 NO_UPPER_BYTE = 'This number replaces `u8[0]`, and the other bytes need no test.'
 
@@ -463,6 +473,9 @@ class Writer:
                      'A truth value is a number: 1 is true, 0 is false.' if VALUES[lower].isdigit() else
                      'The number of the mote is `self`.' if VALUES[lower] == 'self' else 'The moment is `now`.')
             return VALUES[lower]
+        if lower in ERRORS and word not in self.scope.kinds:
+            self.why(OF_ERROR)
+            return ERRORS[lower]
         if lower == 'clock_second' and word not in self.scope.kinds:
             self.insist(TICKS)
             return str(MOMENTS_OF_SECOND)
@@ -546,6 +559,8 @@ class Writer:
             return '(%s == %s)' % (self.address(parts[0]), self.address(parts[1]))
         if lower == 'runicast_is_transmitting':
             return self.refuse(RUNICAST)
+        if lower == 'process_post' and len(parts) == 3:
+            return self.refuse(self.of_post(*parts))
         test = node.text if node.text in TESTS else CALLS.get(lower, '') or self.test_meant(node)
         if not test or len(parts) != 1:
             return self.refuse(of_value(allowed(node.text), self.scope.parameters.get(node.text, ()),
@@ -570,7 +585,19 @@ class Writer:
     def address(self, node: Node) -> str:
         """An address, or the one that a pointer is to."""
         its = node.parts[0] if node.kind == 'unary' and node.text == '&' else node
-        return 'self' if its.kind == 'name' and its.text in ADDRESSES else self.text(its)
+        if its.kind == 'name' and its.text in ADDRESSES:
+            return 'self'
+        written = self.text(its)
+        if its.kind == 'name' and self.scope.kinds.get(written) is None and written not in READ_ONLY:
+            return self.refuse(NO_ADDRESS % its.text)
+        return written
+
+    def of_post(self, process: Node, event: Node, value: Node) -> str:
+        """Advice on a `process_post` whose result is used in an expression."""
+        to_all = process.text.lower() == 'process_broadcast'
+        verb = 'broadcast' if to_all else 'post ' + self.of_kind(process, 'process')
+        result = next((it for it in RESULTS if it not in self.scope.kinds), RESULTS[0])
+        return OF_POST.format(x=result, post='%s %s %s' % (verb, self.event(event), self.text(value)))
 
     def drawn(self, limits: tuple[Node, ...]) -> str:
         """A random number; with two limits, one from the first to the second, and with one, below it."""
