@@ -4,8 +4,10 @@ from __future__ import annotations
 
 import contextlib
 import csv
+import io
 import itertools
 import json
+import os
 import signal
 import subprocess
 import sys
@@ -16,8 +18,10 @@ from concurrent.futures import ThreadPoolExecutor
 from collections.abc import Iterator, Sequence
 from pathlib import Path
 from typing import Any
+from unittest import mock
 
 from here import TOOLS, TOP
+from motesim.experiments.runs import Break
 from motesim.faults import Fault
 from motesim.judge.expectations import beside, parts_of, read_all
 from motesim.judge.judge import Judge
@@ -33,9 +37,11 @@ from motesim.search.faults import Asked, FaultyPart, change_of, faults_of
 from motesim.search.halting import without_halts
 from motesim.search.kept import Kept
 from motesim.search.one_program import Limits, OneProgram
+from motesim.search.progress import Progress
 from motesim.search.quick_judge import QuickJudge
 from motesim.search.search import Bounds, Search
 from motesim.search.sets import Known, count_of
+from motesim.search.shrink_found import Allowance
 from motesim.search.work import RUN, Outcome, Task
 from skips import interpreter_with, need_program
 from test_sweep import CLUSTER
@@ -807,6 +813,38 @@ program = "flood.mote"
             _, said, _ = search(folder, '--faults', 'links', '--most-runs', '8')
             self.assertIn('; 8 runs', said)
             self.assertNotIn('NOT ALL WAS TRIED', said)
+
+    def test_the_limits_also_end_the_shrinking(self) -> None:
+        with folder_with() as folder:
+            small, calls, program = Path(folder, 'found/small_1.toml'), Path(folder, 'calls'), Path(folder, 'counting')
+            program.write_text('#!/bin/sh\necho >>%s\nexec %s "$@"\n' % (calls, program_path()))
+            program.chmod(0o755)
+            words = ['--faults', 'motes', '--shrink', '-o', 'found']
+            with mock.patch.dict(os.environ, MOTESIM=str(program)):
+                for limit, said_of_it in ((4, 'NOT MADE SMALL: mote 3 prints flood 7 (the limit of 4 runs was '),
+                                          (14, '  STOPPED: more steps may be possible (the limit of 14 runs was ')):
+                    calls.unlink(missing_ok=True)
+                    status, said, _ = search(folder, *words, '--most-runs', str(limit))
+                    self.assertEqual((status, said_of_it in said, small.exists()), (1, True, limit > 4), said)
+                    # (one more run is made without faults)
+                    self.assertLessEqual(calls.read_text().count('\n'), limit + 1)
+            _, said, _ = search(folder, *words, '--most-runs', '4000')
+            self.assertNotRegex(said, 'STOPPED|NOT MADE SMALL')
+        over = Allowance(Search(Known([], 0), Bounds(seconds=0.0), Kept()), Break())
+        self.assertEqual(over.why_over(1), 'the limit of 0 seconds was reached')
+
+    def test_the_progress_of_the_shrinking(self) -> None:
+        with folder_with() as folder:
+            _, _, seen = search(folder, '--faults', 'motes', '--shrink', '--progress')
+            lines = [json.loads(row) for row in seen.splitlines()]
+            self.assertTrue(all(it['small'] == 'small_1.toml' and it['runs'] >= it['steps']
+                                for it in lines if 'small' in it), seen)
+            shown = io.StringIO()
+            with contextlib.redirect_stderr(shown):
+                progress = Progress()
+                progress.every = 0
+                progress.show_shrinking('small_1.toml', 2, 1234)
+            self.assertEqual(shown.getvalue(), 'small_1.toml: 2 steps, 1,234 runs\n')
 
     def test_sample_is_called_one(self) -> None:
         with folder_with() as folder:

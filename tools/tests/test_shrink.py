@@ -16,13 +16,13 @@ from motesim.judge.sentences import Names, motes_named, names_of, read_sentence
 from motesim.report.report import Report
 from motesim.runner.run import answer, program_path
 from motesim.scenario.scenario import Scenario
-from motesim.search.command import chosen
 from motesim.search.faults import FaultyPart
 from motesim.search.following import follow
 from motesim.search.found import Found
 from motesim.search.net import loss_steps, mote_steps, net_of, number_steps, parts, program_steps
 from motesim.search.one_program import Limits, OneProgram
 from motesim.search.shrink import Shrinking, case_of
+from motesim.search.shrink_found import chosen
 from motesim.search.smaller import smaller_numbers
 from motesim.search.tree import program_text, read_program
 from skips import need_program

@@ -62,8 +62,9 @@ def arguments() -> argparse.ArgumentParser:
     words.add_argument('--seed', type=int, default=1, metavar='S', help='the seed of --random (1)')
     words.add_argument('--most-runs', type=int, metavar='N',
                        help='try sets in at most N runs; with --random, the runs that make a drawn set minimal don\'t '
-                            'count')
-    words.add_argument('--most-seconds', type=float, metavar='N', help='begin no more runs after N seconds')
+                            'count. With --shrink, the runs that make a scenario small count too')
+    words.add_argument('--most-seconds', type=float, metavar='N',
+                       help='begin no more runs after N seconds, also with --shrink')
     words.add_argument('--seconds', type=float, default=SECONDS, metavar='N',
                        help='the limit of a run, in seconds of real time (10)')
     words.add_argument('--bytes', type=int, default=BYTES, metavar='N',
@@ -79,7 +80,7 @@ def arguments() -> argparse.ArgumentParser:
                        help='show all sets that break an expectation, not only ten for each expectation')
     words.add_argument('--shrink', action='store_true',
                        help='for each broken expectation, write a scenario that breaks it, as small as possible, as '
-                            'tools/shrink does')
+                            'tools/shrink does. --most-runs and --most-seconds limit this too')
     words.add_argument('--progress', action='store_true', help='report progress in lines of JSON, on standard error')
     words.add_argument('--studies', nargs='+', metavar='FILE',
                        help='make the searches in these files, and check that their results are those in the files')

@@ -4,7 +4,6 @@ from __future__ import annotations
 import argparse
 import os
 import sys
-from functools import partial
 from pathlib import Path
 
 from motesim.experiments import packages
@@ -23,11 +22,10 @@ from motesim.search.found import (
     Found, as_csv, as_json, counted, covered_lines, found_by, is_whole, verdict_lines, write_files, write_whole,
 )
 from motesim.search.kept import Kept
-from motesim.search.one_program import Limits, OneProgram
+from motesim.search.one_program import Limits
 from motesim.search.progress import Progress
 from motesim.search.search import Bounds, Search
-from motesim.search.shrink import Shrinking, case_of
-from motesim.search.shrink_command import sizes, write_result
+from motesim.search.shrink_found import shrink_each
 from motesim.search.study import check_studies
 from motesim.toml import NoToml, read_toml
 
@@ -148,44 +146,9 @@ def show(words: argparse.Namespace, asking: Asking, search: Search, folder: Path
         print(last_line(search, found, folder, asking.base))
     if search.is_stopped:
         return INTERRUPTED
-    if words.shrink:
-        shrink_each(asking, found, folder, words.json == '-')
+    if words.shrink and shrink_each(asking, search, found, folder, Progress(words.progress), words.json == '-'):
+        return INTERRUPTED
     return 1 if found else 0 if search.runs else 2
-
-
-def shrink_each(asking: Asking, found: list[Found], folder: Path, is_quiet: bool) -> None:
-    """Makes the smallest counter-example of each expectation (the first of several) as small as possible: without the
-    faults the expectation holds, but with them it doesn't."""
-    program = OneProgram(str(asking.path), asking.limits)
-    for number, sentence in enumerate(asking.texts, 1):
-        sets = [it for it in found if sentence in it.sentences]
-        first = min(sets, key=lambda it: len(it.faults), default=None)
-        if first is None:
-            continue
-        given = {str(it.effect[1]): it.effect[2] for it in first.faults if it.kind == 'parameters'}
-        effects = tuple(it.effect for it in first.faults if it.kind != 'parameters')
-        with Break() as stop:
-            case = case_of(asking.base.with_parameters(given).source, sentence, effects)
-            shrinking = Shrinking(program, case, partial(getattr, stop, 'is_asked'))
-            shrinking.run()
-        path = folder / ('small_%d.toml' % number)
-        write_result(shrinking, case.net, Path(asking.base.name).name, path)
-        if not is_quiet:
-            print('%s breaks: %s\n  %s\n  %s' % (path, shrinking.case.sentence, chosen(first, sets),
-                                                sizes(shrinking.text)))
-            if shrinking.renumbered:
-                print('  in %s, %s' % (Path(asking.base.name).name, shrinking.renumbered))
-        if not shrinking.is_whole:
-            break
-    program.close()
-
-
-def chosen(first: Found, sets: list[Found]) -> str:
-    """The set of faults that was made small, in words; and the number of sets that are as small, if there are others.
-    """
-    count = sum(len(it.faults) == len(first.faults) for it in sets)
-    which = 'the first of %s of this size' % counted(count, 'set', 'sets') if count > 1 else 'the smallest set'
-    return 'made from: %s%s' % (first.words, ' (%s)' % which if len(sets) > 1 else '')
 
 
 def last_line(search: Search, found: list[Found], folder: Path, base: Base) -> str:

@@ -55,3 +55,20 @@ class Progress:
         if self.is_terminal:
             write_over('%.1f seconds, %d runs per second\n' % (
                 search.seconds, search.runs / max(search.seconds, 0.001)))
+
+    def show_shrinking(self, name: str, steps: int, runs: int) -> None:
+        """The progress of making a counter-example small: the steps that were taken, and the runs that were made."""
+        now = time.monotonic()
+        if now - self.last < self.every:
+            return
+        self.last = now
+        if self.as_json:
+            print(json.dumps({'small': name, 'steps': steps, 'runs': runs}), file=sys.stderr, flush=True)
+            return
+        text = '%s: %s steps, %s runs' % (name, '{:,}'.format(steps), '{:,}'.format(runs))
+        write_over(text) if self.is_terminal else print(text, file=sys.stderr, flush=True)
+
+    def end_shrinking(self) -> None:
+        """Removes the line on a terminal."""
+        if self.is_terminal:
+            write_over('')

@@ -1,0 +1,99 @@
+"""Makes the counter-examples of a search small, for tools/search --shrink, within the limits of the search."""
+from __future__ import annotations
+
+import sys
+from functools import partial
+from pathlib import Path
+
+from motesim.experiments.runs import Break
+from motesim.search.asking import Asking
+from motesim.search.found import Found, counted
+from motesim.search.one_program import OneProgram
+from motesim.search.progress import Progress
+from motesim.search.search import Search
+from motesim.search.shrink import Case, Shrinking, case_of
+from motesim.search.shrink_command import sizes, write_result
+
+
+class Allowance:
+    """The runs and seconds that a search has left for making its counter-examples small."""
+
+    def __init__(self, search: Search, stop: Break) -> None:
+        self.search, self.stop = search, stop
+        self.runs = 0
+
+    def why_over(self, runs: int) -> str:
+        """The reason why this many more runs can't be made; an empty text if they can."""
+        bounds = self.search.bounds
+        if self.stop.is_asked:
+            return 'it was stopped'
+        if bounds.seconds is not None and self.search.seconds >= bounds.seconds:
+            return 'the limit of %g seconds was reached' % bounds.seconds
+        if bounds.runs is not None and self.search.given + self.runs + runs > bounds.runs:
+            return 'the limit of {:,} runs was reached'.format(bounds.runs)
+        return ''
+
+    def is_over(self, shrinking: Shrinking, progress: Progress, name: str) -> bool:
+        """Shows the progress; returns whether the next step can't be tried."""
+        progress.show_shrinking(name, len(shrinking.taken), shrinking.runs)
+        return bool(self.why_over(shrinking.runs + runs_of(shrinking.case)))
+
+
+def runs_of(case: Case) -> int:
+    """The number of runs that a step needs: one with the faults and, if there are any, one without them."""
+    return 2 if case.effects else 1
+
+
+def case_of_found(asking: Asking, first: Found, sentence: str) -> Case:
+    """The scenario with a set of faults that breaks a sentence."""
+    given = {str(it.effect[1]): it.effect[2] for it in first.faults if it.kind == 'parameters'}
+    effects = tuple(it.effect for it in first.faults if it.kind != 'parameters')
+    return case_of(asking.base.with_parameters(given).source, sentence, effects)
+
+
+def shrink_each(asking: Asking, search: Search, found: list[Found], folder: Path, progress: Progress,
+                is_quiet: bool) -> bool:
+    """Makes the smallest counter-example of each expectation (the first of several) as small as possible: without the
+    faults the expectation holds, but with them it doesn't. Returns whether the user ended this."""
+    program = OneProgram(str(asking.path), asking.limits)
+    warnings = sys.stderr if is_quiet else sys.stdout
+    with Break() as stop:
+        allowance = Allowance(search, stop)
+        for number, sentence in enumerate(asking.texts, 1):
+            sets = [it for it in found if sentence in it.sentences]
+            first = min(sets, key=lambda it: len(it.faults), default=None)
+            if first is None:
+                continue
+            case, path = case_of_found(asking, first, sentence), folder / ('small_%d.toml' % number)
+            why = allowance.why_over(runs_of(case))
+            if why:
+                print('NOT MADE SMALL: %s (%s)' % (sentence, why), file=warnings)
+                continue
+            shrinking = Shrinking(program, case)
+            shrinking.is_over = partial(allowance.is_over, shrinking, progress, path.name)
+            shrinking.run()
+            progress.end_shrinking()
+            why = '' if shrinking.is_whole else allowance.why_over(shrinking.runs + runs_of(shrinking.case))
+            allowance.runs += shrinking.runs
+            write_result(shrinking, case.net, Path(asking.base.name).name, path)
+            if not is_quiet:
+                show(shrinking, path, chosen(first, sets), Path(asking.base.name).name)
+            if why:
+                print('  STOPPED: more steps may be possible (%s)' % why, file=warnings)
+        program.close()
+        return stop.is_asked
+
+
+def show(shrinking: Shrinking, path: Path, made_from: str, name: str) -> None:
+    """Prints the lines about a small scenario."""
+    print('%s breaks: %s\n  %s\n  %s' % (path, shrinking.case.sentence, made_from, sizes(shrinking.text)))
+    if shrinking.renumbered:
+        print('  in %s, %s' % (name, shrinking.renumbered))
+
+
+def chosen(first: Found, sets: list[Found]) -> str:
+    """The set of faults that was made small, in words; and the number of sets that are as small, if there are others.
+    """
+    count = sum(len(it.faults) == len(first.faults) for it in sets)
+    which = 'the first of %s of this size' % counted(count, 'set', 'sets') if count > 1 else 'the smallest set'
+    return 'made from: %s%s' % (first.words, ' (%s)' % which if len(sets) > 1 else '')
