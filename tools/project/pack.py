@@ -21,6 +21,7 @@ same tree and binary yield the same archive, byte for byte.
 """
 from __future__ import annotations
 
+import csv
 import gzip
 import hashlib
 import importlib
@@ -37,6 +38,7 @@ from motesim.files import refuse_inputs
 from motesim.plan.plan import Plan
 from motesim.runner.optimized import wait_for_optimized
 from motesim.runner.programs import COMPILED, TOP, is_proved, program_of_sources, program_path
+from motesim.runner.versions import ANOTHER
 from motesim.scenario import kinds
 from motesim.terminal import one_line
 from motesim.version import KIT, VERSION
@@ -119,8 +121,11 @@ class Sorted(NamedTuple):
         lines += ['Added: %s' % one_line(it) for it in self.added]
         lines += ['Not as in the commit: %s' % one_line(it) for it in self.changed]
         lines += ['Left out: %s (%s)' % (one_line(name), why) for name, why in self.left_out.items()]
-        return lines + ['Not packed: %s, which the plan %s needs' % (one_line(file), one_line(plan))
-                        for plan in self.added for file in self.lacks(plan)]
+        lines += ['Not packed: %s, which the plan %s needs' % (one_line(file), one_line(plan))
+                  for plan in self.added for file in self.lacks(plan)]
+        return lines + ['Made with MOTESIM: %s. In a repeated sweep the column `program` may differ; '
+                        'docs/use/EXPERIMENTS.md says how to compare the files' % one_line(it)
+                        for it in self.added if names_another_program(self.packed[it])]
 
     def lacks(self, name: str) -> list[str]:
         """The files that a packed plan needs with its own values, but that aren't packed at their place next to it.
@@ -133,6 +138,17 @@ class Sorted(NamedTuple):
         except Fault:
             return []
         return [it for it in used if os.path.normpath(os.path.join(os.path.dirname(name), it)) not in self.packed]
+
+
+def names_another_program(path: Path) -> bool:
+    """Returns whether a file is a CSV file of results of tools/sweep from a binary whose version isn't known."""
+    if path.suffix != '.csv':
+        return False
+    with path.open(encoding='utf-8', errors='replace', newline='') as file:
+        try:
+            return any((row.get('program') or '').startswith(ANOTHER) for row in csv.DictReader(file))
+        except csv.Error:
+            return False
 
 
 def files_of(path: Path) -> Iterator[Path]:

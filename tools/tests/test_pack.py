@@ -261,6 +261,19 @@ class Pack(unittest.TestCase):
             found = pack.sorted_files(['examples'], named, top)
             self.assertEqual([it for it in found.notes() if it.startswith('Not packed')], lines)
 
+    def test_results_of_a_program_without_a_known_version_are_listed(self) -> None:
+        top = self.tree('examples/a.toml', '')
+        study = top.parent / 'study'
+        study.mkdir()
+        for name, text in (('a.csv', 'seed,program\n1,another with the SHA-256 0123456789abcdef\n'),
+                           ('b.csv', 'seed,program\n1,1.2 unproved\n'), ('empty.csv', ''),
+                           ('c.csv', 'x,y\n1,another with the SHA-256\n'),
+                           ('d.txt', 'program\nanother with the SHA-256 0\n')):
+            (study / name).write_text(text)
+        self.assertEqual([it for it in pack.sorted_files(['examples'], [study], top).notes() if 'MOTESIM' in it], [
+            'Made with MOTESIM: study/a.csv. In a repeated sweep the column `program` may differ; '
+            'docs/use/EXPERIMENTS.md says how to compare the files'])
+
     def test_a_file_that_differs_from_the_commit_is_listed(self) -> None:
         top = self.tree('examples/a.toml', '')
         (top / 'examples/a.toml').write_text('# the solution')

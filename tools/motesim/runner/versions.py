@@ -8,6 +8,8 @@ from pathlib import Path
 from motesim.runner.programs import is_compiled, is_proved, program_of_sources
 from motesim.version import KIT, VERSION
 
+ANOTHER = 'another with the SHA-256'
+
 
 def kit_version(program: Path) -> str:
     """The Rattle kit with which the binary was proved; empty if it isn't the proved binary of this tree."""
@@ -20,7 +22,7 @@ def program_version(program: Path) -> str:
         return VERSION
     if is_compiled(program):
         return '%s unproved' % VERSION
-    return 'another with the SHA-256 %s' % sha256(program.read_bytes()).hexdigest()[:16]
+    return '%s %s' % (ANOTHER, sha256(program.read_bytes()).hexdigest()[:16])
 
 
 def version_line(may_be_proved: bool = True) -> str:
