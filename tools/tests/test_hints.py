@@ -197,6 +197,23 @@ class Hints(unittest.TestCase):
             hint = self.hint('process a;\nautostart a;\n%s\n%s' % (function, head.split('\n', 2)[2] % ''))
             self.assertIn('name the process that gets it, `receiver P;`', hint)
 
+    def test_the_statements_of_a_function_for_packets_are_kept(self) -> None:
+        code = 'code a {\n  body {\n    while 1 { yield_until is(packet); }\n  }\n}\n'
+        for top in 'process a;\nautostart a;\n', 'process a;\nautostart a;\nreceiver a;\n':
+            text = top + 'static void recv(struct broadcast_conn *c, const linkaddr_t *from)\n{\n' \
+                '  uint16_t *hops = packetbuf_dataptr(); /* of a neighbour */\n\n  if(*hops < 3) {\n' \
+                '    printf("%u\\n", *hops);\n  }\n}\n' + code
+            fault = find_fault(text)
+            found = advice(text, fault) if fault else None
+            assert found
+            self.assertIn('The comments keep the statements of the function: move them below `yield_until is(packet);` '
+                          'in the `code` of `a`', found.hint)
+            shown = found.shown(text, 0)
+            self.assertEqual(shown[1:], [*['  receiver a;'] * ('receiver' not in top),
+                                         '  // uint16_t *hops = packetbuf_dataptr(); /* of a neighbour */',
+                                         '  // if(*hops < 3) {', '  //   printf("%u\\n", *hops);', '  // }'])
+            self.assertIsNone(find_fault('\n'.join([*top.split('\n')[:-1], *(it[2:] for it in shown[1:]), code])))
+
     def test_letters_in_a_number(self) -> None:
         for written, meant in ('1O', '10'), ('1o', '10'), ('l0', '10'), ('3I', '31'), ('2l', '21'):
             text = CODE % ('print %s;' % written)
@@ -609,6 +626,11 @@ class Warnings(unittest.TestCase):
                       '(is(packet) || fired(t)); }`', self.seen(alone)[0])
         self.assertIn('wait by `yield_until is(packet);`', self.seen(
             'process a; autostart a; receiver a; code a { body { send 1; } }')[0])
+        loop = CODE.replace('code', 'receiver a; code') % 'set t 1; yield_until expired(t); while 1 { yield; %s }'
+        self.assertIn('packets go to the process `a`, which ignores them: its `yield` waits for any event, and nothing '
+                      'tests `is(packet)`; wait by `yield_until is(packet);`, or leave', self.seen(loop % '')[0])
+        for used in 'seq = (seq + 1);', 'if is(packet) { print 1; }', 'print data;':
+            self.assertFalse(any('ignores them' in it for it in self.seen(loop % used)), used)
 
     def test_an_event_of_a_timer_that_is_taken_for_a_packet(self) -> None:
         receives = CODE.replace('code a', 'receiver a; code a')

@@ -62,9 +62,11 @@ PROCESS_THREAD(example_broadcast_process, ev, data)
 }
 /*---------------------------------------------------------------------------*/
 """
-REPAIRED = """process example_broadcas;
+REPAIRED = r"""process example_broadcas;
 autostart example_broadcas;
 receiver example_broadcas;
+// printf("broadcast message received from %d.%d: '%s'\n",
+//        from->u8[0], from->u8[1], (char *)packetbuf_dataptr());
 code example_broadcas {
   var dice = 1;
   etimer et;

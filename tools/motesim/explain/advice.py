@@ -52,7 +52,7 @@ class Advice(NamedTuple):
             return ['Leave %s out%s' % (which, ',' if inserted else '.'), *inserted]
         # (a line that is inserted changes the numbers of those below it, which come first)
         below = [line for it in reversed(self.below) for line in _edited(source, it, offset)]
-        return ['Write, as %s:' % which, _indented(source, self.first, self.line), *below, *inserted]
+        return ['Write, as %s:' % which, *_all_indented(source, self.first, self.line), *below, *inserted]
 
     def _shown_above(self, source: str, offset: int | None, verb: str) -> list[str]:
         """The lines to be inserted elsewhere, below their place."""

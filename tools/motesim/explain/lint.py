@@ -50,6 +50,8 @@ OTHER_RECEIVER = ('the process `%s` waits for packets, but they go to the `recei
                   '%s;` if `%s` is meant')
 NEVER_RECEIVES = ('packets go to the process `%s`, which never waits for them: while it runs, it takes them without a '
                   'look, and after its end, the report shows them as `drop`; %s, or leave the `receiver` out')
+IGNORES = ('packets go to the process `%s`, which ignores them: its `yield` waits for any event, and nothing tests '
+           '`is(packet)`; %s, or leave the `receiver` out')
 WAIT_FOR_PACKET = 'wait by `yield_until is(packet);`'
 WAIT_FOR_BOTH = ('it waits for the timer `%s`, too, and a packet must not end this wait, so replace it by `yield_until '
                  '(is(packet) || fired(%s)); while is(packet) { .. yield_until (is(packet) || fired(%s)); }`, with the '
@@ -363,13 +365,16 @@ def of_receiver(program: Program) -> Iterator[Warned]:
         waits = [it for it, its in codes.items() if 'packet' in its and it != receiver.text]
         is_posted = any(words[at - 1] in ('post', 'synch', 'broadcast') or words[at - 2] in ('post', 'synch')
                         for at, it in enumerate(words) if it == 'packet')
-        if {'packet', 'yield', 'data', 'from'}.intersection(codes[receiver.text]) or is_posted:
-            continue
         code = codes[receiver.text]
+        yields = [at for at, it in enumerate(code) if it == 'yield']
+        # (what follows another `yield` may be meant for packets)
+        is_used = any(code[at - 1:at + 3] != ['{', 'yield', ';', '}'] for at in yields)
+        if {'packet', 'data', 'from'}.intersection(code) or is_used or is_posted:
+            continue
         timers = [code[at + 2] for at, it in enumerate(code[:-2]) if it in ('fired', 'expired')]
-        wait = WAIT_FOR_BOTH % (*timers[:1] * 3,) if timers else WAIT_FOR_PACKET
-        text = OTHER_RECEIVER % (waits[0], receiver.text, waits[0], waits[0]) if waits else NEVER_RECEIVES % (
-            receiver.text, wait)
+        wait = WAIT_FOR_BOTH % (*timers[:1] * 3,) if timers and not yields else WAIT_FOR_PACKET
+        text = OTHER_RECEIVER % (waits[0], receiver.text, waits[0], waits[0]) if waits else (
+            IGNORES if yields else NEVER_RECEIVES) % (receiver.text, wait)
         yield Warned(text, program.name, receiver, instead=''.join(waits[:1]))
 
 

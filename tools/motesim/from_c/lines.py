@@ -22,6 +22,8 @@ class Lines(Expressions):
         """`end` is the text that is written for `PROCESS_END`: empty, or a brace if `PROCESS_BEGIN` became a brace."""
         super().__init__([it for it in tokens_of(text) if it.kind != 'comment'], scope)
         self.comments = [it.text for it in tokens_of(text) if it.kind == 'comment']
+        # The lines of C, and those of them that are kept as comments.
+        self.source, self.kept_lines = text, list[str]()
         self.place, self.writer = place, Writer(scope)
         # The text below these lines, with other names for variables whose scope continues there.
         self.below = place.below

@@ -6,6 +6,7 @@ cut off at a brace, and returns them in the notation.
 from __future__ import annotations
 
 import re
+import textwrap
 
 from motesim.from_c.absent import NO_ACTIVATION, NO_SENSORS, NO_SINK, SENDS, SENSORS, SENT_ALREADY, is_sensor
 from motesim.from_c.bits import bits_of, is_one
@@ -37,6 +38,8 @@ CLOSES = re.compile(r'(broadcast|abc|unicast|runicast|mesh|collect|netflood|tric
 OF_STATEMENTS = ('Here, the statements are `%s`. If the process also waits for a timer, a packet must not end this '
                  'wait: write the wait as `yield_until (is(packet) || fired(t)); while is(packet) { .. yield_until '
                  '(is(packet) || fired(t)); }`, with these statements instead of the dots.')
+KEPT_STATEMENTS = ('The comments keep the statements of the function: move them below `yield_until is(packet);` in the '
+                   '`code` of `%s`, and there leave out their `//`.')
 OF_ON = ('There is no block for a packet: a process waits for each one by `yield_until is(packet);`, and the '
          'statements follow there, `while 1 { yield_until is(packet); .. }`.')
 OF_HANDLER = 'The handler is a block of the `code`, `%s { .. }`, below its timers and threads and above its `body`.'
@@ -90,6 +93,12 @@ TARGETS = {'spawn': 'thread', 'acquire': 'semaphore', 'signal': 'semaphore', 'po
            'kill': 'process', 'reset': 'timer', 'restart_timer': 'timer', 'stop': 'timer'}
 
 
+def statements_of(function: str) -> list[str]:
+    """The lines between the braces of a function, without those that are empty."""
+    block = function.partition('{')[2].rpartition('}')[0].strip('\n')
+    return [it.rstrip() for it in textwrap.dedent(block).split('\n') if it.strip()]
+
+
 class Statements(Declarations, Calls, Control):
     """Reads lines as statements."""
 
@@ -100,6 +109,8 @@ class Statements(Declarations, Calls, Control):
             found.append(self.closing() or self.statement())
         found = self.in_order(found)
         text = re.sub(r'\{ +\}', '{ }', ' '.join(it for it in found if it))
+        if self.kept_lines:
+            return '\n'.join(filter(None, [text, *('// ' + it for it in self.kept_lines)]))
         for comment in self.comments:
             if comment.startswith('/*'):
                 self.why('A comment begins with `//`, and ends with the line.')
@@ -353,12 +364,16 @@ class Statements(Declarations, Calls, Control):
             raise NoCounterpart(OF_PACKETS)
         self.at = len(words)
         self.why(OF_PACKETS)
+        its = self.of_process((*self.scope.codes, 'p')[0])
+        self.kept_lines = statements_of(self.source)
         try:
             inner = ' '.join(words[words.index('{') + 1:-1])
-            self.why(OF_STATEMENTS % self.translated(inner))
+            self.insist(OF_STATEMENTS % self.translated(inner))
         except NoCounterpart:
             pass
-        return '' if self.scope.receiver else 'receiver %s;' % self.of_process((*self.scope.codes, 'p')[0])
+        if self.kept_lines:
+            self.insist(KEPT_STATEMENTS % its)
+        return '' if self.scope.receiver else 'receiver %s;' % its
 
     def of_semaphore(self, name: str) -> str:
         """A semaphore whose count is incremented or decremented."""
