@@ -274,6 +274,7 @@ RIGHT: list[tuple[str, str, str]] = [
 ]
 
 SAID: list[tuple[str, str, str]] = [
+    (BODY, 'process_exit(PROCESS_CURRENT());', '`kill` has no effect on the process that runs it.'),
     (BODY, 'if(process_post(&other, full, NULL) == PROCESS_ERR_FULL) { print 1; }',
      'Above this line write `post other full 0 into is_full;`'),
     (BODY, 'if(linkaddr_cmp(from, &addr)) { print 1; }', 'Write the number of the mote that is meant'),

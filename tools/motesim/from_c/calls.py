@@ -43,6 +43,10 @@ NO_THREAD = 'A protothread has a name: `thread t { .. }`, at the head of the `co
 NO_DATA = ('`start` passes no value, so `%s` is left out: in the call with `init`, `data` is 0. Post the value below '
            'the start: `post %s e %s;`, with `event e;` above the `process` line. The started process waits for it, '
            '`yield_until is(e);`, and then reads `data`.')
+# The first words of the blocks of a `code`. The process that a callback timer runs in isn't busy.
+OF_BLOCK = re.compile(r'\b(body|ctimer|thread|onpoll|onexit)\b[^{};]*{')
+OF_ITSELF = ('`kill` has no effect on the process that runs it. `exit;` in its `body` ends it at once; in C, the '
+             'statements below are run up to the next wait.')
 BROADCAST = 'A packet is one number, and goes to all motes that hear it: `send x;`. There is no buffer to fill first.'
 
 
@@ -264,6 +268,9 @@ class Calls(Lines):
                 return self.writer.event(part)
             is_own = part.text.lower() == 'process_current' and found[1] == 'process' and self.place.code
             named = self.place.code if is_own else self.writer.of_kind(part, found[1])
+            is_callback = ([''] + OF_BLOCK.findall(self.place.above))[-1] == 'ctimer'
+            if form == CALLS['process_exit'] and named == self.place.code and not is_callback:
+                raise NoCounterpart(OF_ITSELF)
             if found[1] == 'timer':
                 self.declare_timer(named, call.text)
                 self.name_callback(named, call)
