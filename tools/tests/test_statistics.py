@@ -1495,6 +1495,42 @@ class Command(unittest.TestCase):
         self.assertIn(out, ' '.join(re.sub('<[^>]*>', ' ', picture).split()))
         self.assertIn('dense,,0.0,period=1\n', (self.folder / 'a.table.csv').read_text().replace('\r', ''))
 
+    def test_a_line_without_a_pair_is_named_next_to_the_other_lines(self) -> None:
+        for name, limits in ('net', (1, 2)), ('more', (1,)):
+            (self.folder / (name + '.csv')).write_text('period,limit,seed,sent,fault,parameters\n' + ''.join(
+                '%d,%d,%d,%d,,period limit seed\n' % (period, limit, seed, 9 * period + limit * seed)
+                for period in (1, 2) for limit in limits for seed in (1, 2, 3)
+                if (period, limit) != (2, 2)))
+        words = '--measure', 'sent'
+        for more in (('--against', 'period', '--compare', 'more.csv'),
+                     ('--against', 'seed', '--pair', 'period=1,2')):
+            rows = [' '.join(it) for it in self.plot(*words, *more, '--by', 'limit')]
+            self.assertEqual({it[0] for it in rows[2:4]}, {'1'})
+            self.assertIn('limit 2: left out: 3 pairs of runs', ' '.join(rows))
+            self.assertIn('no pair is left at limit 2', rows)
+
+    def test_treatments_that_over_mixes_are_named(self) -> None:
+        (self.folder / 'net.csv').write_text('period,limit,on,seed,sent,fault,places_sha256,parameters\n' + ''.join(
+            '%d,%d,%d,%d,%d,,net%d,period limit on seed\n' % (
+                period, limit, on, seed, 9 * period + limit * seed + on * seed * seed, seed)
+            for period in (1, 2) for limit in (0, 3) for on in (0, 1) for seed in (1, 2, 3)))
+        pair = '--measure', 'sent', '--against', 'period', '--pair', 'on=0,1', '--over', 'seed,limit'
+        self.assertIn('sent against period, over limit, seed: on 1 less on 0, run by run', ' '.join(
+            self.plot(*pair)[0]))
+        self.assertIn(', over limit, seed: on 1 less on 0, run by run, and averaged by net', ' '.join(
+            self.plot(*pair, '--nets')[0]))
+        mean = '--measure', 'sent', '--against', 'period', '--where', 'on=0', '--show', 'mean', '--over', 'seed,limit'
+        self.assertIn('sent against period, only runs with on=0, over limit, seed: means', ' '.join(
+            self.plot(*mean)[0]))
+        self.assertIn('sent against period, only runs with on=0, over seed, limit, averaged by net first: means',
+                      ' '.join(self.plot(*mean, '--nets')[0]))
+        interpreter_with(self, 'matplotlib')
+        for words, below in ((pair, 'mean differences over limit, seed'),
+                             ((*mean, '--nets'), 'over seed, limit (3 nets')):
+            self.plot(*words, '--title', 'My title', '-o', 'a.svg')
+            picture = (self.folder / 'a.svg').read_text()
+            self.assertIn(below, ' '.join(re.sub('<[^>]*>', ' ', picture).split()))
+
     def test_runs_that_share_a_net_are_not_independent(self) -> None:
         head = 'period,seed,chance_seed,sent,fault,places_sha256,parameters\n'
 

@@ -344,7 +344,7 @@ def _note(shown: Shown, wish: Wish) -> str:
     of_heat = 'mean (the table has its interval)'
     what = {'median': 'median, and quartiles', 'points': 'all runs', 'cdf': 'part of the runs'}.get(
         wish.show, (of_heat if wish.show == 'heat' else of_mean) if shown.methods() else 'mean')
-    note = '%s over %s (%s %s%s)' % (what, ', '.join(shown.over), runs, counted(wish), of_nets) if shown.over else ''
+    note = '%s over %s (%s %s%s)' % (what, ', '.join(shown.mixed), runs, counted(wish), of_nets) if shown.mixed else ''
     lines = [note, *selected_below(wish), *left_out(shown, wish, MOST_BELOW), *remarks(shown, wish)]
     first = '; '.join(filter(None, lines))
     return '\n'.join(it for it in [first, *crossings_in_short(shown, wish)] if it)

@@ -115,11 +115,23 @@ def _lack(row: Row | None, measure: str, side: str) -> str:
 def pairs_of(one: Sequence[Row], other: Sequence[Row], measure: str, names: Sequence[str], against: str,
              sides: tuple[str, str] = ('the first side', 'the second side'),
              nets: Sequence[str] | None = None) -> Paired:
-    """The pairs: runs of both sides with the same values of these parameters. If `nets` has the parameters that name
-    nets, each pair has its net."""
-    first, second = _by_key(one, names, sides[0]), _by_key(other, names, sides[1])
-    if not first.keys() & second.keys():
+    """The pairs: runs of both sides with the same values of these parameters. There must be one with two values.
+
+    If `nets` has the parameters that name nets, each pair has its net.
+    """
+    if not {tuple(row[it] for it in names) for row in one} & {tuple(row[it] for it in names) for row in other}:
         raise Fault('the two sides have no pair of runs: no two runs have the same values of %s' % ', '.join(names))
+    found = pairs_in(one, other, measure, names, against, sides, nets)
+    if not found.pairs:
+        raise Fault('no pair of runs has a value of %s on both sides: %s' % (
+            measure, '; '.join(reasons(found.left_out))))
+    return found
+
+
+def pairs_in(one: Sequence[Row], other: Sequence[Row], measure: str, names: Sequence[str], against: str,
+             sides: tuple[str, str], nets: Sequence[str] | None) -> Paired:
+    """The same pairs, of which there may be none."""
+    first, second = _by_key(one, names, sides[0]), _by_key(other, names, sides[1])
     pairs, of_two_nets = [], 0
     left_out: Counter[tuple[Cell, str]] = Counter()
     without: Counter[tuple[Cell, str]] = Counter()
@@ -139,9 +151,6 @@ def pairs_of(one: Sequence[Row], other: Sequence[Row], measure: str, names: Sequ
         pairs.append(Pair(mine[against], _number(mine, measure), _number(yours, measure),
                           () if nets is None else (net, *places)))
         of_two_nets += None not in places and places[0] != places[1]
-    if not pairs:
-        raise Fault('no pair of runs has a value of %s on both sides: %s' % (
-            measure, '; '.join(reasons(left_out))))
     return Paired(pairs, dict(left_out), of_two_nets, +without)
 
 

@@ -189,6 +189,7 @@ class Shown(NamedTuple):
     along          with a measure on each axis: the parameters in which the points of a line differ. A line joins the
                    points in their order
     gaps           with a measure on each axis: the values of `by` and `along` at which no run has both measures
+    within         if nets are averaged: the parameters of `--over` in which only the runs of one net differ
     """
     points: list[Point]
     over: list[str]
@@ -205,6 +206,12 @@ class Shown(NamedTuple):
     lacked: Sequence[str] = ()
     along: Sequence[str] = ()
     gaps: Sequence[tuple[Cell, ...]] = ()
+    within: Sequence[str] = ()
+
+    @property
+    def mixed(self) -> list[str]:
+        """The parameters in which the runs of a point differ, also those of one net."""
+        return [*self.over, *(it for it in self.within if it not in self.over)]
 
     @property
     def is_ordered(self) -> bool:
@@ -301,6 +308,13 @@ def check_mixture(rows: Sequence[Row], mixed: Sequence[str], repeats: Sequence[s
 def is_repeat(name: str, over: str) -> bool:
     """Returns whether a parameter only repeats runs: it is in `over`, or, if `over` is empty, it is a seed."""
     return name in over.split(',') if over else is_seed(name)
+
+
+def mixed_in(rows: Sequence[Row], names: Sequence[str], wish: Wish) -> list[str]:
+    """Those of these parameters that a request mixes with `--over`, and in which the runs differ."""
+    good = [row for row in rows if not row['fault']]
+    return [name for name in names if name in wish.over.split(',') and name not in (wish.against, wish.by)
+            and len({row[name] for row in good}) > 1]
 
 
 def separated_by(wish: Wish) -> list[str]:

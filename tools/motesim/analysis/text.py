@@ -169,12 +169,16 @@ def csv_of(rows: Sequence[Row]) -> str:
 
 
 def heading(shown: Shown, wish: Wish) -> str:
-    over = ', over ' + ', '.join(shown.over) if shown.over else ''
     against = ' against %s' % wish.against if wish.against else ''
     if shown.along and shown.is_ordered and wish.show in ('mean', 'median'):
         against += ', in the order of %s' % shown.along[0]
     nets = ', averaged by net first' if wish.nets else ''
-    return '%s%s%s%s%s%s' % (wish.measure, against, selected(wish), over, nets, how(shown, wish))
+    return '%s%s%s%s%s%s' % (wish.measure, against, selected(wish), of_mixed(shown.mixed), nets, how(shown, wish))
+
+
+def of_mixed(names: Sequence[str]) -> str:
+    """The part of a heading that names the parameters in which the runs of a point differ."""
+    return ', over ' + ', '.join(names) if names else ''
 
 
 def selected(wish: Wish) -> str:
@@ -560,7 +564,7 @@ def of_pairs(paired: Paired, found: Sequence[Difference], against: str, most: in
     lines += of_missing(paired.nets(), '', against, 'pairs', most)
     empty = [place for place in dict.fromkeys(place for place, _ in paired.left_out)
              if all(place != it.against for it in found)]
-    if empty:
+    if empty and paired.pairs:
         lines.append('no pair is left at %s %s' % (against, ', '.join(map(text_of, empty))))
     skewed = [text_of(it.against) for it in found if it.is_skewed and it.difference.runs < ENOUGH_RUNS
               and it.difference.method in ('t', 'within pairs')]

@@ -12,9 +12,9 @@ from typing import NamedTuple
 from motesim.analysis import drawing, text
 from motesim.analysis.drawing import FORMATS
 from motesim.analysis.origin import origin_of, origin_path
-from motesim.analysis.paired import Difference, Paired, differences, pairs_of
-from motesim.analysis.points import Wish, check_measures, check_pairs, check_plans, is_repeat, measures_of
-from motesim.analysis.points import names_of_nets, order, separated_by, shared_nets, shown_of
+from motesim.analysis.paired import Difference, Paired, differences, pairs_in, pairs_of
+from motesim.analysis.points import Wish, check_measures, check_pairs, check_plans, is_repeat, measures_of, mixed_in
+from motesim.analysis.points import names_of_nets, order, parameters_of, separated_by, shared_nets, shown_of
 from motesim.analysis.rows import by_net, joined, warnings_of
 from motesim.experiments import packages
 from motesim.experiments.measures import Cell
@@ -70,7 +70,8 @@ def left_to_caption(has_room: bool, picture: Path) -> list[str]:
 def show(rows: Sequence[Row], wish: Wish, source: Source) -> bool:
     """Draws a picture or prints a table; returns whether the output has the wanted form."""
     shown = shown_of(by_net(rows, wish) if wish.nets else rows, wish)._replace(
-        warnings=warnings_of(rows, [*separated_by(wish), *wish.over.split(',')]))
+        warnings=warnings_of(rows, [*separated_by(wish), *wish.over.split(',')]),
+        within=mixed_in(rows, parameters_of(rows), wish) if wish.nets else [])
     if not shown.points:
         raise Fault('; '.join(['there is no value of %s to show' % wish.measure, *text.left_out(shown, wish)]))
     text.check_log(shown, wish)
@@ -113,10 +114,13 @@ def groups_of(sides: Sides, wish: Wish) -> list[tuple[Cell, Paired]]:
     """The pairs of runs for each value of `by`."""
     rows, others, names, kept, _ = sides
     nets = names_of_nets([*rows, *others], wish.over) if wish.nets else None
+    every = pairs_of(rows, others, wish.measure, kept, wish.against, names, nets)
+    if not wish.by:
+        return [(None, every)]
     groups: list[tuple[Cell, Paired]] = []
-    for by in sorted({row[wish.by] for row in [*rows, *others]}, key=order) if wish.by else [None]:
-        one, other = ([row for row in side if not wish.by or row[wish.by] == by] for side in (rows, others))
-        groups.append((by, pairs_of(one, other, wish.measure, kept, wish.against, names, nets)))
+    for by in sorted({row[wish.by] for row in [*rows, *others]}, key=order):
+        one, other = ([row for row in side if row[wish.by] == by] for side in (rows, others))
+        groups.append((by, pairs_in(one, other, wish.measure, kept, wish.against, names, nets)))
     return groups
 
 
@@ -127,11 +131,11 @@ def differences_in(groups: Sequence[tuple[Cell, Paired]], wish: Wish) -> list[Di
                     partial(wish.kind_of, wish.measure), wish.draws), key=lambda it: order(it.against))]
 
 
-def heading_of(found: Sequence[Difference], names: Sequence[str], wish: Wish) -> str:
+def heading_of(found: Sequence[Difference], names: Sequence[str], mixed: Sequence[str], wish: Wish) -> str:
     """The heading of a comparison."""
     by = text.by_methods([it.difference.method for it in found])
-    words = '%s against %s%s: %s less %s, %s' % (
-        wish.measure, wish.against, text.selected(wish), names[1], names[0],
+    words = '%s against %s%s%s: %s less %s, %s' % (
+        wish.measure, wish.against, text.selected(wish), text.of_mixed(mixed), names[1], names[0],
         'run by run, and averaged by net' if wish.nets else 'run by run')
     return words + (', with intervals of %g %% %s' % (wish.confidence, by) if by else '')
 
@@ -142,9 +146,10 @@ def compare(sides: Sides, wish: Wish, source: Source) -> bool:
     groups = groups_of(sides, wish)
     found = differences_in(groups, wish)
     text.check_log_of([it.against for it in found], wish)
-    words = heading_of(found, sides.names, wish)
-    made = text.rows_of_differences(found, wish, *sides.names)
     runs = [*sides.one, *sides.other]
+    mixed = mixed_in(runs, sides.kept, wish)
+    words = heading_of(found, sides.names, mixed, wish)
+    made = text.rows_of_differences(found, wish, *sides.names)
     good = [row for row in sides.one if not row['fault']]
     shared = None if wish.nets else shared_nets(good, [wish.against, *filter(None, [wish.by])], wish.measure)
     warnings = warnings_of(runs, [*separated_by(wish), *wish.over.split(',')], False)
@@ -154,7 +159,8 @@ def compare(sides: Sides, wish: Wish, source: Source) -> bool:
     warn(notes, shared, warnings)
     if wish.file and packages.is_here('matplotlib'):
         picture = source.folder / wish.file
-        below = text.selected_below(wish) + of_groups(groups, found, wish, text.MOST_BELOW) + more
+        over = ['mean differences over %s' % ', '.join(mixed)] * bool(mixed)
+        below = over + text.selected_below(wish) + of_groups(groups, found, wish, text.MOST_BELOW) + more
         has_room = drawing.draw_differences(found, wish, words, below, picture)
         for line in drawing.unused_labels([by for by, _ in groups], wish):
             print('plot: %s' % line, file=sys.stderr)
@@ -167,9 +173,10 @@ def compare(sides: Sides, wish: Wish, source: Source) -> bool:
 
 def of_groups(groups: Sequence[tuple[Cell, Paired]], found: Sequence[Difference], wish: Wish,
               most: int | None = None) -> list[str]:
-    """The lines about the pairs that each line of a comparison leaves out."""
-    return [('%s: ' % wish.name_of_by(by) if wish.by else '') + line for by, paired in groups
-            for line in text.of_pairs(paired, [it for it in found if it.by == by], wish.against, most)]
+    """The lines about the pairs that each line of a comparison leaves out, and which lines have no pair."""
+    lines = [('%s: ' % wish.name_of_by(by) if wish.by else '') + line for by, paired in groups
+             for line in text.of_pairs(paired, [it for it in found if it.by == by], wish.against, most)]
+    return lines + ['no pair is left at %s' % wish.name_of_by(by) for by, paired in groups if not paired.pairs]
 
 
 def drawn(wish: Wish, asked: argparse.Namespace, read: dict[tuple[str, ...], list[Row]]) -> bool:
