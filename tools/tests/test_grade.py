@@ -541,7 +541,7 @@ class Nets(Folder):
             with self.subTest(name):
                 shown = self.grade('--net', 'task.toml', '--why', name)
                 self.assertIn(wanted, shown)
-                self.assertEqual(shown.count('Warning'), 1, shown)
+                self.assertEqual(shown.count(wanted), 1, shown)
         self.grade('--net', 'task.toml', '-o', 'marks.html')
         self.assertIn('waits in only one branch', self.page())
         self.grade('--hidden', 'task.toml', '-o', 'marks.html')
