@@ -1,4 +1,4 @@
--- The shape of a program: its tree, with each name as it is written in the text.
+-- The shape of a program: its tree, with the names that are in the text.
 use Rattle.std.specs.Prelude.{ℕ, List, Option}
 use Rattle.program_tree.specs.Forms.{Operand, name, cast, sent, any, Form, ends, tells, takes, values, Beginning}
 use Rattle.program_tree.specs.Forms.{action, Word, no_value, alone, tells_of}
