@@ -241,7 +241,7 @@ def _guarded(work: Callable[[Judge], Cell]) -> Callable[[Bench], Cell]:
     def of(bench: Bench) -> Cell:
         try:
             return work(bench.judge)
-        except judges._Apart:
+        except judges.Apart:
             return None
 
     return of

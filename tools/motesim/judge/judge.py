@@ -51,7 +51,7 @@ class Row(NamedTuple):
         return self.at, self.row
 
 
-class _Apart(Exception):
+class Apart(Exception):
     """Packets of one mote can't reach another, so there are no hops between them."""
 
 
@@ -59,7 +59,8 @@ def _within(at: int, span: Span) -> bool:
     return span[0] <= at and (span[1] is None or at <= span[1])
 
 
-def _shown(span: Span) -> str:
+def span_in_words(span: Span) -> str:
+    """A span with a space in front of it, such as ` from 3 to 9`; an empty text for the whole run."""
     if span[1] is None:
         return ' from %d on' % span[0] if span[0] else ''
     return ' at %d' % span[0] if span[0] == span[1] else ' from %d to %d' % (span[0], span[1])
@@ -117,7 +118,7 @@ class Judge:
         if root not in self.hops_from:
             self.hops_from[root] = self.scenario.hops_from(root)
         if mote not in self.hops_from[root]:
-            raise _Apart('mote %d is not reached from mote %d' % (mote, root))
+            raise Apart('mote %d is not reached from mote %d' % (mote, root))
         return self.hops_from[root][mote]
 
     def values(self, value: Value, mote: int) -> set[int]:
@@ -204,7 +205,7 @@ class Judge:
         inside = [event for event in events if _within(event.line.at, span)]
         if count.admits(len(inside)):
             return None
-        why = '%s%s; wanted: %s' % (has_lines(self.name(motes), len(inside)), _shown(span), count)
+        why = '%s%s; wanted: %s' % (has_lines(self.name(motes), len(inside)), span_in_words(span), count)
         spare = _first_spare([event.row for event in inside], count)
         if spare is not None:
             return Broken(why, spare)
@@ -264,7 +265,7 @@ class Judge:
         if it.count.admits(len(one), len(two)):
             return None
         why = '%s: %d lines%s, compared with %d; wanted: %s%s as many' % (
-            name, len(one), _shown(span), len(two), it.count, '' if it.count.is_part else ' times')
+            name, len(one), span_in_words(span), len(two), it.count, '' if it.count.is_part else ' times')
         most = it.count.number * len(two) // (100 if it.count.is_part else 1)
         if len(one) > most or one and it.count.compare == 'fewer than':
             return Broken(why, one[min(most, len(one) - 1)].row)
@@ -273,7 +274,7 @@ class Judge:
     def related(self, it: Does, lines: list[Event], others: list[Event], name: str, span: Span) -> Broken | None:
         """Checks that lines are before, after or near others. In `within 10 of each time`, the others are those in a
         span; otherwise the lines are."""
-        why = relations.broken(it, name, _shown(span), lines, others, self.scenario.end)
+        why = relations.broken(it, name, span_in_words(span), lines, others, self.scenario.end)
         return Broken(*why) if why else None
 
     def of_unit(self, it: Does, motes: tuple[int, ...]) -> Broken | None:
@@ -290,7 +291,7 @@ class Judge:
             more = '' if is_shown else self.other_value(it, motes) or self.other_process(it, motes)
             more = '; ' + more if more else ''
             return Broken(broken.why + more + remark_on(it.deed, motes, self.values), broken.row)
-        except _Apart as apart:
+        except Apart as apart:
             return Broken(str(apart))
 
     def of_events(self, it: Does, events: list[Event], motes: tuple[int, ...]) -> Broken | None:
@@ -389,7 +390,8 @@ class Judge:
         for period in periods(it):
             broken = self.of_motes(period)
             if broken:
-                return Broken('%s: %s' % (_shown(self.spans(period.window, ())[0]).strip(), broken.why), broken.row)
+                when = span_in_words(self.spans(period.window, ())[0]).strip()
+                return Broken('%s: %s' % (when, broken.why), broken.row)
         return None if periods(it) else self.of_motes(it)
 
     def of_motes(self, it: Does) -> Broken | None:
@@ -471,7 +473,7 @@ class Judge:
                 for index, span in enumerate(self.spans(window, (row.mote,))):
                     if _within(row.at, span):
                         parts[index].append(row.row)
-        except _Apart as apart:
+        except Apart as apart:
             return Broken(str(apart))
         for rows in parts.values():
             if not count.admits(len(rows)):

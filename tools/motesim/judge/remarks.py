@@ -6,7 +6,7 @@ from __future__ import annotations
 import re
 
 from motesim.explain.lint import Program
-from motesim.judge.judge import Judge, _Apart
+from motesim.judge.judge import Apart, Judge
 from motesim.judge.sentences import Copies, Does, Names, Packets, Sentence, SentenceFault, read_sentence
 from motesim.notation.keywords import SYSTEM
 
@@ -100,7 +100,7 @@ def number_of(it: Does, judge: Judge, mote: int) -> int:
     """The number of lines of a mote that show the action of a sentence, in its period."""
     try:
         return len(judge.within(judge.done(it.deed, (mote,)), it.window, (mote,)))
-    except _Apart:
+    except Apart:
         return 0
 
 

@@ -9,7 +9,7 @@ from __future__ import annotations
 from collections.abc import Iterator
 from typing import Any, NamedTuple
 
-from motesim.judge.judge import Judge, Span, _shown
+from motesim.judge.judge import Judge, Span, span_in_words
 from motesim.judge.sentences import Does, Value
 from motesim.report import Report
 from motesim.why.callers import Callers, times
@@ -294,7 +294,7 @@ class _Misses:
         """Reports how often a statement was reached; and which condition around it wasn't true."""
         its = [it for it in replay.reached if it.statement == number and it.holds is None]
         here, outside = self.inside(its), self.outside_of(its)
-        time = _shown(self.missing.span) if outside else ''
+        time = span_in_words(self.missing.span) if outside else ''
         words = '%s was %s%s' % (in_words(program, number), self.reached(len(here)), time)
         if here:
             return Miss('reached', words + ', at ' + self.moments(here))
@@ -303,7 +303,7 @@ class _Misses:
             tests, wanted = self.inside(every), 'false' if around.is_else else 'true'
             right = [it for it in tests if it.holds != around.is_else]
             if tests and not right:
-                time = _shown(self.missing.span) if any(it.holds != around.is_else for it in every) else ''
+                time = span_in_words(self.missing.span) if any(it.holds != around.is_else for it in every) else ''
                 because = ', because %s was tested %s%s, and was never %s, the last time at %d' % (
                     in_words(program, around.number), times(len(tests)), time, wanted, tests[-1].at)
                 return Miss('condition', words + because + outside)

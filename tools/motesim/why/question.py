@@ -11,7 +11,7 @@ from collections.abc import Iterable, Sequence
 from dataclasses import dataclass, replace
 
 from motesim.faults import Fault
-from motesim.judge.judge import Judge, Span, _Apart, periods
+from motesim.judge.judge import Apart, Judge, Span, periods
 from motesim.judge.numbers import either, has, has_lines, there_are, verb
 from motesim.report import FIELDS, Report
 from motesim.judge.sentences import (
@@ -241,7 +241,7 @@ class Asker:
         try:
             spans = [self.judge.spans(it.window, (line.where.mote,)) for line in found]
             parts = len(self.judge.spans(it.window, (it.window.root or 0,)))
-        except _Apart as apart:
+        except Apart as apart:
             return Lineless(False, str(apart))
         answer: Answer = Lineless(True, 'there are no %s' % what)
         for part in range(parts):
@@ -293,7 +293,7 @@ class Asker:
         broken = judge.broken(it)
         try:
             inside = {mote: self.inside(it, mote) for mote in chosen}
-        except _Apart as apart:
+        except Apart as apart:
             return Lineless(False, str(apart))
         if broken is None:
             return self.of_kept(it, inside)
@@ -374,7 +374,7 @@ class Asker:
             lines = self.lines(it, motes)
             name = self.judge.name(motes)
             return of_all(self.of_span(it, motes, lines, span, name) for span in spans)
-        except _Apart as apart:
+        except Apart as apart:
             return Lineless(False, str(apart))
 
     def of_span(self, it: Does, motes: tuple[int, ...], lines: list[Found], span: Span, name: str) -> Answer:
