@@ -1,4 +1,4 @@
--- The effect of each step of the queue on the view of the pass that was handed to the step.
+-- The view that a pass of the queue has at first, and how each step of the queue changes it.
 use Rattle.std.specs.Prelude.{ℕ, ◌+◌, Bool, true, false, List, [], ◌∷◌, ◌++◌}
 use Rattle.copy_inbox.specs.declared.items.Carried.{Carried}
 use Rattle.copy_inbox.specs.declared.items.Item.{Item}

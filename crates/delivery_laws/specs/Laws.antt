@@ -1,4 +1,5 @@
--- The law of the delivery machine: each of its traces has the order of delivery.
+-- The laws of the delivery machine: each of its traces hands events on in order (`HandedOn`), has no line after a
+-- halt, and starts only processes that aren't on the process list.
 use Rattle.std.specs.Prelude.{List}
 use Rattle.delivery_laws.specs.HandedOn.{Line, HandedOn}
 use Rattle.delivery_laws.specs.StartsAndHalts.{HaltIsLast, StartsTheUnlisted}

@@ -1,5 +1,4 @@
--- The view of a kernel for the delivery of events: the kernel's lines, and its state as a state of the delivery
--- machine.
+-- The part of a kernel's state that matters for the delivery of events, as a state of the delivery machine.
 use Rattle.std.specs.Prelude.{ℕ, List, []}
 use Rattle.delivery_laws.specs.HandedOn.{Line, Incarnation}
 use Rattle.delivery_laws.specs.Delivery.{Waiting, DeliveryMachine, initial, DeliveryRuns, Halts}

@@ -1,4 +1,4 @@
--- No mote is limited by the depth of nested calls in the rules: its units of work end first.
+-- No mote reaches the limit of nested calls in the kernel's definitions, because its units of work are used up first.
 use Rattle.std.specs.Prelude.{ℕ, ◌≡◌, ◌<◌, List}
 use Rattle.program_tree.specs.declared.event.Proc.{Proc}
 use Rattle.program_tree.specs.declared.event.Event.{Event}

@@ -1,4 +1,4 @@
--- The process list and the states of the processes, which are in step.
+-- The agreement between the process list and the states of the processes.
 use Rattle.std.specs.Prelude.{ℕ, ◌≡◌, ◌==◌, Bool, true, false, List, length, unwrap_or, slice_get}
 use Rattle.std.specs.List.{list_any}
 use Rattle.process_kernel.specs.declared.process.ProcessState.{ProcessState}

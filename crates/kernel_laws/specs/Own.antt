@@ -1,4 +1,4 @@
--- The processes that may leave: only the processes of the program.
+-- The processes that may leave the process list: only the processes of the program.
 use Rattle.std.specs.Prelude.{ℕ, ◌≡◌}
 use Rattle.program_tree.specs.declared.event.Proc.{Proc}
 use Rattle.program_tree.specs.declared.event.Proc.TheVariants.{Own, Etimer, Ctimer, Radio}

@@ -1,5 +1,4 @@
--- The view of a kernel for the delivery of events: the kernel's lines, and its state as a state of the delivery
--- machine.
+-- The lines and the state of the process kernel in the terms of the delivery machine.
 use Rattle.std.specs.Prelude.{List, map}
 use Rattle.delivery_laws.specs.HandedOn as handed
 use Rattle.delivery_laws.specs.HandedOn.{Incarnation, ToOne, ToAll}

@@ -1,5 +1,5 @@
--- The relation between the lines about a process's lives and the statements that the process has yet to execute. Each
--- call of the kernel keeps this relation.
+-- The relation between the lines about a process's lives and the statements that the process has yet to execute. (Each
+-- start of the process begins a life.) Each call of the kernel keeps this relation.
 use Rattle.std.specs.Prelude.{ℕ, ◌≡◌, ◌⊎◌, Bool, true, false, nat_lt, List, [], ◌∷◌, ◌++◌, length, Option, Some}
 use Rattle.std.specs.Prelude.{slice_get}
 use Rattle.program_tree.specs.declared.event.Proc.{Proc}

@@ -1,4 +1,5 @@
--- The promises of one worker's thread about its own values, for all windows.
+-- The promises of one worker's thread, for all windows: about the worker's motes, and about the items that the worker
+-- takes and pushes.
 use Rattle.std.specs.Prelude.{ℕ, ◌≡◌, ◌≢◌, suc, ◌<◌, ◌≤◌, true, List, [], ◌++◌}
 use Rattle.std.specs.List.{filter, AllByRecursion as Each}
 use Rattle.radio_packet.specs.declared.copy.RadioCopy.{RadioCopy}

@@ -1,4 +1,4 @@
--- The keys of each table, and the first fault of a table by these keys.
+-- The keys of each table, and the first error that is found when a table is checked against its keys.
 use Rattle.std.specs.Prelude.{◌+◌, ℕ, pos, neg_ℤ, Bool, true, false, not, ◌&&◌, ◌||◌, nat_le, List, [], ◌∷◌, codes}
 use Rattle.std.specs.Prelude.{Option, Some, None, is_none, is_some, if◌then◌else◌}
 use Rattle.std.specs.List.{filter, list_any}

@@ -1,4 +1,5 @@
--- The two calls that a rule may make, and the walk over the process list.
+-- The two calls that a rule of the kernel may make (it calls a process, or it runs a thread), and the walk over the
+-- process list.
 use Rattle.std.specs.Prelude.{ℕ, ◌==◌, Bool, not, ◌&&◌, List, [], ◌∷◌, if◌then◌else◌}
 use Rattle.program_tree.specs.declared.event.Proc.{Proc}
 use Rattle.program_tree.specs.declared.event.Event.{Event}

@@ -12,7 +12,7 @@ use crate::machine::Machine;
 use crate::process::{Member, ProcessState};
 use program_tree::Proc;
 
-/// The place of a process in the tables. Two tests are faster than a `match`, which is a jump table at each use.
+/// The place of a process in the tables. Three tests are faster than a `match`, which is a jump table at each use.
 #[inline(always)]
 pub fn place_of(process: Proc) -> usize
     ensures value { result ≡ place_of process }

@@ -1,4 +1,5 @@
--- Statements that begin with a keyword and have no block, grouped by the operands after the keyword, with their trees.
+-- Statements that begin with a keyword and have no block, and the trees of these statements, grouped by the operands
+-- after the keyword.
 use Rattle.std.specs.Prelude.{ℕ, Option, Some}
 use Rattle.program_tree.specs.Forms.{Beginning, action, beginning}
 use Rattle.program_reader.specs.Steps.{IsPlain}

@@ -1,4 +1,4 @@
--- The instructions that the flattener adds, one statement or block after another.
+-- The instructions that are added to flat code when blocks are compiled, one statement or block after another.
 use Rattle.std.proofs.Common.{◌≡◌, ℕ, zero, suc, ◌+◌, ◌<◌, ◌≤◌, Some, zero-add, get_or, drop, map, List, [], ◌∷◌, ◌++◌, length, refl, ap, sym, ◌∙◌, subst, arith, append_assoc, length-append}
 use Rattle.std.specs.Prelude.{slice_get, Result, Ok, Err, OnOk}
 use Rattle.std.proofs.lemmas.List.{append-nil, get_or_past, get_or_at, drop_all, length-map}

@@ -1,4 +1,4 @@
--- The instructions that the flattener adds to the code.
+-- The instructions that are added to flat code when a block is compiled.
 use Rattle.std.specs.Prelude.{◌≡◌, ℕ, ◌+◌, List, [], ◌∷◌, ◌++◌, length}
 use Rattle.program_tree.specs.declared.instruction.Instruction.{Instruction}
 use Rattle.program_tree.specs.Tree.{Statement, Body, Otherwise, end, next, nothing, otherwise, size, statement_size}

@@ -1,4 +1,4 @@
--- The effect of a thread's code at one statement.
+-- The effect of one statement of a thread's code on the thread.
 use Rattle.std.specs.Prelude.{ℕ, ◌≡◌, ◌≤◌, List, [], ◌∷◌, Option, None, Some}
 use Rattle.program_tree.specs.declared.event.Event.{Event}
 use Rattle.program_tree.specs.declared.instruction.Instruction.{Instruction}

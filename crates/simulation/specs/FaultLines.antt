@@ -1,4 +1,4 @@
--- The line that reports an error, after the name of the program.
+-- The text of the line that reports an error, without `motesim: ` at its beginning.
 use Rattle.std.specs.Prelude.{ℕ, List, [], ◌∷◌, ◌++◌, codes, decimal}
 use Rattle.program_tree.specs.Kinds.{kind_number}
 use Rattle.radio_medium.specs.Errors.{medium_fault_number}

@@ -81,7 +81,8 @@ fn workers_arg<'a>(alloc: Global) -> Arg<'a>
         .value_name("N")
         .value_parser(clap::value_parser!(u16).range(1..=i64::from(MOST_WORKERS)))
         .help(
-            "Has 1 to 16 workers run the motes, each in a thread of its own; without it, one thread runs them all",
+            "Runs the motes on 1 to 16 workers, each with a thread of its own; without this option, \
+             one thread runs all motes",
         )
 }
 
@@ -96,7 +97,8 @@ fn cut_arg<'a>(alloc: Global) -> Arg<'a>
         .value_parser(CUTS.as_slice())
         .default_value("block")
         .help(
-            "How the motes are cut among the workers: in blocks of motes that follow one another, or dealt in turn",
+            "Divides the motes among the workers: with block each worker gets motes with consecutive numbers, \
+             with stripe the motes go to the workers in turn, one at a time",
         )
 }
 
@@ -111,8 +113,9 @@ fn sync_arg<'a>(alloc: Global) -> Arg<'a>
         .value_parser(SYNCS.as_slice())
         .default_value("joins")
         .help(
-            "How workers wait for one another: their threads are joined after each window, \
-             or each has one thread for the whole run and waits for marks of the others",
+            "Selects how the workers wait for one another: with joins each worker gets a new thread for each window, \
+             and all threads are joined at its end; with marks each worker keeps one thread for the whole run, \
+             and waits for marks of the others",
         )
 }
 

@@ -1,4 +1,5 @@
--- Reports that name only processes and events that exist, and programs in which all names differ.
+-- Reports that name only processes and events that exist, and programs in which no two targets of events, and no two
+-- events, have the same name.
 use Rattle.std.specs.Prelude.{◌≡◌, ◌⊎◌, ℕ, ◌+◌, ◌^◌, ◌<◌, ◌≤◌, List, [], ◌∷◌, length, Option, Some, None}
 use Rattle.std.specs.List.{AllByRecursion as Each}
 use Rattle.program_tree.specs.Code.{Tree}
@@ -44,7 +45,7 @@ HasTarget t All = Unit {0}
 abbrev pub HasEvent : Tree → ℕ → Type 0
 HasEvent t e = ((s : SystemEvent) × (e ≡ system_number s)) ⊎ ((0x8b ≤ e) × (e < 0x8b + length t.events))
 
--- The receivers and the events of a program, with those of the system, have words (`IsWord`); no two receivers have the
+-- The targets and the events of a program, with those of the system, have words (`IsWord`); no two targets have the
 -- same word, and no two events have the same word.
 pub record NamesDiffer (t : Tree) : Type 0 where
   pub target_is_word : (a : Target) → HasTarget t a → IsWord (target_word t a)

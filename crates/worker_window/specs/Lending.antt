@@ -1,4 +1,4 @@
--- Motes that are lent out of a share for a window and return to it.
+-- Motes that a share lends for a window, and their return to the share.
 use Rattle.std.specs.Prelude.{ℕ, ◌≡◌, ◌<◌, ◌≤◌, ◌^◌, Bool, true, false, not, ◌&&◌, ◌==◌, if◌then◌else◌, List, []}
 use Rattle.std.specs.Prelude.{◌∷◌, ◌++◌, length, map, Option, Some, None, is_some, slice_index_or, slice_set, Vec}
 use Rattle.std.specs.List.{filter, flat_map, list_any, AllByRecursion, AllZip}

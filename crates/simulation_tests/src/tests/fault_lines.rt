@@ -116,11 +116,13 @@ const HELP: &str = "\
     Simulates a network of Contiki motes, and writes the traces of the motes and the log of the radio medium\n\n\
     Usage: motesim [OPTIONS] [FILE]\n\n\
     Arguments:\n  [FILE]  The scenario; without it, standard input is read\n\n\
-    Options:\n      --workers <N>  Has 1 to 16 workers run the motes, each in a thread of its own; without it, \
-    one thread runs them all\n      --cut <CUT>    How the motes are cut among the workers: in blocks of motes that \
-    follow one another, or dealt in turn [default: block] [possible values: block, stripe]\n      --sync <SYNC>  How \
-    workers wait for one another: their threads are joined after each window, or each has one thread for the whole run \
-    and waits for marks of the others [default: joins] [possible values: joins, marks]\n  \
+    Options:\n      --workers <N>  Runs the motes on 1 to 16 workers, each with a thread of its own; \
+    without this option, one thread runs all motes\n      --cut <CUT>    Divides the motes among the workers: \
+    with block each worker gets motes with consecutive numbers, with stripe the motes go to the workers in turn, \
+    one at a time [default: block] [possible values: block, stripe]\n      --sync <SYNC>  Selects how the workers \
+    wait for one another: with joins each worker gets a new thread for each window, and all threads are joined \
+    at its end; with marks each worker keeps one thread for the whole run, and waits for marks of the others \
+    [default: joins] [possible values: joins, marks]\n  \
     -h, --help         Print help\n";
 
 /// Writes down the status of the program with this argument, all of its output, and its text on standard error. After
