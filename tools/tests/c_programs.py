@@ -80,7 +80,8 @@ class CProgram:
                                  self._one_of('2', '3', '7') if sign in '%/' else self._atom(scope))
             return '(%s)' % text if self._is(0.4) else text
         if kind < 0.85:
-            return '%s << %s' % (self._atom(scope), self._one_of('1', '2'))
+            # (in parentheses: `a << 2 * b` may shift by more bits than the value has, which C doesn't define)
+            return '(%s << %s)' % (self._atom(scope), self._one_of('1', '2'))
         if kind < 0.9:
             return '%s & %s' % (self._atom(scope), self._one_of('1', '3', '7', '15'))
         if kind < 0.93:

@@ -21,9 +21,8 @@ TEXT = SCENARIO.replace('end = 100', 'end = %d' % END).replace(
     "process p;\nautostart p;\ncode p {\n%s\n  body {\n%s\n  }\n}\n", '%s\n')
 
 
-def corrected(program: ContikiProgram) -> str | None:
-    """A scenario with the program, as the messages change it; None if one of the messages has only advice."""
-    text = TEXT % '\n'.join(program.lines)
+def corrected(text: str) -> str | None:
+    """A scenario as the messages about its program change it; None if one of the messages has only advice."""
     for _ in range(MOST_CHANGES):
         fault = find_fault(text.encode())
         if fault is None:
@@ -35,7 +34,9 @@ def corrected(program: ContikiProgram) -> str | None:
     raise AssertionError('the messages lead to no end: ' + text)
 
 
-class ContikiPrograms(unittest.TestCase):
+class OnHost(unittest.TestCase):
+    """Tests that compile programs for the host of Contiki's kernel."""
+
     def setUp(self) -> None:
         need_program(self)
         need_command(self, 'tcc', 'tcc')
@@ -49,11 +50,14 @@ class ContikiPrograms(unittest.TestCase):
             subprocess.run(['tcc', '-c', '-I%s' % HOST, '-o', compiled, source], check=True)
         return [str(it) for _, it in found]
 
+
+class ContikiPrograms(OnHost):
     def test_programs_print_what_they_print_with_the_kernel_of_contiki(self) -> None:
         kernel, count = self.kernel(), 0
         for seed in SEEDS:
             program = ContikiProgram(seed)
-            wanted, text = program.prints_on(self.folder, kernel), corrected(program)
+            wanted = program.prints_on(self.folder, kernel)
+            text = corrected(TEXT % '\n'.join(program.lines))
             if wanted is None or text is None:
                 continue
             count += 1

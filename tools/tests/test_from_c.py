@@ -320,7 +320,7 @@ class Timers(unittest.TestCase):
                     'process a; autostart a; code a { var n = 0; ctimer c { n = (n + 1); print n; reset c; } '
                     'body { set c 5; yield; } }'))
 
-    def test_a_function_of_a_callback_timer_without_counterpart_stays(self) -> None:
+    def test_a_function_of_a_callback_timer_without_counterpart_is_in_its_block(self) -> None:
         text = (CALLBACK % ('static struct ctimer c;\n', '')).replace('n++;', 'queue[n] = 1;')
         for _ in range(20):
             fault = find_fault(text)
@@ -328,7 +328,8 @@ class Timers(unittest.TestCase):
             if found is None or found.line is None:
                 break
             text = found.applied(text)
-        self.assertIn('static void beat', text)
+        self.assertNotIn('static void beat', text)
+        self.assertIn('ctimer c {\n  queue[n] = 1;\n  printf("%d\\n", n);\n', text)
 
 
 class FileScope(unittest.TestCase):

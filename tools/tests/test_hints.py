@@ -401,6 +401,8 @@ class Warnings(unittest.TestCase):
              '`wait_while` and the same test, without a block'),
             (CODE.replace('body', 'onpoll { poll a; } body') % 'while (seq == 0) { }', 5, 'nothing changes `seq`'),
             (CODE % 'set t 4; while !is(packet) { }', 5, '`yield_until` and the opposite test, without a block'),
+            (CODE % 'set t 4; while !expired(t) { if is(packet) { print data; } }', 5,
+             '`yield_until (is(packet) || expired(t));` as the first statement of its block'),
             (CODE % 'while 1 { seq = (seq + 1); }', 5, 'nothing waits'),
             (CODE % 'yield_until fired(t);', 5, '`t` is never set, so `fired(t)` is never true'),
             (CODE % 'wait_until expired(t);', 5, '`t` is never set, so `expired(t)` is always true'),
@@ -423,6 +425,57 @@ class Warnings(unittest.TestCase):
         ]:
             with self.subTest(wanted):
                 self.assertTrue(any(wanted in it for it in self.seen(program, x)))
+
+    def test_a_test_for_two_events_at_once_has_a_warning(self) -> None:
+        both, stays = 'can never be true together', 'or write `expired(t)`'
+        cases: list[tuple[str, list[str]]] = [
+            ('(fired(t) && is(packet))', ['`fired(t)` and `is(packet)` ' + both, stays]),
+            ('(is(packet) && (seq && fired(t)))', ['`is(packet)` and `fired(t)` ' + both, stays]),
+            ('((is(msg) && is(com)) || fired(t))', ['`is(msg)` and `is(com)` ' + both]),
+            ('!(is(msg) && (seq == (1 + is(com))))', []), ('(is(exited) && gone(a))', []),
+            ('(is(init) && gone(a))', ['`is(init)` and `gone(a)` ' + both]),
+            ('(fired(t) && fired(u))', ['`fired(t)` and `fired(u)` ' + both, stays]),
+            ('(fired(t) && fired(t))', []), ('(is(timer) && fired(t))', []), ('(is(packet) && expired(t))', []),
+            ('(fired(t) || is(packet))', []), ('(!fired(t) && !is(packet))', []), ('(is(packet) && !is(com))', []),
+            ('(!fired(t) || !is(packet))', ['`!fired(t)` or `!is(packet)` is always true']),
+            ('(!fired(t) || is(packet))', [])]
+        for test, wanted in cases:
+            program = ('process a; autostart a; receiver a; code a { var seq = 0; etimer t; etimer u; body { '
+                       'set t 1; set u 1; synch a msg 1; synch a com 1; yield_until %s; } }' % test)
+            with self.subTest(test):
+                found = [it for it in self.seen(program) if 'one event at a time' in it]
+                self.assertEqual(len(found), bool(wanted))
+                self.assertTrue(all(it in found[0] for it in wanted), found)
+                self.assertEqual(stays in ''.join(found), stays in wanted)
+
+    def test_a_signal_without_a_poll_of_the_waiting_process_has_a_warning(self) -> None:
+        producer = ('code b { var n = 0; etimer t; body { while %s { set t 2; yield_until fired(t); signal s; %s n = '
+                    '(n + 1); } } } ')
+        whole = ('semaphore s = 0; process a, b; autostart a, b; ' + producer + 'code a { body { while 1 { acquire s; '
+                 'print now; } } }').replace('process a, b', 'process b, a')
+        text = ('`signal s` posts no event, and %s calls the process `a`, which waits for this semaphore: write '
+                '`poll a;`')
+        nothing, exits = text % 'nothing', text % 'only the exit of a process'
+        endless = whole % (1, '')
+        of_callback = ('semaphore s = 0; process a; autostart a; code a { ctimer c { %s } body { set c 3; acquire s; '
+                       'print 1; } }')
+        for program, wanted in (
+                (endless, nothing), (whole % ('(n < 3)', ''), exits),
+                (endless.replace('acquire s', 'wait_until (count(s) > 0)'), nothing),
+                (of_callback % 'signal s;', nothing), (of_callback % 'signal s; poll a;', ''),
+                (whole % (1, 'poll a;'), ''), (whole % (1, 'post a msg 1;'), ''),
+                (whole % (1, 'broadcast msg 1;'), ''),
+                (endless.replace('s = 0', 's = 1'), ''), (endless.replace('autostart a, b', 'autostart b'), ''),
+                (endless.replace('autostart a, b;', 'autostart a, b; receiver a;'), ''),
+                (endless.replace('acquire s;', 'acquire s; pause;'), ''),
+                (endless.replace('code a {', 'code a { etimer u;').replace('while 1 { acquire', 'while 1 { set u 1; '
+                                                                           'acquire'), ''),
+                # (the exit of the process that signals wakes the other one at once)
+                ('semaphore s = 0; process b, a; autostart a, b; code b { etimer t; body { set t 2; yield_until '
+                 'fired(t); signal s; } } code a { body { acquire s; print 1; } }', '')):
+            with self.subTest(program):
+                found = [it for it in self.seen(program) if 'posts no event' in it]
+                self.assertEqual([it.startswith(wanted) for it in found], [True] if wanted else [])
 
     def test_a_sum_or_product_of_numbers_above_the_greatest_value_has_a_warning(self) -> None:
         cases: list[tuple[str, list[str]]] = [
@@ -470,6 +523,47 @@ class Warnings(unittest.TestCase):
             with self.subTest(test):
                 found = self.seen(CODE % ('set t 1; if %s { pause; }' % test))
                 self.assertEqual([wanted in it for it in found], [True], found)
+
+    def test_a_comparison_of_a_variable_that_may_be_below_0_in_c(self) -> None:
+        may = '`seq` would be in C after line 1 of the program if `seen` is less than `9`'
+        for body, begin, form in (
+                ('seq = (seen - 9); if (seq > 2) { pause; }', may, '((seq + 32768) > 32770)'),
+                ('seq = (seen - 9); if (seq <= 0) { pause; }', may, '((seq + 32768) <= 32768)'),
+                ('seq = (seen - 9); if (2 < seq) { pause; }', may, '(32770 < (seq + 32768))'),
+                ('seq = (seen - 9); while !(seq >= data) { pause; }', may, '((seq + 32768) >= (data + 32768))'),
+                ('seq = (seen - 9); if (seq >= 0) { pause; }', 'is always true', '((seq + 32768) >= 32768)'),
+                ('seq = (seen - 9); if (seq < 0) { pause; }', 'is never true', '((seq + 32768) < 32768)'),
+                ('if (seq < (0 - seen)) { pause; }', '`(0 - seen)`', '((seq + 32768) < (32768 - seen))'),
+                ('if (seq < (0 - 5)) { pause; }', '`(0 - 5)`', '((seq + 32768) < 32763)'),
+                ('seen = (0 - data); seq = seen; if (seq > 2) { pause; }', '`seq` may be in C after line 1 of the',
+                 '((seq + 32768) > 32770)'),
+                ('seq = (seq + (0 - 3)); if (seq > 2) { pause; }', '`seq` may be', '((seq + 32768) > 32770)'),
+                ('if (seen > 9) { pause; } seq = (seen - 9); if (seq > 2) { pause; }', may,
+                 '((seq + 32768) > 32770)')):
+            with self.subTest(body):
+                found = self.seen(CODE % ('set t 1; ' + body))
+                self.assertEqual([begin in it and '`%s` has the result of C' % form in it for it in found], [True],
+                                 found)
+
+    def test_a_quotient_of_a_variable_that_may_be_below_0_in_c(self) -> None:
+        for sign in '/', '%':
+            found = self.seen(CODE % ('set t 1; seq = (seen - 9); print (seq %s 2);' % sign))
+            self.assertEqual(['the result of `%s` is another one' % sign in it for it in found], [True], found)
+            self.assertEqual(self.seen(CODE % ('set t 1; seq = (seen + 9); print (seq %s 2);' % sign)), [])
+
+    def test_a_comparison_of_a_variable_that_is_never_below_0(self) -> None:
+        for body in ('seq = (seq - 1); if (seq > 2) { pause; }', 'seq = (now - seen); if (seq > 2) { pause; }',
+                     'if (seen >= 9) { seq = (seen - 9); } if (seq > 2) { pause; }',
+                     'if (seen > data) { seq = (seen - data); } else { seq = (data - seen); } if (seq > 2) { pause; }',
+                     'while (seq >= seen) { seq = (seq - seen); }',
+                     'if seen { seq = (seen - 1); } if (seq > 2) { pause; }',
+                     'seq = (10 - (now % 10)); if (seq > 2) { pause; }', 'seq = (65535 - seen); if (seq > 2) { pause; }',
+                     'seq = (seen - (seen % 16)); if (seq > 2) { pause; }', 'seq = (0 - 1); if (seen < seq) { pause; }',
+                     'seq = (seen - 9); if ((seq + 32768) > 32770) { pause; }', 
+                     'seq = (seen - 9); if (seq > 32767) { pause; }', 'seq = (seen - 9); if (seq == 2) { pause; }',
+                     'seq = (seq + 5); if (seq > 2) { pause; }'):
+            with self.subTest(body):
+                self.assertEqual(self.seen(CODE % ('set t 1; ' + body)), [])
 
     def test_a_timer_that_something_else_may_set(self) -> None:
         for body in ('set t 4; yield_until fired(t); set t 4;', 'yield_until (fired(t) || (seq > 3)); set t 4;',

@@ -65,17 +65,19 @@ PROCESS_THREAD(example_broadcast_process, ev, data)
 REPAIRED = r"""process example_broadcas;
 autostart example_broadcas;
 receiver example_broadcas;
-// printf("broadcast message received from %d.%d: '%s'\n",
-//        from->u8[0], from->u8[1], (char *)packetbuf_dataptr());
 code example_broadcas {
   var dice = 1;
   etimer et;
+  thread broadcast_recv {
+    print from; print 0; print data;
+  }
   body {
     dice = ((self * 257) + 1); dice = (dice * ((2 * dice) + 1));
     dice = (dice + (dice / 256)); dice = (dice * ((2 * dice) + 1));
     while 1 {
       dice = ((dice * 25173) + 13849); set et ((10 * 4) + ((dice / 256) % (10 * 4)));
-      yield_until expired(et);
+      yield_until (is(packet) || expired(et));
+      while is(packet) { spawn broadcast_recv; yield_until (is(packet) || expired(et)); }
       send 1;
       print 1;
     }
@@ -109,8 +111,9 @@ process p;
 autostart p;
 receiver p;
 code p {
-  etimer t;
-  body { while 1 { set t 40; %s send 7; } }
+  etimer et;
+  thread broadcast_recv { print data; }
+  body { while 1 { set et 40; %s send 7; } }
 }
 '''
 other = '''
@@ -152,7 +155,7 @@ class Pasted(unittest.TestCase):
         its = Scenario.parse(text.encode()).programs['p']
         self.assertEqual([it.text for it in tokens_of(its)], [it.text for it in tokens_of(REPAIRED)])
         callback = re.sub(r'\s+', ' ', next(it for it in said if 'static void' in it))
-        self.assertIn('the statements are `print from; print 0; print data;`', callback)
+        self.assertIn('The function becomes a thread of this process', callback)
         timer = re.sub(r'\s+', ' ', next(it for it in said if 'etimer_set' in it))
         self.assertIn('mix the seed, so that motes don\'t draw in step', timer)
         self.assertIn('dice = ((self * 257) + 1);', timer)
@@ -162,11 +165,12 @@ class Pasted(unittest.TestCase):
 
     def test_a_packet_does_not_lead_to_the_send_behind_the_wait(self) -> None:
         need_program(self)
-        callback = re.sub(r'\s+', ' ', next(it for it in self.messages()[1] if 'static void' in it))
-        wait = re.search(r'write the wait as `(.*?)`', callback)
+        message = next(it for it in self.messages()[1] if 'PROCESS_WAIT_EVENT_UNTIL' in it)
+        self.assertIn('Hint: `PROCESS_WAIT_EVENT_UNTIL`', message)
+        self.assertIn('A packet must not end this wait: `broadcast_recv` runs', re.sub(r'\s+', ' ', message))
+        wait = re.search(r'  (yield_until .*)', message)
         assert wait
-        form = wait[1].replace('..', 'print data;')
-        lines = answer((TALK % form).encode()).report.decode().split('\n')
+        lines = answer((TALK % wait[1]).encode()).report.decode().split('\n')
         self.assertEqual([it for it in lines if re.fullmatch(r'\d+ send \d+ 7', it)],
                          ['%d send %d 7' % (40 * at, at - 1) for at in range(1, 6)])
         self.assertEqual(sum(it.endswith('print p 9') for it in lines), 14)

@@ -92,6 +92,14 @@ class ProcessNames(unittest.TestCase):
             text = 'process %s;\nautostart %s;\ncode %s {\n  body { print 1; }\n}\n' % (short, short, long)
             self.assertIn('longer than 16 characters', self.renamed(text, {long: short}))
 
+    def test_a_constant_with_the_name_of_a_process(self) -> None:
+        found = self.steps('process sink;\nautostart sink;\n#define SINK 3\nPROCESS_THREAD(sink, ev, data)\n{\n'
+                           '  PROCESS_BEGIN();\n  if(node_id != SINK) {\n    print SINK;\n  }\n  PROCESS_END();\n}\n')
+        self.assertIn('  if (self != my_sink) {\n    print my_sink;', found[-1][0])
+        said = ' '.join(it[1] for it in found)
+        self.assertIn('The name is `my_sink` here.', said)
+        self.assertNotIn('written `sink`', said)
+
     def test_names_in_the_macros_of_contiki(self) -> None:
         found = self.steps(CONTIKI)
         self.assertNotIn('temperature_sensor', found[1][0])

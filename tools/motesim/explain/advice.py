@@ -1,6 +1,7 @@
 """Advice on a fault of a program: the most likely intention, and the corrected line."""
 from __future__ import annotations
 
+import re
 from typing import NamedTuple
 
 from motesim.explain import capitals, forms, hints, names
@@ -8,6 +9,7 @@ from motesim.from_c.closings import Edit
 from motesim.from_c.correction import correction
 from motesim.from_c.expressions import SMALL_LETTERS
 from motesim.from_c.structure import ONE_LINE
+from motesim.from_c.structures import NO_STRUCTURES
 from motesim.notation.faults import ProgramError, tokens_of
 
 OF_PARENTHESES = ('Only an operation on two values has parentheses, as in `(a + b)`, and each such operation has its '
@@ -101,6 +103,8 @@ def _all_indented(source: str, number: int, lines: str) -> list[str]:
     """Lines of which the first one begins in the same column as a line of the program, or further right."""
     first, *others = lines.split('\n')
     begin = _indented(source, number, first)
+    if others and first.startswith(('ctimer ', 'thread ')) and source.split('\n')[number - 1].rstrip() == '{':
+        begin = '  ' + begin
     indent = ' ' * (len(begin) - len(begin.lstrip()) - len(first) + len(first.lstrip()))
     return [begin, *(indent + it if it.strip() else it for it in others)]
 
@@ -121,9 +125,11 @@ def advice(source: str, fault: ProgramError) -> Advice | None:
         found = capitals.undeclared(source, fault) or found
     hint = hints.of_program(source, fault) or names.of_name(source, fault) or forms.of_statement(source, fault)
     small = forms.of_capitals(source, fault)
-    if found and found.line and small and small[1] in found.line and found.reasons != (ONE_LINE,):
+    if found and found.line and small and re.search(r'\b%s\b' % small[1], found.line) and found.reasons != (ONE_LINE,):
         others = [it for it in found.reasons if not it.startswith(SMALL_LETTERS)]
         return Advice(' '.join([small[0], *others]), found.line, found.first, found.last, found.above, found.below)
+    if found is None and names.is_constant_of_other(source, fault):
+        return _declared(source, fault)
     if found is None:
         return Advice(hint + names.otherwise(source, fault)) if hint else _declared(source, fault)
     reasons = ' '.join(found.reasons) or hint or OF_PARENTHESES
@@ -135,7 +141,8 @@ def advice(source: str, fault: ProgramError) -> Advice | None:
             return Advice(hint)
         is_misspelt = hint in [hints.MEANT % it for it in ('fired', 'expired', 'running')]
         return Advice(hint if hint and is_misspelt else reasons)
-    own = '' if found.above else names.otherwise(source, fault)
+    is_complete = found.above or any(it.startswith(NO_STRUCTURES) for it in found.reasons)
+    own = '' if is_complete else names.otherwise(source, fault)
     return Advice(reasons + own, found.line, found.first, found.last, found.above, found.below)
 
 

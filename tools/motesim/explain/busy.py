@@ -11,6 +11,7 @@ BUSY = ('a loop that waits for nothing: its test can\'t change before the next c
         'loop repeats until the mote\'s work is used up, and then the mote halts; ')
 FOR_STATE = BUSY + '`wait_while` and the same test, without a block, lets the mote wait'
 FOR_EVENT = BUSY + '`yield_until` and the opposite test, without a block, waits for the next call first'
+FOR_BOTH = BUSY + '`yield_until (%s || %s);` as the first statement of its block lets the mote wait'
 # (without the values that may change without an event)
 AWAITED = frozenset(('expired', 'running', 'count', *OF_EVENT))
 PAUSED = ('a loop that only pauses: it repeats dozens of times in each moment, so the report grows quickly. And the '
@@ -21,8 +22,11 @@ CONSTANT = ('a loop whose test never changes: once the test is true, the loop re
             'up, and then the mote halts; let something in its block wait')
 
 
-def warning(test: Sequence[str], code: Sequence[str]) -> str:
-    """The warning about a loop with a test in a code."""
+def warning(test: Sequence[str], code: Sequence[str], block: Sequence[str] = ()) -> str:
+    """The warning about a loop with a test in a code. `block`: the words of its block."""
+    event = next((block[at:at + 4] for at, word in enumerate(block) if word in OF_EVENT), ())
+    if event and test[0] == '!':
+        return FOR_BOTH % (''.join(event), ' '.join(test[1:]).replace('( ', '(').replace(' )', ')').replace(' (', '('))
     if set(test) & set(OF_EVENT):
         return FOR_EVENT
     variables = [name for word, name in zip(code, code[1:]) if word == 'var' and name in test]

@@ -50,7 +50,8 @@ WISHES = {
               '`dice = ((dice * 25173) + 13849); if (dice < 6554) { .. }`, which is true 1 time in 10. At the start of '
               '`body` mix its seed, otherwise motes draw in step: `dice = ((self * 257) + 1); dice = (dice * ((2 * '
               'dice) + 1)); dice = (dice + (dice / 256)); dice = (dice * ((2 * dice) + 1));`. This is for at most 255 '
-              'motes.',
+              'motes. For packets that are lost by chance, docs/use/EXPERIMENTS.md has a pattern under "Losses by '
+              'chance".',
     'id': 'A mote\'s number is `self`.',
     'time': 'The current moment is `now` (its low 16 bits).',
     'clock': 'The current moment is `now` (its low 16 bits).',

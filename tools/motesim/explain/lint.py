@@ -9,7 +9,7 @@ import re
 from collections.abc import Iterator, Sequence
 from typing import NamedTuple
 
-from motesim.explain import busy, differences, event, once, wraps
+from motesim.explain import busy, differences, event, exclusive, once, signed, unheard, unpolled, wraps
 from motesim.explain.busy import OF_EVENT
 from motesim.explain.event import FOR_TIMER, SETS
 from motesim.explain.moments import bursts
@@ -163,8 +163,9 @@ class Program:
                 elif wait == AT_ONCE and (part := next(filter(is_of_event, once.parts_of(test)), None)):
                     yield PART_TRUE % (AT_ONCE, ''.join(part), LATER), self.tokens[at + 2 + waits[0]]
             elif word == 'while' and self.is_busy(at):
-                test = self.words[at + 1:self.words.index('{', at)]
-                yield busy.warning(test, self.code_around(at)), self.tokens[at]
+                begin = self.words.index('{', at)
+                test, block = self.words[at + 1:begin], self.words[begin:self.end_of_block(begin)]
+                yield busy.warning(test, self.code_around(at), block), self.tokens[at]
 
     def paused_loops(self) -> Iterator[tuple[str, Token]]:
         """Each `while` whose block has only a `pause`, although an event ends it, with the warning."""
@@ -227,7 +228,7 @@ class Program:
             is_right = sign in ('>=', '<') and self.words[at + 1] == '0'
             if is_right or sign in ('<=', '>') and self.words[at - 1] == '0' and self.words[at - 2] in (
                     '(', '!', '&&', '||'):
-                advice = differences.comparison(self.words, at) or (
+                advice = differences.comparison(self.words, at) or signed.of_natural(self.words, at) or (
                     COUNT_DOWN if self.statement_of(at) == 'while' else '')
                 yield NATURAL % ('always' if sign in ('>=', '<=') else 'never') + advice, self.tokens[at]
 
@@ -392,14 +393,16 @@ def of_program(program: Program, is_zero_given: bool) -> Iterator[Warned]:
     for text, token in () if is_zero_given else (*program.tests_of_sign(),
                                                  *differences.tests(program.words, program.tokens)):
         yield Warned(text, name, token)
-    for text, token in (*program.tests_of_two_values(), *program.chains(), *program.endless_waits()):
+    for text, token in (*program.tests_of_two_values(), *program.chains(), *program.endless_waits(),
+                        *signed.tests(program.words, program.tokens)):
         yield Warned(text, name, token)
     for token in program.waits_before_set():
         yield Warned(BEHIND % token.text, name, token)
     for text, token in (*program.unset_timers(), *program.unposted_events()):
         yield Warned(text, name, token)
     its = program.words, program.tokens
-    for text, token in (*event.mistaken(*its), *event.mistaken_timers(*its), *wraps.warnings(*its)):
+    for text, token in (*event.mistaken(*its), *event.mistaken_timers(*its), *exclusive.warnings(*its),
+                        *unheard.warnings(*its), *unpolled.warnings(*its), *wraps.warnings(*its)):
         yield Warned(text, name, token)
 
 

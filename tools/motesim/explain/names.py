@@ -6,9 +6,10 @@ from typing import NamedTuple
 from motesim.from_c.absent import is_sensor
 from motesim.from_c.control import ELSE_IFS
 from motesim.from_c.correction import Correction
-from motesim.from_c.expressions import QUALIFIERS, TYPES
+from motesim.from_c.expressions import NO_NUMBER, QUALIFIERS, TYPES
 from motesim.from_c.places import place_below
 from motesim.from_c.scope import Scope
+from motesim.from_c.shared import of_other, owner_of
 from motesim.from_c.statements import LOOPS
 from motesim.notation.faults import ARTICLES, ProgramError, Token, find_fault, tokens_of
 
@@ -19,6 +20,8 @@ HEAD = {'variable': 'var %s = 0;', 'timer': 'etimer %s;'}
 NO_VARIABLES = {'true', 'false', 'and', 'or', 'not', 'random', 'rand', 'rnd', 'sleep', 'wait', 'printf', 'break',
                 'continue', 'return', 'goto', 'switch', 'case', 'for', 'do', 'struct', 'to', 'ev', *ELSE_IFS, *LOOPS,
                 *TYPES, *QUALIFIERS}
+OF_CONSTANT = ('`%s` is a variable of process `%s`, and each process has its own. Declare one with the same value at '
+               'the head of `code %s`.')
 TOP = {'semaphore': 'semaphore %s = 0;', 'event': 'event %s;'}
 
 
@@ -113,6 +116,13 @@ def otherwise(text: str, fault: ProgramError) -> str:
         _code_at(tokens, fault.token), HEAD['variable'] % name)
 
 
+def is_constant_of_other(text: str, fault: ProgramError) -> bool:
+    """Returns whether a fault is the name of a variable that only another process has, and that never changes."""
+    name = fault.token.text
+    is_of_other = fault.kind == 3 and _wanted(fault.may) == 'variable' and owner_of(name, text) != ''
+    return is_of_other and not of_other(name, '', text)
+
+
 def _lacking_code(text: str) -> tuple[str, Correction]:
     """The code that is missing at the end of a text."""
     scope = Scope.of(text)
@@ -129,9 +139,15 @@ def undeclared(text: str, fault: ProgramError) -> tuple[str, Correction | None] 
         return _lacking_code(text)
     if fault.kind != 3 or not wanted:
         return None
+    if name == 'ev':
+        return NO_NUMBER, None
     if wanted in HEAD:
         place, declared = place_below(lines[:fault.token.line - 1]), HEAD[wanted] % name
         hint = 'No %s has this name. Declare it at the head of `code %s`.' % (wanted, place.code)
+        owner = owner_of(name, text) if wanted == 'variable' else ''
+        if owner:
+            declared = 'var %s = %s;' % (name, Scope.of(text).values.get(name, '0'))
+            hint = of_other(name, place.code, text) or OF_CONSTANT % (name, owner, place.code)
         line = lines[fault.token.line - 1]
         if not place.head:
             return ('Variables are declared at the head of `code`: `%s`.' % declared,

@@ -41,6 +41,11 @@ def runs_of(bits: int) -> list[tuple[int, int]]:
     return found
 
 
+def is_power(node: Node) -> bool:
+    """Returns whether a value is `1 << n`, with a number n that isn't known."""
+    return (node.kind, node.text) == ('binary', '<<') and bits_of(node.parts[0]) == 1 and bits_of(node) is None
+
+
 def is_one(bits: int | None) -> bool:
     """Returns whether only one bit is set."""
     return bits is not None and bits > 0 and not bits & (bits - 1)

@@ -4,11 +4,13 @@ from __future__ import annotations
 import re
 
 from motesim.from_c.declarations import OF_STRUCTURE
-from motesim.from_c.expressions import TICKS, NoCounterpart
-from motesim.from_c.lines import Lines
+from motesim.from_c.expressions import IN_TICKS, NOT_PRINTED, TICKS, NoCounterpart
 from motesim.from_c.nodes import MOMENTS_OF_SECOND, Node, value_of
 from motesim.from_c.parameters import ASSIGNED, IN_CIRCLE, OF_ARGUMENTS, assignments
+from motesim.from_c.places import block_of
 from motesim.from_c.scope import allowed
+from motesim.from_c.sends import Sends
+from motesim.from_c.shared import of_other
 from motesim.from_c.structure import ONE_LINE
 
 # Calls that have no value. Each has its statement: a keyword, and for each operand its kind and the number of the
@@ -44,10 +46,10 @@ NO_DATA = ('`start` passes no value, so `%s` is left out: in the call with `init
            'the start: `post %s e %s;`, with `event e;` above the `process` line. The started process waits for it, '
            '`yield_until is(e);`, and then reads `data`.')
 # The first words of the blocks of a `code`. The process that a callback timer runs in isn't busy.
-OF_BLOCK = re.compile(r'\b(body|ctimer|thread|onpoll|onexit)\b[^{};]*{')
+OF_POSTED = ('The event has the value that `%s` has now: the process that gets it reads this value by `data`, also '
+             'after a later change, and can\'t change `%s`.')
 OF_ITSELF = ('`kill` has no effect on the process that runs it. `exit;` in its `body` ends it at once; in C, the '
              'statements below are run up to the next wait.')
-BROADCAST = 'A packet is one number, and goes to all motes that hear it: `send x;`. There is no buffer to fill first.'
 
 
 def given(call: Node) -> list[Node]:
@@ -55,7 +57,7 @@ def given(call: Node) -> list[Node]:
     return [it for it in call.parts if (it.kind, it.text) not in (('unary', '&'), ('name', 'pt'))]
 
 
-class Calls(Lines):
+class Calls(Sends):
     """Reads macros and calls."""
 
     def of_open(self) -> str:
@@ -74,36 +76,6 @@ class Calls(Lines):
                  'is(packet);`.')
         return 'receiver %s;' % self.scope.codes[0]
 
-    def of_packet(self, word: str) -> str:
-        """A buffer that is filled or sent: the statement that fills it becomes the `send`."""
-        self.skip_sizes()
-        call = self.expression()
-        self.why(BROADCAST)
-        is_value = len(call.parts) == 1 and self.scope.kinds.get(call.parts[0].text) == 'variable'
-        if word != 'packetbuf_copyfrom' and self.place.last != 'send' and is_value and call.parts[0].kind == 'name':
-            return self.end('send ' + call.parts[0].text)
-        if word != 'packetbuf_copyfrom' and self.place.last == 'send':
-            self.accept(';')
-            return ''
-        if word != 'packetbuf_copyfrom' or not call.parts:
-            raise NoCounterpart(BROADCAST)
-        value = call.parts[0].parts[0] if call.parts[0].kind == 'unary' else call.parts[0]
-        if value.kind == 'text':
-            self.note(value.text)
-            return self.end('send 1')
-        if value.kind != 'name' or self.scope.kinds.get(value.text) != 'variable':
-            raise NoCounterpart(BROADCAST)
-        return self.end('send ' + value.text)
-
-    def skip_sizes(self) -> None:
-        """Replaces each `sizeof(..)` of a call by the number of bytes of a value."""
-        for at in range(self.at, len(self.tokens) - 3):
-            words = [it.text for it in self.tokens[at:at + 4]]
-            if words[0] == ';':
-                break
-            if words[:2] == ['sizeof', '('] and words[3] == ')':
-                self.tokens[at:at + 4] = [self.tokens[at]._replace(kind='number', text='2')]
-
     def printed(self, word: str) -> str:
         """A print, or one for each value of a `printf`."""
         if word == 'print' and self.token.kind == 'text' and self.ahead(1).text != ',':
@@ -120,6 +92,9 @@ class Calls(Lines):
                 self.at -= 1
                 return self.of_text(shown)
             self.why('A program prints numbers, one in a line.')
+            for it in values if re.search('%[0-9]*l?[di]', shown) else ():
+                if self.writer.is_below(it):
+                    self.insist(NOT_PRINTED % self.writer.text(it))
         else:
             values = self.listed() or [self.expression()]
             while self.accept(','):
@@ -149,10 +124,6 @@ class Calls(Lines):
         self.note(shown)
         return self.end('print 1')
 
-    def note(self, shown: str) -> None:
-        """Keeps a text of C as a comment."""
-        self.comments.append('// ' + shown.strip('"').replace('\\n', '').strip())
-
     def macro(self) -> str:
         """A macro or a call of Contiki."""
         call = self.postfix(self.primary())
@@ -162,7 +133,7 @@ class Calls(Lines):
             self.why('The braces of `body` are `PROCESS_BEGIN` and `PROCESS_END`.' if 'process' in name else
                      'The braces of a `thread` are `PT_BEGIN` and `PT_END`.')
             if name.endswith('end'):
-                return self.end_of_process
+                return (self.last_wait() if name == 'process_end' else '') + self.end_of_process
             return 'body {' if self.place.is_head and name == 'process_begin' else ''
         if name in ('process', 'process_name'):
             inner = self.named_by(call, NO_NAME)
@@ -191,7 +162,7 @@ class Calls(Lines):
             self.accept('{')
             head = 'code' if name == 'process_thread' else 'thread'
             return '%s %s {' % (head, self.of_process(inner) if head == 'code' else allowed(inner))
-        return self.end(self.of_call(call))
+        return self.with_packets(self.end(self.of_call(call)))
 
     def named_by(self, call: Node, lacking: str) -> str:
         """The name that is the first argument of a macro. Raises the advice on a macro without one."""
@@ -220,11 +191,6 @@ class Calls(Lines):
         if self.scope.kinds.get(name) != 'semaphore':
             self.events.append(declared)
         return self.end('').removesuffix(';')
-
-    def of_process(self, name: str) -> str:
-        """The name of a process, which in Contiki often ends with `_process`."""
-        short = allowed(name.lower().removesuffix('_process'))
-        return short if short in self.scope.codes else self.scope.meant(allowed(name), 'process')
 
     def of_processes(self, name: str) -> str:
         """The line that names all processes, or nothing if another line names them already."""
@@ -258,17 +224,17 @@ class Calls(Lines):
                 raise NoCounterpart
             part = call.parts[place]
             if found[1] == 'expression':
+                self.note_posted(name, part)
                 return self.writer.text(part)
             if found[1] == 'interval':
                 return self.writer.interval(part)
             if found[1] == 'seconds':
-                self.why(TICKS)
-                return '(%d * %s)' % (MOMENTS_OF_SECOND, self.writer.text(part))
+                self.why(TICKS if self.scope.second == MOMENTS_OF_SECOND else IN_TICKS)
+                return '(%d * %s)' % (self.scope.second, self.writer.text(part))
             if found[1] == 'event':
                 return self.writer.event(part)
-            is_own = part.text.lower() == 'process_current' and found[1] == 'process' and self.place.code
-            named = self.place.code if is_own else self.writer.of_kind(part, found[1])
-            is_callback = ([''] + OF_BLOCK.findall(self.place.above))[-1] == 'ctimer'
+            named = self.writer.of_kind(part, found[1])
+            is_callback = block_of(self.place.above) == 'ctimer'
             if form == CALLS['process_exit'] and named == self.place.code and not is_callback:
                 raise NoCounterpart(OF_ITSELF)
             if found[1] == 'timer':
@@ -286,6 +252,13 @@ class Calls(Lines):
         self.writer.unknown = None
         return written
 
+    def note_posted(self, call: str, value: Node) -> None:
+        """Notes that an event has a value, if C passes the address of a variable."""
+        if call in ('process_post', 'process_broadcast') and (value.kind, value.text) == ('unary', '&'):
+            its = self.writer.text(value)
+            if self.scope.kinds.get(its) == 'variable' and its in self.scope.changed:
+                self.writer.insist(OF_POSTED % (its, its))
+
     def lose_data(self, process: Node, value: Node) -> None:
         """Notes how a process gets the value that `process_start` passes in C."""
         if value_of(value) == 0 or value.text.lower() == 'null':
@@ -296,6 +269,8 @@ class Calls(Lines):
     def spawned(self, call: Node) -> str:
         """The call of a function that is a thread here: its arguments are assigned to the parameters before."""
         thread, names, values = call.text, self.scope.parameters.get(call.text, ()), given(call)
+        # (without the structure of a protothread, all arguments are values, also the address of a variable)
+        values = list(call.parts) if len(call.parts) == len(names) else values
         if len(values) != len(names) or self.after and values:
             raise NoCounterpart(OF_ARGUMENTS % thread)
         assigned = assignments(tuple(map(self.variable, names)), [self.writer.text(it) for it in values])
@@ -327,8 +302,22 @@ class Calls(Lines):
         reason = '`%s` isn\'t declared: `%s`%s.' % (word, line[kind], where.get(kind, ''))
         self.writer.reasons.insert(1, reason)
         self.writer.needed.append(reason)
+        if is_foreign:
+            self.note_other(name)
         (self.events if kind in ('event', 'semaphore') else self.declares).append(line[kind])
         self.scope.kinds[name] = kind
+
+    def note_other(self, name: str) -> None:
+        """Notes that a variable of another process is another variable."""
+        reason = of_other(name, self.place.code, '\n'.join((self.place.above, self.source, self.place.below)))
+        if reason:
+            self.writer.insist(reason)
+
+    def declare_borrowed(self) -> None:
+        """Declares the variables of other processes that these lines use."""
+        for name in dict.fromkeys(self.writer.borrowed):
+            if self.place.head and not self.is_variable(name):
+                self.declare(name, 'variable', name, '0')
 
     def name_callback(self, timer: str, call: Node) -> None:
         """Notes the block for the statements of the function that a callback timer calls."""

@@ -65,10 +65,15 @@ def edits_of(text: str, last: int, closings: Sequence[Closing]) -> tuple[Edit, .
 
 
 def with_renamed(text: str, renamed: str, edits: Sequence[Edit]) -> tuple[Edit, ...]:
-    """The edits of a text in which variables are renamed, with those of all other lines that this changes."""
+    """The edits of a text in which variables are renamed or lines are left out, with those of all other lines that this
+    changes."""
     replaced = {it.first for it in edits if it.first <= it.last}
     rows = zip(text.split('\n'), renamed.split('\n'))
-    changed = (Edit(at, at, row.strip()) for at, (old, row) in enumerate(rows, 1) if row != old and at not in replaced)
+    changed = list[Edit]()
+    for at, (old, row) in enumerate(rows, 1):
+        if row != old and at not in replaced:
+            is_next = not row.strip() and changed and changed[-1].line == '' and changed[-1].last == at - 1
+            changed[-1:] = [changed[-1]._replace(last=at)] if is_next else [*changed[-1:], Edit(at, at, row.strip())]
     return tuple(sorted((*edits, *changed)))
 
 

@@ -8,7 +8,7 @@ from motesim.from_c.counting import caution, is_changed, loop_of, natural, refus
 from motesim.from_c.expressions import ONE_TOO_MANY, QUALIFIERS, TYPES, WORDS, NoCounterpart
 from motesim.from_c.nodes import Node
 from motesim.from_c.parameters import in_loop
-from motesim.from_c.places import conjuncts, ends_loop, last_statement
+from motesim.from_c.places import block_of, conjuncts, ends_loop, last_statement
 from motesim.from_c.scope import allowed
 from motesim.from_c.sharing import is_needed
 from motesim.from_c.skips import Skips
@@ -34,6 +34,15 @@ BY_COLUMNS = 'A block is in braces: write `%s %s {`, and `}` below its last stat
 # Words of other languages that end a block.
 ENDS = ('end', 'endif', 'endwhile', 'fi', 'done')
 ENDLESS_DO = 'There is no `do`: `while 1 { .. }` repeats its block.'
+# The variable that is 1 in the first round of a `do` of C, and then has the result of its test.
+AGAIN = 'again'
+# The variable for the value of a function, which a call of the function uses.
+RESULT = 'result'
+OF_RESULT = 'An `exit` passes no value: `%s` keeps the value for the caller.' % RESULT
+# The most lines below the first one of a `do` that may be written twice.
+MOST_TWICE = 5
+OF_DO = ('There is no `do`: the block of this `while` runs at least once, because `again` is 1 before it. The last '
+         'statement of the block assigns the test to `again`.')
 NO_BREAK = 'There is no `break`: let the test of the `while` become false.'
 REST_RUNS = ('The rest of the block still runs once: write it in an `else` if it must not, as the step of a count '
              'that is needed after the loop.')
@@ -82,9 +91,14 @@ class Control(Skips):
     def test_behind(self) -> str:
         """The test after a block whose `while` is above it."""
         self.at += 1
-        self.condition()
+        around, self.before, self.after = (self.before, self.after), [], []
+        test = self.condition()
+        steps, (self.before, self.after) = (self.before, self.after), around
         if not self.accept(';'):
             raise NoCounterpart
+        if self.place.loop == AGAIN and self.place.levels == 1:
+            self.why(OF_DO)
+            return ' '.join(filter(None, (self.steps(steps[0]), '%s = %s;' % (AGAIN, test), self.steps(steps[1]), '}')))
         self.why('There is no `do`: the test of a `while` is before its block, and `}` ends it.')
         return '}'
 
@@ -413,6 +427,9 @@ class Control(Skips):
         if self.is_cut and self.place.is_endless:
             self.why(ENDLESS_DO)
             return 'while 1 ' + body
+        if self.is_cut and self.place.head and self.has_flag():
+            self.insist(OF_DO)
+            return '%s = 1; while %s %s' % (AGAIN, AGAIN, body)
         if self.is_cut:
             raise NoCounterpart('There is no `do`: a `while` tests before each round. Put the first round above it.')
         self.need('while')
@@ -424,11 +441,43 @@ class Control(Skips):
         self.why('There is no `do`: a `while` tests before each round, so the first round is above it.')
         return '%s while %s %s' % (body.removeprefix('{').removesuffix('}').strip(), test, body)
 
+    def is_plain(self, count: int) -> bool:
+        """Returns whether these lines and some lines below them are a short statement that can be translated as a
+        whole."""
+        try:
+            lines = self.place.below.split('\n')[:count]
+            return count <= MOST_TWICE and bool(self.translated('\n'.join([self.source, *lines])))
+        except NoCounterpart:
+            return False
+
+    def has_flag(self) -> bool:
+        """Declares the variable for the test of a `do` whose block continues below these lines. Returns False if the
+        block is short, or has a `break`, which this test must not follow, or if another statement uses the variable."""
+        tokens, depth = tokens_of(self.place.below), 1
+        words = [it.text for it in tokens]
+        for at, word in enumerate(words):
+            depth += (word == '{') - (word == '}')
+            if not depth:
+                break
+        if self.is_plain(tokens[at].line):
+            return False
+        is_own = re.search(r'\b%s = 1; while %s \{' % (AGAIN, AGAIN), self.place.above) is not None
+        if 'break' in words[:at] or not is_own and AGAIN in (*self.scope.kinds, *words):
+            return False
+        if not self.is_variable(AGAIN):
+            self.declares.append('var %s = 0;' % AGAIN)
+        return True
+
     def of_return(self) -> str:
         self.at += 1
-        value = Node('number') if self.token.text in (';', '}', '') else self.expression()
+        value = None if self.token.text in (';', '}', '') else self.expression()
         self.why('There is no `return`: `exit;` ends the process or the thread.')
-        if value.kind != 'number':
+        if value and block_of(self.place.above) == 'thread':
+            self.why(OF_RESULT)
+            if not self.is_variable(RESULT):
+                self.declares.append('var %s = 0;' % RESULT)
+            return self.end('%s = %s; exit' % (RESULT, self.writer.text(value)))
+        if value and value.kind != 'number':
             self.writer.insist('An `exit` passes no value: assign it to a variable of the process first, such as '
                                '`result = %s;`.' % self.writer.text(value))
         return self.end('exit')

@@ -21,6 +21,7 @@ from motesim.from_c.statements import Statements
 from motesim.from_c.structure import (
     ONE_LINE, begins_unnamed_code, extra_brace, process_line, process_lines, unclosed_block,
 )
+from motesim.from_c.switches import OF_SWITCH, switch_at
 from motesim.notation.faults import ProgramError, find_fault, tokens_of
 
 MOST_LINES = 6
@@ -148,6 +149,14 @@ def _bare_block(text: str, fault: ProgramError) -> Correction | None:
     return made if _rank(text, made) else None
 
 
+def _switch(text: str, fault: ProgramError, scope: Scope) -> Correction | None:
+    """Tests instead of a `switch` that begins the line of a fault."""
+    process = place_below(text.split('\n')[:fault.token.line - 1]).code
+    found = switch_at(text, fault.token.line, scope, process) if process else None
+    made = Correction(found.first, found.last, found.written, (OF_SWITCH,)) if found else None
+    return made if made and _rank(text, made) else None
+
+
 def _process_lines(text: str, fault: ProgramError) -> Correction | None:
     """One line instead of several that name processes, if the fault is in one of them."""
     first, last, line = process_lines(text, fault.token.line)
@@ -194,15 +203,17 @@ def _insertions(text: str, source: str, reader: Statements) -> list[tuple[int, s
     """The lines that may be inserted with a reading of some lines, the best one first."""
     if reader.moved:
         head = head_for(text, 'thread ' + reader.moved)
-        return [(head, source)] if head else []
+        return [(head, reader.inserted or source)] if head else []
     if not reader.declares:
         return [(_above_processes(text, reader.events[0]), ' '.join(reader.events)) if reader.events else None]
     if reader.events:
         return [None]
     is_top, code = reader.place.is_top, reader.place.code
     is_lower = any(it.startswith(('ctimer', 'thread')) for it in reader.declares)
-    head = head_for(text, reader.declares[0], code) if is_top or is_lower else reader.place.head
-    declared = head, ' '.join(sorted(reader.declares, key=lambda it: it.split()[0], reverse=True))
+    named = 'var %s' % reader.user if reader.user else reader.declares[0]
+    head = head_for(text, named, code) if is_top or is_lower else reader.place.head
+    between = '\n' if any('//' in it for it in reader.declares) else ' '
+    declared = head, between.join(sorted(reader.declares, key=lambda it: it.split()[0], reverse=True))
     return [declared, None] if is_top and head else [None if is_top else declared]
 
 
@@ -235,6 +246,7 @@ def _correction(text: str, fault: ProgramError) -> Correction | None:
     signs = [it.text for it in tokens_of(text)]
     unclosed = signs.count('{') - signs.count('}')
     whole = _of_preprocessor(text, fault) or _long_comment(text, fault) or _structural(text, fault)
+    whole = whole or _switch(text, fault, scope)
     whole = whole or _heads(text, fault) or _process_lines(text, fault) or _bare_block(text, fault)
     if whole:
         return whole

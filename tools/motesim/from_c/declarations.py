@@ -3,15 +3,19 @@ from __future__ import annotations
 
 import re
 
+from motesim.from_c.after_send import callbacks_for_packets, has_function, names_in
+from motesim.from_c.enums import DEFINED_EVENT, NO_TYPES, Enums
 from motesim.from_c.expressions import (
-    BYTES, LONG, MOST, NO_ARRAYS, NO_FIELDS, NO_POINTERS, QUALIFIERS, READ_ONLY, SMALL, TICKS, TOO_LARGE, TYPES,
-    Expressions, NoCounterpart,
+    BYTES, IN_TICKS, LONG, MOST, NO_ARRAYS, NO_FIELDS, NO_POINTERS, QUALIFIERS, READ_ONLY, SMALL, TICKS, TOO_LARGE,
+    TYPES, Expressions, NoCounterpart,
 )
-from motesim.from_c.nodes import Node, number_of, value_of
+from motesim.from_c.nodes import MOMENTS_OF_SECOND, Node, number_of, value_of
 from motesim.from_c.own_names import OTHERS, OwnNames
 from motesim.from_c.parameters import KEPT, OF_COMMENT, READ_BY_NAME, SHARED
-from motesim.from_c.places import has_one_user
+from motesim.from_c.places import end_of_block, has_one_user
 from motesim.from_c.scope import LONGEST, allowed
+from motesim.from_c.shared import of_shared
+from motesim.from_c.structures import HALF, KEPT_FIELDS, OF_FIELDS, Field, of_fields
 from motesim.from_c.tokens import tokens_of
 
 # The order of declarations, in a `code` and above it.
@@ -20,14 +24,19 @@ CALLBACK = ('There are no functions. A callback timer runs its own block, `ctime
             'put other steps into a `thread`, which `spawn` runs.')
 OF_BLOCK = ('There are no functions: callback timer `%s` runs its own block, at the head of the `code`. This block has '
             'the statements of the function: `ctimer %s { %s}`.')
+OF_RETURN = ' A block has no `return`: write the statements that it skips in an `else`.'
+OF_MOVED = 'There are no functions: the block of callback timer `%s` has these lines already.'
 OF_FUNCTION = ('There are no functions: a `thread` serves as one, at the head of the `code` that calls it, below its '
                'variables and timers. Move the lines of the function there first.')
 OF_PROTOTYPE = 'A function needs no line above it: a `thread` is declared above the statements that spawn it.'
+# The words in front of the call of a function.
+BEFORE_CALL = frozenset((';', '{', '}', ')', '(', '=', ',', '!', '&&', '||', 'else', 'return'))
 # A function with such a parameter is called for each packet.
 CONNECTION = re.compile(r'\w+_conn|rimeaddr_t|linkaddr_t|uip_ipaddr_t')
 OF_PACKETS = ('No function is called when a packet arrives: a packet is the event `packet`. Above the first `code`, '
               'name the process that gets it, `receiver P;`. This process waits by `yield_until is(packet);`, and the '
               'statements of the function follow there: `data` is the value, and `from` the sender.')
+KEPT_NAMES = 'The comment keeps the names of the functions for the hints on their lines below.'
 NO_CONNECTION = 'No connection is opened: `send x;` sends, and a packet is the event `packet`.'
 ABOVE = {'semaphore': 'A semaphore is declared above the `process` line, with its count.',
          'event': 'An event is declared by `event`, above the `process` line.'}
@@ -38,7 +47,8 @@ OF_STRUCTURE = 'A protothread needs no structure: `thread NAME { .. }` declares 
 DEFINED = re.compile(r'#\s*define\s+([A-Za-z_]\w*)\s+([^\s/"].*)')
 # The places of a name that is an event in C.
 OF_EVENT = r'\bprocess_post(?:_synch)?\s*\([^,;]*,\s*NAME\b|\bev\s*[!=]=\s*NAME\b|\bNAME\s*[!=]=\s*ev\b'
-DEFINED_EVENT = 'An event isn\'t a number: `event` declares its name, and `is(..)` tests it.'
+# The cases of the event of a call.
+SWITCH, CASE = re.compile(r'\bswitch\s*\(\s*ev\s*\)\s*\{'), r'\bcase\s+NAME\b'
 # An expression with parameters, for the preprocessor.
 MACRO = re.compile(r'#\s*define\s+([A-Za-z_]\w*\([^()]*\))\s*(\S.*)')
 NO_MACROS = ('There is no preprocessor, and there are no macros: write the expression of `%s`, which is `%s`, at each '
@@ -71,7 +81,7 @@ def is_sum(text: str) -> bool:
     return False
 
 
-class Declarations(OwnNames):
+class Declarations(Enums, OwnNames):
     """Reads declarations."""
 
     def in_order(self, found: list[str]) -> list[str]:
@@ -98,8 +108,7 @@ class Declarations(OwnNames):
         if self.is_event(defined[1]):
             self.writer.insist(DEFINED_EVENT)
             return self.at_top('event %s;' % self.new_name(defined[1]))
-        name = defined[1].lower()
-        name = name if self.scope.kinds.get(name, 'variable') == 'variable' else 'my_' + name
+        name = self.scope.free(defined[1], 'variable')
         value = self.constant(defined[2])
         if value is None:
             raise NoCounterpart('%s. Leave this line out, and choose a value n: `var %s = n;`, at the head of the '
@@ -111,13 +120,16 @@ class Declarations(OwnNames):
 
     def is_event(self, name: str) -> bool:
         """Returns whether the program below posts a name as an event, or compares it with the event of a call."""
-        return re.search(OF_EVENT.replace('NAME', name), self.place.below) is not None
+        below, case = self.place.below, re.compile(CASE.replace('NAME', name))
+        switches = (it.end() - 1 for it in SWITCH.finditer(below))
+        return re.search(OF_EVENT.replace('NAME', name), below) is not None or any(
+            case.search(below, begin, end_of_block(below, begin)) for begin in switches)
 
     def constant(self, text: str) -> int | None:
         """The value of an expression of numbers, or None if it has none."""
         reader = Expressions([it for it in tokens_of(text) if it.kind != 'comment'], self.scope)
         try:
-            value = value_of(reader.expression())
+            value = value_of(reader.expression(), self.scope.second)
         except NoCounterpart:
             return None
         if reader.token.kind != 'end' or value is None:
@@ -125,7 +137,7 @@ class Declarations(OwnNames):
         if abs(value) > MOST:
             raise NoCounterpart(TOO_LARGE)
         if 'CLOCK_SECOND' in text:
-            self.writer.insist(TICKS)
+            self.writer.insist(TICKS if self.scope.second == MOMENTS_OF_SECOND else IN_TICKS)
         return value
 
     def declared(self, name: str, value: str, at: int | None = None, is_static: bool = False) -> str:
@@ -136,7 +148,15 @@ class Declarations(OwnNames):
         if name in OTHERS:
             self.writer.insist(WRITE_BY_NAME % (name, found))
         declared = 'var %s = %s;' % (found, value)
+        if self.place.is_top:
+            self.note_shared(name, found)
         return self.in_code('Variables', declared) if self.place.is_top or self.is_late('var') else declared
+
+    def note_shared(self, name: str, found: str) -> None:
+        """Notes that several processes use a variable, which becomes a variable of each."""
+        reason = of_shared(name, found, self.place.above + '\n' + self.place.below, self.scope.named)
+        if reason:
+            self.writer.insist(reason)
 
     def is_late(self, word: str) -> bool:
         """Returns whether a declaration with this word is in a code below one that belongs further down."""
@@ -179,16 +199,21 @@ class Declarations(OwnNames):
             words.append(self.token.text)
             self.at += 1
         kind = self.token.text
+        if kind == 'enum':
+            return self.of_enum(words)
         if 'struct' in words and kind in ('etimer', 'ctimer', 'timer', 'stimer', 'rtimer', 'pt_sem', 'pt'):
             return self.of_struct(kind)
         if 'struct' in words and words[-1] == 'struct' and kind.endswith(('_callbacks', '_conn')):
-            self.why(OF_PACKETS if kind.endswith('_callbacks') and not self.scope.receiver else NO_CONNECTION)
-            return self.rest_left_out()
+            receivers = [self.of_lower(it) for it in sorted(callbacks_for_packets(self.source))]
+            has_callbacks = kind.endswith('_callbacks') and not self.scope.receiver
+            self.why(OF_PACKETS if has_callbacks and not any(receivers) else NO_CONNECTION)
+            return ''.join(receivers) + self.of_connection()
         if 'struct' in words:
-            raise NoCounterpart(NO_FIELDS)
+            return self.of_structure(words)
         if self.ahead(1).text == '(':
             return self.of_function()
         if 'process_event_t' in words:
+            self.why(ABOVE['event'])
             return self.of_names('event', '%s')
         if words != ['var']:
             self.of_type(words)
@@ -237,7 +262,9 @@ class Declarations(OwnNames):
     def of_array(self, name: str, at: int, is_static: bool) -> str:
         """An array: a variable for each of its members, if they are few."""
         self.need('[')
-        count = number_of(self.token.text) or 0
+        its = self.scope.meant(self.token.text, 'variable')
+        is_fixed = its in self.scope.values and its not in self.scope.changed
+        count = number_of(self.scope.values[its] if is_fixed else self.token.text) or 0
         self.at += 1
         if self.accept(']') != ']' or not 0 < count <= MOST_MEMBERS or self.token.text not in (';', ''):
             raise NoCounterpart(NO_ARRAYS)
@@ -248,18 +275,24 @@ class Declarations(OwnNames):
         self.why(NO_ARRAYS)
         self.writer.insist(OF_NAMES % ', '.join('`%s` for `%s[%d]`' % (allowed(it), name, number)
                                                 for number, it in enumerate(members)))
+        if self.place.is_top:
+            self.note_shared(name, members[0])
         return ' '.join(filter(None, (self.declared(it, '0', is_static=is_static) for it in members)))
 
     def of_function(self) -> str:
         """A function: a thread, without parameters."""
         name, timer = allowed(self.token.text), self.scope.callbacks.timer_of(self.token.text)
+        sent = self.scope.after_send.get(self.token.text)
         self.at += 1
         if timer:
             return self.of_timer(timer)
         if self.is_prototype():
+            receiver = self.of_lower(self.ahead(-1).text) if self.is_for_packets(self.ahead(-1).text) else ''
             self.why(OF_PROTOTYPE)
-            return self.rest_left_out()
-        if any(CONNECTION.fullmatch(it.text) for it in self.tokens[self.at:]):
+            return receiver + self.rest_left_out()
+        if sent:
+            return self.of_sent(*sent)
+        if self.is_for_packets(self.ahead(-1).text):
             return self.of_receiver()
         self.why('There are no functions: a `thread` serves as one, without parameters, and `spawn %s;` runs it. A '
                  'callback timer runs its own block, `ctimer c { .. }`.' % name)
@@ -269,6 +302,15 @@ class Declarations(OwnNames):
         if not self.place.is_head or not self.accept('{') or self.token.kind != 'end':
             raise NoCounterpart(CALLBACK)
         return 'thread %s {' % name
+
+    def is_for_packets(self, name: str) -> bool:
+        """Returns whether a function has the parameters of one that is called for each packet, and no statement calls
+        it."""
+        words, around = [it.text for it in self.tokens[self.at:]], self.words_around()
+        is_called = any(around[at:at + 2] == [name, '('] and around[at - 1] in BEFORE_CALL
+                        for at in range(1, len(around)))
+        end = words.index(')') if ')' in words else len(words)
+        return any(CONNECTION.fullmatch(it) for it in words[:end]) and not is_called
 
     def is_prototype(self) -> bool:
         """Returns whether a semicolon follows the parameters of a function."""
@@ -291,9 +333,14 @@ class Declarations(OwnNames):
         """A function that a callback timer calls: the block of the timer."""
         words = [it.text for it in self.tokens]
         its, block = self.new_name(timer), self.block_of(timer)
-        if words[-1] != '}' or words.count('{') != words.count('}') or not block:
-            raise NoCounterpart(CALLBACK)
+        is_moved = its in self.scope.callbacks.blocks and 'return' not in words
+        if words[-1] != '}' or words.count('{') != words.count('}') or not (block or is_moved):
+            has_return = 'return' in self.scope.callbacks.bodies.get(self.scope.callbacks.functions.get(timer, ''), '')
+            raise NoCounterpart(CALLBACK + OF_RETURN * has_return)
         self.at = len(words)
+        if not block:
+            self.why(OF_MOVED % its)
+            return ''
         self.why(OF_BLOCK % (its, its, block))
         if its not in self.scope.callbacks.blocks:
             self.declares.append('ctimer %s { %s}' % (its, block))
@@ -306,6 +353,14 @@ class Declarations(OwnNames):
             return self.translated(callbacks.bodies[callbacks.functions[timer]]) + ' '
         except (KeyError, NoCounterpart):
             return ''
+
+    def block_in_c(self, timer: str) -> str:
+        """The lines of the function that a callback timer calls, unchanged; nothing if a `return` leaves it."""
+        callbacks = self.scope.callbacks
+        body = callbacks.bodies.get(callbacks.functions.get(timer, ''), '')
+        lines = [it.rstrip() for it in body.split('\n') if it.strip()]
+        has_return = any(it.text == 'return' for it in tokens_of(body))
+        return '\n%s\n' % '\n'.join(lines) if lines and not has_return else ''
 
     def parameters(self, of_thread: bool) -> None:
         """Leaves out parameters. Those of a thread become variables of its process, if variables can be declared
@@ -342,9 +397,71 @@ class Declarations(OwnNames):
         value = self.writer.text(node)
         if not value.isdecimal() and not self.place.is_head and not self.place.is_top:
             return value
+        if value in self.scope.values and value not in self.scope.changed:
+            self.why('The initial value of a variable is a number: `%s` is %s.' % (value, self.scope.values[value]))
+            return self.scope.values[value]
         if not value.isdecimal():
             raise NoCounterpart(OF_INITIAL)
         return value
+
+    def of_structure(self, words: list[str]) -> str:
+        """A structure: a comment keeps its fields, and the variables of this type become variables for each field."""
+        is_type, is_definition = 'typedef' in words, '{' in (self.token.text, self.ahead(1).text)
+        its = self.structures.get(self.token.text, ())
+        if is_definition:
+            its = self.structures.get(self.keep_fields(), its)
+        else:
+            self.at += 1
+        found = []
+        while not is_type and (self.token.text != ';' or not is_definition):
+            is_pointer = self.accept('*') != ''
+            if not its or self.token.kind != 'name' or self.ahead(1).text not in ('=', ',', ';'):
+                raise NoCounterpart(NO_FIELDS)
+            name = self.token.text
+            self.at += 1
+            found.append(self.with_values(name, its, is_pointer, 'static' in words))
+            if not self.accept(','):
+                break
+        if is_type and not is_definition:
+            raise NoCounterpart(NO_TYPES)
+        self.rest_left_out()
+        if is_definition and self.token.kind != 'end':
+            raise NoCounterpart(NO_FIELDS)
+        return ' '.join(filter(None, found))
+
+    def keep_fields(self) -> str:
+        """Keeps the definition of a structure in a comment. Returns the name behind it, or nothing."""
+        while not self.accept('}'):
+            self.at += 1
+            if self.token.kind == 'end':
+                raise NoCounterpart(NO_FIELDS)
+        self.insist(KEPT_FIELDS)
+        self.kept_lines, self.comments = self.source.split('\n'), []
+        return self.token.text
+
+    def with_values(self, name: str, fields: tuple[Field, ...], is_pointer: bool, is_static: bool) -> str:
+        """The variables for the fields of a structure that is declared, with their initial values."""
+        its, values = of_fields(name, fields), ['0'] * len(fields)
+        if is_pointer and self.token.text == '=':
+            if 'packetbuf_dataptr' not in self.rest_of_line():
+                raise NoCounterpart(NO_POINTERS % name)
+            self.at += 1
+            values = self.received(its, self.expression())
+        elif self.accept('='):
+            self.need('{')
+            for at in range(len(fields)):
+                values[at] = self.beginning(self.expression())
+                if not self.accept(','):
+                    break
+            self.need('}')
+        self.insist(OF_FIELDS % (name, ', '.join('`%s` for `%s.%s`' % (variable, name, it.name)
+                                                 for variable, it in zip(its.variables, fields))))
+        if any(it.bits == HALF for it in fields):
+            self.writer.insist(OF_BYTES)
+        if self.place.is_top:
+            self.user = name
+            self.note_shared(name, its.variables[0])
+        return ' '.join(filter(None, (self.declared(*it, is_static=is_static) for it in zip(its.variables, values))))
 
     def of_struct(self, kind: str) -> str:
         self.at += 1
@@ -363,6 +480,17 @@ class Declarations(OwnNames):
                                 'and a callback timer, `ctimer %s { .. }`, runs its block.' % ((self.token.text,) * 2))
         self.why('An event timer is declared by `etimer`.')
         return self.of_names('etimer', '%s')
+
+    def of_connection(self) -> str:
+        """A connection, or a structure of its callbacks. The structure is kept as a comment while a function below it
+        is a callback: the comment says which one."""
+        words = [it.text for it in self.tokens]
+        if words.count('{') > words.count('}'):
+            raise NoCounterpart
+        if has_function(self.below, names_in(self.source)):
+            self.kept_lines = self.source.split('\n')
+            self.insist(KEPT_NAMES)
+        return self.rest_left_out()
 
     def rest_left_out(self) -> str:
         """Leaves out the rest of a declaration."""
@@ -387,8 +515,8 @@ class Declarations(OwnNames):
             self.why('`%s` is declared already.' % name)
             return ''
         self.why('A callback timer has a block, which runs when the timer is due: `ctimer %s { .. }`.' % name)
-        block = block or ('poll %s; ' % self.place.code if self.place.code else '')
-        declared = 'ctimer %s { %s}' % (name, block)
+        block = block or self.block_in_c(name) or ('poll %s; ' % self.place.code if self.place.code else '')
+        declared = ('ctimer %s {%s}' if block.startswith('\n') else 'ctimer %s { %s}') % (name, block)
         return self.in_code('Timers', declared) if self.is_moved('ctimer') else declared
 
     def of_names(self, word: str, form: str) -> str:

@@ -10,7 +10,7 @@ from dataclasses import dataclass, field
 from fractions import Fraction
 
 from motesim.from_c.absent import NO_SENSORS, OF_READING, READING, RUNICAST, is_sensor
-from motesim.from_c.bits import SIGNS, bits_of, most_of, runs_of, unit_of
+from motesim.from_c.bits import SIGNS, bits_of, is_power, most_of, runs_of, unit_of
 from motesim.from_c.nodes import (
     ADDRESSES, MOMENTS_OF_SECOND, Choice, Node, Step, address_of, has_difference, has_negative, is_difference,
     is_octal, is_of_no_mote, is_test, is_upper_byte, names_of, number_of, opposite, value_of, with_values,
@@ -41,12 +41,16 @@ OF_SIGNED = ('Values have 16 bits and no sign, so the cast to `%s` is left out: 
              '32,767 here.')
 COMPARED = ('Values have 16 bits and no sign. If 32768 is added to both sides of a comparison, its result is that of C '
             'for `%s`.')
+OF_BELOW = 'No number is below 0: if `%s` is below 0 in C, it is above 32,767 here. '
+NOT_DIVIDED = OF_BELOW + 'The result of `%s` is that of C only if it isn\'t.'
+NOT_PRINTED = OF_BELOW + 'Then the number that is printed is greater by 65,536.'
 HALF = 32_768
 ORDERS = ('<', '<=', '>', '>=')
 OF_DIFFERENCE = ('No number is below 0: if `%s` is less than `%s`, `(%s - %s)` is above 0 here. If you want the result '
                  'of C, add 32768 to both sides of the comparison.')
 OF_CAST = 'Values have 16 bits and no sign, so the cast to `%s` is left out; `(x %% 256)` would keep the lower 8 bits.'
-VALUES = {'true': '1', 'false': '0', 'null': '0', 'node_id': 'self', 'simmoteid': 'self', 'rtimer_now': 'now'}
+VALUES = {'true': '1', 'false': '0', 'null': '0', 'node_id': 'self', 'simmoteid': 'self',
+          'linkaddr_node_addr': 'self', 'rimeaddr_node_addr': 'self', 'rtimer_now': 'now'}
 TESTS = ('is', 'fired', 'expired', 'gone', 'running', 'count')
 # The tests of a name of each kind.
 TESTS_OF = {'timer': ('fired', 'expired'), 'process': ('gone', 'running'), 'semaphore': ('count',)}
@@ -62,6 +66,9 @@ WORDS_OF_CALLS = {
     'packetbuf_dataptr': ('data', 'A packet is one number, and `data` is that number.'),
     'packetbuf_addr': ('from', 'The mote that sent a packet is `from`.'),
 }
+LOWER_BYTE = 'The upper 8 bits of a packet say for which mote it is, and the lower 8 are its value.'
+NO_RECEIVER = ('A packet goes to all motes that hear it. If its upper 8 bits say for whom it is, this number is '
+               '`(data / 256)` at the receiver, and the sender knows it from its `send`.')
 # Names of calls that ask for a timer, or for an event.
 OF_TIMER = ('timer', 'timeout', 'elapsed', 'done', 'ready', 'due', 'over', 'finished', 'expires', 'fire', 'is_expired')
 OF_ARRIVAL = ('received', 'receive', 'recv', 'got', 'arrived', 'event', 'on', 'has', 'happened', 'get')
@@ -93,6 +100,9 @@ OF_POST = ('A `post` is a statement, and `into` stores its result. Above this li
            '`var {x} = 0;` at the head of the `code`, and use `{x}` here instead of the call: `({x} == 1)` is true if '
            'the queue was full (`PROCESS_ERR_FULL`), and `({x} == 0)` if not. A `while` needs the `post` also at the '
            'end of its block.')
+# The status of a send that has ended well.
+STATUS = {'mac_tx_ok': '0'}
+OF_STATUS = 'A `send` has no status: it always ends at once, and `MAC_TX_OK` is 0.'
 OF_ERROR = 'The result of a `post` is 0 if the queue had room, and 1 if not.'
 UPPER_BYTE = 'This number replaces `u8[0]`, and 0 replaces the other bytes.'
 NO_UPPER_BYTE = 'This number replaces `u8[0]`, and the other bytes need no test.'
@@ -107,6 +117,8 @@ OF_BIT = ('There are no operators on bits. If `{bit}` is a power of 2 (one bit),
           'of `{flags}`; if this bit is 0, `{flags} = ({flags} + {bit});` sets it.')
 NO_SHIFTS = ('There are no shifts: a loop %s, `bit = %s; k = 0; while (k < %s) { bit = (bit %s 2); k = (k + 1); }`, '
              'with `var bit = 0;` and `var k = 0;` at the head of its `code`.')
+SHIFTED, SHIFTS = 'shifted', 'shifts'
+OF_LOOP = 'There are no shifts: a loop above the statement replaces `%s`.'
 OF_FLAG = ' Then `((flags / bit) % 2)` is this bit of `flags`; if it is 0, `flags = (flags + bit);` sets it.'
 NO_ARRAYS = 'There are no arrays: a variable holds one number of 16 bits.'
 MEMBER = 'There are no arrays: `%s[%d]` is the variable `%s`.'
@@ -129,7 +141,8 @@ DICE, STEP, DRAWN = 'dice', 'dice = ((dice * 25173) + 13849);', '(dice / 256)'
 FIRST = 'var %s = 1;' % DICE
 MIXED = ('dice = ((self * 257) + 1); dice = (dice * ((2 * dice) + 1)); dice = (dice + (dice / 256)); '
          'dice = (dice * ((2 * dice) + 1));')
-OF_DRAWN = 'Then `((dice / 256) % 10)` is one of 0 to 9, and `(dice < 6554)` is true 1 time in 10.'
+OF_DRAWN = ('Then `((dice / 256) % 10)` is one of 0 to 9, and `(dice < 6554)` is true 1 time in 10. For packets that '
+            'are lost by chance, docs/use/EXPERIMENTS.md has a pattern under "Losses by chance".')
 NO_CHANCE = ('A mote has no random numbers: each run is the same. Use a generator, as below, with a seed that '
              'differs by mote, and mix the seed, so that motes don\'t draw in step. At the start of `body`: `' + MIXED +
              '`, for at most 255 motes. ' + OF_DRAWN)
@@ -143,6 +156,10 @@ TOO_LARGE = ('Numbers have 16 bits, 0 to 65,535: a timer is set to 65535 moments
 TICKS = ('There is no `CLOCK_SECOND`: a timer is set in moments. Decide how many moments a second has; with %d it is '
          'the line '
          'below.' % MOMENTS_OF_SECOND)
+IN_TICKS = ('There is no `CLOCK_SECOND`: a timer is set in moments. With %d moments for a second, a time of this '
+            'program would be 0, so a second has 128 moments here, as in C. Then the ratios of all times stay: write 128 '
+            'for `CLOCK_SECOND` in the other times of the program, too, and note that `end` is also in moments.'
+            % MOMENTS_OF_SECOND)
 OF_ROW = ('`%s` becomes a test of two conditions. C reads it in another way: it compares the result of the first '
           'comparison, which is 0 or 1, with the last value.')
 SMALL_LETTERS = 'Names have small letters'
@@ -288,7 +305,7 @@ class Expressions:
     def is_cast(self) -> bool:
         """Returns whether a type in parentheses is next."""
         at = 1
-        while self.ahead(at).text in TYPES | QUALIFIERS | {'struct', '*'}:
+        while self.ahead(at).text in TYPES | QUALIFIERS | {'struct', '*'} or self.ahead(at - 1).text == 'struct':
             at += 1
         return at > 1 and self.token.text == '(' and self.ahead(at).text == ')'
 
@@ -398,8 +415,15 @@ class Writer:
     draws: bool = False
     # The names in a call of Contiki that aren't declared: each with its kind and its form in the notation.
     unknown: dict[str, tuple[str, str]] | None = None
+    # The loops above a statement for its shifts by a variable: for each, the variable of the result, and the text; None
+    # if no loop has a place there.
+    turns: list[tuple[str, str]] | None = None
+    # The process in whose code the expression is, or nothing.
+    process: str = ''
     # The variables of other processes.
     foreign: frozenset[str] = frozenset()
+    # Those of them that are used.
+    borrowed: list[str] = field(default_factory=list)
 
     def why(self, reason: str) -> None:
         if reason not in self.reasons:
@@ -476,9 +500,12 @@ class Writer:
         if lower in ERRORS and word not in self.scope.kinds:
             self.why(OF_ERROR)
             return ERRORS[lower]
+        if lower in STATUS and word not in self.scope.kinds:
+            self.why(OF_STATUS)
+            return STATUS[lower]
         if lower == 'clock_second' and word not in self.scope.kinds:
-            self.insist(TICKS)
-            return str(MOMENTS_OF_SECOND)
+            self.insist(TICKS if self.scope.second == MOMENTS_OF_SECOND else IN_TICKS)
+            return str(self.scope.second)
         kind = self.scope.kinds.get(word)
         if word in READ_ONLY or kind == 'variable' and word not in self.foreign:
             return word
@@ -497,11 +524,14 @@ class Writer:
         if word == 'ev' and kind is None:
             return self.refuse(NO_NUMBER)
         found = self.scope.meant(word, 'variable')
+        if self.unknown is None and found in self.foreign and self.scope.kinds.get(found) == 'variable':
+            self.borrowed.append(found)
         if self.unknown is not None and (self.scope.kinds.get(found) != 'variable' or found in self.foreign):
             return self.new_name(word, 'variable')
         if found != word:
             self.why(SMALL_LETTERS + ': `%s`.' % found if found == lower else
-                     'The name is `%s` here.' % found if found in (allowed(word), abbreviated(word)) else
+                     'The name is `%s` here.' % found
+                     if found in (allowed(self.scope.free(word, 'variable')), abbreviated(word)) else
                      'Did you mean `%s`?' % found)
         return found
 
@@ -537,6 +567,8 @@ class Writer:
         """A process, timer, thread or semaphore that is named, with `&` or without."""
         if node.kind == 'unary' and node.text == '&':
             node = node.parts[0]
+        if kind == 'process' and self.process and node.text.lower() == 'process_current':
+            return self.process
         if node.kind in ('name', 'call'):
             return self.scope.meant(node.text, kind)
         return self.refuse('')
@@ -545,6 +577,12 @@ class Writer:
         lower, parts = node.text.lower(), node.parts
         if lower in WORDS_OF_CALLS:
             word, reason = WORDS_OF_CALLS[lower]
+            if lower == 'clock_seconds' and self.scope.second != MOMENTS_OF_SECOND:
+                word, reason = '(now / %d)' % self.scope.second, IN_TICKS
+            if lower == 'packetbuf_dataptr' and self.scope.handlers.get(self.process, ('', False))[1]:
+                word, reason = '(data % 256)', LOWER_BYTE
+            if lower == 'packetbuf_addr' and 'receiver' in ''.join(it.text.lower() for it in parts):
+                return self.refuse(NO_RECEIVER)
             (self.insist if reason == SECONDS else self.why)(reason)
             return word
         if lower in ('random_rand', 'rand', 'random', 'rnd'):
@@ -558,7 +596,9 @@ class Writer:
             self.why('An address is one number, which `==` compares.')
             return '(%s == %s)' % (self.address(parts[0]), self.address(parts[1]))
         if lower == 'runicast_is_transmitting':
-            return self.refuse(RUNICAST)
+            self.why('`%s` is 0: a `send` always ends at once.' % node.text)
+            self.insist(RUNICAST)
+            return '0'
         if lower == 'process_post' and len(parts) == 3:
             return self.refuse(self.of_post(*parts))
         test = node.text if node.text in TESTS else CALLS.get(lower, '') or self.test_meant(node)
@@ -655,8 +695,10 @@ class Writer:
             return self.text(right)
         if is_equal and self.is_event(left, 'exited') and self.is_of_process(*right.parts):
             return self.text(right)
-        if 'signed' in (left.kind, right.kind) and sign in PLAIN or sign in ORDERS and has_negative(left, right):
+        if 'signed' in (left.kind, right.kind) and sign in PLAIN or sign in ORDERS and self.may_be_below(left, right):
             return self.with_sign(sign, left, right)
+        if sign in ('/', '%') and self.is_below(left):
+            self.insist(NOT_DIVIDED % (self.text(left), sign))
         taken = next((it for it in (left, right) if is_difference(it)), None) if sign in ORDERS else None
         if taken:
             is_plain = not any(it.parts for it in taken.parts)
@@ -677,6 +719,16 @@ class Writer:
             return '(%s %s %s)' % (self.test(left), sign, self.test(right))
         return '(%s %s %s)' % (self.text(left), sign, self.text(right))
 
+    def is_below(self, node: Node) -> bool:
+        """Returns whether a value is a variable that may be below 0 in C, or has a sign in front of a name."""
+        return node.kind == 'name' and self.scope.meant(node.text, 'variable') in self.scope.below or (
+            node.kind == 'unary' and node.text == '-' and node.parts[0].kind == 'name')
+
+    def may_be_below(self, left: Node, right: Node) -> bool:
+        """Returns whether a comparison needs 32,768 on both sides. Numbers above 32,766 are values without a sign."""
+        is_plain = any((value_of(it) or 0) >= HALF - 1 for it in (left, right))
+        return has_negative(left, right) or not is_plain and (self.is_below(left) or self.is_below(right))
+
     def with_sign(self, sign: str, left: Node, right: Node) -> str:
         """An operation on values of which a cast makes one signed."""
         kind = next((it.text for it in (left, right) if it.kind == 'signed'), 'int')
@@ -691,6 +743,8 @@ class Writer:
     def shifted(self, node: Node) -> str:
         """A value with a sign, plus 32,768: the least one is 0."""
         number = value_of(node)
+        if number is None and node.kind == 'unary' and node.text == '-':
+            return '(%d - %s)' % (HALF, self.text(node.parts[0]))
         return '(%s + %d)' % (self.text(node), HALF) if number is None else str((number + HALF) % (MOST + 1))
 
     def compared(self, left: Node, right: Node) -> str:
@@ -759,6 +813,8 @@ class Writer:
     def shift(self, sign: str, left: Node, right: Node) -> str:
         if right.kind != 'number':
             by, verb = ('*', 'doubles') if sign == '<<' else ('/', 'halves')
+            if self.turns is not None and bits_of(right) is None:
+                return self.turned(by, self.text(left), self.text(right))
             loop = NO_SHIFTS % (verb, self.text(left), self.text(right), by)
             return self.refuse(loop + (OF_FLAG if (sign, left) == ('<<', Node('number', '1')) else ''))
         places = number_of(right.text)
@@ -768,7 +824,22 @@ class Writer:
                                                                      2 ** places))
         return '(%s %s %d)' % (self.text(left), '*' if sign == '<<' else '/', 2 ** places)
 
+    def turned(self, by: str, value: str, count: str) -> str:
+        """The variable for a value that is doubled or halved as often as a count says, by a loop above the
+        statement."""
+        assert self.turns is not None
+        self.why(OF_LOOP % ('<<' if by == '*' else '>>'))
+        name = self.scope.for_hint(SHIFTED, len(self.turns))
+        loop = '{0} = {1}; {2} = 0; while ({2} < {3}) {{ {0} = ({0} {4} 2); {2} = ({2} + 1); }}'
+        self.turns.append((name, loop.format(name, value, self.scope.for_hint(SHIFTS), count, by)))
+        return name
+
     def mask(self, sign: str, left: Node, right: Node) -> str:
+        if is_power(left) and not is_power(right):
+            left, right = right, left
+        if sign == '&' and is_power(right) and self.turns is not None:
+            bit = self.text(right)
+            return '(((%s / %s) %% 2) * %s)' % (self.text(left), bit, bit)
         if sign in ('&', '|') and is_test(right) and left.kind not in ('name', 'number'):
             self.why('There are no operators on bits: `%s` is "%s".' % (2 * sign, 'and' if sign == '&' else 'or'))
             return '(%s %s %s)' % (self.text(left), 2 * sign, self.text(right))
@@ -843,6 +914,10 @@ class Writer:
         if node.kind != 'binary' or node.text != '&':
             return self.text(node)
         left, right = node.parts[::-1] if bits_of(node.parts[0]) is not None else node.parts
+        if is_power(left):
+            left, right = right, left
+        if is_power(right) and self.turns is not None:
+            return '((%s / %s) %% 2)' % (self.text(left), self.text(right))
         bits = bits_of(self.constant(right))
         if bits is None or bits_of(left) is not None or not bits & (bits + 1):
             return self.text(node)
@@ -851,10 +926,19 @@ class Writer:
 
     def part(self, node: Node) -> str:
         """The number of a mote instead of a part of its address. Other arrays and fields are refused."""
-        address = address_of(node)
+        address = address_of(node) or self.own_address(node)
         if address:
             return self.byte_of(address, node)
         return self.member(*node.parts) if node.kind == 'index' else self.field(node)
+
+    def own_address(self, node: Node) -> str:
+        """The variable for an address of which a node is a byte, or nothing."""
+        words, at = list[str](), node
+        while at.kind in ('index', 'member'):
+            words.append(at.text)
+            at = at.parts[0]
+        its = self.scope.meant(at.text, 'variable')
+        return its if 'u8' in words and self.scope.kinds.get(its) == 'variable' else ''
 
     def member(self, array: Node, index: Node) -> str:
         """A member of an array: a variable, if the array became variables."""

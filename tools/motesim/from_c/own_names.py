@@ -66,10 +66,6 @@ class OwnNames(Lines):
         taken = user(words, place, found, is_static) if self.is_variable(found) else ''
         return TAKEN % (found, taken) if taken else MISREAD % name if name in RESERVED else ''
 
-    def is_variable(self, name: str) -> bool:
-        """Returns whether the process has a variable, also if these lines declare it."""
-        return name in self.place.variables or any(it.startswith('var %s ' % name) for it in self.declares)
-
     def count_above(self) -> int:
         """The number of words above these lines."""
         return len(_words(tokens_of(self.place.above)))
@@ -78,6 +74,10 @@ class OwnNames(Lines):
         """The words of the program that has these lines."""
         around = tokens_of(self.place.above), self.tokens, tokens_of(self.below)
         return [word for its in around for word in _words(its)]
+
+    def words_below(self) -> set[str]:
+        """The words of the program below these lines."""
+        return {*_words(tokens_of(self.below))}
 
     def fresh(self, name: str, words: set[str]) -> str:
         """A name that is none of these words: a name with a number, if it is one of them."""

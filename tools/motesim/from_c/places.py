@@ -2,9 +2,11 @@
 from __future__ import annotations
 
 import re
+from collections.abc import Iterable, Iterator
 from typing import NamedTuple
 
-from motesim.from_c.scope import CODE
+from motesim.from_c.after_send import callbacks_for_packets
+from motesim.from_c.scope import CODE, set_in, process_of
 from motesim.notation.faults import tokens_of
 
 NAME = r'[a-z][a-z0-9_]*'
@@ -21,10 +23,23 @@ ENDS = [
 BRACE, WORD = re.compile('[{}]'), re.compile(r'\w+')
 # A function of C, from its first line to its brace.
 FUNCTION = re.compile(r'^[A-Za-z_][\w \t*]*\s(\w+)\s*\([^(){};]*\)\s*\{', re.M)
+NO_WORDS = re.compile(r'"(?:[^"\\\n]|\\.)*"|//[^\n]*|/\*.*?\*/', re.S)
+# A block of a code in the notation.
+OF_CODE = re.compile(r'\b(body|ctimer|thread|onpoll|onexit)\b[^{};]*{')
+# A structure of C with its members.
+STRUCTURE = re.compile(r'\bstruct\s+\w+\s+(\w+)\s*=\s*\{([^{}]*)\}')
+# A block with a name: of a callback timer, or of a function of C.
+NAMED = re.compile(r'\bctimer\s+(\w+)\s*\{'
+                   r'|^[ \t]*[A-Za-z_][\w \t*]*\s(?!if\b|while\b|for\b)(\w+)\s*\([^(){};]*\)\s*\{', re.M)
+# A variable of C in its declaration, a variable or a timer at the head of a code, and what a function may change
+# although no sign assigns it: an array or a timer.
+LOCAL = r'\b(?:int|char|short|long|unsigned|signed|bool|\w+_t)\b[^;(){}]*\b%s\b'
+DECLARED = re.compile(r'\bvar\s+\w+\s*=\s*[0-9]+\s*;|\betimer\s+\w+\s*;')
+ALSO_CHANGED = re.compile(r'\b(\w+)\s*\[|\b[ec]timer_\w+\s*\(\s*&?\s*(\w+)')
 # The words of a code above which its variables are declared.
 BEHIND_VARIABLES = {'etimer', 'ctimer', 'thread', 'onpoll', 'onexit', 'body'}
 # A line above which a thread belongs.
-BELOW_THREADS = re.compile(r'^[ \t]*(?:thread|onpoll|onexit|body|PROCESS_BEGIN)\b', re.M)
+BELOW_THREADS = re.compile(r'^[ \t]*(?:onpoll|onexit|body|PROCESS_(?:BEGIN|POLLHANDLER|EXITHANDLER))\b', re.M)
 # The beginning of a code, up to its last variable, or up to its last event timer.
 HEADS = {word: re.compile(r'\{(?:(?:\s*+//.*+)*+\s*+(?:%s)\b.*+)*+' % words)
          for word, words in (('var', 'var'), ('etimer', 'var|etimer'), ('ctimer', 'var|etimer'))}
@@ -150,8 +165,8 @@ def head_for(text: str, declared: str, code: str = '') -> int:
     if not codes:
         return 0
     word, name = declared.rstrip(';').split()[:2]
-    names = _with_functions(text, name)
-    users = [it for it in codes if _uses(text, it, names)]
+    its = users_of(text, name) or users_of(text, name.removeprefix('my_'))
+    users = [it for it in codes if process_of(it, ()) in its]
     begin = text.index('{', (users or codes)[0].end())
     if word == 'thread':
         below = BELOW_THREADS.search(text, begin)
@@ -160,17 +175,74 @@ def head_for(text: str, declared: str, code: str = '') -> int:
     return text.count('\n', 0, head.end()) + 1 if head else 0
 
 
+def block_of(above: str) -> str:
+    """The first word of the last block of a code that begins in a text, or nothing."""
+    found: list[str] = OF_CODE.findall(above)
+    return found[-1] if found else ''
+
+
 def has_one_user(text: str, name: str) -> bool:
     """Returns whether one code has a name, or calls a function that has it; or whether the text has only one code."""
-    names, codes = _with_functions(text, name), [*CODE.finditer(text)]
-    users = [it for it in codes if _uses(text, it, names)]
-    return len(users) == 1 or len(codes) == 1
+    return len(users_of(text, name)) == 1 or len([*CODE.finditer(text)]) == 1
 
 
-def _with_functions(text: str, name: str) -> set[str]:
-    """A name, and the functions of C that have it or call such a function."""
-    bodies = {it[1]: set(WORD.findall(text, it.end(), _end_of_block(text, it.end() - 1)))
+def users_of(text: str, name: str, known: Iterable[str] = ()) -> list[str]:
+    """The processes whose codes have a name, or call a function that has it. `known`: the names of processes."""
+    handlers = callbacks_for_packets(text)
+    names = _with_functions(text, name, handlers)
+    receivers = {receiver_of(text, it, known) for it in handlers & names}
+    users = {process_of(it, known) for it in CODE.finditer(text) if _uses(text, it, names)}
+    return [it for it in (process_of(it, known) for it in CODE.finditer(text)) if it in users | receivers]
+
+
+def receiver_of(text: str, function: str, known: Iterable[str] = ()) -> str:
+    """The process that gets the packets of a function: the one that uses the variables of the function, if exactly one
+    process does; otherwise the one that opens the connection; nothing if none does."""
+    users = sharers_of(text, function, known)
+    return users[0] if len(users) == 1 else opener_of(text, function, known)
+
+
+def opener_of(text: str, function: str, known: Iterable[str] = ()) -> str:
+    """The process that opens the connection of a function for packets, or nothing."""
+    names = _with_functions(text, function)
+    return next((process_of(it, known) for it in CODE.finditer(text) if _uses(text, it, names)), '')
+
+
+def sharers_of(text: str, function: str, known: Iterable[str] = ()) -> list[str]:
+    """The processes that use variables above the processes which a function for packets uses, too, if the variables
+    ever change."""
+    begin = next((it.end() for it in FUNCTION.finditer(text) if it[1] == function), 0)
+    if not begin:
+        return []
+    blocks = [*reached(text[begin:end_of_block(text, begin - 1)], text)]
+    changed = set_in(text) | {(one or other).lower() for one, other in ALSO_CHANGED.findall(text)}
+    names = {it for its in blocks for it in _words(its) if it.lower() in changed
+             and not any(re.search(LOCAL % it, other) for other in blocks)}
+    found = []
+    for code in CODE.finditer(text):
+        block = NO_WORDS.sub(' ', text[code.end():end_of_block(text, code.end())])
+        words = set(WORD.findall(DECLARED.sub('', block)))
+        if any(not re.search(LOCAL % it, block) for it in names & words):
+            found.append(process_of(code, known))
+    return found
+
+
+def reached(block: str, text: str) -> Iterator[str]:
+    """A block of C, and the blocks of a text whose names it has, also by other blocks."""
+    others = {it[1] or it[2]: text[it.end():end_of_block(text, it.end() - 1)] for it in NAMED.finditer(text)}
+    left = [block]
+    while left:
+        its = left.pop()
+        yield its
+        left += [others.pop(it) for it in _words(its) & others.keys()]
+
+
+def _with_functions(text: str, name: str, handlers: Iterable[str] = ()) -> set[str]:
+    """A name, and the functions of C that have it or call such a function; also the structures of such functions, if
+    they aren't handlers."""
+    bodies = {it[1]: _words(text[it.end():end_of_block(text, it.end() - 1)])
               for it in FUNCTION.finditer(text)}
+    bodies |= {it[1]: set(WORD.findall(it[2])).difference(handlers) for it in STRUCTURE.finditer(text)}
     found, count = {name}, 0
     while len(found) > count:
         count = len(found)
@@ -178,13 +250,18 @@ def _with_functions(text: str, name: str) -> set[str]:
     return found
 
 
+def _words(text: str) -> set[str]:
+    """The words of a text of C, without those of its comments and texts."""
+    return set(WORD.findall(NO_WORDS.sub(' ', text)))
+
+
 def _uses(text: str, code: re.Match[str], names: set[str]) -> bool:
     """Returns whether a code has one of some names, also with capitals."""
-    words = WORD.findall(text, code.end(), _end_of_block(text, code.end()))
+    words = _words(text[code.end():end_of_block(text, code.end())])
     return not {it.lower() for it in names}.isdisjoint(map(str.lower, words))
 
 
-def _end_of_block(text: str, begin: int) -> int:
+def end_of_block(text: str, begin: int) -> int:
     """The place of the brace that closes the first block behind a place; the end of the text if nothing closes it."""
     depth = 0
     for brace in BRACE.finditer(text, begin):

@@ -6,6 +6,8 @@ import re
 from collections.abc import Iterable
 from dataclasses import dataclass, field
 
+from motesim.from_c.after_send import callbacks_after_send
+from motesim.from_c.below import Assigned
 from motesim.from_c.callbacks import Callbacks, callbacks_of
 from motesim.from_c.parameters import parameters_of
 from motesim.notation.faults import tokens_of
@@ -16,12 +18,27 @@ DECLARES = {'event': 'event', 'semaphore': 'semaphore', 'process': 'process', 'v
 NAME = re.compile('[a-z][a-z0-9_]*')
 CODE = re.compile(r'^[ \t]*(?:code[ \t]+(\w+)|PROCESS_THREAD\s*\(\s*(\w+))', re.M)
 SEMAPHORE = re.compile(r'\bPT_SEM_INIT\s*\(\s*&?\s*(\w+)\s*,\s*([0-9]{1,5})\s*\)')
-VARIABLE = re.compile(r'^[ \t]*var\s+(\w+)\s*=\s*([0-9]+)\s*;', re.M)
-# A variable that is assigned, in the notation or in C: with a sign after its name, or in front of it.
+VARIABLE = re.compile(r'(?:^|(?<=;))[ \t]*var\s+(\w+)\s*=\s*([0-9]+)\s*;', re.M)
+# A variable that is assigned, in the notation or in C: with a sign after its name, or in front of it; and a variable
+# into which a call of C copies a value.
 CHANGED = re.compile(r'(?<!\w)(?:(?<!var )(\w++)\s*+(?:(?:[-+*/%&|^]|<<|>>)?=(?!=)|\+\+|--)'
                      r'|(?:\+\+|--|into\s)\s*+(\w++))')
+COPIED = re.compile(r'\b(?:packetbuf_copyto|memcpy)\s*\(\s*&?\s*(\w+)')
+# A text of C, which declares nothing.
+TEXT = re.compile(r'"(?:[^"\\\n]|\\.)*"')
 MACRO = re.compile(r'^[ \t]*PROCESS(?:_NAME)?[ \t]*\([ \t]*(\w+)', re.M)
+# The comment of a thread that runs for each packet, or for each packet to the mote itself.
+MARK, TO_MOTE = 'runs for each packet', ' to this mote'
+MARKED = re.compile(r'\bthread\s+(\w+)\s*\{[ \t]*//[ \t]*%s(%s)?' % (MARK, TO_MOTE))
+# The comment of a variable that no line of C declares, so that the hints know it again.
+ADDED = 'added by a hint'
+OF_HINTS = re.compile(r'\bvar (\w+) = [0-9]+; // ' + ADDED)
 LONGEST = 16
+# The moments of a second, here and in C, whose number is used if a part of a second would be 0 moments here; a comment
+# then says so.
+SECOND, TICKS_OF_SECOND = 10, 128
+ALL_TICKS = 'CLOCK_SECOND is 128'
+PART_OF_SECOND = re.compile(r'\bCLOCK_SECOND\s*\)?\s*/\s*([0-9]{1,5})\b')
 # The kinds of which a program may have several with similar names.
 ALIKE = ('variable', 'timer', 'event')
 # The least similarity of a misspelt name to a name of these kinds.
@@ -55,6 +72,17 @@ def _process(name: str, known: Iterable[str]) -> str:
 def process_of(code: re.Match[str], known: Iterable[str]) -> str:
     """The process to which the beginning of a code belongs."""
     return code[1] or _process(code[2], known)
+
+
+def handlers_of(text: str, known: Iterable[str]) -> dict[str, tuple[str, bool]]:
+    """The threads that are marked, by their processes; for each, whether only packets to the mote itself matter."""
+    codes = [*CODE.finditer(text)]
+    found = {}
+    for it in MARKED.finditer(text):
+        own = [code for code in codes if code.start() < it.start()]
+        if own:
+            found[process_of(own[-1], known)] = it[1], it[2] is not None
+    return found
 
 
 def nearest(word: str, known: Iterable[str]) -> str | None:
@@ -91,6 +119,17 @@ def changed_in(text: str) -> frozenset[str]:
     return frozenset((one or other).lower() for one, other in CHANGED.findall(text))
 
 
+def set_in(text: str) -> frozenset[str]:
+    """The names, in small letters, to which a text assigns, or into which it copies a value."""
+    return changed_in(text) | {it.lower() for it in COPIED.findall(text)}
+
+
+def second_of(text: str) -> int:
+    """The moments of a second that a text of C needs, so that none of its times becomes 0."""
+    parts = (int(it) for it in PART_OF_SECOND.findall(text))
+    return TICKS_OF_SECOND if ALL_TICKS in text or any(SECOND < it <= TICKS_OF_SECOND for it in parts) else SECOND
+
+
 @dataclass
 class Scope:
     """Names with their kinds: event, semaphore, process, variable, timer, thread.
@@ -106,6 +145,13 @@ class Scope:
     parameters for each thread that was a function, its parameters
     long       the names that are longer than the notation allows
     changed    the names of the variables that a line assigns to
+    below      the variables that may be below 0 in C
+    after_send for each function that is called when a send has ended, the kind of connection and the callback
+    handlers   for each process with a thread that runs for each packet, this thread, and whether only packets to the
+               mote itself matter to it
+    second     the moments of a second
+    words      the words of the text, in small letters
+    added      the variables that are added by hints
     """
     kinds: dict[str, str] = field(default_factory=dict)
     codes: tuple[str, ...] = ()
@@ -118,11 +164,17 @@ class Scope:
     parameters: dict[str, tuple[str, ...]] = field(default_factory=dict)
     long: frozenset[str] = frozenset()
     changed: frozenset[str] = frozenset()
+    after_send: dict[str, tuple[str, str]] = field(default_factory=dict)
+    handlers: dict[str, tuple[str, bool]] = field(default_factory=dict)
+    second: int = SECOND
+    below: frozenset[str] = frozenset()
+    words: frozenset[str] = frozenset()
+    added: frozenset[str] = frozenset()
 
     @classmethod
     def of(cls, text: str) -> Scope:
         """All names that a text declares anywhere."""
-        words = [it.text for it in tokens_of(text)]
+        words = [it.text for it in tokens_of(TEXT.sub('', text))]
         kinds: dict[str, str] = {}
         for at, word in enumerate(words[:-1]):
             if word not in DECLARES:
@@ -140,7 +192,10 @@ class Scope:
             kinds.setdefault(name, 'process')
         return cls(kinds, codes, 'receiver' in words, named, tuple(dict.fromkeys([*codes, *named, *macros])),
                    {allowed(name): count for name, count in SEMAPHORE.findall(text)}, dict(VARIABLE.findall(text)),
-                   callbacks_of(text), parameters_of(text), frozenset(LONG.findall(text)), changed_in(text))
+                   callbacks_of(text), parameters_of(text), frozenset(LONG.findall(text)), changed_in(text),
+                   callbacks_after_send(text), handlers_of(text, named), second_of(text),
+                   frozenset(Assigned(words).found), frozenset(map(str.lower, words)),
+                   frozenset(OF_HINTS.findall(text)))
 
     def of_kind(self, kind: str) -> list[str]:
         """The names of a kind."""
@@ -160,15 +215,31 @@ class Scope:
             found.append(name)
         return found
 
+    def for_hint(self, name: str, place: int = 0) -> str:
+        """A variable that a hint adds: this name, or one with a number if the program has a variable with this name.
+        `place`: the number of such variables that the same statement has already."""
+        count, found = 1, name
+        while place or found in self.words - self.added:
+            place -= found not in self.words - self.added
+            count += 1
+            found = name + str(count)
+        return found
+
     def short(self, name: str) -> str:
         """The name that may be declared for this one, which differs from that of another long name of the text."""
         its = allowed(name)
         is_shared = any(it.lower() != name.lower() and allowed(it) == its for it in self.long)
         return abbreviated(name) if len(name) > LONGEST and is_shared else its
 
+    def free(self, name: str, kind: str) -> str:
+        """The name for a declaration of this kind: another one if something of another kind has the name in small
+        letters."""
+        return 'my_' * (self.kinds.get(name.lower(), kind) != kind) + name.lower()
+
     def meant(self, name: str, kind: str) -> str:
         """The name of this kind that was most likely meant: the name itself if no other is similar."""
-        for its in name, name.lower(), *([abbreviated(name)] if len(name) > LONGEST else []), allowed(name):
+        long = [abbreviated(name)] if len(name) > LONGEST else []
+        for its in name, name.lower(), *long, allowed(self.free(name, kind)):
             if self.kinds.get(its) == kind:
                 return its
         # (a name that is known as something else isn't a misspelling)

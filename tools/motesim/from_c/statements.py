@@ -6,20 +6,21 @@ cut off at a brace, and returns them in the notation.
 from __future__ import annotations
 
 import re
-import textwrap
 
 from motesim.from_c.absent import NO_ACTIVATION, NO_SENSORS, NO_SINK, SENDS, SENSORS, SENT_ALREADY, is_sensor
-from motesim.from_c.bits import bits_of, is_one
-from motesim.from_c.calls import BROADCAST, CALLS, NO_NAME, Calls
+from motesim.from_c.bits import bits_of, is_one, is_power
+from motesim.from_c.calls import CALLS, NO_NAME, Calls
 from motesim.from_c.control import ENDS, Control
-from motesim.from_c.declarations import ABOVE, OF_PACKETS, Declarations
+from motesim.from_c.declarations import ABOVE, Declarations
 from motesim.from_c.expressions import (
-    DICE, FIRST, MOST, NO_CALLS, NO_CHANCE, NO_FIELDS, NO_POINTERS, NO_SIZES, QUALIFIERS, READ_ONLY, SMALL_LETTERS,
-    STEP, TYPES, NoCounterpart,
+    DICE, FIRST, IN_TICKS, MOST, NO_BITS, NO_CALLS, NO_CHANCE, NO_FIELDS, NO_POINTERS, NO_SIZES, QUALIFIERS,
+    READ_ONLY, SHIFTS, SMALL_LETTERS, STEP, TYPES, NoCounterpart,
 )
 from motesim.from_c.nodes import MOMENTS_OF_SECOND, Node
 from motesim.from_c.places import last_statement
-from motesim.from_c.scope import allowed, nearest
+from motesim.from_c.radio import Radio
+from motesim.from_c.scope import ALL_TICKS, allowed, nearest
+from motesim.from_c.sends import BROADCAST, COPIES, PAYLOAD, TO_ONE
 from motesim.from_c.tokens import END, tokens_of
 from motesim.notation.faults import MOST_LEVELS, STATEMENTS
 
@@ -35,11 +36,6 @@ OF_LEDS = 'A mote has no LEDs: a `print` shows the moment in the report.'
 OPENS = ('broadcast_open', 'abc_open', 'unicast_open', 'runicast_open', 'mesh_open', 'collect_open', 'netflood_open',
          'trickle_open', 'nullnet_set_input_callback', 'simple_udp_register')
 CLOSES = re.compile(r'(broadcast|abc|unicast|runicast|mesh|collect|netflood|trickle)_close\b')
-OF_STATEMENTS = ('Here, the statements are `%s`. If the process also waits for a timer, a packet must not end this '
-                 'wait: write the wait as `yield_until (is(packet) || fired(t)); while is(packet) { .. yield_until '
-                 '(is(packet) || fired(t)); }`, with these statements instead of the dots.')
-KEPT_STATEMENTS = ('The comments keep the statements of the function: move them below `yield_until is(packet);` in the '
-                   '`code` of `%s`, and there leave out their `//`.')
 OF_ON = ('There is no block for a packet: a process waits for each one by `yield_until is(packet);`, and the '
          'statements follow there, `while 1 { yield_until is(packet); .. }`.')
 OF_HANDLER = 'The handler is a block of the `code`, `%s { .. }`, below its timers and threads and above its `body`.'
@@ -84,6 +80,8 @@ LOOPS = ('loop', 'forever', 'repeat')
 SECONDS = ('s', 'sec', 'secs', 'second', 'seconds')
 UNIT = re.compile('(?:%s|ms|millis|milliseconds?|ticks?|moments?)' % '|'.join(SECONDS))
 TIME = re.compile('([0-9]+)(%s)' % UNIT.pattern)
+# The words of statements whose test is evaluated more than once.
+TESTED_AGAIN = ('while', 'for', 'do', 'yield_until', 'wait_', 'process_wait', 'process_yield', 'pt_wait', 'pt_yield')
 KEEPS = ('process', 'autostart', 'receiver', 'code', 'event', 'semaphore', 'etimer', 'ctimer', 'thread', 'body',
          'onpoll', 'onexit')
 ASSIGNS = ('=', '==', ':=', '+=', '-=', '*=', '/=', '%=', '&=', '|=', '^=', '<<=', '>>=')
@@ -93,22 +91,14 @@ TARGETS = {'spawn': 'thread', 'acquire': 'semaphore', 'signal': 'semaphore', 'po
            'kill': 'process', 'reset': 'timer', 'restart_timer': 'timer', 'stop': 'timer'}
 
 
-def statements_of(function: str) -> list[str]:
-    """The lines between the braces of a function, without those that are empty."""
-    block = function.partition('{')[2].rpartition('}')[0].strip('\n')
-    return [it.rstrip() for it in textwrap.dedent(block).split('\n') if it.strip()]
-
-
-class Statements(Declarations, Calls, Control):
+class Statements(Radio, Declarations, Calls, Control):
     """Reads lines as statements."""
 
     def written(self) -> str:
-        """The lines in the notation."""
-        found: list[str] = []
-        while self.token.kind != 'end':
-            found.append(self.closing() or self.statement())
-        found = self.in_order(found)
-        text = re.sub(r'\{ +\}', '{ }', ' '.join(it for it in found if it))
+        """The lines in the notation, with their comments."""
+        text = self.plain()
+        if IN_TICKS in self.writer.reasons:
+            self.comments.append('// ' + ALL_TICKS)
         if self.kept_lines:
             return '\n'.join(filter(None, [text, *('// ' + it for it in self.kept_lines)]))
         for comment in self.comments:
@@ -117,19 +107,30 @@ class Statements(Declarations, Calls, Control):
             text = ('%s // %s' % (text, comment.strip('/* ').strip())).strip()
         return text
 
+    def plain(self) -> str:
+        """The lines in the notation, without their comments."""
+        found: list[str] = []
+        while self.token.kind != 'end':
+            found.append(self.closing() or self.statement())
+        found = self.in_order(found)
+        self.declare_borrowed()
+        self.declare_fields()
+        return re.sub(r'\{ +\}', '{ }', ' '.join(it for it in found if it))
+
     def translated(self, statements: str) -> str:
         """Statements of C in the notation."""
-        return Statements(statements, self.scope).written()
+        return Statements(statements, self.scope).plain()
 
     def statement(self) -> str:
         """A statement, with a step of the generator before it if it needs a random number."""
         word, outside, begun = self.token.text, self.writer.draws, self.begun
-        around = self.before, self.after
+        around, turns = (self.before, self.after), self.writer.turns
         self.writer.draws, self.begun, self.before, self.after = False, self.token.line, [], []
+        self.writer.turns = [] if self.place.head and not word.lower().startswith(TESTED_AGAIN) else None
         self.nested += 1
         if self.nested > MOST_LEVELS:
             raise NoCounterpart
-        text = self.with_steps(word, self.one_statement())
+        text = self.with_turns(self.with_steps(word, self.one_statement()))
         self.nested -= 1
         self.before, self.after = around
         if self.writer.draws:
@@ -138,8 +139,18 @@ class Statements(Declarations, Calls, Control):
             if DICE not in self.place.variables:
                 self.declares.append(FIRST)
             text = '%s %s' % (STEP, text)
-        self.writer.draws, self.begun = outside, begun
+        self.writer.draws, self.begun, self.writer.turns = outside, begun, turns
         return text
+
+    def with_turns(self, text: str) -> str:
+        """A statement below the loops for its shifts by a variable."""
+        if not self.writer.turns:
+            return text
+        if self.before or self.after:
+            raise NoCounterpart(NO_BITS)
+        for name in (*(it for it, _ in self.writer.turns), self.scope.for_hint(SHIFTS)):
+            self.add(name)
+        return ('\n' if self.nested == 1 else ' ').join([*(it for _, it in self.writer.turns), text])
 
     def one_statement(self) -> str:
         token = self.token
@@ -172,7 +183,14 @@ class Statements(Declarations, Calls, Control):
             return {'switch': self.of_switch, 'case': self.of_case, 'break': self.of_break}[word]()
         if word in QUALIFIERS and self.ahead(1).text == 'PT_THREAD' and self.accept(word):
             return self.macro()
-        if word in TYPES | QUALIFIERS or word == 'struct' or word == 'var':
+        if word == 'typedef' and self.ahead(1).text == 'struct':
+            self.at += 2
+            return self.of_structure(['typedef', 'struct'])
+        if word == 'typedef':
+            return self.of_typedef()
+        if self.is_of_own_type():
+            return self.declaration()
+        if word in TYPES | QUALIFIERS or word in ('struct', 'var', 'enum'):
             return self.declaration()
         if word == 'timer' and self.place.is_head:
             self.why('There are two kinds of timer: an `etimer` posts an event to its process, a `ctimer` has a block '
@@ -192,6 +210,17 @@ class Statements(Declarations, Calls, Control):
         if word == '*' or word == '(' and self.ahead(1).text == '*':
             return self.of_pointer()
         raise NoCounterpart
+
+    def is_of_own_type(self) -> bool:
+        """Returns whether a declaration begins with the name of a type that the program itself has defined, and reads
+        this name as that of a plain type."""
+        its = self.token.text
+        at = self.at + (its in QUALIFIERS)
+        word, name, behind = ([*(it.text for it in self.tokens[at:at + 3]), '', '', ''])[:3]
+        is_own = word.endswith('_t') and word not in TYPES and name.isidentifier() and behind in (';', '=', ',')
+        if is_own:
+            self.tokens[at] = self.tokens[at]._replace(text='int')
+        return is_own
 
     def named(self, word: str) -> str:
         """A statement that begins with a name."""
@@ -229,6 +258,12 @@ class Statements(Declarations, Calls, Control):
             self.expression()
             self.writer.insist(SENT_ALREADY + SENDS[lower])
             return self.end('').removesuffix(';')
+        if lower in COPIES and behind == '(':
+            return self.of_copy(lower)
+        if lower in TO_ONE and behind == '(' and self.is_variable(self.scope.for_hint(PAYLOAD)):
+            return self.of_send_to_one(lower)
+        if kind == 'variable' and behind in ('.', '->') and self.ahead(2).text == 'u8':
+            return self.of_byte()
         if lower == 'continue':
             skipping = self.else_after_continue()
             if skipping:
@@ -348,7 +383,8 @@ class Statements(Declarations, Calls, Control):
             raise NoCounterpart(OF_HANDLER % head)
         reader = Statements(does, self.scope, self.place._replace(is_head=False))
         try:
-            text = reader.written()
+            text = reader.plain()
+            self.comments += reader.comments
         except NoCounterpart:
             self.why('%s Put the statements of `%s` into it.' % (OF_HANDLER % head, does.replace(' ', '').rstrip(';')))
             return head + ' { }'
@@ -356,24 +392,6 @@ class Statements(Declarations, Calls, Control):
         for reason in reader.writer.reasons:
             self.why(reason)
         return '%s { %s }' % (head, text)
-
-    def of_receiver(self) -> str:
-        """The line that names the process that gets the packets, instead of a function that is called for each."""
-        words = [it.text for it in self.tokens]
-        if '{' not in words or words[-1] != '}' or words.count('{') != words.count('}'):
-            raise NoCounterpart(OF_PACKETS)
-        self.at = len(words)
-        self.why(OF_PACKETS)
-        its = self.of_process((*self.scope.codes, 'p')[0])
-        self.kept_lines = statements_of(self.source)
-        try:
-            inner = ' '.join(words[words.index('{') + 1:-1])
-            self.insist(OF_STATEMENTS % self.translated(inner))
-        except NoCounterpart:
-            pass
-        if self.kept_lines:
-            self.insist(KEPT_STATEMENTS % its)
-        return '' if self.scope.receiver else 'receiver %s;' % its
 
     def of_semaphore(self, name: str) -> str:
         """A semaphore whose count is incremented or decremented."""
@@ -402,6 +420,8 @@ class Statements(Declarations, Calls, Control):
             sign += '='
         if sign not in ASSIGNS:
             raise NoCounterpart
+        if sign == '=' and name not in self.scope.kinds and self.structure(name):
+            return self.of_structures(name, self.expression())
         variable = self.variable(name)
         if sign == ':=':
             self.why('`=` assigns.')
@@ -424,6 +444,10 @@ class Statements(Declarations, Calls, Control):
         if right.kind == 'choice' and sign == '=':
             self.end('')
             return self.chosen(variable + ' = %s;', right)
+        power = right.parts[0] if sign == '&=' and (right.kind, right.text) == ('unary', '~') else right
+        if sign in ('|=', '&=', '^=') and is_power(power) and self.writer.turns is not None and (
+                sign != '&=' or power != right):
+            return self.of_power(sign, variable, self.writer.text(power))
         if sign in ('|=', '&=') and is_one(self.bits_set(sign, right)):
             return self.of_bit(sign, variable, self.bits_set(sign, right) or 0)
         if len(sign) > 1 and sign not in ('==', ':='):
@@ -435,6 +459,16 @@ class Statements(Declarations, Calls, Control):
         """The bits that `|=` sets or `&=` clears, if they are known."""
         bits = bits_of(mask)
         return bits if bits is None or sign == '|=' else MOST - bits
+
+    def of_power(self, sign: str, variable: str, bit: str) -> str:
+        """One bit, given by a variable, that is set, cleared or turned around."""
+        self.end('')
+        self.why(OF_ONE_BIT)
+        test = '((%s / %s) %% 2)' % (variable, bit)
+        sets, clears = ('{ %s = (%s %s %s); }' % (variable, variable, it, bit) for it in '+-')
+        if sign == '^=':
+            return 'if %s %s else %s' % (test, clears, sets)
+        return 'if !%s %s' % (test, sets) if sign == '|=' else 'if %s %s' % (test, clears)
 
     def of_bit(self, sign: str, variable: str, bit: int) -> str:
         """One bit that is set or cleared."""

@@ -1,0 +1,28 @@
+"""Times in parts of a second: none becomes 0, and their ratios stay."""
+import unittest
+
+from motesim.scenario.faults import find_fault
+from test_structures import LINES, by_messages
+
+
+class Seconds(unittest.TestCase):
+    def test_a_short_time_is_not_zero_and_all_times_have_the_ticks_of_c(self) -> None:
+        sets = '    etimer_set(&t, CLOCK_SECOND / 16);\n    etimer_set(&t, 2 * CLOCK_SECOND);\n    x = clock_seconds();'
+        text, messages = by_messages(LINES % ('  etimer t;', sets))
+        self.assertIsNone(find_fault(text.encode()))
+        for line in ('set t (128 / 16); // CLOCK_SECOND is 128', 'set t (2 * 128); // CLOCK_SECOND is 128',
+                     'x = (now / 128); // CLOCK_SECOND is 128'):
+            self.assertIn(line, text)
+        self.assertIn('so a second has 128 moments here, as in C.', messages)
+
+    def test_a_constant_has_the_ticks_of_c_too(self) -> None:
+        text, _ = by_messages('#define RETRY (CLOCK_SECOND / 32)\n' + LINES % ('  etimer t;', '    set t retry;'))
+        self.assertIn('var retry = 4;', text)
+
+    def test_other_times_stay_with_10_moments(self) -> None:
+        text, _ = by_messages(LINES % ('  etimer t;', '    etimer_set(&t, CLOCK_SECOND / 10);'))
+        self.assertIn('set t (10 / 10);', text)
+
+
+if __name__ == '__main__':
+    unittest.main()
