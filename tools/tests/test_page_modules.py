@@ -7,7 +7,7 @@ import unittest
 from pathlib import Path
 from typing import Any
 
-from here import TOOLS
+from here import TOOLS, TOP
 import skips
 import test_summary
 import test_timeline
@@ -28,6 +28,8 @@ TESTS = sorted((TOOLS / 'tests/page').glob('*.test.js'))
 CASES = 'ring_overflows', 'nine_copies_collide', 'runaway_beside_another', 'copy_past_the_end'
 # Lines whose chains are compared: mote and place in its trace.
 CHAINS = [(0, 12), (0, 9), (0, 17), (0, 15), (1, 7), (1, 4)]
+# In tests/cases/motes/broadcast_walk.toml, the place of the line `drop`.
+DROPPED = 10
 
 
 def node(test: unittest.TestCase, *words: str, **variables: str) -> str:
@@ -115,19 +117,28 @@ def given() -> dict[str, Any]:
     scenario = test_summary.SCENARIO.replace('talker = ""', 'talker = "%s"' % program)
     scenario = scenario.replace('hearer = ""', 'hearer = "%s"' % program)
     sums = Run('sums', Report.parse(test_summary.REPORT), Scenario.parse(scenario))
+    walk = TOP / 'tests/cases/motes/broadcast_walk'
+    dropped = Run('dropped', Report.parse(walk.with_suffix('.expected').read_bytes()),
+                  Scenario.parse(walk.with_suffix('.toml').read_bytes()))
     runs = {'small_network': test_timeline.small_network(), 'small': small, 'many': many, 'silent': silent,
-            'sums': sums, **{name: test_timeline.case(name) for name in CASES}}
-    assert small.scenario
-    source = Source('small', test_why.REPORT.encode(), small.scenario)
-    chains = [{'row': source.traces.row(At(*where)),
-               'because': ['mote %d: %s' % (hop.where.mote, hop.because) for hop in chain(source, At(*where))]}
-              for where in CHAINS]
+            'sums': sums, 'dropped': dropped, **{name: test_timeline.case(name) for name in CASES}}
+    chains = [{'name': 'small', **it} for it in chains_of(small, CHAINS)]
+    chains += [{'name': 'dropped', **it} for it in chains_of(dropped, [(0, DROPPED)])]
     series = list(Series(Traces(test_summary.REPORT.encode()), 5, 10).rows())
     return {
         'kinds': list(KINDS), 'words': {'colours': COLOURS, 'naming': NAMING},
         'runs': {name: run_given(run) for name, run in runs.items()},
-        'chains': {'name': 'small', 'chains': chains}, 'series': {'name': 'sums', 'by': 5, 'rows': series},
+        'chains': chains, 'series': {'name': 'sums', 'by': 5, 'rows': series},
     }
+
+
+def chains_of(run: Run, places: list[tuple[int, int]]) -> list[dict[str, Any]]:
+    """The reasons that tools/why reports for the lines at these places."""
+    assert run.scenario
+    source = Source(run.name, run.report.text().encode(), run.scenario)
+    return [{'row': source.traces.row(At(*where)),
+             'because': ['mote %d: %s' % (hop.where.mote, hop.because) for hop in chain(source, At(*where))]}
+            for where in places]
 
 
 def run_given(run: Run) -> dict[str, Any]:

@@ -505,6 +505,42 @@ class Pages(unittest.TestCase):
         self.assertGreater(seen[1], seen[0])
         self.assertEqual(seen[2], 0)
 
+    def test_the_name_of_a_run_covers_no_mark_and_no_value(self) -> None:
+        turn = ('{0} post {1} collector_main msg 1\n{0} take {1} collector_main\n{0} print collector_main 12345\n'
+                '{0} print collector_main 54321\n{0} post {2} echo msg 1\n{0} take {2} echo\n{0} send {1} 1\n'
+                '{0} send {2} 1\n')
+        lines = ''.join(turn.format(4 * at + at % 3, 2 * at, 2 * at + 1) for at in range(60))
+        log = ''.join('%d 0 %d 1\n' % (4 * (at // 2) + at // 2 % 3, at) for at in range(120))
+        self.open(Run('names', Report.parse('mote 0 p\n0 start collector_main\n0 start echo\n%smedium\n%sleft 0\n' % (
+            lines, log)), None))
+        names = 0
+        for moments in 2, 3, 4, 6, 9, 14, 20, 30, 45, 70:
+            self.value('(Object.assign(m.time, {scale: m.time.width / %d, begin: 20}), 1)' % moments)
+            seen = self.value('''(() => {
+              const c = pane.context, texts = [], marks = [];
+              c.fillText = (text, x, y) => texts.push({text, x, y, wide: c.measureText(text).width});
+              c.drawImage = (image, x, y, w, h) => marks.push({x: x + w * 0.2, wide: w * 0.6, y: y + h / 2});
+              m.drawAll();
+              delete c.fillText;
+              delete c.drawImage;
+              const its = texts.filter(it => it.x > pane.gutter && /^(collector_main|echo|12345|54321)$/.test(it.text));
+              const covers = (one, it) => one !== it && Math.abs(one.y - it.y) < 5 && one.x < it.x + it.wide - 1 &&
+                one.x + one.wide > it.x + 1;
+              return [its.filter(it => it.text === 'echo').length,
+                      its.filter(it => [...marks, ...its].some(one => covers(one, it))).length];
+            })()''')
+            names += seen[0]
+            self.assertEqual(seen[1], 0, moments)
+        self.assertGreater(names, 0)
+
+    def test_values_without_room_are_counted(self) -> None:
+        prints = ''.join('%d print a %d\n' % (at + at % 3, 10_000 + at) for at in range(1, 400, 4))
+        self.open(Run('prints', Report.parse('mote 0 p\n0 start a\n%smedium\nleft 0\n' % prints), None))
+        said = self.value('document.getElementById("drawn").textContent')
+        self.assertRegex(said, r'[0-9]+ values not drawn beside a mark, because there is no room: zoom in')
+        self.value('(Object.assign(m.time, {scale: m.time.width / 20, begin: 0}), m.drawAll(), 1)')
+        self.assertNotIn('no room', self.value('document.getElementById("drawn").textContent'))
+
     def test_the_shares_of_two_opposite_losses_are_apart(self) -> None:
         text = (TOP / 'examples/small_network.toml').read_text() + ''.join(
             '[[loss]]\nfrom = %d\nto = %d\nevery = %d\n' % it for it in ((1, 0, 991), (2, 1, 997), (1, 2, 1013)))

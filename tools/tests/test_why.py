@@ -24,7 +24,7 @@ from motesim.why.callers import Callers
 from motesim.why.chain import MOST_CALLS, Explainer, as_json, cause_of, chain, on_values, path_of, places
 from motesim.why.command import show_chain
 from motesim.why.diverge import diverged
-from motesim.why.fate import fate_of
+from motesim.why.fate import after_post, fate_of
 from motesim.why.lines_of_file import ScenarioFile
 from motesim.why import miss
 from motesim.why.miss import _Misses, misses
@@ -615,7 +615,8 @@ code p {
                       '`if (n > 4)` was tested twice, and was never true, the last time at 20', words)
         self.assertIn('line 11: `print 5` was never reached from 0 to 1; the statement was reached once later, at 3',
                       self.misses('mote 0 prints p 5 by 1', run))
-        self.assertIn('line 11: `print 5` was reached once, at 3', self.misses('mote 0 prints p 5 twice', run))
+        self.assertIn('line 11: `print 5` was reached once, at 3; line 11: `if fired(u)` was tested twice, and was '
+                      'not true the last time, at 20', self.misses('mote 0 prints p 5 twice', run))
 
     def test_a_packet_that_another_wait_took(self) -> None:
         """Mote 0 sends 7, 8 and 9. Mote 1 takes 7 at its first wait, and 8 while it waits for its timer."""
@@ -662,6 +663,130 @@ code p { etimer t; body {
                 self.assertEqual([it.words for it in found], wanted)
                 for it in found:
                     self.assertRegex(run.traces.text(cast(At, run.traces.at_row(it.row))), r'^[0-9]+ take [0-9]+ p$')
+
+    def test_a_value_that_stopped_at_another_hop_has_a_hint(self) -> None:
+        text = '''version = 2
+end = 60
+medium = { range = 10, base = 2, per = 100, collide = false }
+mote = [{ x = 0, y = 0, program = "p" }, { x = 8, y = 0, program = "p" }, { x = 16, y = 0, program = "p" }]
+loss = [{ from = %d, to = %d, every = 1 }]
+[programs]
+p = """process p; autostart p; receiver p; code p { body {
+  if (self == 0) { send 7; }
+  while 1 { yield_until is(packet); if (from < self) { print data; send data; } }
+} }"""
+'''
+        hint = '`tools/log net.toml --value %d` shows all lines with the value %d'
+        for link, value, is_shown in ((0, 1), 7, True), ((1, 2), 7, False), ((0, 1), 8, False):
+            with self.subTest(link=link, value=value), tempfile.TemporaryDirectory() as folder:
+                (Path(folder) / 'net.toml').write_text(text % link)
+                words = [sys.executable, '-B', str(TOOLS / 'why'), 'net.toml', 'mote 2 prints p %d' % value]
+                done = subprocess.run(words, cwd=folder, capture_output=True, text=True)
+                self.assertEqual((done.returncode, hint % (value, value) in done.stdout), (1, is_shown), done)
+
+    def taken(self, text: str, question: str) -> list[str]:
+        """The near misses that are about packets which a process took."""
+        run = Source('test', answer(text.encode()).report, Scenario.parse(text))
+        asker = Asker(run)
+        missing = asker.about(question)
+        assert isinstance(missing, Missing)
+        found = [it for it in misses(asker, missing)[0][1] if it.kind == 'taken']
+        for it in found:
+            self.assertRegex(run.traces.text(cast(At, run.traces.at_row(it.row))), r'^[0-9]+ take [0-9]+ p$')
+        return [it.words for it in found]
+
+    def test_a_condition_that_kept_a_packet_from_the_statement(self) -> None:
+        """Mote 0 sends 1, 3 and 3. Mote 1 prints 1."""
+        text = '''version = 2
+end = 40
+medium = { range = 10, base = 2, per = 100, collide = false }
+mote = [{ x = 0, y = 0, program = "sends" }, { x = 5, y = 0, program = "p" }]
+[programs]
+sends = """process a; autostart a;
+code a { etimer t; body {
+  send 1; set t 10; yield_until fired(t); send 3; set t 10; yield_until fired(t); send 3;
+} }"""
+p = """process p; autostart p; receiver p;
+code p { var n = 0; etimer t; body { set t 30; while 1 {
+  WAIT;
+  if fired(t) { print n; }
+  BRANCH
+} } }"""
+'''
+        one = 'packet 1 of mote 0, with the value 3, was sent at 10: p took it at 12, '
+        two = 'p took 2 packets with the value 3, the last at 22 (packet 2 of mote 0), '
+        ended = 'and the packet ended the wait at line 3: `%s`'
+        inner = 'if (data == (n + 1)) { n = data; print n; }'
+        false = 'but line 5: `if (data == (n + 1))` was false'
+        for wait, branch, wanted, by_15 in (
+                ('yield', inner, two + false + ' each time', one + false),
+                ('yield_until is(packet)', inner, two + false + ' each time', one + false),
+                ('yield', 'if (data > (n + 1)) { n = 1; } else { n = data; print n; }',
+                 two + 'but line 5: `if (data > (n + 1))` was true each time', None),
+                ('yield', 'if (is(packet) && (n == 0)) { if (data == (n + 1)) { n = data; print n; } }',
+                 two + 'but line 5: `if (is(packet) && (n == 0))` was false each time', None),
+                # (a statement that always prints another number is none of those that could print 3)
+                ('yield', 'if (data == 7) { print 5; } ' + inner, two + false + ' each time', None),
+                ('yield', 'if (n > 7) { print data; } ' + inner, two + false + ' each time and line 5: `if (n > 7)` '
+                 'was false each time', None),
+                # (the condition on the timer is false by nature)
+                ('yield', 'n = 1;', one + ended % 'yield', one + ended % 'yield')):
+            scenario = text.replace('WAIT', wait).replace('BRANCH', branch)
+            with self.subTest(wait=wait, branch=branch):
+                self.assertEqual(self.taken(scenario, 'mote 1 prints p 3')[0], wanted)
+                if by_15:
+                    self.assertEqual(self.taken(scenario, 'mote 1 prints p 3 by 15'), [by_15])
+                self.assertEqual(self.taken(scenario, 'mote 1 prints p 3 by 5'), [])
+        skips = text.replace('WAIT', 'yield').replace('BRANCH', inner)
+        self.assertIn('line 5: `print n` was reached once, at 2; line 5: `if (data == (n + 1))` was tested 3 times '
+                      'from 0 to 25, and was not true the last time, at 22', self.misses(
+                          'mote 1 prints p 3 by 25', Source('test', answer(skips.encode()).report,
+                                                            Scenario.parse(skips))))
+
+    def test_the_condition_comes_before_copies_with_other_values(self) -> None:
+        """Mote 6 misses message 2, and refuses the four copies of message 3."""
+        text = (TOP / 'examples' / 'flooding.toml').read_text().replace('(data > newest)', '(data == (newest + 1))')
+        text += ''.join('[[loss]]\nfrom = %d\nto = 6\nevery = 2\n' % it for it in (5, 11, 7, 1))
+        said = self.misses('mote 6 prints flood 3', Source('test', answer(text.encode()).report, Scenario.parse(text)))
+        self.assertEqual(said[1], 'flood took 4 packets with the value 3, the last at 132 (packet 2 of mote 11), but '
+                         'line 20: `if (is(packet) && (data == (newest + 1)))` was false each time')
+        self.assertRegex(said[2], r'^4 copies did not reach a process here; ')
+
+    def test_a_timer_whose_event_did_not_end_a_wait_for_a_packet(self) -> None:
+        """The wait tests only packets, and `if fired(t)` after it is reached only with a packet."""
+        text = '''version = 2
+end = 100
+medium = { range = 10, base = 2, per = 100, collide = false }
+mote = [{ x = 0, y = 0, program = "p" }, { x = 5, y = 0, program = "q" }]
+[programs]
+p = """process p; autostart p; receiver p;
+code p { etimer t; etimer u; body {
+  set u 3;
+  set t 20;
+  while 1 {
+    yield_until is(packet);
+    print data;
+    if fired(t) { send 2; reset t; }
+  }
+} }"""
+q = """process q; autostart q; code q { etimer t; body { %s } }"""
+'''
+        for sends, wanted in (
+                ('set t 10; yield_until fired(t); send 7; ', '1 event of timer t did not end the wait at line 6: '
+                 '`yield_until is(packet)` when p took this event, at 20; this wait does not test `fired(t)`'),
+                ('send 7; ', '1 event of timer t did not end the wait at line 6')):
+            report = answer((text % sends).encode()).report
+            run = Source('test', report, Scenario.parse(text % sends))
+            asker = Asker(run)
+            missing = asker.about('mote 0 prints p exactly 3 times')
+            assert isinstance(missing, Missing)
+            found = misses(asker, missing)[0][1]
+            timers = [it for it in found if it.kind == 'timer']
+            # (nothing tests `fired(u)`, so its event is of no use)
+            self.assertEqual(len(timers), 1)
+            self.assertTrue(timers[0].words.startswith(wanted), timers)
+            self.assertEqual(run.traces.text(cast(At, run.traces.at_row(timers[0].row))), '20 take 2 p')
+            self.assertFalse([it for it in found[:found.index(timers[0])] if it.is_rest])
 
     def test_a_process_that_ran_when_its_mote_halted_does_not_wait(self) -> None:
         """The call that halts has no end, so the end of the call before it doesn't show where the process waits."""
@@ -942,6 +1067,15 @@ class Runs(unittest.TestCase):
         self.assertIn('it halted at 0; line 6: `while 1` repeated 4998 times in this call, and nothing in its block '
                       'waited: a `yield`, or a `yield_until` with the next event, lets the process wait there',
                       self.near('runaway.toml', 'mote 0 prints a 9'))
+
+    def test_an_event_for_a_process_that_is_not_on_the_process_list(self) -> None:
+        run = self.run_of('broadcast.toml')
+        self.assertEqual(because(run, At(0, 10)), 'event 0 was dropped: b was not on the process list')
+        self.assertIn('event 0 was dropped at 0, because c was not on the process list',
+                      self.near('processes.toml', 'mote 0 prints c 1'))
+        left = source(report=REPORT.replace('7 take 0 h', '7 drop 0 h'))
+        self.assertEqual(after_post(left, At(1, 5)).words,
+                         'its event was dropped at 7, because h was not on the process list')
 
     def test_the_tree(self) -> None:
         """The reading of mote 9 goes by 3 and 6 to the root.

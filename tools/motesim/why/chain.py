@@ -211,7 +211,7 @@ class Explainer:
                 self.replay.trace[link.line].split(' ')[3:1:-1])
         if link.how == 'posted':
             if kind == 'drop':
-                return 'event %s was dropped: %s was not running' % (words[2], words[3])
+                return 'event %s was dropped: %s was not on the process list' % (words[2], words[3])
             later = int(words[0]) - int(self.replay.trace[link.line].partition(' ')[0])
             return 'event %s was next in the queue%s' % (
                 words[2], ', %s after it was posted' % count(later, 'moment') if later else '')

@@ -3,6 +3,7 @@ from __future__ import annotations
 
 import argparse
 import json
+import shlex
 import sys
 
 from motesim.faults import Fault
@@ -11,7 +12,7 @@ from motesim.why.chain import Hop, as_json, chain, on_values, path_of, rows
 from motesim.why.diverge import diverged
 from motesim.why.diverge import rows as parted_rows
 from motesim.why.miss import as_json as missed
-from motesim.why.miss import misses
+from motesim.why.miss import misses, value_elsewhere
 from motesim.why.miss import rows as near_rows
 from motesim.why.question import Asked, Asker, Missing
 from motesim.why.source import Source, read_source
@@ -120,6 +121,10 @@ def show_why(source: Source, asked: argparse.Namespace) -> int:
         near = misses(asker, found)
         print(json.dumps({'question': asked.question, **missed(found, near)}, indent=1) if asked.json else
               '\n'.join(near_rows(found, near)))
+        value = value_elsewhere(asker, found, near)
+        if value is not None and not asked.json:
+            print('\n`tools/log %s --value %d` shows all lines with the value %d, and so the last mote that has it' % (
+                shlex.quote(asked.file), value, value))
         if asked.other is not None:
             show_other(asker, found, asked)
         return 1

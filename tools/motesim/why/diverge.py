@@ -4,8 +4,9 @@ from __future__ import annotations
 from bisect import bisect_left, bisect_right
 from typing import NamedTuple
 
+from motesim.faults import Fault
 from motesim.report import FIELDS
-from motesim.why.chain import Hop, chain
+from motesim.why.chain import Hop, cause_of, chain
 from motesim.why.fate import after_post, after_recv, fate_of
 from motesim.why.source import At, Source
 
@@ -47,8 +48,9 @@ def counterpart(one: Source, other: Source, hop: Hop, there: At) -> At | None:
     """The line of another run that corresponds to a hop; `there` is the line of the other run for the hop's cause.
 
     It is the arrival or the end of the same packet or event, or otherwise a line with the same words, except for the
-    numbers of its event and its packet. If a moment has several such lines, the one with the same rank counts. The
-    head of a mote corresponds to the head of the mote with the same number, even if their programs have other names.
+    numbers of its event and its packet, and with `there` as its cause. If a moment has several such lines, the one with
+    the same rank counts. The head of a mote corresponds to the head of the mote with the same number, even if their
+    programs have other names.
     """
     where = hop.where
     if where.mote >= other.traces.motes:
@@ -60,13 +62,27 @@ def counterpart(one: Source, other: Source, hop: Hop, there: At) -> At | None:
         place = other.traces.arrivals(where.mote).get((there.mote, number_of(other, there)))
         places = [] if place is None else [place]
     elif hop.how == 'posted':
-        found = after_post(other, there).where
+        found = after_post(other, there, words[-1]).where
         places = [found.place] if found else []
     else:
-        own = one.traces.lines(where.mote)
-        rank = [uncounted(own[it]) for it in places_at(own, hop.at) if it < where.place].count(words)
-        places = [it for it in places_at(lines, hop.at) if uncounted(lines[it]) == words][rank:]
+        cause = cause_of(one, where)
+        rank = [it for it in alike(one, hop, words) if cause_of(one, it) == cause].index(where)
+        places = [it.place for it in alike(other, hop, words) if cause_there(other, it) == there][rank:]
     return At(where.mote, places[0]) if places and uncounted(lines[places[0]]) == words else None
+
+
+def alike(source: Source, hop: Hop, words: list[str]) -> list[At]:
+    """The lines of a run with the mote and moment of a hop, and with these words."""
+    lines = source.traces.lines(hop.where.mote)
+    return [At(hop.where.mote, it) for it in places_at(lines, hop.at) if uncounted(lines[it]) == words]
+
+
+def cause_there(other: Source, where: At) -> At | None:
+    """The cause of a line of the other run; a fault names its file."""
+    try:
+        return cause_of(other, where)
+    except Fault as fault:
+        raise Fault('%s: %s' % (other.name, fault)) from None
 
 
 def number_of(source: Source, send: At) -> int:
@@ -94,11 +110,16 @@ def instead(one: Source, other: Source, hop: Hop, there: At) -> str:
         if packet:
             return fate_of(other, packet[0], packet[1].split(' '), hop.where.mote).words
     if hop.how == 'posted' and there.place >= 0:
-        return after_post(other, there).words
+        return after_post(other, there, words[-1]).words
     if hop.how == 'packet' and there.place >= 0:
         return after_recv(other, there).words
     if hop.where.mote >= other.traces.motes:
         return 'there is no mote %d: the motes are 0 to %d' % (hop.where.mote, other.traces.motes - 1)
+    for it in alike(other, hop, uncounted(one.traces.text(hop.where))):
+        cause = cause_there(other, it)
+        if cause is not None and cause != there:
+            return 'line %d is the same, but it has another cause: line %d, `%s`' % (
+                other.traces.row(it), other.traces.row(cause), other.traces.text(cause))
     lines = other.traces.lines(hop.where.mote)
     turn = [line for line in lines if line.startswith(words[0] + ' ')]
     if not turn:

@@ -28,24 +28,40 @@ class Fate(NamedTuple):
         return self.how not in ('taken', 'waiting')
 
 
-def after_post(source: Source, post: At) -> Fate:
-    """The fate of an event that was posted."""
+def after_post(source: Source, post: At, process: str = '') -> Fate:
+    """The fate of an event that was posted. An event for all has a fate for each process, so `process` names one."""
     lines = source.traces.lines(post.mote)
     serial = lines[post.place].split(' ')[2]
+    walked = -1
     for place in range(post.place + 1, len(lines)):
         words = lines[place].split(' ')
-        if words[1] in ('take', 'drop') and words[2] == serial:
+        if words[1] not in ('take', 'drop'):
+            continue
+        if words[2] == serial and process in ('', words[3]):
             where, at = At(post.mote, place), int(words[0])
             if words[1] == 'take':
                 return Fate('taken', '%s took it at %d' % (words[3], at), at, where, source.traces.row(where))
-            return Fate('dropped', 'its event was dropped at %d, because %s was not running' % (at, words[3]), at,
-                        where, source.traces.row(where))
+            said = 'its event was dropped at %d, because %s was not on the process list' % (at, words[3])
+            return Fate('dropped', said, at, where, source.traces.row(where))
+        if words[2] == serial:
+            walked = place
+        elif walked >= 0:
+            return _without(source, At(post.mote, walked), process)
     last = lines[-1].split(' ')
     if last[1] == 'halt':
         return Fate('halted', 'mote %d halted at %s, before its event was taken' % (post.mote, last[0]), int(last[0]),
                     At(post.mote, len(lines) - 1), source.traces.row(At(post.mote, len(lines) - 1)))
+    if walked >= 0:
+        return _without(source, At(post.mote, walked), process)
     return Fate('waiting', 'its event is still in the queue at the end', source.scenario.end, post,
                 source.traces.row(post))
+
+
+def _without(source: Source, walked: At, process: str) -> Fate:
+    """The fate of an event for all at a process that the event didn't reach."""
+    at = source.traces.moment(walked)
+    return Fate('dropped', 'its event did not reach %s at %d, because %s was not on the process list' % (
+        process, at, process), at, walked, source.traces.row(walked))
 
 
 def after_recv(source: Source, recv: At) -> Fate:

@@ -1,8 +1,8 @@
 """The near misses of a line that a sentence wants but that doesn't exist.
 
 They are found in the trace, in the log of the medium, or in the replay of the mote: a line that is too late or has
-another value, a copy that was lost, a packet that a process took at another wait, a process that wasn't running, a
-condition that wasn't true, a neighbour that didn't send.
+another value, a copy that was lost, a packet that a process took at another wait, a process that wasn't on the process
+list, a condition that wasn't true, a neighbour that didn't send.
 """
 from __future__ import annotations
 
@@ -14,12 +14,15 @@ from motesim.judge.sentences import Does, Value
 from motesim.report import Report
 from motesim.why.callers import Callers, times
 from motesim.why.chain import count, in_words, used_up
-from motesim.why.consumed import Consumed, consumed, in_a_wait, in_one_wait
+from motesim.why.consumed import (
+    Consumed, Ignored, because_of, consumed, ignored_in_one_wait, ignored_timers, in_a_wait, in_one_wait, kept,
+    kept_from,
+)
 from motesim.why.fate import Fate, fate_of
 from motesim.why.question import ENDLESS, Asker, Missing
 from motesim.why.replay import Reached, Replay
 from motesim.why.source import At, Found, Source
-from motesim.why.translate import Program
+from motesim.why.translate import Around, Program
 
 MOST_COPIES, MOST_OTHERS = 8, 3
 
@@ -54,6 +57,7 @@ class _Misses:
         self.lines = self.source.traces.lines(mote)
         self.replay: Replay | None = None
         self.called: Callers | None = None
+        self.took: list[tuple[Consumed, tuple[Around, ...]]] | None = None
 
     def found(self) -> Iterator[Miss]:
         """All misses, the nearest first."""
@@ -65,8 +69,10 @@ class _Misses:
             yield from self.other_values()
         yield from self.halted()
         yield from self.refused()
-        yield from self.copies()
-        yield from self.consumed()
+        packets = [*self.kept(), *self.copies(), *self.consumed()]
+        yield from (it for it in packets if not it.is_rest)
+        yield from self.timers()
+        yield from (it for it in packets if it.is_rest)
         yield from self.process()
         yield from self.statements()
         yield from self.silent()
@@ -151,7 +157,7 @@ class _Misses:
                 found.append((int(words[4]) in values, place, 'the event %s %s for %s was refused at %s, because the '
                               'queue was full' % (words[3], words[4], words[2], words[0])))
             elif words[1] == 'drop' and words[3] == name:
-                found.append((False, place, 'event %s was dropped at %s, because %s was not running' % (
+                found.append((False, place, 'event %s was dropped at %s, because %s was not on the process list' % (
                     words[2], words[0], name)))
         for is_wanted, place, said in sorted(found)[-MOST_OTHERS:]:
             yield Miss('full' if ' was refused ' in said else 'dropped', said,
@@ -195,28 +201,68 @@ class _Misses:
                        'was sent at %s: %s' % (count(len(lost[False]), 'copy', 'copies'), others, words[2], words[1],
                                                words[0], fate.words), fate.row or row, is_rest=True)
 
+    def taken(self) -> list[tuple[Consumed, tuple[Around, ...]]]:
+        """Packets that a process took without writing the line, each with the conditions that kept it from the line.
+        Only for packets with a wanted value are these conditions looked up."""
+        if self.took is None:
+            self.took = []
+            if self.kind in ('print', 'send') and any(' recv ' in line for line in self.lines):
+                replay, values = self.replayed(), self.values()
+                own = {it.where.place for it in self.missing.found if it.where.mote == self.mote}
+                for it in consumed(replay, self.processes(self.program()), self.end):
+                    if it.value not in values:
+                        self.took.append((it, ()))
+                    elif own.isdisjoint(it.lines):
+                        self.took.append((it, kept(replay, it, self.kind, values) if it.is_end else ()))
+        return self.took
+
+    def kept(self) -> Iterator[Miss]:
+        """Packets with a wanted value that a process took while a condition kept it from the statement."""
+        found = dict[tuple[int, int, tuple[Around, ...]], list[Consumed]]()
+        for it, conditions in self.taken():
+            if conditions:
+                found.setdefault((it.process, it.value, conditions), []).append(it)
+        for (_, _, conditions), its in sorted(found.items(), key=lambda it: it[1][-1].at)[-MOST_OTHERS:]:
+            last, replay = its[-1], self.replayed()
+            words = kept_from(replay, its, conditions) if len(its) > 1 else '%s: %s took it at %d, %s' % (
+                self.packet(last), replay.program.processes[last.process].name, last.at,
+                because_of(replay, conditions))
+            yield Miss('taken', words, self.source.traces.row(At(self.mote, last.lines.start)), True)
+
+    def packet(self, it: Consumed) -> str:
+        """A packet that a process took, and the moment at which it was sent, in words."""
+        sent = self.source.traces.send_of(it.sender, it.number)
+        return '%s, with the value %d, was sent at %d' % (
+            it.name(), it.value, self.source.traces.moment(sent) if sent else 0)
+
     def consumed(self) -> Iterator[Miss]:
-        """Packets that a process took without writing the line: the last few with a wanted value; and those with other
-        values that didn't end the wait of the process."""
-        if self.kind not in ('print', 'send') or not any(' recv ' in line for line in self.lines):
-            return
-        replay, values = self.replayed(), self.values()
-        own = {it.where.place for it in self.missing.found if it.where.mote == self.mote}
+        """Packets that a process took without writing the line, and no condition is known that kept it from the line:
+        the last few with a wanted value; and those with other values that didn't end the wait of the process."""
+        values = self.values()
         wanted, others = list[Consumed](), dict[int, list[Consumed]]()
-        for it in consumed(replay, self.processes(self.program()), self.end):
-            if it.value in values and own.isdisjoint(it.lines):
+        for it, conditions in self.taken():
+            if it.value in values and not conditions:
                 wanted.append(it)
             elif not it.is_end and it.value not in values:
                 others.setdefault(it.wait, []).append(it)
         for it in wanted[-MOST_COPIES:]:
-            sent = self.source.traces.send_of(it.sender, it.number)
-            yield Miss('taken', '%s, with the value %d, was sent at %d: %s' % (
-                it.name(), it.value, self.source.traces.moment(sent) if sent else 0, in_a_wait(replay, it)),
-                self.source.traces.row(At(self.mote, it.lines.start)), True)
+            yield Miss('taken', '%s: %s' % (self.packet(it), in_a_wait(self.replayed(), it)),
+                       self.source.traces.row(At(self.mote, it.lines.start)), True)
         for its in sorted(others.values(), key=len)[-MOST_OTHERS:]:
             more = '' if not values else ' with another value' if len(its) == 1 else ' with other values'
-            yield Miss('taken', in_one_wait(replay, its, more),
+            yield Miss('taken', in_one_wait(self.replayed(), its, more),
                        self.source.traces.row(At(self.mote, its[-1].lines.start)), is_rest=True)
+
+    def timers(self) -> Iterator[Miss]:
+        """Events of timers that a process took at a wait that tests another thing: the last one of each timer at each
+        wait."""
+        if self.kind not in ('print', 'send') or not any(' timer ' in line for line in self.lines):
+            return
+        replay, found = self.replayed(), dict[tuple[int, str], list[Ignored]]()
+        for it in ignored_timers(replay, self.processes(self.program()), self.end):
+            found.setdefault((it.wait, it.timer), []).append(it)
+        for its in sorted(found.values(), key=lambda its: its[-1].at)[-MOST_OTHERS:]:
+            yield Miss('timer', ignored_in_one_wait(replay, its), self.source.traces.row(At(self.mote, its[-1].line)))
 
     def silent(self) -> Iterator[Miss]:
         """Neighbours from which nothing arrived, because they sent nothing."""
@@ -256,7 +302,7 @@ class _Misses:
         return [it.number for it in program.processes]
 
     def process(self) -> Iterator[Miss]:
-        """A process that wasn't running."""
+        """A process that wasn't on the process list."""
         if self.kind not in ('print', 'take') or len(self.pattern) < 2:
             return
         name, there, row, at = self.pattern[1], False, 0, 0
@@ -297,7 +343,7 @@ class _Misses:
         time = span_in_words(self.missing.span) if outside else ''
         words = '%s was %s%s' % (in_words(program, number), self.reached(len(here)), time)
         if here:
-            return Miss('reached', words + ', at ' + self.moments(here))
+            return Miss('reached', words + ', at ' + self.moments(here) + self.kept_last(program, replay, number))
         for around in program.statement(number).around:
             every = [it for it in replay.reached if it.statement == around.number and it.holds is not None]
             tests, wanted = self.inside(every), 'false' if around.is_else else 'true'
@@ -311,6 +357,18 @@ class _Misses:
                 break
         reason = self.callers(program).reason(number)
         return Miss('condition' if reason else 'reached', words + reason + outside)
+
+    def kept_last(self, program: Program, replay: Replay, number: int) -> str:
+        """The outermost condition that kept the mote from a statement the last time in the time of the sentence."""
+        for around in program.statement(number).around:
+            every = [it for it in replay.reached if it.statement == around.number and it.holds is not None]
+            tests = self.inside(every)
+            if tests and tests[-1].holds == around.is_else:
+                time = span_in_words(self.missing.span) if len(tests) < len(every) else ''
+                return '; %s was tested %s%s, and was not %s the last time, at %d' % (
+                    in_words(program, around.number), times(len(tests)), time,
+                    'false' if around.is_else else 'true', tests[-1].at)
+        return ''
 
     def outside_of(self, its: list[Reached]) -> str:
         """The moments outside the time of the sentence at which a statement was reached."""
@@ -368,6 +426,18 @@ def misses(asker: Asker, missing: Missing) -> list[tuple[int, list[Miss]]]:
     return [(mote, list(_Misses(asker, missing, mote).found())) for mote in missing.motes[:MOST_OTHERS]]
 
 
+def value_elsewhere(asker: Asker, missing: Missing, found: list[tuple[int, list[Miss]]]) -> int | None:
+    """A value that a mote lacks and that other motes sent, if no near miss of this mote is about this value: the value
+    may have stopped on its way over several hops."""
+    for mote, its in found:
+        if not any(it.is_wanted for it in its):
+            for value in sorted(_Misses(asker, missing, mote).values()):
+                packets = asker.source.traces.packets(rb'\d+ \d+ %d(?: .*)?' % value)
+                if any(int(text.split(' ')[1]) != mote for _, text in packets):
+                    return value
+    return None
+
+
 def as_json(missing: Missing, found: list[tuple[int, list[Miss]]]) -> dict[str, Any]:
     """The near misses for programs."""
     return {
@@ -390,4 +460,4 @@ def rows(missing: Missing, found: list[tuple[int, list[Miss]]]) -> list[str]:
     return lines
 
 
-__all__ = ['Miss', 'as_json', 'misses', 'rows']
+__all__ = ['Miss', 'as_json', 'misses', 'rows', 'value_elsewhere']

@@ -89,12 +89,14 @@ class Called(NamedTuple):
 
     waits   at the end: the numbers of the statements at which it waits, from its body into its threads; none if it has
             ended, or if it is a process of the system
+    place   the number of statements and conditions in `Replay.reached` before it
     """
     lines: int
     at: int
     frame: Frame
     is_end: bool
     waits: tuple[int, ...] = ()
+    place: int = 0
 
 
 class Reached(NamedTuple):
@@ -264,13 +266,13 @@ class Replay:
         self.frame = frame = Frame(process, event, word, sender, how, line, before, row)
         self.unit()
         self.state[process], self.current, self.is_busy[process] = 2, process, True
-        self.calls.append(Called(self.lines, self.now, frame, False))
+        self.calls.append(Called(self.lines, self.now, frame, False, (), len(self.reached)))
         if self.run(process, frame) or event == 'exit':
             self.exit(process, process, 0)
         else:
             self.state[process] = 1
         self.is_busy[process] = False
-        self.calls.append(Called(self.lines, self.now, frame, True, self.waiting_at(process)))
+        self.calls.append(Called(self.lines, self.now, frame, True, self.waiting_at(process), len(self.reached)))
         self.frame, self.current = before, current
 
     def calls_of(self, process: int, end: int) -> list[Called]:

@@ -6,15 +6,20 @@ import {chartOf} from '../../motesim/timeline/page/chart.js';
 import {given, runOf} from './data.js';
 
 test('chains are those of tools/why', async () => {
-  const run = await runOf(given.chains.name);
-  for (const {row, because} of given.chains.chains) {
-    const {hops} = await chainOf(run, run.atRow(row).line);
-    assert.deepEqual(hops.map(hop => `mote ${hop.mote}: ${hop.because}`), because, `row ${row}`);
+  for (const {name, row, because} of given.chains) {
+    const run = await runOf(name), {hops} = await chainOf(run, run.atRow(row).line);
+    assert.deepEqual(hops.map(hop => `mote ${hop.mote}: ${hop.because}`), because, `row ${row} of ${name}`);
   }
 });
 
+test('a dropped event names the process that was not on the process list', async () => {
+  const {name, row} = given.chains.find(it => it.name === 'dropped'), run = await runOf(name);
+  const {hops} = await chainOf(run, run.atRow(row).line);
+  assert.equal(hops[0].because, 'event 0 was dropped: b was not on the process list');
+});
+
 test('the critical path sums up what a chain waited for', async () => {
-  const run = await runOf(given.chains.name), {hops} = await chainOf(run, run.atRow(28).line);
+  const run = await runOf('small'), {hops} = await chainOf(run, run.atRow(28).line);
   assert.equal(pathOf(hops), 'Critical path: 7 moments: 4 waiting for timers; 3 on the way, over 1 hop.');
 });
 
@@ -24,7 +29,7 @@ test('a run without causes says why', async () => {
 });
 
 test('the chart has a lifeline for each mote and a circle for each hop, and escapes what it is given', async () => {
-  const run = await runOf(given.chains.name), {hops} = await chainOf(run, run.atRow(28).line);
+  const run = await runOf('small'), {hops} = await chainOf(run, run.atRow(28).line);
   run.name = '<a> & "b"';
   const svg = chartOf(run, hops);
   assert.equal(svg.match(/class="life"/g).length, 2);

@@ -27,7 +27,7 @@ function hopOf(run, line) {
   } else if (kind === TAKE || kind === DROP) {
     hop.wait = hop.waited ? 'queue' : '';
     hop.because = kind === TAKE ? `event ${run.x[line]} was next in the queue` :
-      `event ${run.x[line]} was dropped: ${run.process(run.p[line])} was not running`;
+      `event ${run.x[line]} was dropped: ${run.process(run.p[line])} was not on the process list`;
     if (hop.waited) hop.because += `, ${count(hop.waited, 'moment')} after it was posted`;
   } else if (!text && cause >= 0 && run.kind[cause] === RECV) {
     hop.because = `the radio process hands on packet ${run.x[cause]} of mote ${run.p[cause]}`;

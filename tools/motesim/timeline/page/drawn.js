@@ -27,6 +27,9 @@ function drawnInWords(pane, isOneOfTwo) {
   if (drawn.thinned) {
     words.push(`${count(drawn.thinned, 'mark')} not drawn: less than a pixel or two from another of their form.`);
   }
+  if (drawn.unlabelled) {
+    words.push(`${count(drawn.unlabelled, 'value')} not drawn beside a mark, because there is no room: zoom in.`);
+  }
   if (drawn.low) words.push(`${count(drawn.low, 'mark')} of events and runs not drawn in lanes this low (T).`);
   if (drawn.copies > drawn.arrows) {
     const rest = `${drawn.about ? 'about ' : ''}${(drawn.copies - drawn.arrows).toLocaleString('en')}`;

@@ -57,26 +57,38 @@ function putLabel(pane, text, x, y, colour) {
   if (x <= pane.width) pane.label = {text, x, y, colour, end: x + text.length * 6.4};
 }
 
-/** Draws the label that is kept if the next mark begins after it, and drops it if that mark would cover it. */
+/** Keeps the name of a run's process like a label, unless it would cover the label that is kept. */
+function putName(pane, {name, x, y}) {
+  if (!pane.label || x >= pane.label.end || Math.abs(y - pane.label.y) >= 9) putLabel(pane, name, x, y, 'run-ink');
+}
+
+/** Draws the label that is kept if the next mark begins after it. Drops and counts it if that mark would cover it. */
 function settleLabel(pane, x, y) {
   if (!pane.label) return;
   if (x >= pane.label.end) drawLabel(pane);
-  else if (Math.abs(y - pane.label.y) < 9) pane.label = null;
+  else if (Math.abs(y - pane.label.y) < 9) {
+    if (pane.label.colour !== 'run-ink') pane.drawn.unlabelled++;
+    pane.label = null;
+  }
 }
 
 function drawLabel(pane) {
   if (!pane.label) return;
   const c = pane.context, {text, x, y, colour} = pane.label;
   pane.label = null;
-  c.strokeStyle = colours.paper;
-  c.lineWidth = 3;
-  c.lineJoin = 'round';
-  c.strokeText(text, x, y);
+  // (the name of a process is in a box of one colour)
+  if (colour !== 'run-ink') {
+    c.strokeStyle = colours.paper;
+    c.lineWidth = 3;
+    c.lineJoin = 'round';
+    c.strokeText(text, x, y);
+  }
   c.fillStyle = colours[colour];
   c.fillText(text, x, y);
 }
 
-/** Draws the boxes of a turn's runs. A run goes from a start or take to the next. */
+/** Draws the boxes of a turn's runs, and notes the names of processes that fit into them. A run goes from a start or
+ * take to the next. */
 function drawRuns(pane, mote, from, to, xOf) {
   const {run, context: c} = pane, y = pane.lineY(START, mote), tall = Math.max(5, pane.lane * 0.2),
     wide = time.scale >= APART;
@@ -97,10 +109,7 @@ function drawRuns(pane, mote, from, to, xOf) {
     c.fillStyle = colours.run;
     c.fillRect(left, y - tall / 2, right - left, tall);
     const name = run.process(run.p[i]);
-    if (right - left > name.length * 6.6 + 14 && tall > 10) {
-      c.fillStyle = colours['run-ink'];
-      c.fillText(name, left + 12, y);
-    }
+    if (right - left > name.length * 6.6 + 14 && tall > 10) pane.names.set(i, {name, x: left + 12, y});
   }
 }
 
@@ -124,6 +133,7 @@ function drawLane(pane, mote) {
   const top = pane.laneTop(mote), {kind, at} = run;
   pane.marks = new Map();
   pane.label = null;
+  pane.names = new Map();
   pane.runEnd = -99;
   drawn.lines += to - from;
   pane.context.font = '11px system-ui, "DejaVu Sans", sans-serif';
@@ -150,6 +160,7 @@ function drawLane(pane, mote) {
         putLabel(pane, String(run.w[line]), x + r + 2, y, 'print');
       } else if (k === HALT && pane.lane >= 14) putLabel(pane, 'halts', x + r * 1.6 + 3, y, 'trouble');
       if (isFull && form === 'silent') putMark(pane, 'timer', x, pane.lineY(TAKE, mote), r, line);
+      if (pane.names.has(line)) putName(pane, pane.names.get(line));
     }
     i = end;
   }
@@ -199,7 +210,8 @@ function drawFound(pane, from, to) {
 export function drawPane(pane) {
   const c = pane.context;
   pane.hits = [];
-  pane.drawn = {lines: 0, thinned: 0, low: 0, strokes: 0, rings: 0, asColours: false, copies: 0, arrows: 0};
+  pane.drawn = {lines: 0, thinned: 0, low: 0, strokes: 0, rings: 0, unlabelled: 0, asColours: false, copies: 0,
+    arrows: 0};
   c.fillStyle = colours.paper;
   c.fillRect(0, 0, pane.width, pane.height);
   const [from, to] = pane.lanesInView();
