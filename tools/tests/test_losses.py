@@ -1,7 +1,12 @@
 """Losses: those in step with a sender's rhythm, prime periods for links, and losses by chance in a program."""
+from __future__ import annotations
+
 import itertools
+import operator
 import re
 import unittest
+from array import array
+from functools import cache
 from math import comb
 from pathlib import Path
 from statistics import correlation, fmean
@@ -181,9 +186,9 @@ class Resonances(unittest.TestCase):
         text = ' '.join((TOP / 'docs/use/EXPERIMENTS.md').read_text().split())
         self.assertEqual((resonance.REPEATED, resonance.FREQUENT, resonance.LEAST_PACKETS, resonance.RARE,
                           resonance.MORE, resonance.LEAST_TOGETHER), (3, 1 / 8, 5, 0.001, 1.8, 2))
-        for words in ('A value that the mote sends at least 3 times is a kind', 'at least an eighth of the packets',
+        for words in ('each value that the mote sends at least 3 times', 'at least an eighth of the packets',
                       'A kind counts if it has at least 5 packets', 'the sender sends at least 10 packets in the run',
-                      'with a probability below 0.001 / m', 'at least 1.8 times as many packets of the kind',
+                      'by chance is below 0.001 / m', 'at least 1.8 times as many packets of the kind',
                       'k is at least 2, and', 'k is at least 5, and at least 1.8 times the expected number n * p'):
             self.assertIn(words, text)
 
@@ -234,6 +239,8 @@ ASSIGNED = re.compile(r'(\w+) = (\(.*\));')
 DRAWING = {'docs/use/EXPERIMENTS.md': 'dice', 'examples/studies/density.mote': 'dice',
            'examples/studies/flooding.mote': 'seed', 'examples/studies/trickle.mote': 'seed'}
 STEP = '((dice * 25173) + 13849)'
+# The pattern's second variable, and the sum that it compares with the limit.
+SECOND, SUM = '((luck * 225) % 239)', '(dice + (luck * 257))'
 # How many receivers and packets a run has, and the limit of the state below which a packet is lost.
 CONFIGURATIONS = [(motes, packets, limit) for motes, packets in (
     (4, 25), (8, 100), (20, 50), (50, 20), (99, 100), (8, 1_000)) for limit in (3_277, 6_554, 13_107, 32_768)]
@@ -254,15 +261,39 @@ def mixing_of(file: str) -> list[str]:
     return found
 
 
+DICE = [0]
+while len(DICE) < WORD:
+    DICE.append((DICE[-1] * 25_173 + 13_849) % WORD)
+LUCK = [1]
+while (another := LUCK[-1] * 225 % 239) != 1:
+    LUCK.append(another)
+
+
+@cache
+def draws() -> array[int]:
+    """The sums that the pattern compares, in the order in which it draws them: each pair of `dice` and `luck` once."""
+    pairs = zip(itertools.cycle(DICE), itertools.islice(itertools.cycle(LUCK), len(DICE) * len(LUCK)))
+    return array('H', (dice + luck * 257 & WORD - 1 for dice, luck in pairs))
+
+
+@cache
+def lost_below(limit: int) -> bytes:
+    """For each draw of the cycle, and of the beginning of the next cycle, whether the packet is lost."""
+    return bytes(map(limit.__gt__, itertools.chain(draws(), draws()[:2_000])))
+
+
+@cache
+def lost_before(limit: int) -> array[int]:
+    """For each draw, how many packets the draws before it have lost."""
+    return array('I', itertools.accumulate(lost_below(limit), initial=0))
+
+
 class Cycle:
-    """The states of the generator in their order, and how many of them lose a packet."""
+    """The places of the cycle of draws at which motes begin."""
 
     def __init__(self, mixing: list[str]) -> None:
         self.mixing = [compile(it.replace('${seed}', 'seed').replace(' / ', ' // '), it, 'eval') for it in mixing]
-        self.states = [0]
-        while len(self.states) < WORD:
-            self.states.append((self.states[-1] * 25_173 + 13_849) % WORD)
-        self.places = {state: place for place, state in enumerate(self.states)}
+        self.places = {DICE[place % WORD]: place for place in range(0, len(draws()), len(LUCK))}
 
     def first(self, mote: int, seed: int) -> int:
         """The place of a mote's first state."""
@@ -270,10 +301,6 @@ class Cycle:
         for code in self.mixing:
             dice = eval(code, {'self': mote, 'seed': seed, 'dice': dice}) % WORD
         return self.places[dice]
-
-    def lost(self, limit: int) -> list[bool]:
-        """Returns whether the packet at each place is lost, for two rounds."""
-        return [state < limit for state in self.states] * 2
 
 
 class Measured(NamedTuple):
@@ -292,8 +319,7 @@ class Measured(NamedTuple):
 
 def measured(cycle: Cycle, motes: int, packets: int, limit: int) -> Measured:
     """What a configuration has over all seeds."""
-    part, lost = limit / WORD, cycle.lost(limit)
-    sums = [0, *itertools.accumulate(lost)]
+    part, lost, sums = limit / WORD, lost_below(limit), lost_before(limit)
     places = [[cycle.first(mote, seed) for mote in range(1, motes + 1)] for seed in range(1, SEEDS + 1)]
     runs = [sum(sums[it + 1 + packets] - sums[it + 1] for it in its) for its in places]
     true, variance = motes * packets * part, motes * packets * part * (1 - part)
@@ -312,7 +338,9 @@ class ByChance(unittest.TestCase):
     def test_all_programs_mix_their_seeds_in_the_same_way(self) -> None:
         page = mixing_of('docs/use/EXPERIMENTS.md')
         self.assertEqual(len(page), 4)
-        self.assertIn('dice = %s;' % STEP, (TOP / 'docs/use/EXPERIMENTS.md').read_text('utf-8'))
+        text = (TOP / 'docs/use/EXPERIMENTS.md').read_text('utf-8')
+        for it in 'var luck = 1;', 'dice = %s;' % STEP, 'luck = %s;' % SECOND, 'if (%s >= ${limit}) {' % SUM:
+            self.assertIn(it, text)
         for file in DRAWING:
             self.assertEqual(mixing_of(file), page, file)
         for suggested in WISHES['random'], NO_CHANCE:
@@ -337,34 +365,44 @@ class ByChance(unittest.TestCase):
         self.assertIn('    dice = (((self * 257) + ${seed}) + 128);\n', page)
         pairs = [(mote, seed) for mote in range(255) for seed in range(1, 129)]
         for limit in 6_554, 32_768:
-            lost = self.cycle.lost(limit)
+            lost = lost_below(limit)
             one, other = ([lost[self.cycle.first(mote, seed + more) + packet] for mote, seed in pairs[::17]
                            for packet in range(1, 41)] for more in (0, 128))
             self.assertLess(abs(correlation(one, other)), 0.02)
         self.assertEqual(len({(mote * 257 + seed + more) % WORD for mote, seed in pairs for more in (0, 128)}),
                          2 * len(pairs))
 
-    def test_the_rate_over_all_states_is_exact(self) -> None:
-        self.assertEqual(len(self.cycle.places), WORD)
+    def test_the_rate_over_the_cycle_is_exact(self) -> None:
+        self.assertEqual((len(self.cycle.places), len(draws())), (WORD, 7_798_784))
         for limit in 3_277, 6_554, 32_768:
-            self.assertEqual(sum(self.cycle.lost(limit)[:WORD]), limit)
+            self.assertEqual(sum(lost_below(limit)[:len(draws())]), limit * len(LUCK))
 
-    def test_losses_in_a_row_are_as_likely_as_by_chance(self) -> None:
-        for limit in 6_554, 19_661:
-            lost, part = self.cycle.lost(limit), limit / WORD
-            for apart in range(1, 9):
-                both = sum(one and other for one, other in zip(lost[:WORD], lost[apart:])) / WORD
-                self.assertAlmostEqual(both, part * part, delta=0.02 * part)
+    def test_pairs_of_losses_are_as_frequent_as_by_chance(self) -> None:
+        lost, part = lost_below(6_554), 6_554 / WORD
+        for apart in range(1, 9):
+            both = sum(map(operator.and_, lost[:len(draws())], lost[apart:])) / len(draws())
+            self.assertAlmostEqual(both / part ** 2, 1, delta=0.001)
+
+    def test_series_of_losses_are_as_frequent_as_by_chance(self) -> None:
+        # (the page has these limits; a cycle has about 8 million * part ** k series of k losses)
+        for limit in 655, 1_311, 1_966, 3_277, 6_554, 9_830, 19_661:
+            lengths = [len(it) for it in re.findall(rb'\x01{2,}', lost_below(limit)[:len(draws())])]
+            for length in range(2, 7):
+                by_chance = len(draws()) * (limit / WORD) ** length
+                found = sum(it - length + 1 for it in lengths if it >= length)
+                for least, most in (500, 0.02), (50, 0.2):
+                    if by_chance >= least:
+                        self.assertAlmostEqual(found / by_chance, 1, delta=most, msg=(limit, length))
 
     def test_motes_and_runs_lose_as_by_chance(self) -> None:
         # (250 seeds of true chance have a variance of 1 +- 0.18 in 19 of 20 configurations, and a lag of 0 +- 0.13)
         found = [measured(self.cycle, *it) for it in CONFIGURATIONS]
         for it, configuration in zip(found, CONFIGURATIONS):
             with self.subTest(configuration=configuration):
-                self.assertTrue(0.8 < it.spread < 1.25 and 0.95 < it.within < 1.06, it)
-                self.assertTrue(-0.1 < it.lag < 0.2 and it.covers >= 0.87, it)
-        for name, least, most in (('spread', 0.97, 1.03), ('within', 0.98, 1.03), ('lag', -0.02, 0.02),
-                                  ('covers', 0.94, 0.96)):
+                self.assertTrue(0.82 < it.spread < 1.18 and 0.95 < it.within < 1.05, it)
+                self.assertTrue(-0.13 < it.lag < 0.13 and it.covers >= 0.87, it)
+        for name, least, most in (('spread', 0.97, 1.03), ('within', 0.98, 1.03), ('lag', -0.03, 0.03),
+                                  ('covers', 0.94, 0.98)):
             mean = fmean(getattr(it, name) for it in found)
             self.assertTrue(least <= mean <= most, (name, mean))
 
@@ -373,7 +411,7 @@ class ByChance(unittest.TestCase):
         cycle = Cycle(mixing_of('docs/use/EXPERIMENTS.md')[:1])
         few, many = measured(cycle, 50, 20, 13_107), measured(cycle, 99, 100, 32_768)
         self.assertTrue(few.spread < 0.2 and few.within < 0.2, few)
-        self.assertTrue(many.spread > 1.9 and many.within > 1.5 and many.lag > 0.6 and many.covers < 0.65, many)
+        self.assertTrue(many.spread > 1.8 and many.within > 1.5 and many.lag > 0.6 and many.covers < 0.65, many)
 
     def test_the_program_draws_the_same(self) -> None:
         need_program(self)
@@ -382,7 +420,7 @@ class ByChance(unittest.TestCase):
         files = Files(Path(), {'chance.mote': parts['chance.mote'].encode()})
         text = Plan('chance.plan.toml', parts['chance.plan.toml'], files).scenario({'seed': 7})
         report = Report.parse(Runner(program_path(), Limits(60)).answer(text.encode()).report)
-        lost = self.cycle.lost(6_554)
+        lost = lost_below(6_554)
         for mote in range(1, 9):
             first = self.cycle.first(mote, 7)
             kept = [packet for packet in range(1, 101) if not lost[first + packet]]

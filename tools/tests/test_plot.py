@@ -61,6 +61,16 @@ class PlotTest(unittest.TestCase):
         self.assertEqual(one.stdout.split('\n')[0],
                          'sent against period, only runs with density=thin and seed=2')
 
+    def test_options_that_only_a_picture_needs_are_named_if_there_is_none(self) -> None:
+        words = '--measure', 'sent', '--against', 'period', '--by', 'density'
+        for more, wanted in ((('--title', '', '--y', 'packets'), '--title and --y have no effect on a table'),
+                             (('--footer', 'a', '--label', 'thin=few', '--size', 'column', '--y-limits', '0:9'),
+                              '--footer, --label, --size and --y-limits have no effect on a table'),
+                             (('--x', 'period'), '--x has no effect on a table')):
+            done = self.plot(*words, *more)
+            self.assertEqual((done.returncode, done.stderr), (0, 'plot: %s: add -o FILE for a picture\n' % wanted))
+        self.assertEqual(self.plot(*words, '--log').stderr, '')
+
     def test_empty_values_are_left_out(self) -> None:
         done = self.plot('--measure', 'late', '--against', 'density', '--over', 'seed,period')
         self.assertIn('left out: 6 runs without a value of late: 3 at density dense; 3 at density thin\n', done.stdout)
@@ -160,6 +170,8 @@ class PlotTest(unittest.TestCase):
              '--compare needs a second file: net.csv is the first side already'),
             (('--measure', 'sent', '--against', 'density', '--where', 'period=7'), 'period has: 1, 2, 3, 10'),
             (('--measure', 'sent', '--against', 'density', '--where', 'period=1,7'), 'these values: period=7; '),
+            (('--measure', 'sent', '--against', 'density', '--where', 'period=1,2,seed=1'),
+             'each name needs its own --where: --where period=1,2 --where seed=1'),
             (('--measure', 'sent', '--against', 'density', '--where', 'period=3', '--where', 'seed=4'),
              'no runs with these values together: period=3, seed=4'),
             (('--measure', 'sent', '--against', 'period', '-o', 'a.gif'), 'SVG, PDF or PNG'),
@@ -214,7 +226,7 @@ class PlotTest(unittest.TestCase):
         self.assertEqual(found[0][1][:4], ['thin', '1', '3', '12.0'])
         self.assertIn('>sparse<', (self.folder / 'a.svg').read_text())
         self.assertEqual((found[1][0][1], found[1][1][1]), ('pairs', '2'))
-        self.assertIn('sent against period, only runs with density=thin: other less net, run by run',
+        self.assertIn('sent against period, only runs with density=thin, over seed: other less net, run by run',
                       (self.folder / 'c.svg').read_text())
         for words, seen in (('pair = "a=1,2"\ncompare = "b.csv"\n', 'A plot has one comparison.'),
                             ('pair = "a=1,2"\nshow = "points"\n', 'a plot without `show`'),

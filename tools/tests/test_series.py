@@ -4,6 +4,7 @@ import io
 import subprocess
 import sys
 import unittest
+from unittest import mock
 
 from here import TOOLS, TOP
 import skips
@@ -13,6 +14,7 @@ from motesim.report import Report
 from motesim.runner.run import Run, answer
 from motesim.scenario import Scenario
 from motesim.summary.counts import summary
+from motesim.summary.flows import Message, flow_rows_by
 from motesim.why.series import NAMES, Series
 from motesim.why.source import Traces
 
@@ -91,6 +93,23 @@ class Runs(unittest.TestCase):
                           for it in found],
                          [('0', '59', '1', '1', '3', '24'), ('60', '119', '1', '1', '3', '24'),
                           ('120', '179', '1', '1', '3', '24')])
+
+    def test_the_time_of_flows_by_interval_is_linear(self) -> None:
+        """Each message is looked at a few times, not once for each interval."""
+        seen = 0
+
+        class Counted(Message):
+            def __getattribute__(self, name: str) -> object:
+                nonlocal seen
+                seen += name == 'at'
+                return super().__getattribute__(name)
+
+        found = {value: Counted(0, value) for value in range(1000)}
+        empty = Report.parse('mote 0 p\nmedium\nleft 0\n')
+        with mock.patch('motesim.summary.flows.messages', return_value=found):
+            its = flow_rows_by(empty, None, 'recv', 1)
+        self.assertEqual([it['sent'] for it in its], [1] * 1000)
+        self.assertLess(seen, 10 * len(found))
 
     def test_the_command(self) -> None:
         shown = subprocess.run([sys.executable, str(TOOLS / 'summary'), 'examples/small_network.toml', '--by', '5',

@@ -107,7 +107,8 @@ class Estimates(unittest.TestCase):
         found = estimates.mean_of([1.0] * 9 + [0.4], 0.95, 'bootstrap-t', 'share')
         self.assertAlmostEqual(found.low or 0, estimates.wilson(0.94, 10, 0.95).low or 0, delta=1e-12)
         for factor, seen in (1, "an end of 1 interval by bootstrap-t is that of Wilson's score"), (
-                3, 'no interval for 1 mean by bootstrap-t: too many of its draws have equal runs'):
+                3, 'no interval for 1 mean by bootstrap-t: too many of its draws have equal runs, and so no standard '
+                   'error; make more runs, or leave out --interval'):
             rows: list[Row] = [{**row(1, seed, value), 'ratio': factor * value} for seed, value in enumerate(values)]
             wish = Wish('ratio', 'period', show='mean', interval='bootstrap-t')
             shown = remarks(shown_of(rows, wish), wish)
@@ -201,8 +202,8 @@ def curve_of(values: Sequence[tuple[float, Sequence[float]]], keys: Sequence[Seq
 
 class Crossings(unittest.TestCase):
     def test_the_place_by_hand(self) -> None:
-        self.assertEqual(place([(0, 0), (10, 5), (20, 10)], 7.5), (15, True, (10, 20), 1, False))
-        self.assertEqual(place([(0, 1), (4, 0)], 0.25), (3, False, (0, 4), 0, False))
+        self.assertEqual(place([(0, 0), (10, 5), (20, 10)], 7.5), (15, True, (10, 20), 1, False, False))
+        self.assertEqual(place([(0, 1), (4, 0)], 0.25), (3, False, (0, 4), 0, False, False))
         self.assertIsNone(place([(0, 1), (4, 2)], 3))
         self.assertIsNone(place([(0, 1), (4, 0)], 0.25, is_rising=True))
 
@@ -224,8 +225,12 @@ class Crossings(unittest.TestCase):
         wish = Wish('m', 'x', show='mean', threshold='0.6')
         self.assertEqual(of_crossing_in_short(found, wish), 'the mean crosses 0.6 3 times (95 %: 0 to 4)')
         self.assertEqual(of_crossing_in_short(found._replace(share=0.9), wish),
-                         'the mean crosses 0.6 3 times (95 %: 0 to 4; 90 % of the drawn curves cross)')
+                         'the mean crosses 0.6 3 times (95 %: 0 to 4; 90 % of the drawn curves cross upwards)')
         columns = columns_of_crossing(found)
+        self.assertEqual((columns['crossing direction'], columns['last crossing direction']), ('upwards', 'upwards'))
+        both = found._replace(share=0.9, places=found.places[:2])
+        self.assertIn('90 % of the drawn curves cross in both directions)', of_crossing_in_short(both, wish))
+        self.assertEqual(columns_of_crossing(both)['last crossing direction'], 'downwards')
         self.assertEqual((columns['crossings'], round(columns['last crossing'], 3), columns['last crossing low'],
                           columns['last crossing high']), (3, 3, 2, 4))
         one = crossing(curve_of([(x, [y]) for x, y in ((0, 0.0), (1, 1.0), (2, 0.0), (4, 1.0))]), 0.6, 0.95)
@@ -242,6 +247,11 @@ class Crossings(unittest.TestCase):
         assert found
         self.assertEqual([(round(it.at, 6), it.is_rising, it.gap, it.number) for it in found.places],
                          [(1.333333, True, (1, 2), 1)])
+        fall = crossing(curve_of([(x, [1 - x, 1.2 - x]) for x in (0.0, 1.0)]), 0.5, 0.95)
+        assert fall
+        self.assertEqual(columns_of_crossing(fall)['crossing direction'], 'downwards')
+        self.assertIn('; 49 % of the drawn curves cross downwards)', of_crossing_in_short(
+            fall._replace(share=0.49), Wish('m', 'x', show='mean', threshold='0.5')))
         self.assertEqual((found.low, found.high), (1, 2))
         found = crossing(curve_of([(4.0, [0.1, 0.1]), (1.0, [0.3, 0.3]), (2.0, [0.9, 0.9])]), 0.2, 0.95)
         assert found
@@ -267,7 +277,7 @@ class Crossings(unittest.TestCase):
         found = place([(10, 0), (40, 1)], 0.5, is_log=True)
         assert found
         self.assertAlmostEqual(found[0], 20)
-        self.assertEqual(place([(10, 0), (40, 1)], 0.5), (25, True, (10, 40), 0, False))
+        self.assertEqual(place([(10, 0), (40, 1)], 0.5), (25, True, (10, 40), 0, False, False))
 
     def test_an_interval_is_never_narrower_than_the_gap_between_points(self) -> None:
         found = crossing(curve_of([(x, [x / 10] * 5) for x in range(11)]), 0.45, 0.95)
@@ -546,6 +556,17 @@ class Rows(unittest.TestCase):
             'motes print the same value as a source',
             '2 of 4 runs have a warning in the column note of the results; the first (period = 1, seed = 2): in step'])
 
+    def test_warnings_about_measures_that_are_not_shown_are_left_out(self) -> None:
+        text = 'warning: several motes print the same value as a source: motes 1 and 2 print 7 (%s)'
+        rows: list[Row] = [{**row(1, seed, seed), 'note': text % 'measures arrived, flow ratio: print a'}
+                           for seed in (1, 2)]
+        for measures, count in (['arrived'], 1), (['flow ratio: print a', ''], 1), (['sent', 'period'], 0), (None, 1):
+            self.assertEqual(len(warnings_of(rows, measures=measures)), count, measures)
+        rows = [{**it, 'note': text % 'measure arrived' + '; warning: in step'} for it in rows]
+        self.assertEqual([it.rpartition(': ')[2] for it in warnings_of(rows, measures=['sent'])], ['in step'])
+        two = text % 'measure arrived' + '; ' + text % 'measure sent'
+        self.assertEqual(len(warnings_of([{**it, 'note': two} for it in rows], measures=['sent'])), 1)
+
     def test_runs_of_two_builds_have_a_line_and_can_be_separated(self) -> None:
         rows: list[Row] = [{**row(1, seed, seed), 'program_sha256': 'digest%d' % (seed > 1)} for seed in (1, 2, 3)]
         self.assertEqual(warnings_of(rows), [
@@ -659,6 +680,11 @@ class Command(unittest.TestCase):
         self.assertEqual(rows[2][-1], 'bootstrap')
         self.assertEqual(' '.join(rows[-1]), 'the bootstrap of 5 runs is too narrow: use --interval t, or 10 runs or '
                                              'more')
+        rows = self.plot('--measure', 'sent', '--against', 'period', '--show', 'mean', '--by', 'density',
+                         '--interval', 'bootstrap-t')
+        self.assertEqual(' '.join(rows[-1]), (
+            'the interval by bootstrap-t of 5 runs contains the true mean less often than its confidence says. For '
+            'skewed runs other intervals are no better, so make 10 runs or more, and 30 or more for means near 0 or 1'))
 
     def test_equal_runs_and_one_run(self) -> None:
         (self.folder / 'net.csv').write_text(HEAD + ''.join('%d,thin,%d,%d,%s,,period density seed\n' % (
@@ -803,7 +829,7 @@ class Command(unittest.TestCase):
         self.assertEqual(rows[1][:3], ['density', 'period', 'seed'])
         self.assertEqual([it[:2] for it in rows[2:20:3]], [[density, period] for density in ('dense', 'thin')
                                                            for period in ('1', '4', '8')])
-        self.assertIn('density thin, period 1: the median rises above 12 at seed 2', ' '.join(map(' '.join, rows)))
+        self.assertIn('density thin, period 1: the median rises to 12 at seed 2', ' '.join(map(' '.join, rows)))
         self.plot(*words[:6], '--by', 'perod', status=2)
         self.assertIn('there is no parameter perod; ', self.seen)
         self.plot(*words[:6], '--by', 'density', status=2)
@@ -1290,7 +1316,7 @@ class Command(unittest.TestCase):
         named = 'only runs with density=thin and seed=1..3'
         self.assertIn('sent against period, %s, over seed' % named, ' '.join(self.plot(*words)[0]))
         pair = '--measure', 'sent', '--against', 'period', '--pair', 'density=thin,dense', '--where', 'seed=1..3'
-        self.assertIn('sent against period, only runs with seed=1..3: density dense less', ' '.join(
+        self.assertIn('sent against period, only runs with seed=1..3, over seed: density dense less', ' '.join(
             self.plot(*pair)[0]))
         interpreter_with(self, 'matplotlib')
         for title in (), ('--title', 'Sent'):
@@ -1522,6 +1548,8 @@ class Command(unittest.TestCase):
         mean = '--measure', 'sent', '--against', 'period', '--where', 'on=0', '--show', 'mean', '--over', 'seed,limit'
         self.assertIn('sent against period, only runs with on=0, over limit, seed: means', ' '.join(
             self.plot(*mean)[0]))
+        self.assertIn('sent against period, only runs with limit=0, over seed: on 1 less on 0, run by run', ' '.join(
+            self.plot(*pair[:-2], '--where', 'limit=0')[0]))
         self.assertIn('sent against period, only runs with on=0, over seed, limit, averaged by net first: means',
                       ' '.join(self.plot(*mean, '--nets')[0]))
         interpreter_with(self, 'matplotlib')
@@ -1548,7 +1576,8 @@ class Command(unittest.TestCase):
         # (the means of the nets: seeds 1 to 3 and 1.5)
         rows = self.plot(*words, '--nets')
         self.assertEqual((self.seen, ' '.join(rows[0])), (
-            '', "sent against period, over seed, averaged by net first: means with intervals of 95 % by Student's t"))
+            '', 'sent against period, over seed, chance_seed, averaged by net first: means with intervals of 95 % by '
+                'Student\'s t'))
         self.assertEqual(rows[1:3], [['period', 'nets', 'runs', 'mean', 'low', 'high', 'interval'],
                                      ['1', '3', '6', '12.500', '10.016', '14.984', 't']])
         rows = self.plot('--measure', 'sent', '--against', 'seed', '--over', 'chance_seed', '--pair', 'period=1,2',

@@ -197,6 +197,10 @@ from to copies received lost ring collided halted late ratio delay
             done = self.run_it('--flow', 'print talker -> print talker', *more)
             self.assertTrue(done.stderr.startswith('summary: several motes print the same value as a source: motes 0 '
                                                    'and 1 print 7. '), done)
+            self.assertIn('. In this flow, the same lines begin messages and deliver them: the first', done.stderr)
+        done = self.run_it('--flow', 'print talker -> print talker', '--csv')
+        self.assertEqual(done.stdout.splitlines()[-1].split(',')[1:6], ['1', '1', '1.0', '1.0', '1'], done)
+        self.assertNotIn('In this flow', self.run_it('--flow', 'print talker -> recv').stderr)
 
     def test_a_flow_whose_mote_prints_a_value_twice_as_a_source_has_a_warning(self) -> None:
         # (a sequence number that wraps: four messages, of which one value arrives, and the ratio is 0.5)
@@ -234,6 +238,9 @@ from to copies received lost ring collided halted late ratio delay
         talker = Report.parse(REPORT.replace('talker', 'a').replace('mote 0 a', 'mote 0 talker'))
         with self.assertRaisesRegex(Fault, 'has no process talker; talker is a program, with: a, b$'):
             flow_rows(talker, scenario, 'print talker')
+
+    def test_the_help_says_which_events_are_dropped(self) -> None:
+        self.assertIn("events whose process wasn't on the process list", self.run_it('--help').stdout)
 
     def test_what_is_no_report_has_status_2(self) -> None:
         self.path.write_text(REPORT[:-2], encoding='ascii')

@@ -451,6 +451,30 @@ class SweepTest(Bed):
                 self.assertEqual([(row['note'], row['chance_seeds']) for row in rows],
                                  [(None, 'period'), (note if is_warned else None, 'period')])
 
+    def test_seeds_with_which_two_processes_of_a_mote_draw_alike(self) -> None:
+        first, second = 'dice = ((self * 257) + ${period});', 'dice = (((self * 257) + ${period}) + 128);'
+        source = ('process a, b;\ncode a { var dice = 0; body { %s print 3; } }\n'
+                  'code b { var dice = 0; body { %s print 4; } }\n')
+        note = ('warning: with period = %d a process draws the same numbers as another process of a mote with period = '
+                '%d, so these two runs are not independent: use at most 128 seeds in a row')
+        # (with 130 and 1, the processes of two neighbouring motes draw alike)
+        for lines, values, before in (((first, second), '1,129', 1), ((first, second), '1,130', 1),
+                                      ((first, second), '1,128', 0), ((first, second), '2,129', 0),
+                                      ((second, second), '1,129', 0)):
+            (self.folder / 'a.mote').write_text(source % lines)
+            (self.folder / 'a.csv').unlink(missing_ok=True)
+            done = self.sweep('--vary', 'period=' + values, '--measure', 'sent', '-o', 'a.csv')
+            with self.subTest(values=values, lines=lines):
+                self.assertEqual(done.returncode, 0, done)
+                last = int(values.split(',')[1])
+                warned = ('sweep: warning: period = 1 to %d: with 1 of these 2 seeds, a process draws the same numbers '
+                          'as another process of a mote with the seed %d less, so these runs are not independent: use '
+                          'at most 128 seeds in a row' % (last, last - 1))
+                self.assertEqual(warned in done.stderr, bool(before), done.stderr)
+                rows = read_results(self.folder / 'a.csv')[1]
+                self.assertEqual(rows[-1]['note'], note % (last, before) if before else None)
+                self.assertEqual(rows[-1]['chance_seeds'], 'period period+128' if lines[0] == first else 'period')
+
     def test_seeds_of_two_commands_draw_alike(self) -> None:
         source = 'process a;\ncode a { var dice = 0; body { dice = ((self * 257) + ${period}); print 3; } }\n'
         (self.folder / 'a.mote').write_text(source)
@@ -642,6 +666,24 @@ class SweepTest(Bed):
             'sweep: 3 of 3 runs have a warning in the column note; the first (period = 1): several motes print the '
             'same value as a source: motes 0 and 1 print 1. '), done)
 
+    def test_a_line_that_is_the_delivery_of_its_own_message_is_reported(self) -> None:
+        need_program(self)
+        (self.folder / 'net.plan.toml').write_text(PLAN)
+        (self.folder / 'a.mote').write_text('process a; autostart a; code a { body { print (self + ${period}); } }')
+        for words, counts in (('mote 0 prints a -> mote 0 prints a', 1), ('mote 0 prints a -> some mote prints a', 1),
+                              ('mote 0 prints a -> mote 1 prints a', 0)):
+            (self.folder / 'net.csv').unlink(missing_ok=True)
+            done = subprocess.run(self.command('--vary', 'period=1..3', '--measure', 'delivery: ' + words),
+                                  cwd=self.folder, capture_output=True, text=True)
+            self.assertEqual(done.stderr.count(
+                'sweep: 3 of 3 runs have a warning in the column note; the first (period = 1): a line counts as the '
+                'delivery of its own message: the line `0 print a 1` of mote 0 is a line of both sentences'), counts,
+                (words, done))
+        done = subprocess.run(self.command('--vary', 'period=1', '--measure',
+                                           'delay: mote 0 prints a -> mote 0 prints a'),
+                              cwd=self.folder, capture_output=True, text=True)
+        self.assertIn('both sentences are the same, so they are fulfilled at the same moment', done.stderr)
+
     def test_a_value_that_one_mote_prints_twice_is_reported_with_the_measures(self) -> None:
         need_program(self)
         (self.folder / 'net.plan.toml').write_text(PLAN)
@@ -759,6 +801,8 @@ class SweepTest(Bed):
     def test_what_is_told_before_anything_is_run(self) -> None:
         for words, seen in [
             (('--measure', 'speed'), "'speed' is not a measure"),
+            (('--measure', 'count: mote 0 prints a ${period}'), 'a measure has no parameters, so `${period}` isn\'t'),
+            (('--measure', 'flow ratio: print ${period}'), 'a measure has no parameters, so `${period}` isn\'t'),
             ((), 'there is nothing to measure'),
             (('--measure', 'moment: mote 0 prints b'), 'a process (etimer, ctimer, radio, a)'),
             (('--measure', 'sent', '--measure', 'sent'), 'two columns would have the name sent'),
@@ -850,7 +894,9 @@ class SweepTest(Bed):
         os.killpg(run.pid, signal.SIGINT)
         out, seen = run.communicate(timeout=60)
         self.assertEqual((run.returncode, out), (130, ''), seen)
-        self.assertRegex(seen, r'^sweep: stopped with [1-4] runs missing; the same command continues\n$')
+        # (a slow machine also writes lines of progress)
+        self.assertRegex(seen, r'^(?:\d of 8 runs, .*\n)*sweep: stopped with [1-4] runs missing; the same command '
+                               r'continues\n$')
         rows = self.rows()
         self.assertGreaterEqual(len(rows), 4)
         self.assertEqual(sorted(row['prints'] for row in rows if row['name'] == 'a'), ['1', '2', '3', '4'])

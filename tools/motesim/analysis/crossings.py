@@ -41,13 +41,14 @@ class Runs(NamedTuple):
 
 class Place(NamedTuple):
     """A place at which a line crosses, its direction in the order of the points, the places of the neighbouring points
-    between which it is, the lesser one first, the number of the earlier one of these points, from 0, and whether the
-    line leads to the left there."""
+    between which it is, the lesser one first, the number of the earlier one of these points, from 0, whether the line
+    leads to the left there, and whether the higher point is exactly at the threshold."""
     at: float
     is_rising: bool
     gap: tuple[float, float]
     number: int = 0
     is_leftwards: bool = False
+    is_at_point: bool = False
 
     @property
     def rises(self) -> bool:
@@ -79,13 +80,14 @@ class Crossing(NamedTuple):
 
 
 def places_of(line: Line, threshold: float, is_log: bool = False, is_log_y: bool = False) -> list[Place]:
-    """All places at which a line crosses a threshold."""
+    """All places at which a line crosses a threshold. A point at the threshold counts as above it."""
     found = []
     for number, ((x, y), (next_x, next_y)) in enumerate(zip(line, line[1:])):
         if (y < threshold) != (next_y < threshold):
             part = math.log(threshold / y) / math.log(next_y / y) if is_log_y else (threshold - y) / (next_y - y)
             at = x * (next_x / x) ** part if is_log else x + (next_x - x) * part
-            found.append(Place(at, next_y > y, (min(x, next_x), max(x, next_x)), number, next_x < x))
+            found.append(Place(at, next_y > y, (min(x, next_x), max(x, next_x)), number, next_x < x,
+                               max(y, next_y) == threshold))
     return found
 
 

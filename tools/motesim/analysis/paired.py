@@ -194,11 +194,13 @@ def _difference(pairs: Sequence[Pair], confidence: float, interval: str, kind: M
     if kind == 'yes or no' and len(pairs) > 1 and interval == AUTO:
         return difference_by_newcombe(pairs, confidence)
     found = mean_of(gaps, confidence, interval, draws=draws)
-    if interval != AUTO or kind in ('any', 'count') or found.low is None or found.high is None:
+    if interval not in (AUTO, 'bootstrap-t') or kind in ('any', 'count') or found.low is None or found.high is None:
         return found
     if -1 <= found.low and found.high <= 1:
         return found
-    return Estimate(found.runs, found.middle, max(-1.0, found.low), min(1.0, found.high), 'within pairs')
+    # (bootstrap-t keeps its name, as for a mean)
+    method = 'within pairs' if interval == AUTO else found.method
+    return Estimate(found.runs, found.middle, max(-1.0, found.low), min(1.0, found.high), method)
 
 
 def difference_by_newcombe(pairs: Sequence[Pair], confidence: float) -> Estimate:

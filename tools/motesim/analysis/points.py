@@ -190,6 +190,7 @@ class Shown(NamedTuple):
                    points in their order
     gaps           with a measure on each axis: the values of `by` and `along` at which no run has both measures
     within         if nets are averaged: the parameters of `--over` in which only the runs of one net differ
+    repeated       the parameters of repetitions with the same value in all runs
     """
     points: list[Point]
     over: list[str]
@@ -207,6 +208,7 @@ class Shown(NamedTuple):
     along: Sequence[str] = ()
     gaps: Sequence[tuple[Cell, ...]] = ()
     within: Sequence[str] = ()
+    repeated: Mapping[str, Cell] = {}
 
     @property
     def mixed(self) -> list[str]:
@@ -290,8 +292,10 @@ def repeats_of(varying: Sequence[str], over: str) -> list[str]:
     return [it for it in over.split(',') if it] or [it for it in varying if is_seed(it)]
 
 
-def check_mixture(rows: Sequence[Row], mixed: Sequence[str], repeats: Sequence[str], by: str, what: str) -> None:
-    """Refuses to mix runs that differ in a parameter that doesn't only repeat them."""
+def check_mixture(rows: Sequence[Row], mixed: Sequence[str], repeats: Sequence[str], by: str, what: str,
+                  against: str = '') -> None:
+    """Refuses to show runs together that differ in a parameter that doesn't only repeat them. The message says whether
+    the runs of a point (with one value of `by` and `against`) or only those of several points differ."""
     if not mixed:
         return
     first = mixed[0]
@@ -302,6 +306,13 @@ def check_mixture(rows: Sequence[Row], mixed: Sequence[str], repeats: Sequence[s
              '--over %s mixes them' % ','.join(dict.fromkeys([*repeats, *mixed]))]
     names = ' and '.join(['%s (%s)' % (first, shown), *mixed[1:]])
     counted = ' (repetitions are: %s)' % (', '.join(repeats) or 'none')
+    columns = [it for it in (against, by) if it]
+    groups: dict[tuple[Cell, ...], set[tuple[Cell, ...]]] = {}
+    for row in rows:
+        groups.setdefault(tuple(row[name] for name in columns), set()).add(tuple(row[name] for name in mixed))
+    if against and all(len(its) == 1 for its in groups.values()):
+        raise Fault('points would differ in %s, and not only in %s%s: %s' % (
+            names, ' and '.join(','.join(columns).split(',')), counted, ', '.join(ways)))
     raise Fault('%s would mix runs that differ in %s%s: %s' % (what, names, counted, ', '.join(ways)))
 
 
@@ -311,9 +322,9 @@ def is_repeat(name: str, over: str) -> bool:
 
 
 def mixed_in(rows: Sequence[Row], names: Sequence[str], wish: Wish) -> list[str]:
-    """Those of these parameters that a request mixes with `--over`, and in which the runs differ."""
+    """Those of these parameters that a request mixes, seeds or those of `--over`, and in which the runs differ."""
     good = [row for row in rows if not row['fault']]
-    return [name for name in names if name in wish.over.split(',') and name not in (wish.against, wish.by)
+    return [name for name in names if is_repeat(name, wish.over) and name not in (wish.against, wish.by)
             and len({row[name] for row in good}) > 1]
 
 
@@ -388,7 +399,7 @@ def check_pairs(rows: Sequence[Row], wish: Wish, kept: Sequence[str]) -> None:
     good = [row for row in rows if not row['fault']]
     varying = [name for name in kept if name not in (wish.against, wish.by) and len({row[name] for row in good}) > 1]
     repeats = repeats_of(varying, wish.over)
-    check_mixture(good, [it for it in varying if it not in repeats], repeats, wish.by, 'each point')
+    check_mixture(good, [it for it in varying if it not in repeats], repeats, wish.by, 'each point', wish.against)
 
 
 def shared_nets(rows: Sequence[Row], names: Sequence[str], measure: str) -> tuple[int, int] | None:
@@ -433,7 +444,7 @@ def shown_of(rows: Sequence[Row], wish: Wish) -> Shown:
     over = [name for name in varying if name not in (wish.against, wish.by)]
     repeats = repeats_of(varying, wish.over)
     check_mixture(good, [it for it in over if it not in repeats], repeats, wish.by,
-                  'each point' if wish.against else 'a line')
+                  'each point' if wish.against else 'a line', wish.against)
     check_plans(good, [it for it in varying if it not in repeats], wish)
     check_measures(good, wish)
     groups: dict[Place, list[tuple[float, tuple[Cell, ...]]]] = {}
@@ -456,11 +467,18 @@ def shown_of(rows: Sequence[Row], wish: Wish) -> Shown:
     return Shown(points, over, len(rows) - len(good), empty_at.total(), lacking=lacking,
                  shared=shared_nets(good, [it for it in (wish.by, wish.against) if it], wish.measure),
                  faults_at=Counter(_place(row, wish) for row in rows if row['fault']), empty_at=+empty_at,
-                 runs_at=_runs_at(good, wish), nets=_nets(good, wish))
+                 runs_at=_runs_at(good, wish), nets=_nets(good, wish), repeated=_repeated(good, wish))
 
 
 def _place(row: Row, wish: Wish) -> Place:
     return row[wish.by] if wish.by else None, row[wish.against] if wish.against else None
+
+
+def _repeated(rows: Sequence[Row], wish: Wish) -> dict[str, Cell]:
+    """The parameters of repetitions that have one value in all these runs."""
+    return {name: rows[0][name] for name in parameters_of(rows) if is_repeat(name, wish.over)
+            and name not in (wish.by, wish.against) and rows[0][name] is not None
+            and len({row[name] for row in rows}) == 1}
 
 
 def _lacking_runs(row: Row, value: float | None) -> int:
@@ -525,7 +543,7 @@ def _of_two_measures(rows: Sequence[Row], good: Sequence[Row], varying: Sequence
     return Shown(_along(groups, wish), over, len(rows) - len(good), empty, not_above_0,
                  shared=shared_nets(good, kept, wish.measure), nets=_nets(good, wish._replace(against='')),
                  lacked=[it for it in (wish.against, wish.measure) if it in lacked], along=along,
-                 gaps=[place for place, runs in groups.items() if not runs])
+                 gaps=[place for place, runs in groups.items() if not runs], repeated=_repeated(good, wish))
 
 
 def _along(groups: Mapping[tuple[Cell, ...], Sequence[_Both]], wish: Wish) -> list[Point]:

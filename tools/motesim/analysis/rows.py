@@ -108,24 +108,26 @@ def by_net(rows: Sequence[Row], wish: Wish) -> list[Row]:
     return made + [row for row in rows if row['fault']]
 
 
-def warnings_of(rows: Sequence[Row], apart: Sequence[str] = (), has_lines: bool = True) -> list[str]:
+def warnings_of(rows: Sequence[Row], apart: Sequence[str] = (), has_lines: bool = True,
+                measures: Sequence[str] | None = None) -> list[str]:
     """Lines about runs that draw the same random numbers, about runs with a warning in their notes, and about runs of
     several plans or several builds of motesim.
 
     apart      the columns by which runs are separated on purpose
     has_lines  whether `--by` can separate runs
+    measures   the shown measures, if not all are: warnings about other measures are left out
     """
     good = [row for row in rows if not row.get('fault')]
-    return [*lines_of(good), *_of_notes(good), *(line for column in (PLAN, PROGRAM) if column not in apart
-                                                 for line in _of_several(column, good, has_lines))]
+    return [*lines_of(good), *_of_notes(good, measures), *(
+        line for column in (PLAN, PROGRAM) if column not in apart for line in _of_several(column, good, has_lines))]
 
 
-def _of_notes(rows: Sequence[Row]) -> list[str]:
+def _of_notes(rows: Sequence[Row], measures: Sequence[str] | None) -> list[str]:
     """For each kind of warning in the notes of runs: a line with the number of these runs, and the first of them."""
     counts: Counter[str] = Counter()
     firsts: dict[str, tuple[Row, str]] = {}
     for row in rows:
-        for kind, text in warnings_in(row.get('note')).items():
+        for kind, text in warnings_in(row.get('note'), measures).items():
             counts[kind] += 1
             firsts.setdefault(kind, (row, END_OF_HEAD.split(text)[0]))
     names = [name for name in (parameters_of(rows) if rows else ()) if len({row[name] for row in rows}) > 1]

@@ -9,6 +9,7 @@ from functools import lru_cache
 from typing import Any
 
 from motesim.analysis.crossings import Crossing, Middle, Runs, crossing, share_that_crosses
+from motesim.analysis.crossings import Place as CrossingPlace
 from motesim.analysis.estimates import BOUNDED, DRAWS, ENOUGH_RUNS, LEAST_RUNS, NAMES, OF_ROW, RANGE
 from motesim.analysis.estimates import Estimate, is_skewed_near_an_end, words_of
 from motesim.analysis.paired import Difference, Paired, reasons
@@ -25,9 +26,16 @@ NETS, MOST_BELOW = 'nets with missing runs', 6
 
 # The columns of a comparison that no side may have as its name.
 OF_COMPARISON = 'nets', 'pairs', 'left out', 'difference', 'low', 'high', 'interval', 'greater', 'less', NETS
+# The directions of a crossing, by whether the curve rises there.
+DIRECTIONS = {True: 'upwards', False: 'downwards'}
 # The ends of the interval of a crossing beyond all points, if the axis shows a parameter, and if it shows a measure.
 OF_PARAMETER = 'before the first point', 'after the last point'
 OF_MEASURE = 'less than at any point', 'more than at any point'
+# The lines about the bootstrap of few runs, and about bootstrap-t, which is better than other methods if the runs are
+# skewed.
+FEW = 'the bootstrap of {} runs is too narrow: use --interval t, or {} runs or more'
+FEW_OF_T = ('the interval by bootstrap-t of {} runs contains the true mean less often than its confidence says. For '
+            'skewed runs other intervals are no better, so make {} runs or more, and {} or more for means near 0 or 1')
 # The methods that draw runs again.
 DRAWING = ('bootstrap', 'bootstrap-t', BOUNDED)
 # The methods whose intervals of few skewed runs are too narrow.
@@ -66,7 +74,7 @@ def rows_of_runs(shown: Shown, wish: Wish) -> list[Row]:
     """Each run as a row, with the parameters in which the runs of a point differ, such as its seed."""
     rows: list[Row] = [
         {**_of_by(point, wish), **_of_along(point, shown), **_of_run(x, wish), wish.measure: value,
-         **dict(zip(shown.over, key))} for point in shown.points
+         **shown.repeated, **dict(zip(shown.over, key))} for point in shown.points
         for x, value, key in zip(point.others or (point.against,) * len(point.values), point.values, point.keys)]
     # (the mean of a net has no value of a parameter that varies within nets)
     blank = {name for name in shown.over if all(row[name] is None for row in rows)}
@@ -127,9 +135,10 @@ def of_missing(nets: Sequence[Net], by: str, against: str, what: str, most: int 
 
 
 def _steps(curve: Curve) -> list[tuple[int, float | None]]:
-    """Each value, with the number of runs that have at most this value; a curve without values has one row, of 0
+    """Each value once, with the number of runs that have at most this value; a curve without values has one row, of 0
     runs."""
-    return [*enumerate(curve.values, 1)] if curve.values else [(0, None)]
+    last = {value: number for number, value in enumerate(curve.values, 1)}
+    return [(number, value) for value, number in last.items()] if last else [(0, None)]
 
 
 def _of_by(point: Point, wish: Wish) -> Row:
@@ -345,10 +354,9 @@ def of_intervals(estimates: Sequence[Estimate], is_drawn: bool = False, draws: i
     lines = []
     if is_drawn or any(it.method in DRAWING for it in estimates):
         lines.append(words_of(draws))
-    few = [it.runs for it in estimates if it.method in DRAWING and it.runs < LEAST_RUNS]
-    if few:
-        lines.append('the bootstrap of %d runs is too narrow: use --interval t, or %d runs or more' % (
-            min(few), LEAST_RUNS))
+    for methods, line in ((('bootstrap',), FEW), (('bootstrap-t', BOUNDED), FEW_OF_T)):
+        few = [it.runs for it in estimates if it.method in methods and it.runs < LEAST_RUNS]
+        lines += [line.format(min(few), LEAST_RUNS, ENOUGH_RUNS)] if few else []
     bounded = sum(it.method == BOUNDED for it in estimates)
     if bounded:
         lines.append('an end of %s by bootstrap-t is that of Wilson\'s score, because too many draws have nearly '
@@ -357,11 +365,15 @@ def of_intervals(estimates: Sequence[Estimate], is_drawn: bool = False, draws: i
     too_alike = sum(it.method == 'too alike' for it in estimates)
     if too_alike:
         lines.append('no interval for %s by bootstrap-t: too many of its draws have equal runs, and so no standard '
-                     'error; make more runs, or use --interval t' % some(too_alike, 'mean'))
+                     'error; make more runs, or leave out --interval, so that the tool chooses a method' % some(
+                         too_alike, 'mean'))
     alike = sum(it.method == 'alike' for it in estimates)
     if alike:
         lines.append('no interval for %d mean%s: equal runs don\'t show how far others would spread' % (
             alike, 's' if alike > 1 else ''))
+    single = sum(it.method == 'one' for it in estimates)
+    if single:
+        lines.append('no interval for %s of one run' % some(single, 'mean'))
     return lines
 
 
@@ -440,45 +452,73 @@ def crossings(shown: Shown, wish: Wish) -> list[str]:
         return parts
     shares = shares_that_cross(shown, wish)
     return [('%s: ' % wish.name_of_by(by) if wish.by else '') + of_crossing(
-        found, wish, neighbours(shown, by), shares.get(by)) for by, found in crossings_of(shown, wish).items()]
+        found, wish, neighbours(shown, by), shares.get(by), lacking(shown, by))
+        for by, found in crossings_of(shown, wish).items()]
 
 
 def crossings_in_short(shown: Shown, wish: Wish) -> list[str]:
     """The crossing of each curve in one line, for the text below a picture."""
     shares = shares_that_cross(shown, wish)
     return [('%s: ' % wish.name_of_by(by) if wish.by else '') + of_crossing_in_short(
-        found, wish, neighbours(shown, by), shares.get(by)) for by, found in crossings_of(shown, wish).items()
-    ] or crossings(shown, wish)
+        found, wish, neighbours(shown, by), shares.get(by), lacking(shown, by))
+        for by, found in crossings_of(shown, wish).items()] or crossings(shown, wish)
 
 
 def of_crossing_in_short(found: Crossing | None, wish: Wish, between: Sequence[str] = (),
-                         share: float | None = None) -> str:
+                         share: float | None = None, missing: Sequence[float] = ()) -> str:
     """The crossing of a curve, with its interval, in a few words. If there are several crossings, the range from the
     first interval to the last."""
     if found is None or found.low is None or found.high is None:
-        return of_crossing(found, wish, between, share)
+        return of_crossing(found, wish, between, share, missing)
     middle, threshold = middle_of(wish)[0], shown_threshold(wish)
     interval = '%g %%: %s to %s%s' % (wish.confidence, *_ends(*_range(found), between), _share(found))
     if found.last:
         return 'the %s crosses %s %d times (%s)' % (middle, threshold, len(found.places), interval)
-    points = ', %s' % between[found.places[0].number] if between else ''
-    return 'the %s %s %s at %s %s%s (%s)' % (middle, 'rises above' if found.places[0].rises else 'falls below',
-                                             threshold, wish.against, number_text(found.at), points, interval)
+    points = (', %s' % between[found.places[0].number] if between else '') + _lacking(found.places[0], missing)
+    return 'the %s %s %s at %s %s%s (%s)' % (middle, _way(found.places[0]), threshold, wish.against,
+                                             number_text(found.at), points, interval)
+
+
+def _way(place: CrossingPlace) -> str:
+    """The direction of a crossing, in words. A line that is at the threshold counts as above it."""
+    return 'falls below' if not place.rises else 'rises to' if place.is_at_point else 'rises above'
 
 
 def neighbours(shown: Shown, by: Cell) -> list[str]:
     """For each point of a curve but the last: this point and the next one in words, if the horizontal axis shows a
     measure and so doesn't name them."""
     its = [point.along for point in shown.points if point.by == by] if shown.along else []
-    return ['between %s %s and %s' % (shown.along[0], *map(text_of, (*one, *other)))
-            for one, other in itertools.pairwise(its)]
+    gaps = [along for of, *along in shown.gaps if of == by]
+    return ['between %s %s and %s%s' % (
+        shown.along[0], *map(text_of, (*one, *other)),
+        without([it for along in gaps for it in along if order(one[0]) < order(it) < order(other[0])]))
+        for one, other in itertools.pairwise(its)]
 
 
-def of_crossing(found: Crossing | None, wish: Wish, between: Sequence[str] = (), share: float | None = None) -> str:
+def lacking(shown: Shown, by: Cell) -> list[float]:
+    """The places on the horizontal axis, if it shows numbers of a parameter, at which no run of a curve has a
+    value."""
+    here = {it.against for it in shown.points if it.by == by}
+    its = {place for of, place in (*shown.empty_at, *shown.faults_at) if of == by and place not in here}
+    return sorted(it for it in its if isinstance(it, int | float)) if not shown.along else []
+
+
+def without(places: Sequence[Cell]) -> str:
+    """The remark on places between two neighbouring points at which no run has a value."""
+    return ' (no run has a value at %s)' % ', '.join(map(text_of, places)) if places else ''
+
+
+def _lacking(crossing: CrossingPlace, places: Sequence[float]) -> str:
+    return without([it for it in places if crossing.gap[0] < it < crossing.gap[1]])
+
+
+def of_crossing(found: Crossing | None, wish: Wish, between: Sequence[str] = (), share: float | None = None,
+                missing: Sequence[float] = ()) -> str:
     """The crossing of a curve, with its interval.
 
     between  the neighbouring points in words, if they have names
     share    for a curve that doesn't cross, the part of the drawn curves that do
+    missing  the places at which no run of the curve has a value
     """
     middle, threshold = middle_of(wish)[0], shown_threshold(wish)
     if found is None:
@@ -486,11 +526,12 @@ def of_crossing(found: Crossing | None, wish: Wish, between: Sequence[str] = (),
             'fewer than 1 %' if 0 < share < 0.005 else '%d %%' % round(100 * share))
         return 'the %s doesn\'t cross %s%s' % (middle, threshold, more)
     ways = ['%s %s at %s %s, %s' % (
-        'rises above' if it.rises else 'falls below', threshold, wish.against, number_text(it.at),
-        between[it.number] if between else 'between the points %s and %s' % tuple(map(number_text, it.gap)))
-        for it in found.places]
+        _way(it), threshold, wish.against, number_text(it.at),
+        between[it.number] if between else 'between the points %s and %s%s' % (
+            *map(number_text, it.gap), _lacking(it, missing))) for it in found.places]
     if found.low is None or found.high is None:
-        ways[-1] += '; there is no interval, because each point has one run'
+        ways[-1] += '; there is no interval, because %s one run' % (
+            'each point has' if found.sizes[1] == 1 else 'some points have only')
     if len(ways) == 1:
         lines = ['the %s %s' % (middle, ways[0])]
     else:
@@ -514,9 +555,13 @@ def _of_interval(found: Crossing, low: float, high: float, wish: Wish, between: 
 
 
 def _share(found: Crossing) -> str:
-    """The part of the drawn curves that cross, unless nearly all of them do."""
-    both = ' in both directions' if found.last and found.is_rising != found.places[-1].is_rising else ''
-    return '' if found.share > 0.995 else '; %d %% of the drawn curves cross%s' % (round(100 * found.share), both)
+    """The part of the drawn curves that cross in the directions of the reported crossings, unless nearly all of them
+    do."""
+    ends = found.places[0], found.places[-1]
+    way = 'in both directions' if found.last and found.is_rising != ends[1].is_rising else DIRECTIONS[ends[0].rises]
+    # (if a line turns back, one direction along the line may be both directions in the picture)
+    way = 'in the same direction' if any(it.is_leftwards for it in found.places) else way
+    return '' if found.share > 0.995 else '; %d %% of the drawn curves cross %s' % (round(100 * found.share), way)
 
 
 def _ends(low: float, high: float, between: Sequence[str]) -> tuple[str, str]:
@@ -539,8 +584,11 @@ def columns_of_crossing(found: Crossing | None) -> Row:
     at, low, high = (found.at, found.low, found.high) if found else (None, None, None)
     is_several = found is not None and len(found.places) > 1
     last = found.last if found and found.last else (None, None)
-    return {'crossings': len(found.places) if found else 0, 'crossing': at, 'crossing low': low, 'crossing high': high,
-            'last crossing': found.places[-1].at if found and is_several else None, 'last crossing low': last[0],
+    first, end = (DIRECTIONS[found.places[it].rises] if found else None for it in (0, -1))
+    return {'crossings': len(found.places) if found else 0, 'crossing': at, 'crossing direction': first,
+            'crossing low': low, 'crossing high': high,
+            'last crossing': found.places[-1].at if found and is_several else None,
+            'last crossing direction': end if is_several else None, 'last crossing low': last[0],
             'last crossing high': last[1]}
 
 

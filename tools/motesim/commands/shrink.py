@@ -8,25 +8,36 @@ too few lines. But the reason may then differ from the reason in your scenario. 
 
   --fault          the expectation has to hold without the fault, and to be broken with it
   --keep           these sentences have to hold after each step
-  --keep-programs  the tool changes no program
+  --keep-programs  the tool changes no program, not even its comments and lines
 
 If motes get other numbers, the tool changes their numbers in sentences and faults too. If EXPECTATION is a file, the
 tool uses the first broken sentence in this file. Without EXPECTATION, the file is NAME.expect.toml, next to the
 scenario NAME.toml.
 
 The tool writes the result to NAME.small.toml, with its expectation next to it. In the result no single further step is
-possible. After Ctrl-C the tool writes the smallest scenario so far. docs/use/SEARCH.md has an example.
+possible. This may last many minutes. After Ctrl-C, or at a limit, the tool writes the smallest scenario so far, or no
+file if it has taken no step. docs/use/SEARCH.md has an example.
 
-The tool ends with status 0, with 2 after an error, for instance if the scenario doesn't break the expectation, and with
-130 after Ctrl-C.
+The tool ends with status 0, with 2 after an error, for instance if the scenario doesn't break the expectation or if a
+limit allows no step, and with 130 after Ctrl-C.
 """
 from __future__ import annotations
 
-from motesim.faults import command
+import os
+import signal
+from types import FrameType
+
+from motesim.faults import INTERRUPTED, command
 from motesim.words import words_of
 
 # The limit of a run: that of motesim.search.one_program.
 SECONDS = 10.0
+
+
+def end_at_once(number: int, frame: FrameType | None) -> None:
+    """Ends the tool. This handles Ctrl-C while Python reads the modules of the tool."""
+    os.write(2, b'shrink: it was stopped before the first step, so no file is written\n')
+    os._exit(INTERRUPTED)
 
 
 @command('shrink')
@@ -45,8 +56,13 @@ def main() -> int:
                        help='change no program; only remove motes, losses, and programs that no mote runs, and make '
                             'numbers outside the programs smaller')
     words.add_argument('--steps', action='store_true', help='show each step')
+    words.add_argument('--most-runs', type=int, metavar='N', help='make at most N runs')
+    words.add_argument('--most-seconds', type=float, metavar='N', help='begin no more runs after N seconds')
     words.add_argument('--seconds', type=float, default=SECONDS, metavar='N',
                        help='the limit of a run, in seconds of real time (10)')
     asked = words.parse_intermixed_args()
+    # (an exception would be lost if it came during some parts of an import)
+    before = signal.signal(signal.SIGINT, end_at_once)
     from motesim.search.shrink_command import status_of
+    signal.signal(signal.SIGINT, before)
     return status_of(asked)

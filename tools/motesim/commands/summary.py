@@ -16,7 +16,7 @@ The columns of each mote, and of the net:
   ratio     the share of received copies among all copies that weren't late
   posted    events that its queue accepted
   taken     events that reached a process; an event for all processes counts once for each process
-  dropped   events whose process wasn't running
+  dropped   events whose process wasn't on the process list
   refused   events that found the queue full
   prints    lines that it printed
   halt      the moment at which it halted; for the net, the number of motes that halted

@@ -10,7 +10,7 @@ from dataclasses import dataclass
 
 from motesim.analysis.points import is_seed
 from motesim.faults import Fault
-from motesim.experiments.draws import CHANCE, seeds_of
+from motesim.experiments.draws import CHANCE, parameter_of, seeds_of
 from motesim.experiments.measures import file_of, imports_of, mote_of, processes_of_flow, read_measure
 from motesim.explain.synonyms import known
 from motesim.notation.keywords import SYSTEM
@@ -140,12 +140,13 @@ def sources_of(plan: Plan, measures: Sequence[str]) -> dict[str, str]:
 
 
 def chance_seeds(plan: Plan, files: Sequence[str]) -> list[str]:
-    """The parameters that are seeds of the pattern for chance, in these files of a plan."""
+    """The parameters that are seeds of the pattern for chance, in these files of a plan, and each with the distances
+    between the seeds of two processes, as in `seed+128`."""
     names: dict[str, None] = {}
     for file in files:
         with contextlib.suppress(Fault, ValueError):
             names.update(dict.fromkeys(seeds_of(plan.files.read(file).decode('utf-8', 'replace'))))
-    return [name for name in plan.parameters if name in names]
+    return [name for parameter in plan.parameters for name in names if parameter_of(name) == parameter]
 
 
 def unused(sweep: Sweep) -> list[str]:

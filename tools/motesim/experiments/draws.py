@@ -4,13 +4,17 @@ In the pattern a mote draws from the sum of 257 times its number and the seed. W
 draws the numbers that mote k + 1 draws with the first seed. So two runs whose seeds are a multiple of 257 apart aren't
 independent. Each row of a sweep has the names of its seeds of the pattern in the column CHANCE: so the rows show which
 runs draw the same numbers, even if several commands made the rows.
+
+If a second process of a mote draws numbers, it adds a distance to the seed, such as 128. Then the first process draws
+the numbers of the second one if its seed is greater by this distance, and so do the processes of neighbouring motes if
+the sum of the two distances is 257. For such a program the column has the distance too, as in `seed seed+128`.
 """
 from __future__ import annotations
 
 import re
-from collections.abc import Iterable, Mapping
+from collections.abc import Collection, Iterable, Mapping
 
-from motesim.experiments.measures import OWN, Cell
+from motesim.experiments.measures import OWN, OWN_LINE, Cell
 from motesim.experiments.results import Row
 from motesim.explain.halted import ALL_HALTED
 from motesim.explain.idle import IDLE
@@ -22,23 +26,28 @@ from motesim.summary.flows import SHARED, TWICE
 # A note with this beginning is about a run that has all its measures.
 WARNING = 'warning: '
 # The beginnings of warnings that a sweep counts separately: for each, it reports the number of runs that have it.
-ONCE = (SHARED, TWICE, OWN, SAME_MOMENT, IDLE, ALL_HALTED, IN_STEP, SAME_DRAWS)
+ONCE = (SHARED, TWICE, OWN, OWN_LINE, SAME_MOMENT, IDLE, ALL_HALTED, IN_STEP, SAME_DRAWS)
 # The column with the parameters that are seeds of the pattern; and the number of consecutive seeds that draw different
 # numbers.
 CHANCE, APART = 'chance_seeds', 257
-DRAWS = re.compile(r'self\s*\*\s*257\s*\)?\s*\+\s*\$\{(\w+)\}')
-ADVICE = 'use at most %d seeds in a row' % APART
+DRAWS = re.compile(r'self\s*\*\s*257\s*\)?\s*\+\s*\(?\s*\$\{(\w+)\}(?:\s*\)?\s*\+\s*(\d+))?')
+ADVICE = 'use at most %d seeds in a row'
 # The part of a note that this module writes; it is the last one.
-NOTE = re.compile(r'(?:; )?%swith \w+ = -?\d+ mote k draws .*' % re.escape(WARNING), re.S)
+NOTE = re.compile(r'(?:; )?%swith \w+ = -?\d+ (?:mote k|a process) draws .*' % re.escape(WARNING), re.S)
 
 
 def seeds_of(text: str) -> list[str]:
-    """The parameters that are seeds of the pattern in a program's text."""
-    return list(dict.fromkeys(DRAWS.findall(text)))
+    """The parameters that are seeds of the pattern in a program's text; and each with the distances between the seeds
+    of two processes, as in `seed+128`."""
+    added: dict[str, set[int]] = {}
+    for name, number in DRAWS.findall(text):
+        added.setdefault(name, set()).add(int(number or 0) % APART)
+    distances = {name: sorted({abs(one - other) for one in its for other in its} - {0}) for name, its in added.items()}
+    return [it for name, its in distances.items() for it in (name, *('%s+%d' % (name, number) for number in its))]
 
 
 class Seeds:
-    """The values of seeds of the pattern, by parameter."""
+    """The values of seeds of the pattern, by parameter, or by parameter and distance, such as `seed+128`."""
 
     def __init__(self) -> None:
         self.values: dict[str, set[int]] = {}
@@ -49,15 +58,18 @@ class Seeds:
 
     def add_row(self, row: Mapping[str, Cell]) -> None:
         for name in names_in(row):
-            self.add(name, row.get(name))
+            self.add(name, row.get(parameter_of(name)))
 
     def earlier(self, name: str) -> dict[int, int]:
-        """For each value that draws the same numbers as smaller values: the nearest of these."""
+        """For each value that draws the same numbers as smaller values: the nearest of these. For a name with a
+        distance, two different processes draw these numbers."""
         found: dict[int, int] = {}
         last: dict[int, int] = {}
+        distance = distance_of(name)
         for value in sorted(self.values.get(name, ())):
-            if value % APART in last:
-                found[value] = last[value % APART]
+            before = [last[it % APART] for it in (value - distance, value + distance) if it % APART in last]
+            if before:
+                found[value] = max(before)
             last[value % APART] = value
         return found
 
@@ -67,10 +79,29 @@ class Seeds:
         for name, values in self.values.items():
             alike = self.earlier(name)
             if alike:
-                found.append('%s = %d to %d: with %d of these %d seeds, mote k draws the same numbers as mote k + %d '
-                             'with the seed %d less, so these runs are not independent: %s' % (
-                                 name, min(values), max(values), len(alike), len(values), *apart(alike), ADVICE))
+                motes, seeds = apart(alike)
+                who = ('a process draws the same numbers as another process of a mote' if distance_of(name) else
+                       'mote k draws the same numbers as mote k + %d' % motes)
+                found.append('%s = %d to %d: with %d of these %d seeds, %s with the seed %d less, so these runs are '
+                             'not independent: %s' % (parameter_of(name), min(values), max(values), len(alike),
+                                                      len(values), who, seeds, advice_of(name)))
         return found
+
+
+def parameter_of(name: str) -> str:
+    """The parameter of a name such as `seed` or `seed+128`."""
+    return name.partition('+')[0]
+
+
+def distance_of(name: str) -> int:
+    """The distance between the seeds of two processes in a name such as `seed+128`, otherwise 0."""
+    return int(name.partition('+')[2] or 0)
+
+
+def advice_of(name: str) -> str:
+    """The number of consecutive seeds that draw different numbers, in words."""
+    distance = distance_of(name)
+    return ADVICE % min(distance or APART, APART - distance)
 
 
 def apart(alike: Mapping[int, int]) -> tuple[int, int]:
@@ -80,7 +111,7 @@ def apart(alike: Mapping[int, int]) -> tuple[int, int]:
 
 
 def names_in(row: Mapping[str, Cell]) -> list[str]:
-    """The parameters that are seeds of the pattern in a run."""
+    """The parameters that are seeds of the pattern in a run, and each with its distances."""
     return str(row.get(CHANCE) or '').split()
 
 
@@ -97,12 +128,24 @@ def without_alike(note: Cell) -> str:
     return NOTE.sub('', str(note or ''))
 
 
-def warnings_in(note: Cell) -> dict[str, str]:
-    """The first warning of each kind in a note; all warnings that aren't in ONCE are of one kind."""
+def warnings_in(note: Cell, measures: Collection[str] | None = None) -> dict[str, str]:
+    """The first warning of each kind in a note; all warnings that aren't in ONCE are of one kind.
+
+    measures  if given, warnings that are only about other measures are left out
+    """
     found: dict[str, str] = {}
-    for text in without_alike(note).split(WARNING)[1:]:
-        found.setdefault(next(filter(text.startswith, ONCE), ''), text.removesuffix('; '))
+    for part in without_alike(note).split(WARNING)[1:]:
+        text = part.removesuffix('; ')
+        if measures is None or is_about(text, measures):
+            found.setdefault(next(filter(text.startswith, ONCE), ''), text)
     return found
+
+
+def is_about(text: str, measures: Collection[str]) -> bool:
+    """Returns whether a warning of a note is about one of these measures, or about the run, not about measures."""
+    _, begin, names = text.rpartition(' (measure')
+    its = ', %s, ' % names.removeprefix('s').removesuffix(')').strip()
+    return not begin or not text.endswith(')') or any(', %s, ' % it in its for it in measures)
 
 
 def of_warned(count: int, runs: int) -> str:
@@ -123,10 +166,12 @@ class Notes:
         """The note of a row, which doesn't depend on the order in which the rows were made."""
         parts = [without_alike(row.get('note'))]
         for name in names_in(row):
-            value = row[name]
+            parameter = parameter_of(name)
+            value = row[parameter]
             before = self.alike.get(name, {}).get(value) if type(value) is int else None
             if before is not None and type(value) is int:
-                parts.append('%swith %s = %d mote k draws the same numbers as mote k + %d with %s = %d, so these two '
-                             'runs are not independent: %s' % (WARNING, name, value, (value - before) // APART, name,
-                                                               before, ADVICE))
+                who = ('a process draws the same numbers as another process of a mote' if distance_of(name) else
+                       'mote k draws the same numbers as mote k + %d' % ((value - before) // APART))
+                parts.append('%swith %s = %d %s with %s = %d, so these two runs are not independent: %s' % (
+                    WARNING, parameter, value, who, parameter, before, advice_of(name)))
         return '; '.join(filter(None, parts))

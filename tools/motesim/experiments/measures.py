@@ -33,7 +33,7 @@ from motesim.report import Line
 from motesim.runner.run import Run
 from motesim.scenario import Scenario
 from motesim.scenario.scenario import hops_over
-from motesim.judge.sentences import Copies, Does, Motes, Names, Packets, Refused, Sentence, read_sentence
+from motesim.judge.sentences import PARAMETER, Copies, Does, Motes, Names, Packets, Refused, Sentence, read_sentence
 
 Cell = int | float | str | None
 
@@ -57,8 +57,19 @@ OF_COUNT = re.compile(r'(?:%s)(?:\s+of\s+mote\s+[0-9]+)?|(?:count|motes|moment|l
                           it for it in SUMMARY if it != 'ratio'), re.S)
 OF_PYTHON = re.compile(r'python\s*:\s*([^:]+?)\s*:\s*([A-Za-z_]\w*)')
 
-# The beginning of the warning about a mote that has to receive its own messages.
+# The beginnings of the warnings about a mote that has to receive its own messages, and about a line of both sentences.
 OWN = 'a message and its own mote count as a pair'
+OWN_LINE = 'a line counts as the delivery of its own message'
+OF_OWN_LINE = OWN_LINE + (
+    ': the line `%s` of mote %d is a line of both sentences, so its message counts as delivered at once. Use different '
+    'lines for the beginning and the end of a message, such as `prints source` and `prints sink`, or leave the mote '
+    'out of the second sentence')
+NO_PARAMETERS = (
+    '%r: a measure has no parameters, so `%s` isn\'t replaced by a value: write the value itself, or write a measure '
+    'with `python:`, whose function may have the values of the parameters as its second argument')
+NO_DELAY = (
+    '%s: both sentences are the same, so they are fulfilled at the same moment, and the delay is always 0: name the '
+    'line that begins the message first, and then the line that ends it')
 
 
 class MeasureFault(Fault):
@@ -264,6 +275,8 @@ def _of_sentence(kind: str, words: str, names: Names) -> Callable[[Bench], Cell]
     its = [_plain(sentence, part) for sentence, part in zip(sentences, parts)]
     for it in its:
         _check_use(kind, it)
+    if kind == 'delay' and its[0] == its[1]:
+        raise MeasureFault(NO_DELAY % ('`delay: %s`' % words.strip()))
     if kind in OF_TWO:
         of_two: dict[str, Callable[[Judge, Does, Does], Cell]] = {'delay': _delay, 'delivery': _delivery}
         return _guarded(lambda judge: of_two[kind](judge, *its))
@@ -286,8 +299,11 @@ def _warning_of_delivery(words: str, names: Names) -> Callable[[Bench], str]:
     begin, end = (_plain(read_sentence(it.strip(), names), it.strip()) for it in words.split('->'))
 
     def found(judge: Judge) -> str:
-        messages = _lines(judge, begin, judge.chosen(begin.motes))
-        return same_value(messages) or _own(messages, _receivers(judge, end.motes))
+        messages, receivers = _lines(judge, begin, judge.chosen(begin.motes)), _receivers(judge, end.motes)
+        ends = {line for group in receivers for line in _lines(judge, end, group)}
+        own = next((it for it in messages if it in ends), None)
+        of_line = OF_OWN_LINE % (str(own), own.mote) if own else ''
+        return same_value(messages) or _own(messages, receivers) or of_line
 
     of = _guarded(found)
     return lambda bench: str(of(bench) or '')
@@ -434,6 +450,9 @@ def read_measure(words: str, names: Names = Names(), sources: Mapping[str, str] 
     """A measure from its text, with the sources of users' files."""
     name, text = name_of(words), _parts(words)[1]
     python, flow, sentence = OF_PYTHON.fullmatch(text), OF_FLOW.fullmatch(text), OF_SENTENCE.fullmatch(text)
+    parameter = PARAMETER.search(words)
+    if parameter and not python:
+        raise MeasureFault(NO_PARAMETERS % (words, parameter[0]))
     try:
         if python:
             return Measure(name, text, _of_python(python[1], python[2], sources), python[1])

@@ -70,7 +70,7 @@ def left_to_caption(has_room: bool, picture: Path) -> list[str]:
 def show(rows: Sequence[Row], wish: Wish, source: Source) -> bool:
     """Draws a picture or prints a table; returns whether the output has the wanted form."""
     shown = shown_of(by_net(rows, wish) if wish.nets else rows, wish)._replace(
-        warnings=warnings_of(rows, [*separated_by(wish), *wish.over.split(',')]),
+        warnings=warnings_of(rows, [*separated_by(wish), *wish.over.split(',')], measures=[wish.measure, wish.against]),
         within=mixed_in(rows, parameters_of(rows), wish) if wish.nets else [])
     if not shown.points:
         raise Fault('; '.join(['there is no value of %s to show' % wish.measure, *text.left_out(shown, wish)]))
@@ -152,7 +152,7 @@ def compare(sides: Sides, wish: Wish, source: Source) -> bool:
     made = text.rows_of_differences(found, wish, *sides.names)
     good = [row for row in sides.one if not row['fault']]
     shared = None if wish.nets else shared_nets(good, [wish.against, *filter(None, [wish.by])], wish.measure)
-    warnings = warnings_of(runs, [*separated_by(wish), *wish.over.split(',')], False)
+    warnings = warnings_of(runs, [*separated_by(wish), *wish.over.split(',')], False, [wish.measure])
     more = [*note_of_compared(sides), *note_of_measures(sides), *text.of_nets(shared),
             *text.of_intervals([it.difference for it in found], draws=wish.draws), *warnings]
     notes = of_groups(groups, found, wish) + more

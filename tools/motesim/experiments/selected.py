@@ -1,6 +1,7 @@
 """The rows of a sweep's results that a request selects, and the two sides of a comparison."""
 from __future__ import annotations
 
+import shlex
 import sys
 from collections.abc import Iterable, Sequence
 from functools import lru_cache
@@ -41,10 +42,24 @@ def chosen(rows: Sequence[Row], where: Sequence[str]) -> list[Row]:
         values, having = texts_of(value), {text_of(row[name]) for row in rows}
         for part in value.split(','):
             if not having & texts_of(part):
+                other, is_other, _ = part.partition('=')
+                if is_other and other.strip() in rows[0]:
+                    raise Fault('each name needs its own --where: %s' % separated(words))
                 raise Fault('no runs of a sweep with these values: %s=%s; %s has: %s' % (name, part, name, some_of(
                     row[name] for row in rows)))
         found = [row for row in found if text_of(row[name]) in values]
     return found
+
+
+def separated(words: str) -> str:
+    """Several names with values, as options: `a=1,2,b=3` as `--where a=1,2 --where b=3`."""
+    names = list[str]()
+    for part in words.split(','):
+        if '=' in part or not names:
+            names.append(part.strip())
+        else:
+            names[-1] += ',' + part.strip()
+    return ' '.join('--where %s' % shlex.quote(it) for it in names)
 
 
 def texts_of(words: str) -> set[str]:

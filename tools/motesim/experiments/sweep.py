@@ -26,7 +26,7 @@ from motesim.runner.optimized import optimized_path
 from motesim.runner.programs import TOP
 from motesim.experiments.asked import Sweep, chance_seeds, columns_of, known_names, some_runs, sources_of, sweep_of
 from motesim.experiments.asked import unused
-from motesim.experiments.draws import CHANCE, WARNING, Notes, Seeds, of_warned, warnings_in
+from motesim.experiments.draws import CHANCE, WARNING, Notes, Seeds, of_warned, parameter_of, warnings_in
 from motesim.experiments.wishes import wishes_of
 from motesim.experiments.progress import Progress
 from motesim.experiments.runs import Stopped, longest, run_by_dask, run_here
@@ -189,7 +189,7 @@ class Sweeper:
         return tuple(found)
 
     def chance_seeds(self, given: Mapping[str, Value]) -> list[str]:
-        """The parameters that are seeds of the pattern for chance in a run."""
+        """The parameters that are seeds of the pattern for chance in a run, and each with its distances."""
         try:
             files = tuple(self.plan.used_files(given))
         except Fault:
@@ -202,7 +202,8 @@ class Sweeper:
         """A line for each parameter with values that draw the same numbers, in the file and in this sweep."""
         for given in some_runs(self.sweep):
             for name in self.chance_seeds(given):
-                for value in (*self.sweep.vary.get(name, ()), given[name]):
+                parameter = parameter_of(name)
+                for value in (*self.sweep.vary.get(parameter, ()), given[parameter]):
                     self.drawn.add(name, value)
         return self.drawn.lines()
 

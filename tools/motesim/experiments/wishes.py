@@ -2,6 +2,7 @@
 from __future__ import annotations
 
 import argparse
+import sys
 from collections.abc import Iterator, Sequence
 from pathlib import Path
 from typing import Any, NamedTuple
@@ -31,8 +32,9 @@ PLOT = {'file': needed(str), 'measure': needed(str), 'against': optional(str, ''
 NOT_UPWARDS = ('cdf', 'heat')
 # Options that have no effect in a comparison run by run, and are refused; it shows means.
 NOT_IN_PAIRS = ('show', 'threshold', 'log_y')
-
-
+# The options that only a picture needs; and those of them whose value may be empty.
+OF_PICTURE = ('title', 'footer', 'x', 'y', 'label', 'size', 'y_limits')
+MAY_BE_EMPTY = ('title', 'footer')
 # The confidence of intervals, in per cent, unless a number is given.
 CONFIDENCE = 95
 # The names of a command line that are used together with --plan (`given_once` isn't an option), and the keys of a plan
@@ -226,6 +228,7 @@ def wishes(asked: argparse.Namespace) -> list[Wish]:
     for is_wrong, reason in _refusals(asked):
         if is_wrong:
             raise Fault(reason)
+    warn_without_picture(asked)
     drawing.size_of(asked.size)
     wish = Wish(asked.measure, asked.against or '', ','.join(asked.by), asked.output or '', asked.title, asked.x,
                 asked.y, log=asked.log, show=asked.show or MEDIAN, interval=asked.interval,
@@ -237,6 +240,16 @@ def wishes(asked: argparse.Namespace) -> list[Wish]:
     drawing.limits_of(wish)
     text.threshold_of(wish)
     return [wish]
+
+
+def warn_without_picture(asked: argparse.Namespace) -> None:
+    """Names, on standard error, the options that have no effect because no picture is written."""
+    given = ['--' + name.replace('_', '-') for name in OF_PICTURE if getattr(asked, name) not in (None, '', [])
+             or name in MAY_BE_EMPTY and getattr(asked, name) == '']
+    if given and not asked.output:
+        print('plot: %s %s no effect on a table: add -o FILE for a picture' % (
+            ' and '.join(filter(None, [', '.join(given[:-1]), given[-1]])), 'has' if len(given) == 1 else 'have'),
+            file=sys.stderr)
 
 
 def check_plan_only(asked: argparse.Namespace) -> None:

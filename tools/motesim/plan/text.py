@@ -26,17 +26,22 @@ class Net(NamedTuple):
     losses: Mapping[tuple[int, int], int]
 
 
-def _escaped(text: str) -> str:
+def escaped(text: str) -> str:
+    """A text with escapes, for a basic string of TOML."""
     return ''.join(ESCAPES.get(sign) or ('\\u%04X' % ord(sign) if ord(sign) < 32 or ord(sign) == 127 else sign)
                    for sign in text)
 
 
+def is_literal(text: str) -> bool:
+    """Returns whether a literal string of several lines can have this text."""
+    return "'''" not in text and all(sign in '\n\t' or ord(sign) >= 32 and ord(sign) != 127 for sign in text)
+
+
 def _program(name: str, text: str) -> str:
     """A program: unchanged between quotes, or with escapes if that is impossible."""
-    is_plain = "'''" not in text and all(sign in '\n\t' or ord(sign) >= 32 and ord(sign) != 127 for sign in text)
-    if is_plain and text.endswith('\n'):
+    if is_literal(text) and text.endswith('\n'):
         return "%s = '''\n%s'''" % (name, text)
-    return '%s = "%s"' % (name, _escaped(text))
+    return '%s = "%s"' % (name, escaped(text))
 
 
 def _lines(net: Net) -> Iterator[str]:

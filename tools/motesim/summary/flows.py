@@ -31,6 +31,10 @@ FORM = re.compile(r'\s*(?:(send|recv)|print\s+([A-Za-z][A-Za-z0-9_]*))'
 # The beginnings of the warnings about messages that have the same value.
 SHARED = 'several motes print the same value as a source'
 TWICE = 'a mote prints the same value twice as a source'
+# The end of the first of these warnings if the same lines begin messages and deliver them.
+SAME_LINES = ('. In this flow, the same lines begin messages and deliver them: the first line with a value begins the '
+              'message, and the lines of other motes with this value are its deliveries. So messages of several motes '
+              'need different lines for their beginning and their delivery, as in `print source -> print sink`')
 
 
 class FlowFault(Fault):
@@ -139,8 +143,9 @@ def same_value(sources: Iterable[Line]) -> str:
 
 def same_value_in_flow(report: Report, words: str) -> str:
     """A warning if prints begin several messages of the same value; otherwise an empty text."""
-    begin, _ = read_flow(words)
-    return same_value(it for it in report.lines(begin.kind) if begin.has(it))
+    begin, end = read_flow(words)
+    found = same_value(it for it in report.lines(begin.kind) if begin.has(it))
+    return found + SAME_LINES if found.startswith(SHARED) and begin == end else found
 
 
 def messages(report: Report, begin: Mark, end: Mark) -> dict[int, Message]:
@@ -203,8 +208,11 @@ def flow_rows_by(report: Report, scenario: Scenario | None, words: str, by: int)
         check_processes(report, scenario, (begin, end))
     found = list(messages(report, begin, end).values())
     last = max([it.at for it in found] + ([scenario.end] if scenario else []), default=0)
+    began = defaultdict[int, list[Message]](list)
+    for it in found:
+        began[it.at // by].append(it)
     rows: list[Row] = []
     for first in range(0, last + 1, by):
-        row = _row('', [it for it in found if first <= it.at < first + by], None)
+        row = _row('', began[first // by], None)
         rows.append({'from': first, 'to': first + by - 1, **{name: row[name] for name in NAMES_BY[2:]}})
     return rows
