@@ -69,15 +69,38 @@ class Studies(unittest.TestCase):
             with self.assertRaisesRegex(Fault, place):
                 self.check(text)
 
+    def test_a_value_is_an_array_or_a_text_as_after_the_option(self) -> None:
+        need_program(self)
+        study = 'scenario = "diamond.toml"\n[[study]]\nexpect = ["no mote halts"]\nbreaks = []\n'
+        for key, form in (('queues', '[2, 1]'), ('queues', '"2,1"'), ('queues', '"1..2"'), ('moments', '"3,4"'),
+                          ('moments', '[3, 4]'), ('every', '"2,3"'), ('every', '[2, 3]')):
+            kind = 'deaths' if key == 'moments' else key
+            for faults in ('"%s"' % kind, '["%s"]' % kind):
+                with self.subTest(key=key, form=form, faults=faults):
+                    self.assertEqual(self.check(study + 'faults = %s\n%s = %s\n' % (faults, key, form))[:2], (1, 0))
+        with self.assertRaisesRegex(Fault, 'study 1 of .*: `every` needs whole numbers from 2 on, such as 2,3 or 1..9'):
+            self.check(study + 'faults = "every"\nevery = "1,2"\n')
+
     def test_what_cannot_be_read(self) -> None:
         for text, wanted in (('a = [', 'is not TOML'), ('scenario = "x"', r'no tables \[\[study\]\]'),
                              ('scenario = "x"\nstudy = [1]', 'study 1 of .*: it has to be a table'),
                              (STUDY.replace('faults = "links"', 'fault = "links"', 1),
                               'study 1 of .*: `fault` is not allowed there; allowed are: about, replace, faults, '),
                              (STUDY.replace('faults = "links"', 'faults = 5', 1),
-                              'study 1 of .*: the value of `faults` has to be a text in quotes$'),
+                              r'study 1 of .*: the value of `faults` has to be a text, as in "links,motes", or an '
+                              r'array of texts, as in \["links", "motes"\]$'),
+                             (STUDY.replace('faults = "links"', 'queues = ["a"]', 1),
+                              r'study 1 of .*: the value of `queues` has to be an array of whole numbers, as in '
+                              r'\[8, 4, 2, 1\], or a text, as in "8,4,2,1"$'),
+                             (STUDY.replace('breaks = []', 'breaks = "mote 1 is silent"', 1),
+                              r'study 1 of .*: the value of `breaks` has to be an array of texts, as in '
+                              r'\["mote 1 is silent"\]$'),
+                             (STUDY.replace('faults = "links"', 'faults = "links, values"', 1),
+                              'study 1 of .*: the kind `values` needs --set, for which a study has no key: change'),
                              (STUDY.replace('at_most = 2', 'at_most = true', 1),
-                              'study 3 of .*: the value of `at_most` has to be a whole number$'),
+                              'study 3 of .*: the value of `at_most` has to be a whole number from 1 on, as in 2$'),
+                             (STUDY.replace('at_most = 2', 'at_most = 0', 1),
+                              'study 3 of .*: the value of `at_most` has to be a whole number from 1 on'),
                              (STUDY.replace('breaks = []', '', 1), 'study 1 of .*: it needs `expect`, and exactly one'),
                              (STUDY.replace('breaks = []', 'breaks = []\ncounts = [0]', 1),
                               'study 1 of .*: it needs `expect`, and exactly one of `breaks` and `counts`$')):

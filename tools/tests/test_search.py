@@ -583,6 +583,31 @@ class Searches(unittest.TestCase):
             self.assertEqual(done.returncode, 1, done.stderr)
             self.assertIn('broken  mote 3 prints flood 7', done.stdout)
 
+    def test_counter_examples_of_an_earlier_search_are_named(self) -> None:
+        with folder_with() as folder:
+            self.assertNotIn('earlier', search(folder, '--faults', 'motes', '--shrink')[1])
+            (folder / 'diamond.search/mine.toml').write_text('# Mine.\n')
+            again = search(folder, '--faults', 'motes', '--shrink')[1]
+            self.assertNotIn('earlier search', again)
+            said = search(folder, '--faults', 'motes')[1]
+            self.assertIn('\n1 file in diamond.search is of an earlier search: small_1.toml\n', said)
+            said = search(folder, '--faults', 'links')[1]
+            self.assertIn('\n2 files in diamond.search are of an earlier search: diamond_silent_0.toml, small_1.toml\n',
+                          said)
+
+    def test_faults_without_an_effect_are_counted(self) -> None:
+        with folder_with() as folder:
+            for words, wanted in (('every', '8 of the 8 faults have no effect without other faults, because a mote sends '
+                                            'too few packets; the first: link 0 to 1 loses 1 packet in 2\n'),
+                                  ('links', ''), ('motes,both-ways', '')):
+                said = search(folder, '--faults', words)[1]
+                self.assertEqual(said.startswith(wanted) if wanted else 'no effect' not in said, True, said)
+            text = DIAMOND.replace('send data;', 'print 1;')
+            (folder / 'diamond.toml').write_text(text)
+            said = search(folder, '--faults', 'links,both-ways,motes', '--expect', 'mote 1 prints flood 7')[1]
+            # (only mote 0 sends: to motes 1 and 2)
+            self.assertIn('11 of the 16 faults have no effect without other faults', said)
+
     def test_other_forms_of_text(self) -> None:
         for text in DIAMOND.replace('\n', '\r\n'), '\ufeff' + DIAMOND, DIAMOND[:-1]:
             with folder_with() as folder:

@@ -2,12 +2,16 @@
 follow motes with other numbers, and that programs are read and written without a change."""
 from __future__ import annotations
 
+import os
+import signal
 import subprocess
 import sys
+import time
 import tomllib
 import unittest
 from pathlib import Path
 from typing import Any
+from unittest import mock
 
 from here import TOOLS, TOP
 from motesim.faults import Fault
@@ -22,12 +26,15 @@ from motesim.search.found import Found
 from motesim.search.net import loss_steps, mote_steps, net_of, number_steps, parts, program_steps
 from motesim.search.one_program import Limits, OneProgram
 from motesim.search.shrink import Shrinking, case_of
+from motesim.search.shrink_command import STOPPED
 from motesim.search.shrink_found import chosen
 from motesim.search.smaller import smaller_numbers
 from motesim.search.tree import program_text, read_program
 from skips import need_program
 from test_search import DIAMOND, PROGRAM, REACHED, folder_with, search
 
+# The command, in a process of its own, after other lines.
+SOURCE = 'import sys\nsys.path.insert(0, %r)\n%%sfrom motesim.commands.shrink import main\nmain()\n' % str(TOOLS)
 CANONICAL = '''process a;
 autostart a;
 code a {
@@ -254,6 +261,9 @@ class Shrinks(unittest.TestCase):
     def test_programs_can_be_kept(self) -> None:
         # (mote 3 has a program of its own, and mote 4 another one)
         text = DIAMOND + '[[mote]]\nx = 18\ny = 6\nprogram = "q"\n'
+        # (a comment, statements in one line, and no end of the last line)
+        program = '// A flood.\n' + PROGRAM.rstrip().replace(';\n', '; ', 2)
+        text = text.replace(PROGRAM, program)
         text = text.replace('[programs]\n', "[programs]\nq = '''\n%s'''\n" % PROGRAM.replace('7', '8'))
         with folder_with(text) as folder:
             words = [sys.executable, '-B', str(TOOLS / 'shrink'), 'diamond.toml', REACHED, '--fault', 'silent 0',
@@ -263,8 +273,102 @@ class Shrinks(unittest.TestCase):
             self.assertIn('now:    2 motes, 1 loss, 1 program', done.stdout)
             self.assertIn('; no further step is possible without a change of a program\n', done.stdout)
             small = Scenario.parse((folder / 'diamond.small.toml').read_text())
-            self.assertEqual(small.programs, {'p': program_text(read_program(PROGRAM))})
+            self.assertEqual(small.programs, {'p': program})
             self.assertLess(small.end, 100)
+            # (a text that can't be a literal string)
+            text = text.replace("'''\n%s'''" % program, '"""// \'\'\'\n%s"""' % program)
+            (folder / 'diamond.toml').write_text(text)
+            subprocess.run(words, cwd=folder, capture_output=True, text=True)
+            small = Scenario.parse((folder / 'diamond.small.toml').read_text())
+            self.assertEqual(small.programs, {'p': "// '''\n" + program})
+
+    def test_a_limit_ends_it(self) -> None:
+        with folder_with() as folder:
+            words = [sys.executable, '-B', str(TOOLS / 'shrink'), 'diamond.toml', REACHED, '--fault', 'silent 0']
+            calls, program, small = folder / 'calls', folder / 'counting', folder / 'diamond.small.toml'
+            program.write_text('#!/bin/sh\necho >>%s\nexec %s "$@"\n' % (calls, program_path()))
+            program.chmod(0o755)
+            here = {**os.environ, 'MOTESIM': str(program)}
+            for limit, ran in (1, 0), (3, 2):
+                done = subprocess.run([*words, '--most-runs', str(limit)], cwd=folder, env=here, capture_output=True,
+                                      text=True)
+                self.assertEqual((done.returncode, done.stdout, done.stderr, small.exists()), (
+                    2, '', 'shrink: the limit of %d runs was reached before the first step, after %d runs, so no file '
+                    'is written\n' % (limit, ran), False))
+            calls.unlink()
+            done = subprocess.run([*words, '--most-runs', '20'], cwd=folder, env=here, capture_output=True, text=True)
+            self.assertEqual(done.returncode, 0, done.stderr)
+            self.assertRegex(done.stdout, r'steps, (19|20) runs; STOPPED: more steps may be possible \(the limit of 20 '
+                                          r'runs was reached\)\n')
+            self.assertLessEqual(calls.read_text().count('\n'), 20)
+            again = subprocess.run([sys.executable, '-B', str(TOOLS / 'expect'), small.name], cwd=folder,
+                                   capture_output=True, text=True)
+            self.assertEqual((again.returncode, again.stdout.split()[0]), (1, 'broken'), again.stderr)
+            done = subprocess.run([*words, '--most-seconds', '0'], cwd=folder, capture_output=True, text=True)
+            self.assertEqual((done.returncode, done.stderr), (
+                2, 'shrink: the limit of 0 seconds was reached before the first step, after 0 runs, so no file is '
+                'written\n'))
+            # (the file of an earlier result remains)
+            self.assertTrue(small.exists())
+
+    def test_the_progress_is_shown_if_standard_error_is_a_file(self) -> None:
+        with folder_with() as folder:
+            source = SOURCE % 'from motesim.search import progress\nprogress.ELSEWHERE = 0\n'
+            done = subprocess.run([sys.executable, '-B', '-c', source, 'diamond.toml', REACHED, '--fault', 'silent 0'],
+                                  cwd=folder, capture_output=True, text=True)
+            self.assertEqual(done.returncode, 0, done.stderr)
+            self.assertRegex(done.stderr, r'^diamond.small.toml: 0 steps, 2 runs\n')
+            self.assertRegex(done.stderr, r'\ndiamond.small.toml: [1-9]\d* steps, \d+ runs\n$')
+
+    def interrupted(self, folder: Path, source: str, *words: str) -> tuple[int, str, str, float]:
+        """Sends Ctrl-C as soon as the command prints `now`; the status, the output, and the seconds to its end."""
+        with subprocess.Popen([sys.executable, '-B', '-c', source, 'diamond.toml', *words], cwd=folder,
+                              stdout=subprocess.PIPE, stderr=subprocess.PIPE, text=True) as running:
+            assert running.stdout
+            while running.stdout.readline() not in ('', 'now\n'):
+                pass
+            begin = time.monotonic()
+            running.send_signal(signal.SIGINT)
+            said, seen = running.communicate(timeout=100)
+            return running.returncode, said, seen, time.monotonic() - begin
+
+    def test_an_interrupt_writes_the_smallest_scenario_so_far(self) -> None:
+        with folder_with() as folder:
+            # (the first run after a step ends only by the interrupt)
+            slow = folder / 'slow'
+            slow.write_text('#!/bin/sh\nif [ -e hang ]; then exec sleep 60; fi\nexec %s "$@"\n' % program_path())
+            slow.chmod(0o755)
+            source = SOURCE % ('import os\nos.environ["MOTESIM"] = "./slow"\n'
+                               'from motesim.search.shrink import Shrinking\nrun = Shrinking.seen\n'
+                               'def seen(self, text):\n'
+                               '    if len(self.taken) == int(os.environ["STEPS"]):\n'
+                               '        open("hang", "w").close()\n        print("now", flush=True)\n'
+                               '    return run(self, text)\n'
+                               'Shrinking.seen = seen\n')
+            words = REACHED, '--fault', 'silent 0', '--seconds', '60'
+            for steps in 0, 1:
+                with self.subTest(steps), mock.patch.dict(os.environ, STEPS=str(steps)):
+                    (folder / 'hang').unlink(missing_ok=True)
+                    status, said, seen, seconds = self.interrupted(folder, source, *words)
+                    self.assertEqual((status, (folder / 'diamond.small.toml').exists()), (130, steps > 0), seen)
+                    self.assertLess(seconds, 30)
+                    if steps:
+                        self.assertIn('\n1 steps, ', said)
+                        self.assertIn('; STOPPED: more steps may be possible (it was stopped)\n', said)
+                        self.assertEqual(seen, '')
+                    else:
+                        self.assertEqual(seen, 'shrink: %s\n' % STOPPED)
+
+    def test_an_interrupt_of_an_import_ends_it_at_once(self) -> None:
+        # (an exception in this call would be ignored)
+        late = ('import sys, time, weakref\nclass Late:\n    def find_spec(self, name, path=None, target=None):\n'
+                '        if name == "motesim.search.net":\n            it = Late()\n'
+                '            kept = weakref.ref(it, lambda _: (print("now", flush=True), time.sleep(60)))\n'
+                '            del it\nsys.meta_path.insert(0, Late())\n')
+        with folder_with() as folder:
+            status, said, seen, seconds = self.interrupted(folder, SOURCE % late, REACHED, '--fault', 'silent 0')
+            self.assertEqual((status, said, seen), (130, '', 'shrink: %s\n' % STOPPED))
+            self.assertLess(seconds, 30)
 
     def test_motes_with_other_numbers_are_mapped_to_those_of_the_scenario(self) -> None:
         with folder_with() as folder:

@@ -17,6 +17,7 @@
     kept.py            the sets that were tried, for --resume
     progress.py        the progress of a search, on standard error
     found.py           the files and tables of the sets that were found
+    numbers.py         the whole numbers of an option, or of a key of a study
     study.py           searches with their expected results
 
     shrink_command.py  tools/shrink

@@ -9,7 +9,7 @@ from motesim.judge.sentences import Sentence
 from motesim.runner.optimized import optimized_path
 from motesim.search.by_dask import ByDask
 from motesim.search.change import Base
-from motesim.search.faults import WHY_NONE, Asked, absent_kinds, faults_of, untried_copies
+from motesim.search.faults import WHY_NONE, Asked, absent_kinds, faults_of, untried_copies, without_effect
 from motesim.search.kept import Kept
 from motesim.search.one_program import Limits, OneProgram
 from motesim.search.prepare import plain_run, prepare
@@ -41,6 +41,7 @@ class Asking:
         self.absent = absent_kinds(base, asked)
         self.untried = untried_copies(base, asked) if 'packets' in asked.kinds else ''
         self.prepared = prepare(base, self.plain, program, sentences, faults)
+        self.idle = without_effect(base, self.prepared.faults, self.plain.sent)
         program.close()
 
     @property
@@ -60,9 +61,9 @@ class Asking:
 
     @property
     def remarks(self) -> list[str]:
-        """The notes, and a line about the single copies whose loss isn't tried: the results say nothing about
-        these copies."""
-        return [*self.notes, *(['left out: ' + self.untried] if self.untried else [])]
+        """The notes, a line about the single copies whose loss isn't tried, because the results say nothing about
+        these copies, and a line about faults without an effect."""
+        return [*self.notes, *(['left out: ' + self.untried] if self.untried else []), *filter(None, [self.idle])]
 
     def digest(self) -> str:
         """The identity of a search, by which it differs from others."""

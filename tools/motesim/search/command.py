@@ -19,10 +19,12 @@ from motesim.search.asking import Asking
 from motesim.search.change import NUMBERS, Base
 from motesim.search.faults import KINDS, Asked
 from motesim.search.found import (
-    Found, as_csv, as_json, counted, covered_lines, found_by, is_whole, verdict_lines, write_files, write_whole,
+    Found, as_csv, as_json, counted, covered_lines, earlier_files, found_by, is_whole, line_of_earlier, verdict_lines,
+    write_files, write_whole,
 )
 from motesim.search.kept import Kept
 from motesim.search.one_program import Limits
+from motesim.search.numbers import LEAST, numbers_of_words
 from motesim.search.progress import Progress
 from motesim.search.search import Bounds, Search
 from motesim.search.shrink_found import shrink_each
@@ -31,13 +33,6 @@ from motesim.toml import NoToml, read_toml
 
 STATE = 'tried.txt'
 USUAL = 'links,motes'
-
-
-def numbers_of_words(words: str, name: str, least: int) -> tuple[int, ...]:
-    found = values_of(words)
-    if not all(type(it) is int and it >= least for it in found):
-        raise Fault('%s needs whole numbers from %d on, such as 2,3 or 1..9, not %s' % (name, least, words))
-    return tuple(int(it) for it in found)
 
 
 def values_asked(words: list[str]) -> tuple[dict[str, tuple[int, ...]], dict[str, list[Value]]]:
@@ -69,9 +64,9 @@ def asked_of(words: argparse.Namespace) -> Asked:
             raise Fault('the kind `%s` needs --set, such as --set %s' % (kind, what))
         if names and kind not in kinds:
             raise Fault('--set %s is for the kind `%s`: --faults %s,%s' % (names[0], kind, faults, kind))
-    moments = numbers_of_words(words.moments, '--moments', 1) if words.moments else ()
-    return Asked(kinds, numbers_of_words(words.every, '--every', 2), (), moments,
-                 numbers_of_words(words.queues, '--queues', 1), numbers, words.step, given)
+    moments = numbers_of_words(words.moments, '--moments', LEAST['moments']) if words.moments else ()
+    return Asked(kinds, numbers_of_words(words.every, '--every', LEAST['every']), (), moments,
+                 numbers_of_words(words.queues, '--queues', LEAST['queues']), numbers, words.step, given)
 
 
 def sentences_of(words: argparse.Namespace, names: Names) -> tuple[list[str], list[Sentence]]:
@@ -144,11 +139,20 @@ def show(words: argparse.Namespace, asking: Asking, search: Search, folder: Path
             print(row)
         print()
         print(last_line(search, found, folder, asking.base))
+        earlier = earlier_files(found, small_names(asking, found) if words.shrink else [], folder)
+        if earlier:
+            print(line_of_earlier(earlier, folder))
     if search.is_stopped:
         return INTERRUPTED
     if words.shrink and shrink_each(asking, search, found, folder, Progress(words.progress), words.json == '-'):
         return INTERRUPTED
     return 1 if found else 0 if search.runs else 2
+
+
+def small_names(asking: Asking, found: list[Found]) -> list[str]:
+    """The names of the small scenarios that --shrink writes."""
+    broken = {sentence for it in found for sentence in it.sentences}
+    return ['small_%d.toml' % number for number, it in enumerate(asking.texts, 1) if it in broken]
 
 
 def last_line(search: Search, found: list[Found], folder: Path, base: Base) -> str:

@@ -222,6 +222,31 @@ def untried_copies(base: Base, asked: Asked) -> str:
             .format(len(left), len(copies), number, sender, receiver, why))
 
 
+def without_effect(base: Base, faults: Sequence[FaultyPart], sent: Sequence[int]) -> str:
+    """The number of the faults that lose none of the packets of the run without a fault, with an example, or an empty
+    text.
+
+    sent  how many packets each mote sends in the run without a fault
+    """
+    idle = [it for it in faults if _is_idle(base, it, sent)]
+    return ('{:,} of the {:,} faults {} no effect without other faults, because a mote sends too few packets; the '
+            'first: {}'.format(len(idle), len(faults), 'has' if len(idle) == 1 else 'have', idle[0].words)
+            if idle else '')
+
+
+def _is_idle(base: Base, fault: FaultyPart, sent: Sequence[int]) -> bool:
+    """Returns whether a fault loses none of the packets of the run without a fault."""
+    kind, *parts = fault.effect
+    if kind not in ('lose', 'apart', 'silent'):
+        return False
+    motes = [int(it) for it in parts[:len(MOTES_OF[str(kind)])]]
+    if kind == 'lose':
+        return sent[motes[0]] < int(parts[2])
+    scenario = base.scenario_itself
+    ways = [motes, motes[::-1]] if kind == 'apart' else [[motes[0], it] for it in scenario.receivers(motes[0])]
+    return all(not sent[sender] or not scenario.is_open(sender, receiver) for sender, receiver in ways)
+
+
 def _motes(base: Base, asked: Asked) -> Iterator[FaultyPart]:
     scenario = base.scenario_itself
     for mote in range(scenario.motes):

@@ -5,6 +5,7 @@ import csv
 import io
 import json
 import os
+import re
 from dataclasses import dataclass
 from functools import cached_property
 from pathlib import Path
@@ -22,6 +23,8 @@ from motesim.toml import MARK
 SHOWN, SHOWN_REASONS = 10, 3
 SIZES = {1: 'single faults', 2: 'pairs', 3: 'triples'}
 LONGEST_FILE_NAME = 120
+# The first line of a scenario that a search has written, and the number of characters that are read of it.
+OF_SEARCH, LONGEST_LINE = re.compile(r'# .* with a fault: |# Made small by tools/shrink from '), 1000
 
 
 @dataclass
@@ -89,6 +92,33 @@ def write_files(found: list[Found], base: Base, sentences: list[str], folder: Pa
         rows = ''.join('  %s,\n' % toml_text(sentence) for sentence in sentences)
         write_whole(folder / (name + '.expect.toml'),
                     '# The expectations of %s without the fault.\nexpect = [\n%s]\n' % (Path(base.name).name, rows))
+
+
+def earlier_files(found: list[Found], small: list[str], folder: Path) -> list[str]:
+    """The names of the counter-examples in a folder that are of an earlier search.
+
+    found  the counter-examples of this search, after they were written
+    small  the names of the small scenarios that this search writes
+    """
+    own = {Path(it.file).name for it in found} | set(small)
+    its = [it for it in sorted(folder.glob('*.toml')) if it.name not in own and not it.name.endswith('.expect.toml')]
+    return [it.name for it in its if _is_counter_example(it)]
+
+
+def _is_counter_example(path: Path) -> bool:
+    """Returns whether a search has written a scenario, by its first line."""
+    try:
+        with path.open(encoding='utf-8') as file:
+            return bool(OF_SEARCH.match(file.readline(LONGEST_LINE)))
+    except (OSError, UnicodeDecodeError):
+        return False
+
+
+def line_of_earlier(names: list[str], folder: Path) -> str:
+    """The line about the counter-examples of an earlier search."""
+    return '%s in %s %s of an earlier search: %s%s' % (
+        counted(len(names), 'file', 'files'), folder, 'is' if len(names) == 1 else 'are',
+        ', '.join(names[:SHOWN_REASONS]), ', ..' if len(names) > SHOWN_REASONS else '')
 
 
 def counted(number: int, one: str, many: str) -> str:

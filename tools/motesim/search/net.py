@@ -4,6 +4,7 @@ from __future__ import annotations
 from collections.abc import Iterator
 from typing import Any, NamedTuple
 
+from motesim.plan.text import escaped, is_literal
 from motesim.scenario.scenario import Scenario
 from motesim.search.smaller import Step, instead, programs, smaller_numbers, without
 from motesim.search.tree import Program, program_text, read_program
@@ -22,7 +23,7 @@ class Loss(NamedTuple):
 
 
 class Net(NamedTuple):
-    """A scenario."""
+    """A scenario. `kept` has the texts of the programs that are written unchanged."""
     end: int
     range: int
     base: int
@@ -32,6 +33,7 @@ class Net(NamedTuple):
     queue: tuple[tuple[str, int], ...]
     motes: tuple[Mote, ...]
     losses: tuple[Loss, ...]
+    kept: tuple[tuple[str, str], ...] = ()
 
     @property
     def text(self) -> str:
@@ -41,8 +43,10 @@ class Net(NamedTuple):
                 'base = %d' % self.base, 'per = %d' % self.per]
         rows += ['collide = %s' % str(self.collide).lower()] if is_second else []
         rows.append('[programs]')
+        kept = dict(self.kept)
         for name, program in self.programs:
-            rows += ["%s = '''" % name, program_text(program) + "'''"]
+            text = kept.get(name, program_text(program))
+            rows.append("%s = '''\n%s'''" % (name, text) if is_literal(text) else '%s = "%s"' % (name, escaped(text)))
         if self.queue:
             rows += ['[queue]', *('%s = %d' % it for it in self.queue)]
         for mote in self.motes:
@@ -52,12 +56,13 @@ class Net(NamedTuple):
         return ''.join(row + '\n' for row in rows)
 
 
-def net_of(scenario: Scenario) -> Net:
-    """A scenario as a net."""
+def net_of(scenario: Scenario, keeps_programs: bool = False) -> Net:
+    """A scenario as a net, with the texts of its programs if they are kept."""
     return Net(scenario.end, scenario.range, scenario.base, scenario.per, scenario.collide,
                tuple((name, read_program(text)) for name, text in scenario.programs.items()),
                tuple(scenario.queue.items()), tuple(Mote(*it) for it in scenario.places),
-               tuple(Loss(*pair, every) for pair, every in scenario.losses.items()))
+               tuple(Loss(*pair, every) for pair, every in scenario.losses.items()),
+               tuple(scenario.programs.items()) if keeps_programs else ())
 
 
 def without_motes(net: Net, removed: frozenset[int]) -> Net:

@@ -48,6 +48,9 @@ class OneProgram:
 
     def __init__(self, path: str, limits: Limits):
         self.path, self.limits = path, limits
+        # The process of the present run, or 0.
+        self.child = 0
+        self.is_stopped = False
         self.given, self.report, self.fault = (os.memfd_create(name) for name in ('given', 'report', 'fault'))
         files = self.given, self.report, self.fault
         self.actions = [(os.POSIX_SPAWN_DUP2, file, at) for at, file in enumerate(files)]
@@ -58,9 +61,12 @@ class OneProgram:
             os.ftruncate(file, 0)
             os.lseek(file, 0, os.SEEK_SET)
         os.pwrite(self.given, scenario, 0)
-        child = os.posix_spawn(self.path, ['motesim'], os.environ, file_actions=self.actions, setsigdef=SPAWNED)
+        child = self.child = os.posix_spawn(self.path, ['motesim'], os.environ, file_actions=self.actions,
+                                            setsigdef=SPAWNED)
         is_over = False
         try:
+            if self.is_stopped:
+                self.stop()
             with contextlib.suppress(ProcessLookupError):
                 resource.prlimit(child, resource.RLIMIT_FSIZE, (self.limits.report, self.limits.report))
                 resource.prlimit(child, resource.RLIMIT_DATA, (self.limits.memory, self.limits.memory))
@@ -68,10 +74,18 @@ class OneProgram:
             status = self.wait_by_alarm(child) if is_main else self.wait_by_looking(child)
             is_over = status is not None
         finally:
+            self.child = 0
             if not is_over:
                 os.kill(child, signal.SIGKILL)
                 os.waitpid(child, 0)
         return self.answer(status)
+
+    def stop(self) -> None:
+        """Ends the present run, if there is one, and each later run. For handlers of signals."""
+        self.is_stopped = True
+        if self.child:
+            with contextlib.suppress(ProcessLookupError):
+                os.kill(self.child, signal.SIGKILL)
 
     def wait_by_alarm(self, child: int) -> int | None:
         """The status of a run, or None once its time is over. Only the main thread gets alarms."""

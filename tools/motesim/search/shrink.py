@@ -220,6 +220,7 @@ class Shrinking:
         return with_effects(self.case.net.text, self.case.effects)
 
 
-def case_of(text: str, sentence: str, effects: tuple[Effect, ...] = (), keeps: tuple[str, ...] = ()) -> Case:
+def case_of(text: str, sentence: str, effects: tuple[Effect, ...] = (), keeps: tuple[str, ...] = (),
+            keeps_programs: bool = False) -> Case:
     """The case of a scenario's text."""
-    return Case(net_of(Scenario.parse(text)), sentence, effects, keeps)
+    return Case(net_of(Scenario.parse(text), keeps_programs), sentence, effects, keeps)

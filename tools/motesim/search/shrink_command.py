@@ -2,7 +2,11 @@
 from __future__ import annotations
 
 import argparse
+import sys
+import time
+from functools import partial
 from pathlib import Path
+from types import FrameType
 
 from motesim.experiments.runs import Break
 from motesim.faults import INTERRUPTED, Fault
@@ -15,11 +19,14 @@ from motesim.runner.programs import program_path
 from motesim.scenario.scenario import Scenario
 from motesim.search.change import Base
 from motesim.search.faults import effect_of
-from motesim.search.found import toml_text, write_whole
+from motesim.search.found import counted, toml_text, write_whole
 from motesim.search.net import Net, net_of
 from motesim.search.one_program import Limits, OneProgram
-from motesim.search.shrink import Shrinking, case_of
+from motesim.search.progress import Progress
+from motesim.search.shrink import Case, Shrinking, case_of
 from motesim.search.smaller import statements_in
+
+STOPPED = 'it was stopped before the first step, so no file is written'
 
 
 def first_broken(base: Base, path: Path, program: OneProgram) -> str:
@@ -63,38 +70,117 @@ def write_result(shrinking: Shrinking, net: Net, name: str, path: Path) -> None:
     write_whole(beside(path), 'expect = [\n%s]\n' % rows)
 
 
-def status_of(asked: argparse.Namespace) -> int:
-    """The work of tools/shrink; returns the status."""
-    path = Path(asked.scenario)
-    base = Base(text_of(path), asked.scenario)
-    program = OneProgram(str(program_path().resolve()), Limits(asked.seconds))
-    is_file = not asked.expectation or asked.expectation.endswith('.toml')
-    expected = Path(asked.expectation) if asked.expectation else beside(path)
-    output = Path(asked.output) if asked.output else Path(path.name.removesuffix('.toml') + '.small.toml')
-    for made in output, beside(output):
-        refuse_inputs(made, [path, expected])
-    sentence = first_broken(base, expected, program) if is_file else asked.expectation
-    read_all([sentence, *asked.keep], names_of(base.scenario_itself))
-    effects = tuple(effect_of(it, base.scenario_itself.motes) for it in asked.fault)
-    with Break() as stop:
-        case = case_of(base.source, sentence, effects, tuple(asked.keep))
-        shrinking = Shrinking(program, case, lambda: stop.is_asked, keeps_programs=asked.keep_programs)
+def runs_of(case: Case) -> int:
+    """The number of runs that a step needs: one with the faults and, if there are any, one without them."""
+    return 2 if case.effects else 1
+
+
+def why_over(is_stopped: bool, seconds: tuple[float, float | None], runs: tuple[int, int | None]) -> str:
+    """The reason why no more runs can be made; an empty text if they can. The seconds and the runs are given with their
+    limits."""
+    if is_stopped:
+        return 'it was stopped'
+    if seconds[1] is not None and seconds[0] >= seconds[1]:
+        return 'the limit of %g seconds was reached' % seconds[1]
+    if runs[1] is not None and runs[0] > runs[1]:
+        return 'the limit of {:,} runs was reached'.format(runs[1])
+    return ''
+
+
+class BreakOfRun(Break):
+    """Handles Ctrl-C as `Break` does, and also ends the present run."""
+
+    def __init__(self, program: OneProgram) -> None:
+        super().__init__()
+        self.program = program
+
+    def ask(self, number: int, frame: FrameType | None) -> None:
+        super().ask(number, frame)
+        self.program.stop()
+
+
+class Work:
+    """The work of tools/shrink, within its limits."""
+
+    def __init__(self, asked: argparse.Namespace, program: OneProgram, stop: Break) -> None:
+        self.asked, self.program, self.stop = asked, program, stop
+        self.path = Path(asked.scenario)
+        self.output = Path(asked.output or self.path.name.removesuffix('.toml') + '.small.toml')
+        self.begun = time.monotonic()
+        self.progress = Progress()
+
+    def why_over(self, runs: int) -> str:
+        """The reason why the tool can't make this many runs; an empty text if it can."""
+        return why_over(self.stop.is_asked, (time.monotonic() - self.begun, self.asked.most_seconds),
+                        (runs, self.asked.most_runs))
+
+    def is_over(self, shrinking: Shrinking) -> bool:
+        """Shows the progress; returns whether the next step can't be tried."""
+        self.progress.show_shrinking(self.output.name, len(shrinking.taken), shrinking.runs)
+        return bool(self.why_over(shrinking.runs + runs_of(shrinking.case)))
+
+    def need_runs(self, ran: int, why: str) -> None:
+        """Raises a fault if the tool stops before the first step, after this many runs. `why` is the reason, or an
+        empty text."""
+        if why:
+            raise Fault('%s before the first step, after %s, so no file is written' % (
+                why, counted(ran, 'run', 'runs')))
+
+    def status(self) -> int:
+        """Makes the scenario small, and shows the result; returns the status."""
+        asked, path = self.asked, self.path
+        base = Base(text_of(path), asked.scenario)
+        is_file = not asked.expectation or asked.expectation.endswith('.toml')
+        expected = Path(asked.expectation) if asked.expectation else beside(path)
+        for made in self.output, beside(self.output):
+            refuse_inputs(made, [path, expected])
+        sentence = first_broken(base, expected, self.program) if is_file else asked.expectation
+        read_all([sentence, *asked.keep], names_of(base.scenario_itself))
+        effects = tuple(effect_of(it, base.scenario_itself.motes) for it in asked.fault)
+        case = case_of(base.source, sentence, effects, tuple(asked.keep), asked.keep_programs)
+        ran = int(is_file)
+        self.need_runs(ran, self.why_over(ran + runs_of(case)))
+        shrinking = Shrinking(self.program, case, keeps_programs=asked.keep_programs)
+        shrinking.runs += ran
+        shrinking.is_over = partial(self.is_over, shrinking)
         before = shrinking.text
         shrinking.run()
-    write_result(shrinking, case.net, path.name, output)
-    if asked.steps:
-        for number, it in enumerate(shrinking.taken, 1):
-            print('%3d %s' % (number, it))
-    print('before: %s' % sizes(before))
-    print('now:    %s' % sizes(shrinking.text))
-    whole = 'no further step is possible' + ' without a change of a program' * asked.keep_programs
-    print('%d steps, %d runs; %s' % (len(shrinking.taken), shrinking.runs,
-                                     whole if shrinking.is_whole else 'STOPPED: more steps may be possible'))
-    print('%s breaks: %s' % (output, shrinking.case.sentence))
-    if shrinking.renumbered:
-        print('  in %s, %s' % (path.name, shrinking.renumbered))
-    if shrinking.may_differ:
-        print('The explanation has other numbers now, so the cause may be another one:')
-        print('  before: %s' % shrinking.first)
-        print('  now:    %s' % shrinking.now)
-    return 0 if shrinking.is_whole else INTERRUPTED
+        self.progress.end_shrinking()
+        why = '' if shrinking.is_whole else self.why_over(shrinking.runs + runs_of(shrinking.case))
+        if not shrinking.taken:
+            self.need_runs(shrinking.runs, why)
+        write_result(shrinking, case.net, path.name, self.output)
+        self.show(shrinking, before, why)
+        return INTERRUPTED if self.stop.is_asked and why else 0
+
+    def show(self, shrinking: Shrinking, before: str, why: str) -> None:
+        """Prints the lines about the result. `why` is the reason why the tool stopped, or an empty text."""
+        if self.asked.steps:
+            for number, it in enumerate(shrinking.taken, 1):
+                print('%3d %s' % (number, it))
+        print('before: %s' % sizes(before))
+        print('now:    %s' % sizes(shrinking.text))
+        whole = 'no further step is possible' + ' without a change of a program' * self.asked.keep_programs
+        print('%d steps, %d runs; %s' % (len(shrinking.taken), shrinking.runs,
+                                         'STOPPED: more steps may be possible (%s)' % why if why else whole))
+        print('%s breaks: %s' % (self.output, shrinking.case.sentence))
+        if shrinking.renumbered:
+            print('  in %s, %s' % (self.path.name, shrinking.renumbered))
+        if shrinking.may_differ:
+            print('The explanation has other numbers now, so the cause may be another one:')
+            print('  before: %s' % shrinking.first)
+            print('  now:    %s' % shrinking.now)
+
+
+def status_of(asked: argparse.Namespace) -> int:
+    """The work of tools/shrink; returns the status."""
+    program = OneProgram(str(program_path().resolve()), Limits(asked.seconds))
+    with BreakOfRun(program) as stop:
+        try:
+            return Work(asked, program, stop).status()
+        except Fault:
+            if not stop.is_asked:
+                raise
+            # (without its run, the scenario may seem to break nothing)
+            print('shrink: %s' % STOPPED, file=sys.stderr)
+            return INTERRUPTED

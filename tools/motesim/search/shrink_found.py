@@ -12,7 +12,7 @@ from motesim.search.one_program import OneProgram
 from motesim.search.progress import Progress
 from motesim.search.search import Search
 from motesim.search.shrink import Case, Shrinking, case_of
-from motesim.search.shrink_command import sizes, write_result
+from motesim.search.shrink_command import runs_of, sizes, why_over, write_result
 
 
 class Allowance:
@@ -24,24 +24,14 @@ class Allowance:
 
     def why_over(self, runs: int) -> str:
         """The reason why this many more runs can't be made; an empty text if they can."""
-        bounds = self.search.bounds
-        if self.stop.is_asked:
-            return 'it was stopped'
-        if bounds.seconds is not None and self.search.seconds >= bounds.seconds:
-            return 'the limit of %g seconds was reached' % bounds.seconds
-        if bounds.runs is not None and self.search.given + self.runs + runs > bounds.runs:
-            return 'the limit of {:,} runs was reached'.format(bounds.runs)
-        return ''
+        bounds, search = self.search.bounds, self.search
+        return why_over(self.stop.is_asked, (search.seconds, bounds.seconds), (search.given + self.runs + runs,
+                                                                               bounds.runs))
 
     def is_over(self, shrinking: Shrinking, progress: Progress, name: str) -> bool:
         """Shows the progress; returns whether the next step can't be tried."""
         progress.show_shrinking(name, len(shrinking.taken), shrinking.runs)
         return bool(self.why_over(shrinking.runs + runs_of(shrinking.case)))
-
-
-def runs_of(case: Case) -> int:
-    """The number of runs that a step needs: one with the faults and, if there are any, one without them."""
-    return 2 if case.effects else 1
 
 
 def case_of_found(asking: Asking, first: Found, sentence: str) -> Case:

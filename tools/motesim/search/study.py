@@ -27,12 +27,22 @@ from motesim.search.change import Base
 from motesim.search.faults import Asked
 from motesim.search.found import covered_lines, found_by
 from motesim.search.kept import Kept
+from motesim.search.numbers import LEAST, numbers_of_words
 from motesim.search.search import Bounds
 from motesim.toml import NoToml, read_toml
 
-KEYS: dict[str, type] = {'about': str, 'replace': dict, 'faults': str, 'at_most': int, 'moments': list, 'every': list,
-                         'queues': list, 'expect': list, 'breaks': list, 'counts': list}
-FORMS: dict[type, str] = {str: 'a text in quotes', int: 'a whole number', list: 'an array', dict: 'a table'}
+TEXTS = 'an array of texts, as in '
+NUMBERS = 'an array of whole numbers, as in '
+OPTIONS = {'moments': ('[40, 80]', '"40,80"'), 'every': ('[2, 3]', '"2,3"'), 'queues': ('[8, 4, 2, 1]', '"8,4,2,1"')}
+# The form of the value of each key.
+FORMS: dict[str, str] = {
+    'about': 'a text in quotes', 'replace': 'a table, as in { "every = 2" = "every = 1000" }',
+    'faults': 'a text, as in "links,motes", or %s["links", "motes"]' % TEXTS,
+    'at_most': 'a whole number from 1 on, as in 2',
+    **{key: '%s%s, or a text, as in %s' % (NUMBERS, *forms) for key, forms in OPTIONS.items()},
+    'expect': TEXTS + '["mote 0 prints 7"]', 'breaks': TEXTS + '["mote 1 is silent"]', 'counts': NUMBERS + '[0, 4]'}
+# The kinds of faults that need values, for which a study has no key.
+NEED_SET = 'values', 'parameters'
 
 
 def studies_of(path: Path) -> tuple[Path, list[dict[str, Any]]]:
@@ -56,23 +66,47 @@ def _wrong_keys(study: object) -> str:
     if not isinstance(study, dict):
         return 'it has to be a table, as after the line `[[study]]`'
     for key, value in study.items():
-        wanted = KEYS.get(key)
-        if not wanted:
-            return '`%s` is not allowed there; allowed are: %s' % (key, ', '.join(KEYS))
-        if type(value) is not wanted:
-            return 'the value of `%s` has to be %s' % (key, FORMS[wanted])
+        if key not in FORMS:
+            return '`%s` is not allowed there; allowed are: %s' % (key, ', '.join(FORMS))
+        if not _has_form(key, value):
+            return 'the value of `%s` has to be %s' % (key, FORMS[key])
+    kind = next((it for it in NEED_SET if it in kinds_of(study)), None)
+    if kind:
+        return 'the kind `%s` needs --set, for which a study has no key: change the values with `replace`' % kind
     if 'expect' not in study or ('breaks' in study) == ('counts' in study):
         return 'it needs `expect`, and exactly one of `breaks` and `counts`'
     return ''
 
 
+def _has_form(key: str, value: object) -> bool:
+    """Returns whether the value of a key has the form that the key needs."""
+    if isinstance(value, str):
+        return key in ('about', 'faults', *OPTIONS)
+    if isinstance(value, list):
+        member = str if key in ('faults', 'expect', 'breaks') else int
+        return key not in ('about', 'replace', 'at_most') and all(type(it) is member for it in value)
+    return type(value) is int and value > 0 if key == 'at_most' else key == 'replace' and isinstance(value, dict)
+
+
+def kinds_of(study: dict[str, Any]) -> tuple[str, ...]:
+    """The kinds of faults of a study."""
+    faults = study.get('faults', 'links,motes')
+    return tuple(it.strip() for it in (faults.split(',') if isinstance(faults, str) else faults))
+
+
+def _numbers_of(study: dict[str, Any], key: str, usual: tuple[int, ...]) -> tuple[int, ...]:
+    """The numbers of a key, which is an array or a text as after the option of tools/search with this name."""
+    value = study.get(key, usual)
+    words = value if isinstance(value, str) else ','.join(map(str, value))
+    return numbers_of_words(words, '`%s`' % key, LEAST[key]) if words else ()
+
+
 def asking_of(study: dict[str, Any], scenario: Path) -> Asking:
     """The search of a study."""
     base = Base(changed(text_of(scenario), study.get('replace', {})), str(scenario))
-    asked = Asked(tuple(it.strip() for it in study.get('faults', 'links,motes').split(',')))
-    asked.moments = tuple(study.get('moments', ()))
-    asked.every = tuple(study.get('every', (2,)))
-    asked.queues = tuple(study.get('queues', asked.queues))
+    asked = Asked(kinds_of(study))
+    asked.moments, asked.every, asked.queues = (
+        _numbers_of(study, key, getattr(asked, key)) for key in ('moments', 'every', 'queues'))
     sentences = read_all(study['expect'], names_of(base.scenario_itself))
     return Asking(base, study['expect'], sentences, asked, Bounds(study.get('at_most', 1)))
 
