@@ -9,6 +9,8 @@ Its tools need Python 3.11 or newer. Nothing is installed, and nothing is fetche
 The archive has only files that git knows. To add folders and files of your own, such as an exercise and its worksheet,
 list them: tools/pack examples/mylab worksheet.pdf. Files from outside this tree are at the top of the archive.
 
+If such a folder has the plan and the results of a study, the README.md of the archive says how to repeat the study.
+
 Without --for-teachers, some files are left out, even if you list them: docs/use/TEACH.md, key.csv, and each file with
 a word in its name, or in its folder's name, that begins with `solution`, `hidden`, `answer` or `marks`. Files and
 folders whose names begin with a dot are always left out, and so are backup copies of an editor, NAME~. tools/pack
@@ -127,6 +129,16 @@ class Sorted(NamedTuple):
                         'docs/use/EXPERIMENTS.md says how to compare the files' % one_line(it)
                         for it in self.added if names_another_program(self.packed[it])]
 
+    def studies(self) -> dict[str, tuple[list[str], list[str]]]:
+        """The added folders with a study: for each, its plans and its results."""
+        found: dict[str, tuple[list[str], list[str]]] = {}
+        for name in self.added:
+            folder, path = os.path.dirname(name), self.packed[name]
+            is_plan = path.suffix == '.toml' and kinds.has_plan(path.read_bytes())
+            if folder and (is_plan or is_results(path)):
+                found.setdefault(folder, ([], []))[not is_plan].append(name)
+        return {folder: its for folder, its in found.items() if all(its)}
+
     def lacks(self, name: str) -> list[str]:
         """The files that a packed plan needs with its own values, but that aren't packed at their place next to it.
         A file that isn't a plan needs none."""
@@ -138,6 +150,21 @@ class Sorted(NamedTuple):
         except Fault:
             return []
         return [it for it in used if os.path.normpath(os.path.join(os.path.dirname(name), it)) not in self.packed]
+
+
+def is_results(path: Path) -> bool:
+    """Returns whether a file has results of tools/sweep."""
+    if path.suffix != '.csv':
+        return path.suffix == '.sqlite'
+    with path.open('rb') as file:
+        return kinds.begins_as_results(file.readline())
+
+
+def about_studies(studies: dict[str, tuple[list[str], list[str]]]) -> str:
+    """The part of the README about the studies of the archive, or an empty text."""
+    return ''.join(template('study') % {
+        'folder': folder, 'plan': plans[0], 'plans': ', '.join(plans), 'results': ', '.join(results)}
+        for folder, (plans, results) in studies.items())
 
 
 def names_another_program(path: Path) -> bool:
@@ -225,7 +252,9 @@ def parts() -> list[str]:
 def files(program: Path, its: Sorted | None = None) -> dict[str, tuple[bytes, int]]:
     """The contents of the archive: for each name, its bytes and its mode."""
     tools, built = user_commands(), program.read_bytes()
-    about = {'version': VERSION, 'commit': commit() or 'not known', 'kit': kit_at_hand(), 'compiled': COMPILED,
+    its = its or sorted_files(parts())
+    about = {'version': VERSION, 'studies': about_studies(its.studies()),
+             'commit': commit() or 'not known', 'kit': kit_at_hand(), 'compiled': COMPILED,
              'digest': hashlib.sha256(built).hexdigest(), 'proof': about_proof(program),
              'tools': '\n'.join('- `tools/%s`: %s' % it for it in tools.items())}
     pages = {'README.md': (template('readme') % about).encode(), **licenses()}
@@ -233,7 +262,7 @@ def files(program: Path, its: Sorted | None = None) -> dict[str, tuple[bytes, in
         pages['PROVED.md'] = (template('proved') % about).encode()
     found = {name: (data, 0o644) for name, data in pages.items()}
     found |= {'motesim': (built, 0o755), 'run': ((template('run') % about).encode(), 0o755)}
-    for name, file in (its or sorted_files(parts())).packed.items():
+    for name, file in its.packed.items():
         if name in found:
             raise Fault('%s has the name of a file of the archive: rename it' % file)
         found[name] = file.read_bytes(), 0o755 if file.stat().st_mode & 0o100 else 0o644
@@ -263,6 +292,15 @@ def archive(folder: str, program: Path, its: Sorted | None = None) -> bytes:
     return gzip.compress(plain.getvalue(), mtime=0)
 
 
+def how_to_unpack(name: str, folder: str, its: Sorted) -> str:
+    """The line about the commands with which the archive of this name is unpacked."""
+    studies = ', '.join(map(one_line, its.studies()))
+    if studies:
+        return ('Readers unpack it by: tar xzf %s && cd %s\nThe README.md in it says how to repeat the study in %s'
+                % (name, folder, studies))
+    return 'Students unpack it by: tar xzf %s && cd %s && ./run examples/flooding.toml' % (name, folder)
+
+
 @command('pack')
 def main() -> int:
     words = words_of(__doc__)
@@ -284,5 +322,5 @@ def main() -> int:
     for line in its.notes():
         print(line)
     print('%s: %.1f MB. %s' % (path, len(data) / 1e6, about_proof(packed)))
-    print('Students unpack it by: tar xzf %s && cd %s && ./run examples/flooding.toml' % (path.name, folder))
+    print(how_to_unpack(path.name, folder, its))
     return 0

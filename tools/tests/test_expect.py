@@ -483,6 +483,19 @@ class Files(unittest.TestCase):
                 self.assertIn(about % result, self.said('expect = ["%s"]' % sentence)[0].splitlines())
         self.assertNotIn('about no mote', self.said('expect = ["every mote but 0 to 2 sends"]')[0])
 
+    def test_a_missing_process_is_one_of_the_mote(self) -> None:
+        names = Names(('etimer', 'client', 'server'), 3, (('client',), ('server', 'client'), ()))
+        for mote, meant in (0, 'client'), (1, 'client'), (2, 'server'), (3, None):
+            with self.subTest(mote), self.assertRaises(SentenceFault) as raised:
+                read_sentence('mote %d prints 48 once' % mote, names)
+            line = 'Did you mean: mote %d prints %s 48 once' % (mote, meant)
+            self.assertEqual(line in str(raised.exception), meant is not None, raised.exception)
+        text = SCENARIO.replace('[programs]', "[programs]\nlast = 'process z; code z { body { } }'", 1)
+        names = names_of(Scenario.parse(text))
+        assert names.processes
+        self.assertEqual((len(names.own), any('z' in it for it in names.own), 'z' in names.processes),
+                         (names.motes, False, True))
+
     def test_faults_have_status_2(self) -> None:
         change = 'expect = ["mote 0 sends"]\n[[change]]\nexpect = ["mote 0 sends"]\n'
         for text, seen in [
@@ -492,6 +505,11 @@ class Files(unittest.TestCase):
             ('expect = ["mote 0 sends twise"]', 'Did you mean: twice\n'), ('expect = [', 'is not TOML'),
             ('expect = ["mote 0 sends 1 time"]', 'Did you mean: mote 0 sends exactly 1 time\n'),
             ('expect = ["mote 0 prints flood 1 time"]', 'Did you mean: mote 0 prints flood exactly 1 time\n'),
+            ('expect = ["mote 0 sends at leats 2 times"]', 'Did you mean: mote 0 sends at least 2 times\n'),
+            ('expect = ["mote 0 sends at mosst once"]', 'Did you mean: mote 0 sends at most once\n'),
+            ('expect = ["mote 0 sends at 3 tmes"]', 'Allowed here'),
+            ('expect = ["mote 0 prints flood ${n} by 60"]',
+             'Hint: a sentence has no parameters, so `${n}` isn\'t replaced by a value: write the value itself.'),
             ('expect = ["motes 1-3 send"]', 'Did you mean: motes 1 to 3 send\n'),
             ('expect = ["motes 1..3 send"]', 'Did you mean: motes 1 to 3 send\n'),
             ('expect = ["mote 0 prints flood -1"]', 'Did you mean: mote 0 prints flood 65535\n'),

@@ -23,7 +23,7 @@ from unittest import mock
 from here import TOOLS
 from motesim.grading.command import remarks, status_of
 from motesim.grading.entries import Entry, anonymous, data_of, entries_of
-from motesim.grading.marking import Mark, Marks, Task, page_name, warned_of
+from motesim.grading.marking import BINARY, Mark, Marks, Task, page_name, warned_of
 from motesim.grading.nets import cut_off, nets_of, program_of
 from motesim.grading.page import page_of
 from motesim.grading.pages import HEAD
@@ -157,6 +157,12 @@ class Entries(Folder):
             'large.toml': '0 of 3  the file is longer than 1,048,576 bytes'})
         self.assertEqual(sorted(name for name, row in rows.items() if row == '3 of 3'),
                          ['=1+1.toml', 'anna.toml', 'group/eve.toml', 'new\\nline.toml', 'raw\\xff.toml'])
+
+    def test_a_program_in_c_in_a_scenario(self) -> None:
+        self.hand_in('kira.toml', net('#include "contiki.h"\n// refuse\nPROCESS(a, "a");\n'))
+        wanted = '0 of 3  its program is in C, not in the notation of mote programs'
+        for words in (), ('--net', 'task.toml'):
+            self.assertEqual(self.rows(*words)['kira.toml'], wanted)
 
     def test_files_that_are_no_solutions_have_no_mark_and_do_not_count(self) -> None:
         (self.folder / 'Emil_4712_file').mkdir()
@@ -446,6 +452,18 @@ class Nets(Folder):
                       '<pre>in task.toml\nmote 0 has 0 such lines', self.page())
         self.assertEqual(self.page().count('href='), 1)
 
+    def test_a_binary_file_has_no_correction_and_a_program_in_utf_16_the_command_for_it(self) -> None:
+        for name in 'word.mote', 'word.toml':
+            (self.folder / name).write_bytes(b'PK\x03\x04\0\0\x81process')
+        (self.folder / 'zoe.mote').write_bytes((PROGRAM % 3).encode('utf-16'))
+        rows = self.rows('--net', 'task.toml')
+        self.assertEqual([rows['word.mote'], rows['word.toml']], ['0 of 3  ' + BINARY] * 2)
+        self.assertIn('--why zoe.mote shows the place', self.grade('--net', 'task.toml'))
+        self.grade('--net', 'task.toml', '-o', 'marks.html')
+        self.assertNotIn('\ufffd', self.page())
+        self.assertNotIn('PK', self.page())
+        self.assertIn('iconv -f UTF-16 -t UTF-8 zoe.mote', ' '.join(self.page().split()))
+
     def test_programs_in_nets_are_written_as_scenarios(self) -> None:
         (self.top / 'secret.toml').write_text(net(PROGRAM % 9, motes=5))
         self.hand_in('ben.mote', PROGRAM % 4)
@@ -453,7 +471,8 @@ class Nets(Folder):
         said = self.grade('--net', 'task.toml', '--hidden', 'secret.toml', '--write', 'runs')
         self.assertEqual(sorted(os.listdir(self.top / 'runs')), [
             'anna.toml_in_secret.toml', 'anna.toml_in_task.toml', 'ben.mote_in_secret.toml', 'ben.mote_in_task.toml'])
-        self.assertIn('runs/ben.mote_in_secret.toml\n', said)
+        self.assertTrue(said.startswith('runs: 4 scenarios\n'), said)
+        self.assertNotIn('runs/', said)
         self.assertIn("grade: carla.toml isn't written: the file is not TOML", self.seen)
         found = Scenario.parse((self.top / 'runs/ben.mote_in_secret.toml').read_text())
         self.assertEqual((found.motes, found.programs['task'].strip()), (5, (PROGRAM % 4).strip()))

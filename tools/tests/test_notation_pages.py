@@ -5,6 +5,8 @@ import unittest
 from here import TOP
 from motesim.notation.faults import find_fault
 from motesim.notation.grammar import RESERVED
+from motesim.runner.run import answer
+from skips import need_program
 
 PROGRAM = """event e;
 semaphore s = 0;
@@ -23,6 +25,27 @@ code p {
   }
 }
 code q { body { } }
+"""
+# Both timers are due at 10, and the process takes the event of u first.
+TWO_DUE = """version = 2
+end = 60
+medium = { range = 10, base = 2, per = 100, collide = false }
+mote = [{ x = 0, y = 0, program = "p" }]
+[programs]
+p = '''
+process p;
+autostart p;
+code p { var wanted = 1; etimer t; etimer u; body {
+  set t 10;
+  set u 10;
+  yield_until fired(u);
+  %s
+  while 1 {
+    yield_until %s;
+    print now;
+  }
+} }
+'''
 """
 PAGES = ('NOTATION.md', 'QUICK.md')
 # The meanings of a table's letters in a program: an expression, and names.
@@ -85,6 +108,23 @@ class Tables(unittest.TestCase):
         for event in ('init', 'poll', 'timer', 'exited'):
             self.assertIsNotNone(find_fault(PROGRAM % ('post q %s 1;' % event)))
             self.assertIsNone(find_fault(PROGRAM % ('x = is(%s);' % event)))
+
+    def test_which_waits_ignore_an_event_that_was_posted_before(self) -> None:
+        need_program(self)
+        text = page('KERNEL.md')
+        part = ' '.join(text[text.index('**An event in the queue.**'):text.index('**The next expiration**')].split())
+        by_timer, by_variable, stops = '(fired(t) && expired(t))', '(fired(t) && wanted)', 'stop t; wanted = 0;'
+        for it in by_timer, by_variable, stops:
+            self.assertIn('`%s`' % it, part)
+        for change, test, wanted in (('stop t;', 'fired(t)', [10]), ('stop t;', by_timer, [10]),
+                                     (stops, by_variable, []), ('set t 20;', 'fired(t)', [10, 30]),
+                                     ('set t 20;', by_timer, [30]), ('reset t;', by_timer, [20]),
+                                     ('restart_timer t;', by_timer, [20]), ('stop t; set t 20;', by_timer, [30])):
+            with self.subTest(change=change, test=test):
+                report = answer((TWO_DUE % (change, test)).encode()).report.decode()
+                self.assertEqual([int(it) for it in re.findall(r'print p (\d+)', report)], wanted)
+        for name, row in (('NOTATION.md', '| `stop t` |'), ('QUICK.md', '| `stop T;` |')):
+            self.assertRegex(page(name), re.escape(row) + '.* in the queue already, this event still arrives')
 
     def test_the_order_of_declarations(self) -> None:
         lines = PROGRAM.split('\n')

@@ -274,6 +274,28 @@ class Pack(unittest.TestCase):
             'Made with MOTESIM: study/a.csv. In a repeated sweep the column `program` may differ; '
             'docs/use/EXPERIMENTS.md says how to compare the files'])
 
+    def test_the_archive_of_a_study_says_how_to_repeat_it(self) -> None:
+        top = self.tree('examples/a.toml', '')
+        plan = '[[places]]\nrule = "line"\n'
+        for name, text in (('mystudy/net.plan.toml', plan), ('mystudy/net.csv', 'seed,fault,note,plan,x,parameters\n'),
+                           ('lab/net.plan.toml', plan), ('lab/marks of mine.csv', 'name,mark\n')):
+            (top / name).parent.mkdir(exist_ok=True)
+            (top / name).write_text(text)
+        found = pack.sorted_files(['examples'], [top / 'mystudy', top / 'lab'], top)
+        self.assertEqual(found.studies(), {'mystudy': (['mystudy/net.plan.toml'], ['mystudy/net.csv'])})
+        with mock.patch.object(pack, 'licenses', dict):
+            readme = pack.files(write_stub(top), found)['README.md'][0].decode()
+            other = pack.files(write_stub(top), pack.sorted_files(['examples'], [top / 'lab'], top))['README.md']
+        self.assertIn('\nThe folder mystudy has a study: its plan (mystudy/net.plan.toml) and its results '
+                      '(mystudy/net.csv). docs/use/EXPERIMENTS.md explains\n', readme)
+        self.assertIn('`tools/sweep mystudy/net.plan.toml -o again.csv`', readme)
+        self.assertNotIn('study', other[0].decode().replace('studio', ''))
+        self.assertEqual(pack.how_to_unpack('a.tar.gz', 'motesim-1', found),
+                         'Readers unpack it by: tar xzf a.tar.gz && cd motesim-1\n'
+                         'The README.md in it says how to repeat the study in mystudy')
+        self.assertRegex(pack.how_to_unpack('a.tar.gz', 'motesim-1', pack.sorted_files(['examples'], (), top)),
+                         r'^Students .* \./run examples/flooding\.toml$')
+
     def test_a_file_that_differs_from_the_commit_is_listed(self) -> None:
         top = self.tree('examples/a.toml', '')
         (top / 'examples/a.toml').write_text('# the solution')

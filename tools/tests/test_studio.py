@@ -486,6 +486,13 @@ class Answering(unittest.TestCase):
 
 
 class Guides(unittest.TestCase):
+    def test_the_page_on_the_studio_names_the_button_of_a_change_by_its_caption(self) -> None:
+        page = ' '.join((TOP / 'docs/use/STUDIO.md').read_text().split())
+        found = re.search(r'press \*Make this change\* below "([^"]*)"', page)
+        assert found
+        changes = tomllib.loads((TOP / 'examples/flooding.expect.toml').read_text())['change']
+        self.assertIn(found[1], [it['about'][0].upper() + it['about'][1:] for it in changes[:3]])
+
     def test_each_example_says_what_to_look_at(self) -> None:
         for path in sorted((TOP / 'examples').glob('*.toml')):
             if not path.name.endswith('.expect.toml'):

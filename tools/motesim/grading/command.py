@@ -110,6 +110,7 @@ def write_scenarios(folder: Path, entries: Sequence[Entry], task: Task) -> None:
     if not task.nets:
         raise Fault('--write needs a net: name one with --net or --hidden')
     folder.mkdir(parents=True, exist_ok=True)
+    count = 0
     for number, entry in enumerate(entries, 1):
         for net in task.nets:
             try:
@@ -122,7 +123,8 @@ def write_scenarios(folder: Path, entries: Sequence[Entry], task: Task) -> None:
             path = folder / (page_name(number, entry.name, net.name).removesuffix('.html').removesuffix('.toml')
                              + '.toml')
             written(path, text)
-            print(path)
+            count += 1
+    print('%s: %d %s' % (one_line(str(folder)), count, 'scenario' if count == 1 else 'scenarios'))
 
 
 def key_of(entries: Sequence[Entry], folder: Path) -> str:

@@ -28,6 +28,7 @@ from motesim.runner import LimitMet, Limits, Runner
 from motesim.runner.run import Answer, Run
 from motesim.scenario import Scenario
 from motesim.scenario.faults import find_fault
+from motesim.scenario import encodings
 from motesim.scenario.kinds import begins_as_c, begins_as_program, begins_as_scenario
 from motesim.terminal import cut, one_line
 from motesim.timeline.html import write_page
@@ -45,6 +46,8 @@ WIDEST_NAME = 40
 UNSAFE = re.compile(r'[^A-Za-z0-9.-]|^\.')
 LONGEST_NAME = 80
 OF_HIDDEN = 'in a hidden net'
+BINARY = 'the file is binary: it has bytes that no text has'
+OF_C, NOT_NOTATION = 'its program is in C', ', not in the notation of mote programs'
 # The most lines of an error, and the most warnings, that are shown.
 MOST_LINES, MOST_WARNED = 40, 3
 
@@ -187,6 +190,8 @@ class Task:
             lacks = without_program(entry, data)
             if lacks:
                 return Marks(entry.name, why=lacks)
+            if not encodings.is_text(data) and not encodings.encoding_of(data):
+                return Marks(entry.name, why=BINARY)
             if entry.path.suffix == '.toml' and begins_as_program(data):
                 return Marks(entry.name, why='it is the text of a program, not a scenario: a file of such a text is '
                                              'NAME.mote')
@@ -194,7 +199,7 @@ class Task:
                 return Marks(entry.name, why='it is a scenario, not the text of a program: a file of a scenario is '
                                              'NAME.toml')
             if entry.path.suffix == '.mote' and begins_as_c(data):
-                return Marks(entry.name, why=IN_C + ', not in the notation of mote programs', fix=self.fix(entry, data))
+                return Marks(entry.name, why=IN_C + NOT_NOTATION, fix=self.fix(entry, data))
             # (messages name lines by the solution's file; the name of an anonymous solution has the same ending)
             file = entry.name.removesuffix(entry.path.suffix).rpartition('/')[2] + entry.path.suffix
             if not self.nets:
@@ -219,6 +224,9 @@ class Task:
         unused = unused_of(data, entry.path.name, self.nets[0]) if self.nets else ''
         marks = replace(self.together(entry.name, found), unused=unused)
         if any(its.is_refused for its in found):
+            # (a file whose programs are expected to be refused keeps its marks)
+            if any(its.why for its in found) and self.has_c(data, entry.path.name):
+                return Marks(entry.name, why=OF_C + NOT_NOTATION, fix=self.fix(entry, data))
             return replace(marks, fix=self.fix(entry, data))
         place, net = first_shown(marks, found)
         if net and net.run and net.run.scenario:
@@ -226,13 +234,23 @@ class Task:
         picture, no_page = self.picture(number, marks, place, net) if net else ('', '')
         return replace(marks, picture=picture, pictured=place if picture else None, no_page=no_page)
 
+    def has_c(self, data: bytes, name: str) -> bool:
+        """Returns whether the program that is marked is a text in C; without nets, whether one of the programs is."""
+        programs = (tables_or_none(data.decode('utf-8')) or {}).get('programs')
+        texts = [program_of(data, name, self.nets[0].program)] if self.nets else [
+            it for it in programs.values() if type(it) is str] if type(programs) is dict else []
+        return any(begins_as_c(it.encode()) for it in texts)
+
     def fix(self, entry: Entry, data: bytes) -> tuple[str, ...]:
         """The place of the error in a solution, and its correction, as tools/explain shows them."""
         return tried(lambda: self.correction(entry, data), lambda words: ('There is no correction here: %s' % words,))
 
     def correction(self, entry: Entry, data: bytes) -> tuple[str, ...]:
         """The place of the error in a solution, and its correction, if the tool itself has no error."""
-        if entry.path.suffix == '.mote':
+        encoding = encodings.encoding_of(data)
+        if entry.path.suffix == '.mote' and encoding:
+            lines = [encodings.shown(entry.name, encoding), 'Hint: %s' % encodings.hint(entry.name, encoding)]
+        elif entry.path.suffix == '.mote':
             source = data.decode('utf-8', 'replace').removeprefix(MARK)
             error = find_program_fault(source) if source else None
             lines = of_program_file(entry.name, source, error) if error else []

@@ -62,10 +62,12 @@ DEED = Table('DEED', 'Lines of the report', ('mote 1 %s',), (
     (('sends', 'sends VALUE'), '`send N V`'),
     (('receives', 'receives VALUE', 'receives VALUE from mote 2'), '`recv F N V`'),
     (('starts P', 'leaves P', 'halts'), '`start P`, `leave P`, `halt`'),
-    (("writes 'full echo msg'",), 'lines with this text directly after the moment; more words may follow'),
-    (("writes 'collide' or 'lost'",), 'lines with one of these texts directly after the moment; more words may follow'),
+    (("writes 'full echo msg'",),
+     'lines that have this text directly behind the number of the moment; more words may follow'),
+    (("writes 'collide' or 'lost'",),
+     'lines that have one of these texts directly behind the number of the moment; more words may follow'),
     (('never sends', 'never prints P VALUE'),
-     'the lines of the deed after `never`, of which there must be none. The MOTES in front of `never` must have a form '
+     'the lines of the deed after `never`; there must be no such line. The MOTES in front of `never` must have a form '
      'from the first three rows of the table MOTES'),
 ))
 VALUE = Table('VALUE', 'Is', ('mote 1 prints p %s',), (
@@ -93,7 +95,8 @@ TIMES = Table('TIMES', 'How many lines', ('mote 1 sends %s',), (
      'more than twice as many lines of the same deed as the same motes have from 300 to 399'),
     (('at least 80 % as often as mote 0',), 'at least 80 % as many lines of the same deed as mote 0 has'),
     (('at least 80 % as often as mote 0 prints P', 'exactly 1 times as often as it receives'),
-     'a multiple or a share of the number of lines of another deed, by mote 0 or by the mote itself (`it`)'),
+     'at least 80 % as many lines as mote 0 has lines `print P V`; exactly as many lines as the mote itself (`it`) has '
+     'lines `recv`'),
 ))
 WHEN = Table('WHEN', 'Moments', ('mote 1 sends %s',), (
     (('at 60',), '60'),
@@ -108,8 +111,7 @@ WHEN = Table('WHEN', 'Moments', ('mote 1 sends %s',), (
 ))
 ORDER = Table('ORDER', 'Meaning', ('mote 1 sends 1 %s',), (
     (('after mote 0 sends 1', 'after mote 2'),
-     'each line is after the first line of the event; in `after mote 2` the event is the deed of the sentence, by '
-     'mote 2'),
+     'each line is after the first line of the event. In `mote 1 sends after mote 2`, the event is `mote 2 sends`'),
     (('before mote 2 prints P', 'before printing P', 'before some mote'),
      'each line is before the first line of the event, or there is no line of the event'),
     (('within 10 of receiving 1', 'within 10 moments of it receives 1', 'within 1 moment of mote 2 sending 5'),
@@ -117,8 +119,8 @@ ORDER = Table('ORDER', 'Meaning', ('mote 1 sends 1 %s',), (
     (('within 10 of each time it receives 1', 'within 10 of every time mote 0 sends'),
      'each line of the event is followed, at most that many moments later, by a line of the sentence. A sentence with '
      'this ORDER has no TIMES, and its WHEN is about the lines of the event. The tool ignores a line of the event if '
-     'no line of the sentence follows it and the run ends before these moments are over. If the tool ignores all lines '
-     'of the event, or if there are none, the sentence is broken'),
+     'the run ends less than that many moments after it and no line of the sentence follows it. If the tool ignores '
+     'all lines of the event, or if there are none, the sentence is broken'),
 ))
 OTHER = Table('Sentence', 'Is about', ('%s',), (
     (('no copy collides', 'some copy collides at mote 3'), 'lines `collide`'),

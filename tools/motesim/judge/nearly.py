@@ -6,6 +6,7 @@ from __future__ import annotations
 
 import re
 from collections.abc import Callable, Iterator
+from difflib import get_close_matches
 
 NUMBERS = ('no', 'one', 'two', 'three', 'four', 'five', 'six', 'seven', 'eight', 'nine', 'ten')
 VERBS = 'print|send|receive|start|leave|halt'
@@ -29,6 +30,12 @@ def _below_0(found: re.Match[str]) -> str:
     return '%s %d' % (found[1], -int(found[2]) % 65_536) if len(found[2]) <= 5 else found[0]
 
 
+def _bound(found: re.Match[str]) -> str:
+    """`at least` or `at most` instead of a misspelt form of it."""
+    like = get_close_matches(found[1].lower(), ('least', 'most'), 1, 0.7)
+    return 'at %s' % like[0] if like else str(found[0])
+
+
 FORMS: list[tuple[str, Replaced]] = [
     (r'\bnode(s?)\b', r'mote\1'),
     (r'''["'`](\w+)["'`]''', r'\1'),
@@ -40,6 +47,7 @@ FORMS: list[tuple[str, Replaced]] = [
     (r'\b(?:exactly )?(?:0|no|zero) or (?:1|one|once) (?:time|packet|message)s?\b', 'at most once'),
     (r'\b(?:at ?l[aes]{1,3}t|(?:no|not) (?:less|fewer) th[ae]n)\b', 'at least'),
     (r'\b(?:at ?(?:most|mots|mst|moost|must)|(?:no|not) more th[ae]n)\b', 'at most'),
+    (r'\bat ?([a-z]{3,7})\b', _bound),
     (r'\b(?:less|fewer) th[ae]n\b', 'fewer than'),
     (r'\bmore then\b', 'more than'),
     (r'\bonly (?=once|twice|\d)', 'exactly '),

@@ -102,6 +102,11 @@ def gerund(many: str) -> str:
     return many.removesuffix('e') + 'ing'
 
 
+# A parameter of a plan, as programs and plans write it, and the hint on it.
+PARAMETER = re.compile(r'\$\{\w*\}')
+OF_PARAMETER = 'a sentence has no parameters, so `%s` isn\'t replaced by a value: write the value itself.'
+
+
 class SentenceFault(Fault):
     """A sentence that can't be read: the place of the first word that isn't allowed, and the allowed ones."""
 
@@ -121,9 +126,11 @@ class SentenceFault(Fault):
 
 @dataclass(frozen=True)
 class Names:
-    """The names that a sentence may use: the processes of the programs, and the number of motes; None if unknown."""
+    """The names that a sentence may use: the processes of the programs, and the number of motes; None if unknown. `own`
+    has the processes of each mote's program."""
     processes: tuple[str, ...] | None = None
     motes: int | None = None
+    own: tuple[tuple[str, ...], ...] = ()
 
 
 def processes_of(program: object) -> list[str]:
@@ -135,10 +142,9 @@ def processes_of(program: object) -> list[str]:
 
 def names_of(scenario: Scenario) -> Names:
     """Returns the names that a sentence about this scenario may use."""
-    found: dict[str, None] = dict.fromkeys(SYSTEM)
-    for text in scenario.programs.values():
-        found.update(dict.fromkeys(processes_of(text)))
-    return Names(tuple(found), scenario.motes)
+    own = {name: tuple(processes_of(text)) for name, text in scenario.programs.items()}
+    found = dict.fromkeys((*SYSTEM, *(it for its in own.values() for it in its)))
+    return Names(tuple(found), scenario.motes, tuple(own.get(it.program, ()) for it in scenario.places))
 
 
 @dataclass(frozen=True)
@@ -744,9 +750,22 @@ def read_sentence(sentence: str, names: Names = Names()) -> Sentence:
     try:
         return _read(sentence, names)
     except SentenceFault as fault:
+        if parameter := PARAMETER.search(sentence):
+            raise SentenceFault(sentence, fault.place, fault.wanted, OF_PARAMETER % parameter[0]) from None
         like = (next((it for it in rewritten(sentence) if _is_read(it, names)), None) or _in_two(sentence, names)
-                or _respelled(sentence, names))
+                or _with_own_process(sentence, fault.place, names) or _respelled(sentence, names))
         raise SentenceFault(sentence, fault.place, fault.wanted, fault.hint, like) if like else fault from None
+
+
+def _with_own_process(sentence: str, place: int, names: Names) -> str | None:
+    """The sentence `mote 0 prints p 7` for `mote 0 prints 7`, in which p is the last process of this mote."""
+    before, rest = sentence[:place], sentence[place:]
+    mote = re.search(r'\bmote (\d+) prints? $', before)
+    number = int(mote[1]) if mote else -1
+    if not 0 <= number < len(names.own) or not names.own[number] or not re.match(r'\d+\b(?! times)', rest):
+        return None
+    like = '%s%s %s' % (before, names.own[number][-1], rest)
+    return like if _is_read(like, names) else None
 
 
 def _in_two(sentence: str, names: Names) -> str | None:

@@ -134,7 +134,8 @@ class Going:
         self.shrinking = process
         errors = process.communicate()[1].decode('utf-8', 'backslashreplace').strip()
         if process.returncode:
-            raise Fault(errors.removeprefix('shrink: ') or 'the shrinking was stopped')
+            # (lines about the progress may be before the message)
+            raise Fault(errors.partition('shrink: ')[2] or 'the shrinking was stopped')
         return {'text': (self.folder / 'small.toml').read_text('utf-8')}
 
 
