@@ -192,7 +192,8 @@ class Sentences(unittest.TestCase):
         self.judge, self.names = judge(), names_of(Scenario.parse(SCENARIO))
 
     def test_a_program_has_these_names(self) -> None:
-        self.assertEqual(self.names, Names(('etimer', 'ctimer', 'radio', 'flood', 'hears'), 4))
+        self.assertEqual(self.names, Names(('etimer', 'ctimer', 'radio', 'flood', 'hears'), 4,
+                                           (('flood', 'hears'),) * 4))
 
     def test_what_holds(self) -> None:
         for sentence in HOLDS:

@@ -1,4 +1,4 @@
--- The tokens that show that a worker stopped only after it had seen the stop flag set.
+-- A worker that stopped has tokens, which show that it had seen the stop flag.
 use Rattle.std.specs.Prelude.{◌≡◌, ◌<◌, ◌%◌, ℕ, Bool, true, false, Result, Ok, Err}
 use Rattle.fork_join.specs.declared.work.WorkerError.{WorkerError}
 use Rattle.fork_join.specs.declared.work.WorkerError.TheVariants.{Memory, Thread, Stopped}

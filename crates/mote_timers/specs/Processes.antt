@@ -1,4 +1,4 @@
--- Processes by their places in the tables of a mote.
+-- The place of each process in the tables of a mote: first the system's processes, then the program's own.
 use Rattle.std.specs.Prelude.{ℕ, ◌+◌, ◌==◌, Bool}
 use Rattle.program_tree.specs.declared.event.Proc.{Proc}
 use Rattle.program_tree.specs.declared.event.Proc.TheVariants.{Own, Etimer, Ctimer, Radio}

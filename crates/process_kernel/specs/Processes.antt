@@ -1,4 +1,4 @@
--- Properties of a process, and of its incarnations.
+-- Properties of a process and of its incarnations. Each start of a process makes a new incarnation.
 use Rattle.std.specs.Prelude.{nat_lt, Bool, true, false, ◌||◌, List, length, unwrap_or, slice_get, slice_set}
 use Rattle.program_tree.specs.declared.event.Proc.{Proc}
 use Rattle.process_kernel.specs.declared.process.ProcessState.{ProcessState}

@@ -1,6 +1,9 @@
 """Values that may be below 0 in C: differences, negative numbers, and the variables that are assigned such a value."""
 from __future__ import annotations
 
+from collections.abc import Iterator
+from dataclasses import dataclass
+
 from motesim.notation.faults import OPERATORS
 
 HALF, VALUES = 32_768, 65_536
@@ -28,16 +31,32 @@ def is_negative(words: Words) -> bool:
     return its is not None and its[1] == '-' and its[0] == ['0'] and number(its[2]) not in (0, 1)
 
 
+@dataclass(frozen=True)
+class Block:
+    """A block of a program: the words in front of its brace, and the block around it."""
+    head: Words
+    outer: Block | None
+
+    def tests(self) -> Iterator[Words]:
+        """Yields the heads of this block and of all blocks around it that are tests, the innermost first."""
+        block: Block | None = self
+        while block:
+            if block.head[:1] in (['if'], ['while']):
+                yield block.head
+            block = block.outer
+
+
 class Assigned:
     """The variables of a code that may be below 0 in C, each with the place of the assignment that makes it so, and
     with the sides of the difference if it is one."""
 
     def __init__(self, words: Words):
         self.words = words
-        # (the tests around each place)
-        self.tests: list[tuple[Words, ...]] = self._tests()
+        # (the innermost block around each place)
+        self.blocks: list[Block | None] = self._blocks()
         self.found: dict[str, tuple[int, Words, Words]] = {}
-        places = [at for at, it in enumerate(words) if it == '=' and words[at - 2] != 'var' and ';' in words[at:]]
+        last = max((at for at, it in enumerate(words) if it == ';'), default=0)
+        places = [at for at, it in enumerate(words[:last]) if it == '=' and words[at - 2] != 'var']
         is_new = True
         while is_new:
             is_new = False
@@ -47,18 +66,18 @@ class Assigned:
                 if sides:
                     self.found[name], is_new = (at, *sides), True
 
-    def _tests(self) -> list[tuple[Words, ...]]:
-        around: list[Words] = []
+    def _blocks(self) -> list[Block | None]:
+        inner: Block | None = None
         closed: Words = []
         found = []
         for at, word in enumerate(self.words):
             if word == '{':
                 begin = next((it for it in range(at, 0, -1) if self.words[it - 1] in ('{', '}', ';')), 0)
-                is_else = self.words[begin:at] == ['else']
-                around.append(closed if is_else else self.words[begin:at])
-            elif word == '}' and around:
-                closed = around.pop()
-            found.append(tuple(it for it in around if it[:1] in (['if'], ['while'])))
+                head = self.words[begin:at]
+                inner = Block(closed if head == ['else'] else head, inner)
+            elif word == '}' and inner:
+                closed, inner = inner.head, inner.outer
+            found.append(inner)
         return found
 
     def _below(self, name: str, value: Words, at: int) -> tuple[Words, Words] | None:
@@ -89,7 +108,8 @@ class Assigned:
         if part and part[1] in ('%', '/') and (part[0] == left or part[1] == '%' and value is not None and (
                 number(part[2]) or VALUES) <= value + 1):
             return False
-        for test in self.tests[at]:
+        block = self.blocks[at]
+        for test in block.tests() if block else ():
             for place, word in enumerate(test):
                 sides = operands(test, place)
                 if sides and left in sides and (right in sides or by is not None and any(
