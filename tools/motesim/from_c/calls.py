@@ -3,6 +3,7 @@ from __future__ import annotations
 
 import re
 
+from motesim.from_c.counts import UNKNOWN, number_for
 from motesim.from_c.declarations import OF_STRUCTURE
 from motesim.from_c.expressions import IN_TICKS, NOT_PRINTED, TICKS, NoCounterpart
 from motesim.from_c.nodes import MOMENTS_OF_SECOND, Node, value_of
@@ -186,10 +187,15 @@ class Calls(Sends):
         if len(call.parts) != 2:
             raise NoCounterpart
         name = allowed(self.writer.of_kind(call.parts[0], 'semaphore'))
-        declared = 'semaphore %s = %s;' % (name, self.writer.text(call.parts[1]))
+        shown = self.writer.text(call.parts[1])
+        count = number_for(shown, '\n'.join((self.place.above, self.source, self.place.below)))
+        if not count:
+            raise NoCounterpart(UNKNOWN % (shown, name))
+        declared = 'semaphore %s = %s;' % (name, count)
         self.why('A semaphore has its count from its declaration above the `process` line: `%s`.' % declared)
         if self.scope.kinds.get(name) != 'semaphore':
             self.events.append(declared)
+        self.counts[name] = count
         return self.end('').removesuffix(';')
 
     def of_processes(self, name: str) -> str:

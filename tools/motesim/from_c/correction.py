@@ -11,6 +11,7 @@ from typing import NamedTuple
 from motesim.from_c.closings import Edit, edits_of, repeated, with_renamed
 from motesim.from_c.bare_block import AFTER_IF, REASON, bare_block, lacks_else
 from motesim.from_c.conditional import conditional, kept_define
+from motesim.from_c.counts import recounted
 from motesim.from_c.expressions import MIXED, NoCounterpart
 from motesim.from_c.heads import bare_body, end_of_body, process_block
 from motesim.from_c.scope import Scope
@@ -276,7 +277,7 @@ def _correction(text: str, fault: ProgramError) -> Correction | None:
             if twice:
                 reader.writer.insist(STEPS_TWICE % twice)
             reasons = reasons_with(bool(seed) or MIXED in text, reader.writer.shown())
-            below = with_renamed(text, renamed, (*seed, *below))
+            below = with_renamed(text, renamed, (*seed, *recounted(text, reader.counts), *below))
             made = Correction(first, last, written, reasons, below=below)
             for above in _insertions(text, source, reader):
                 made = made._replace(above=above)

@@ -214,7 +214,7 @@ class Declarations(Enums, OwnNames):
             return self.of_function()
         if 'process_event_t' in words:
             self.why(ABOVE['event'])
-            return self.of_names('event', '%s')
+            return self.of_names('event')
         if words != ['var']:
             self.of_type(words)
         return self.variables(words)
@@ -467,8 +467,7 @@ class Declarations(Enums, OwnNames):
         self.at += 1
         if kind == 'pt_sem':
             self.why(ABOVE['semaphore'])
-            count = self.scope.counts.get(allowed(self.token.text), '0')
-            return self.of_names('semaphore', '%s = ' + count)
+            return self.of_names('semaphore')
         if kind == 'pt':
             self.why(OF_STRUCTURE)
             return self.rest_left_out()
@@ -479,7 +478,7 @@ class Declarations(Enums, OwnNames):
                                 'is due, '
                                 'and a callback timer, `ctimer %s { .. }`, runs its block.' % ((self.token.text,) * 2))
         self.why('An event timer is declared by `etimer`.')
-        return self.of_names('etimer', '%s')
+        return self.of_names('etimer')
 
     def of_connection(self) -> str:
         """A connection, or a structure of its callbacks. The structure is kept as a comment while a function below it
@@ -519,14 +518,15 @@ class Declarations(Enums, OwnNames):
         declared = ('ctimer %s {%s}' if block.startswith('\n') else 'ctimer %s { %s}') % (name, block)
         return self.in_code('Timers', declared) if self.is_moved('ctimer') else declared
 
-    def of_names(self, word: str, form: str) -> str:
+    def of_names(self, word: str) -> str:
         """Names with commas between them, each declared by a line of its own."""
         found = []
         while True:
             if self.token.kind != 'name':
                 raise NoCounterpart(LACKS_NAME % (word, WITH_NAME[word]))
             name = self.new_name(self.token.text)
-            declared, is_moved = '%s %s;' % (word, form % name), word == 'etimer' and self.is_moved(word)
+            count = ' = ' + self.scope.counts.get(name, '0') if word == 'semaphore' else ''
+            declared, is_moved = '%s %s%s;' % (word, name, count), word == 'etimer' and self.is_moved(word)
             if name in self.place.timers if is_moved else self.place.is_below and self.scope.kinds.get(name) == word:
                 self.why('`%s` is declared already.' % name)
             else:
@@ -545,9 +545,9 @@ class Declarations(Enums, OwnNames):
             raise NoCounterpart(LACKS_NAME % (words[0], WITH_NAME[words[0]]))
         if words[0] in ('etimer', 'event') and words[2] == ',' and self.accept(words[0]):
             self.why('Each name is declared on its own.')
-            return self.of_names(words[0], '%s')
+            return self.of_names(words[0])
         if words[0] == 'etimer' and self.is_moved('etimer') and self.accept('etimer'):
-            return self.of_names('etimer', '%s')
+            return self.of_names('etimer')
         if words[0] == 'ctimer' and words[2] == ';' and self.accept('ctimer'):
             return self.of_callback()
         if words[0] == 'receiver' and words[2] == ',':

@@ -53,6 +53,8 @@ class Lines(Expressions):
         # codes); and declarations of events.
         self.declares: list[str] = []
         self.events: list[str] = []
+        # The counts of the semaphores that these lines initialize.
+        self.counts: dict[str, str] = {}
         # The name of a function that moves to the head of a code, or nothing.
         self.moved = ''
         # The name in C of the variables that these lines declare, if it differs from theirs.

@@ -9,6 +9,7 @@ from dataclasses import dataclass, field
 from motesim.from_c.after_send import callbacks_after_send
 from motesim.from_c.below import Assigned
 from motesim.from_c.callbacks import Callbacks, callbacks_of
+from motesim.from_c.counts import counts_of
 from motesim.from_c.parameters import parameters_of
 from motesim.notation.faults import tokens_of
 from motesim.notation.keywords import RESERVED
@@ -17,7 +18,6 @@ DECLARES = {'event': 'event', 'semaphore': 'semaphore', 'process': 'process', 'v
             'ctimer': 'timer', 'thread': 'thread'}
 NAME = re.compile('[a-z][a-z0-9_]*')
 CODE = re.compile(r'^[ \t]*(?:code[ \t]+(\w+)|PROCESS_THREAD\s*\(\s*(\w+))', re.M)
-SEMAPHORE = re.compile(r'\bPT_SEM_INIT\s*\(\s*&?\s*(\w+)\s*,\s*([0-9]{1,5})\s*\)')
 VARIABLE = re.compile(r'(?:^|(?<=;))[ \t]*var\s+(\w+)\s*=\s*([0-9]+)\s*;', re.M)
 # A variable that is assigned, in the notation or in C: with a sign after its name, or in front of it; and a variable
 # into which a call of C copies a value.
@@ -191,7 +191,7 @@ class Scope:
         for name in macros:
             kinds.setdefault(name, 'process')
         return cls(kinds, codes, 'receiver' in words, named, tuple(dict.fromkeys([*codes, *named, *macros])),
-                   {allowed(name): count for name, count in SEMAPHORE.findall(text)}, dict(VARIABLE.findall(text)),
+                   {allowed(name): count for name, count in counts_of(text).items()}, dict(VARIABLE.findall(text)),
                    callbacks_of(text), parameters_of(text), frozenset(LONG.findall(text)), changed_in(text),
                    callbacks_after_send(text), handlers_of(text, named), second_of(text),
                    frozenset(Assigned(words).found), frozenset(map(str.lower, words)),
