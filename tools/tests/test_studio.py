@@ -463,6 +463,11 @@ class Answering(unittest.TestCase):
         self.assertTrue(any(line.startswith('Allowed here: ') for line in fault['words']))
         self.assertEqual(self.run_text('x = ')['fault']['line'], 'motesim: scenario fault 1')
 
+    def test_a_fault_has_the_corrected_text_if_it_is_known(self) -> None:
+        wrong = NET.replace('print 1;', 'print (1);')
+        self.assertEqual(self.run_text(wrong)['fault']['corrected'], NET)
+        self.assertIsNone(self.run_text(NET.replace('print 1;', 'goto out;'))['fault']['corrected'])
+
     def test_the_pinned_run_is_kept_however_many_come(self) -> None:
         pinned = self.run_text(NET)['number']
         for number in range(8):

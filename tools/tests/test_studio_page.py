@@ -202,6 +202,22 @@ class Page(unittest.TestCase):
         self.wait('document.getElementById("fault").hidden && !document.body.classList.contains("stale")')
         self.assertEqual(self.value('document.querySelectorAll(".fault-mark, .fault-line").length'), 0)
 
+    def test_a_button_corrects_the_text_as_the_message_says(self) -> None:
+        for codemirror in (None, CODEMIRROR) if has_editor(CODEMIRROR) else (None,):
+            with self.subTest(codemirror=codemirror):
+                self.file.write_text(NET)
+                self.open(codemirror=codemirror)
+                before = self.value('m.editor().text')
+                self.value('m.editor().replace("print 1;", "print (1);")')
+                self.wait('!document.getElementById("fault").hidden')
+                self.assertFalse(self.value('document.getElementById("fault-correct").hidden'))
+                self.value('document.getElementById("fault-correct").click()')
+                self.wait('document.getElementById("fault").hidden')
+                self.assertEqual(self.value('m.editor().text'), before)
+                self.value('m.editor().replace("print 1;", "goto out;")')
+                self.wait('!document.getElementById("fault").hidden')
+                self.assertTrue(self.value('document.getElementById("fault-correct").hidden'))
+
     def test_a_mark_stays_below_its_place_in_a_long_line(self) -> None:
         self.open()
         self.type_behind('print 1', '; ' + 'print (1 + 1); ' * 20 + 'prin 2; ' + 'print (2 + 2); ' * 20)

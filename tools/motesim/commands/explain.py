@@ -5,6 +5,13 @@ under the error, the rule that this line breaks, and the words that are allowed 
 meant, it also shows the corrected line. If the scenario has a report, the tool warns of parts that are legal but
 probably not meant.
 
+--apply writes the corrected lines for you, one error after the other:
+
+  tools/explain net.toml --apply mine.toml      corrects the scenario, as far as the messages show corrected lines
+  tools/explain blink.c --apply blink.toml      corrects a program in C, in a net of two motes
+
+Read the changes: some hints say in which way the new lines differ from C.
+
 The tool ends with status 0 if the scenario has a report, 1 if an error is explained, and 2 if the file can't be read,
 if the run reaches a limit, or if `motesim` isn't built. To use another `motesim`, name its file in the environment
 variable MOTESIM.
@@ -12,15 +19,20 @@ variable MOTESIM.
 from __future__ import annotations
 
 from motesim.faults import command
-from motesim.words import add_limits, words_of
+from motesim.words import Once, add_limits, words_of
 
 
 @command('explain')
 def main() -> int:
     words = words_of(__doc__)
-    words.add_argument('file', metavar='FILE', help='a scenario; - is standard input')
+    words.add_argument('file', metavar='FILE', help='a scenario, or with --apply also a program; - is standard input')
+    words.add_argument('--apply', metavar='OUTPUT', action=Once,
+                       help='write the scenario with the corrected lines to this file, and show the changes')
     add_limits(words)
     asked = words.parse_args()
+    from motesim.explain.applied import apply
     from motesim.explain.explanation import explain
     from motesim.explain.within import runs_within
+    if asked.apply is not None:
+        return apply(asked.file, asked.apply, runs_within(asked.apply, asked))
     return explain(asked.file, runs_within(asked.file, asked))

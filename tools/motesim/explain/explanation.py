@@ -285,7 +285,12 @@ def explain(name: str, run: Callable[[bytes], Answer] | None = None) -> int:
     if is_program_file(name, data):
         print('\n'.join(program_instead(name, data)))
         return 1
-    got = (run or answer)(data)
+    return shown_explanation(name, data, run or answer)
+
+
+def shown_explanation(name: str, data: bytes, run: Callable[[bytes], Answer]) -> int:
+    """Prints the explanation of a scenario; returns the status of tools/explain."""
+    got = run(data)
     line = error_line(got)
     if line is None:
         warned = tried(lambda: all_warnings(name, data, got.report),

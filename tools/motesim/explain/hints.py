@@ -84,9 +84,9 @@ OF_PARAMETERS = ('A thread has no parameters, `thread t { .. }`: it uses the var
 OF_ARGUMENTS = 'A `spawn` passes nothing, `spawn t;`: set a variable of the process before it, which the thread reads.'
 OF_PROGRAM = ('In a scenario this text is under `[programs]`, between three quotes: `p = """ .. """`. Or a plan names '
               'the file of the program, and tools/scenario makes a scenario from the plan.')
-OF_C = ('A scenario is a TOML document, with the text of its programs under `[programs]`. Paste this text there, '
-        'between three single quotes, `p = \'\'\' .. \'\'\'`: tools/explain then shows the lines to change, one after '
-        'the other. docs/use/FROM_CONTIKI.md lists the forms of Contiki and C with their counterparts.')
+OF_C = ('A scenario is a TOML document, with the text of its programs under `[programs]`. `tools/explain NAME.c '
+        '--apply NAME.toml` writes a scenario with this program and corrected lines. docs/use/FROM_CONTIKI.md lists '
+        'the forms of Contiki and C with their counterparts.')
 OF_PLAN = '%s is a plan, not a scenario: tools/scenario %s -o NAME.toml makes a scenario of it.'
 OF_TEXTS = ' But a program has no texts: it prints numbers, `print 1;`.'
 OF_QUOTES = 'These are quotes of another kind, as word processors make them: write plain ones, `"` or `\'`.'

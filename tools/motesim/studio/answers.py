@@ -9,6 +9,7 @@ from typing import Any, NamedTuple
 from motesim.comparison.columns import MEDIUM
 from motesim.comparison.reports import Difference, compared, differences, lists_of, origin, packet_of, row_of
 from motesim.explain.explanation import explanation, place_of_fault, place_of_token
+from motesim.explain.followed import followed
 from motesim.explain.lint import warnings
 from motesim.faults import Fault
 from motesim.judge import expectations
@@ -69,10 +70,10 @@ def unwrapped(lines: list[str]) -> list[str]:
 
 
 def fault(text: str, line: str) -> dict[str, Any]:
-    """An error in the words of tools/explain, with its place in the text if that is known."""
+    """An error in the words of tools/explain, with its place in the text and the corrected text if they are known."""
     data = text.encode('utf-8')
-    place = place_of_fault(data, line)
-    return {'line': line, 'words': unwrapped(explanation('the text', data, line)),
+    place, message = place_of_fault(data, line), explanation('the text', data, line)
+    return {'line': line, 'words': unwrapped(message), 'corrected': followed(text, message),
             'place': stretch16(text, place) if place else None}
 
 

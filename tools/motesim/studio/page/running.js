@@ -12,6 +12,7 @@ import {Lost, Refused, ask, attempt} from './link.js';
 import {showMarked} from './marked.js';
 import {say, showState, unsay} from './notices.js';
 import {studio} from './state.js';
+import {differing, lineAndColumn} from './text.js';
 
 /** Functions of other modules: `outdated` ones are called when the results that are shown become those of an earlier
     text, because the text was changed or a run begins; the others when a run or its results are shown. */
@@ -42,7 +43,7 @@ export async function runNow(other) {
   const length = new DataView(got).getUint32(0, true);
   const answer = JSON.parse(new TextDecoder().decode(new Uint8Array(got, 4, length)));
   if (answer.superseded) return;
-  if (answer.fault) return showFault(answer.fault);
+  if (answer.fault) return showFault(answer.fault, text);
   if (answer.limit) return showLimit(answer.limit);
   const run = new Run(answer.run, got.slice(4 + length));
   await indexRun(run);
@@ -100,13 +101,23 @@ async function judge(number, isOther) {
 
 function setStale(isStale) { document.body.classList.toggle('stale', isStale); }
 
-function showFault({words: lines, line, place}) {
+/** Changes the text as the message about its error says, if the text is still the one that has this error. */
+export function correctFault() {
+  const {text, corrected} = studio.fault || {};
+  if (!corrected || studio.editor.text !== text) return;
+  const {begin, end, text: piece} = differing(text, corrected);
+  studio.editor.apply([{from: lineAndColumn(text, begin), to: lineAndColumn(text, end), text: piece}]);
+}
+
+function showFault({words: lines, line, place, corrected}, text) {
+  studio.fault = {text, corrected};
   setStale(true);
   unsay('limit');
   byId('fault').hidden = false;
   byId('warnings').hidden = true;
   showMarked(byId('fault').querySelector('pre'), [line, ...lines]);
   byId('fault-place').hidden = !place;
+  byId('fault-correct').hidden = !corrected;
   if (place) studio.editor.mark(place); else studio.editor.clear();
   const where = place ? `error in line ${place[0] + 1}` : 'an error';
   showState('bad', panes.length ? `${where}: the last run is shown` : where);

@@ -13,7 +13,7 @@ import {ask, beat, connection} from './link.js';
 import {beginLog} from './log.js';
 import {beginMotes, ground} from './motes.js';
 import {showState} from './notices.js';
-import {outdate, pin, runNow} from './running.js';
+import {correctFault, outdate, pin, runNow} from './running.js';
 import {beginSplits} from './split.js';
 import {isDirty, studio} from './state.js';
 import {states} from './states.js';
@@ -58,6 +58,7 @@ function beginButtons() {
   byId('pin').addEventListener('click', pin);
   file.goTo = goToLine;
   byId('fault-place').addEventListener('click', () => goToFault());
+  byId('fault-correct').addEventListener('click', correctFault);
   document.addEventListener('keydown', event => {
     if (!(event.ctrlKey || event.metaKey) || event.key !== 's') return;
     event.preventDefault();

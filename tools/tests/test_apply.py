@@ -1,0 +1,127 @@
+"""tools/explain --apply: the corrected lines of all messages, written to another file."""
+from __future__ import annotations
+
+import contextlib
+import io
+import sys
+import tempfile
+import unittest
+from pathlib import Path
+from unittest import mock
+
+import here  # noqa: F401
+from motesim.commands import explain as command
+from motesim.explain.applied import changes, in_net
+from motesim.report import Report
+from motesim.runner.run import answer
+from motesim.scenario.faults import find_fault
+from skips import need_program
+
+C = '''#include "contiki.h"
+#include <stdio.h>
+#define PERIOD 10
+PROCESS(blink, "Blink");
+AUTOSTART_PROCESSES(&blink);
+PROCESS_THREAD(blink, ev, data)
+{
+  static struct etimer et;
+  static int n = 0;
+  PROCESS_BEGIN();
+  etimer_set(&et, PERIOD);
+  while(n < 3) {
+    PROCESS_WAIT_EVENT_UNTIL(etimer_expired(&et));
+    n++;
+    printf("%d\\n", n);
+    etimer_reset(&et);
+  }
+  PROCESS_END();
+}
+'''
+
+
+class Changes(unittest.TestCase):
+    def test_each_message_is_followed(self) -> None:
+        text = in_net('blink.c', C)
+        made = list(changes(text))
+        self.assertIsNone(find_fault(made[-1][1].encode()))
+        self.assertEqual(made[0][0].gone, ('#include "contiki.h"',))
+        self.assertEqual(made[0][0].new, ())
+        change = next(it for it, _ in made if it.new == ('    n = (n + 1);',))
+        self.assertEqual((change.gone, change.hint), (('    n++;',), 'There is no `++`.'))
+
+    def test_a_program_gets_an_allowed_name(self) -> None:
+        for name, program in (('blink.c', 'blink'), ('/tmp/My-Program.c', 'my_program'), ('-', 'p'), ('3.c', '3'),
+                              ('a_very_long_name_of_a_program.c', 'a_very_long_name')):
+            with self.subTest(name):
+                self.assertIn("\n%s = '''\nx\n'''\n" % program, in_net(name, 'x'))
+                self.assertEqual(find_fault(in_net(name, 'process a; code a { body { } }').encode()), None)
+
+    def test_the_first_error_without_a_corrected_line_ends_it(self) -> None:
+        text = in_net('p', 'process a;\ncode a {\n  body {\n    print (1);\n    goto out;\n  }\n}\n')
+        made = list(changes(text))
+        self.assertEqual([it.new for it, _ in made], [('    print 1;',)])
+
+
+class Command(unittest.TestCase):
+    def setUp(self) -> None:
+        need_program(self)
+        folder = tempfile.TemporaryDirectory()
+        self.addCleanup(folder.cleanup)
+        self.folder = Path(folder.name)
+
+    def run_on(self, *words: str) -> tuple[int, str, str]:
+        out, err = io.StringIO(), io.StringIO()
+        status = 0
+        with mock.patch.object(sys, 'argv', ['explain', *words]), contextlib.redirect_stdout(out):
+            with contextlib.redirect_stderr(err):
+                try:
+                    command.main()
+                except SystemExit as ended:
+                    status = int(ended.code or 0)
+        return status, out.getvalue(), err.getvalue()
+
+    def written(self, name: str, text: str) -> str:
+        (self.folder / name).write_text(text)
+        return str(self.folder / name)
+
+    def test_a_program_in_c_becomes_a_scenario_that_prints_the_same(self) -> None:
+        output = self.folder / 'blink.toml'
+        status, out, err = self.run_on(self.written('blink.c', C), '--apply', str(output))
+        self.assertEqual((status, err), (0, ''))
+        self.assertIn('blink.toml has it in a net of two motes', out)
+        self.assertIn('blink.toml has a report, and no fault', out)
+        # (a hint that is repeated is shown once)
+        self.assertEqual(out.count('there is no preprocessor'), 1)
+        report = Report.parse(answer(output.read_bytes()).report)
+        self.assertEqual([str(it).split()[-1] for it in report.motes[0].lines if ' print ' in str(it)], ['1', '2', '3'])
+
+    def test_the_input_is_kept(self) -> None:
+        name = self.written('net.toml', in_net('p', C))
+        status, _, err = self.run_on(name, '--apply', name)
+        self.assertEqual(status, 2)
+        self.assertIn('name another file with --apply', err)
+        self.assertEqual(Path(name).read_text(), in_net('p', C))
+
+    def test_a_scenario_without_an_error_is_copied(self) -> None:
+        text = in_net('p', 'process a; autostart a; code a { body { print 1; } }')
+        status, out, _ = self.run_on(self.written('net.toml', text), '--apply', str(self.folder / 'same.toml'))
+        self.assertEqual((status, (self.folder / 'same.toml').read_text()), (0, text))
+        self.assertIn('No line was changed: the text has no error.', out)
+
+    def test_an_error_without_a_corrected_line_is_explained(self) -> None:
+        text = in_net('p', 'process a;\nautostart a;\ncode a {\n  body {\n    goto out;\n  }\n}\n')
+        status, out, _ = self.run_on(self.written('net.toml', text), '--apply', str(self.folder / 'o.toml'))
+        self.assertEqual(status, 1)
+        self.assertIn('No line was changed: the first error has no corrected line.', out)
+        self.assertIn('o.toml, line 11, which is line 5 of program p:', out)
+
+    def test_quotes_in_a_program_are_refused(self) -> None:
+        name = self.written('q.c', C.replace('"%d\\n"', "\"'''\""))
+        status, _, err = self.run_on(name, '--apply', str(self.folder / 'q.toml'))
+        self.assertEqual(status, 2)
+        self.assertIn('three single quotes in a row', err)
+        self.assertFalse((self.folder / 'q.toml').exists())
+
+
+if __name__ == '__main__':
+    unittest.main()
