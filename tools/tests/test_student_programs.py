@@ -1,0 +1,36 @@
+"""Programs of students in C, corrected by `tools/explain --apply`, print on three motes the numbers that they print with
+Contiki's kernel, at the same moments."""
+import shutil
+import tempfile
+import unittest
+from pathlib import Path
+
+from skips import need_command, need_program
+from student_programs import PROGRAMS, corrected, kernel_in, lines_in_motesim, lines_on_host, title
+
+# Programs with an error for which no corrected line is known.
+ADVICE = frozenset({'beacon'})
+
+
+class StudentPrograms(unittest.TestCase):
+    def test_corrected_programs_print_what_they_print_with_the_kernel_of_contiki(self) -> None:
+        need_program(self)
+        need_command(self, 'gcc', 'gcc')
+        need_command(self, 'objcopy', 'binutils')
+        folder = Path(tempfile.mkdtemp())
+        self.addCleanup(shutil.rmtree, folder)
+        kernel = kernel_in(folder)
+        for file in sorted(PROGRAMS.glob('*.c')):
+            source = file.read_text()
+            with self.subTest(file.stem):
+                self.assertTrue(title(source), 'the first comment says what the program does')
+                text, _ = corrected(source)
+                found, wanted = lines_in_motesim(text), lines_on_host(source, folder, kernel)
+                self.assertTrue(wanted, 'the program prints nothing')
+                self.assertEqual(found is None, file.stem in ADVICE)
+                if found is not None:
+                    self.assertEqual(found, wanted, text)
+
+
+if __name__ == '__main__':
+    unittest.main()
