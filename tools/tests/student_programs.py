@@ -44,7 +44,7 @@ def kernel_in(folder: Path) -> list[str]:
 def lines_on_host(source: str, folder: Path, kernel: Sequence[str]) -> list[str]:
     """The lines of a program in C on the host of Contiki's kernel, sorted by mote."""
     file, compiled = folder / 'student.c', folder / 'student.o'
-    file.write_text('#define END %d\n#include "students.h"\n#line 1 "student.c"\n%s\n#include "net.c"\n' % (END, source))
+    file.write_text('#define END %d\n#include "students.h"\n%s\n#include "net.c"\n' % (END, source))
     subprocess.run([*GCC, '-c', '-o', compiled, file], check=True)
     subprocess.run(['objcopy', *SECTIONS, compiled], check=True)
     subprocess.run(['gcc', '-no-pie', '-o', folder / 'student', compiled, *kernel], check=True)
