@@ -40,35 +40,32 @@ MOTES = Table('MOTES', 'The sentence is about', ('%s sends', '%s send'), (
     (('motes 3 to 7 together', 'all motes together'),
      'all lines of these motes, as if one mote had them, sorted by moment, then by mote'),
     (('no mote', 'no mote but 0'),
-     'all motes that `but` doesn\'t name; the rest of the sentence must hold for none of them'),
+     'all motes, except those after `but`; the rest of the sentence must hold for none of them'),
     (('some mote', 'some mote but 0'),
-     'all motes that `but` doesn\'t name; the rest of the sentence must hold for at least one of them'),
+     'all motes, except those after `but`; the rest of the sentence must hold for at least one of them'),
     (('exactly 1 mote', 'at least 5 motes', 'at most 3 motes but 0'),
-     'all motes that `but` doesn\'t name; the rest of the sentence must hold for this number of them'),
+     'all motes, except those after `but`; the rest of the sentence must hold for this number of them'),
     (('at least 90 % of motes', 'at most 10 % of the motes', 'exactly 50 percent of all motes but 0',
-      'at least 80 % of motes 3 to 20'), 'the motes after `of` that `but` doesn\'t name; the rest of the sentence '
-      'must hold for this share of them'),
+      'at least 80 % of motes 3 to 20'),
+     'the motes after `of`, except those after `but`; the rest of the sentence must hold for this share of them'),
 ))
 DEED = Table('DEED', 'Lines of the report', ('mote 1 %s',), (
     (('prints', 'prints P', 'prints P VALUE'), '`print P V`'),
     (('prints just P 1, 2, 3',),
-     'all lines `print P V`, which must have exactly these values, in this order; `1 to 3` means `1, 2, 3`'),
+     'all lines `print P V`: exactly these values, in this order; `1 to 3` means `1, 2, 3`'),
     (('prints just P 1 to 29 in any order',),
-     'all lines `print P V`, which must have exactly these values, in any order'),
+     'all lines `print P V`: exactly these values, in any order'),
     (('prints just P its distance from mote 0',),
-     'all lines `print P V`: there must be exactly one, with this value. Instead of `its distance from mote 0` you can '
-     'write any other VALUE of the next table'),
-    (('finally prints P VALUE',), 'the last line `print P V`, which must have this value'),
+     'all lines `print P V`: exactly one, with this value or with any other VALUE of the next table'),
+    (('finally prints P VALUE',), 'the last line `print P V`: this value'),
     (('sends', 'sends VALUE'), '`send N V`'),
     (('receives', 'receives VALUE', 'receives VALUE from mote 2'), '`recv F N V`'),
     (('starts P', 'leaves P', 'halts'), '`start P`, `leave P`, `halt`'),
     (("writes 'full echo msg'",),
-     'lines that have this text directly behind the number of the moment; more words may follow'),
-    (("writes 'collide' or 'lost'",),
-     'lines that have one of these texts directly behind the number of the moment; more words may follow'),
+     'lines that have this text directly after the moment; more words may follow'),
+    (("writes 'collide' or 'lost'",), 'lines that have one of these texts directly after the moment'),
     (('never sends', 'never prints P VALUE'),
-     'the lines of the deed after `never`; there must be no such line. The MOTES in front of `never` must have a form '
-     'from the first three rows of the table MOTES'),
+     'no line of the deed after `never`; the MOTES must be from the first three rows of the table MOTES'),
 ))
 VALUE = Table('VALUE', 'Is', ('mote 1 prints p %s',), (
     (('7',), 'this number'),
@@ -77,12 +74,11 @@ VALUE = Table('VALUE', 'Is', ('mote 1 prints p %s',), (
     (('its distance from mote 0',),
      'the least number of hops from mote 0 to the mote, over links that don\'t lose every packet'),
     (('the set of motes that it hears', 'the set of motes that it hears but 5'),
-     'a number in which bit n is set for each mote n that the mote hears, except those after `but`. A number has 16 '
-     'bits, so these motes must be from 0 to 15'),
+     'a number in which bit n is set for each mote n that the mote hears, except those after `but`; these motes must '
+     'be 0 to 15'),
     (('the set of motes linked with it', 'the set of motes linked with it but 5'),
      'a number in which bit n is set for each mote n that the mote hears and that hears the mote, except those after '
-     '`but`. A number has 16 '
-     'bits, so these motes must be from 0 to 15'),
+     '`but`; these motes must be 0 to 15'),
     (('a mote that it hears, one hop nearer to mote 0',),
      'the number of any mote that the mote hears and that is one hop nearer to mote 0'),
 ))
@@ -95,8 +91,8 @@ TIMES = Table('TIMES', 'How many lines', ('mote 1 sends %s',), (
      'more than twice as many lines of the same deed as the same motes have from 300 to 399'),
     (('at least 80 % as often as mote 0',), 'at least 80 % as many lines of the same deed as mote 0 has'),
     (('at least 80 % as often as mote 0 prints P', 'exactly 1 times as often as it receives'),
-     'at least 80 % as many lines as mote 0 has lines `print P V`; exactly as many lines as the mote itself (`it`) has '
-     'lines `recv`'),
+     'at least 80 % as many lines as mote 0 has lines `print P V`; exactly as many lines as the mote itself has lines '
+     '`recv`'),
 ))
 WHEN = Table('WHEN', 'Moments', ('mote 1 sends %s',), (
     (('at 60',), '60'),
@@ -106,39 +102,36 @@ WHEN = Table('WHEN', 'Moments', ('mote 1 sends %s',), (
     (('at 40 plus 3 for each hop from mote 0',),
      'for each mote, the moment 40 + 3 h, if the mote is h hops from mote 0'),
     (('in each 120 from 0 to 1199',),
-     'the periods 0 to 119, 120 to 239, and so on; the last one may be shorter. The whole sentence must hold in each of '
-     'these periods: with `exactly 1 mote`, the mote may differ from period to period'),
+     'the periods 0 to 119, 120 to 239, and so on; the last one may be shorter. The whole sentence must hold in each '
+     'period: with `exactly 1 mote`, the mote may differ from period to period'),
 ))
 ORDER = Table('ORDER', 'Meaning', ('mote 1 sends 1 %s',), (
     (('after mote 0 sends 1', 'after mote 2'),
-     'each line is after the first line of the event. In `mote 1 sends after mote 2`, the event is `mote 2 sends`'),
+     'each line is after the first line of the event'),
     (('before mote 2 prints P', 'before printing P', 'before some mote'),
      'each line is before the first line of the event, or there is no line of the event'),
     (('within 10 of receiving 1', 'within 10 moments of it receives 1', 'within 1 moment of mote 2 sending 5'),
      'each line is at most that many moments after a line of the event'),
     (('within 10 of each time it receives 1', 'within 10 of every time mote 0 sends'),
-     'each line of the event is followed, at most that many moments later, by a line of the sentence. A sentence with '
-     'this ORDER has no TIMES, and its WHEN is about the lines of the event. The tool ignores a line of the event if '
-     'the run ends less than that many moments after it and no line of the sentence follows it. If the tool ignores '
-     'all lines of the event, or if there are none, the sentence is broken'),
+     'each line of the event is followed, at most that many moments later, by a line of the sentence'),
 ))
 OTHER = Table('Sentence', 'Is about', ('%s',), (
     (('no copy collides', 'some copy collides at mote 3'), 'lines `collide`'),
     (('at most 2 copies overflow',), 'lines `lost`: copies that arrived while eight packets were waiting'),
     (('exactly 9 copies arrive at motes 1 to 3 by 60',), 'lines `recv`'),
     (('no copy is lost', 'exactly 1 copy is lost at mote 1'),
-     'copies that the medium loses; the moment of such a copy is the moment at which its packet was sent'),
+     'copies that the medium loses; their moment is the one at which the packet was sent'),
     (('at least 90 % of copies arrive', 'at most 5 % of the copies collide at motes 1 to 3', 'every copy arrives',
       'each copy arrives at mote 3', 'all copies arrive'),
      'a share of all copies, except those that are still on the way at the end. A copy that the medium loses counts, '
-     'even if it would arrive after the end. This sentence has no WHEN'),
+     'even if it would arrive after the end. No WHEN is allowed'),
     (('exactly 1 copy is left', 'exactly 2 copies are left'),
      'the last line of the report: the copies on the way at the end'),
     (('exactly 75 packets are sent', 'no packet is sent after 90'), 'lines of the medium'),
     (("the medium writes '4 0 1 20 1@lost'",), 'a line of the medium that begins with this text'),
     (('the report has at most 2000 lines', 'the report has at least 1 line'), 'the length of the report'),
     (('mote 1 can hear mote 0', 'motes 2 and 3 cannot hear mote 0'),
-     'the scenario: mote 1 can hear mote 0 if they are in range, and the link from mote 0 to mote 1 doesn\'t lose every '
+     'the scenario: mote 1 can hear mote 0 if they are in range and the link from mote 0 to mote 1 doesn\'t lose every '
      'packet'),
     (("the scenario is refused with 'scenario fault 2'",), 'the result of `motesim`: this fault instead of a report'),
 ))
