@@ -199,6 +199,15 @@ class Scenarios(unittest.TestCase):
                 self.assertEqual((found[0], found[1].strip()), (line, marked))
                 self.assertTrue(any(it.startswith('Allowed here: ') for it in lines))
 
+    def test_a_loss_of_no_packets_isnt_changed_into_a_loss_of_all(self) -> None:
+        for value in '0', '-1':
+            text = changed({'every = 2': 'every = ' + value})
+            fault = scenario_faults.find_fault(text.encode())
+            assert fault
+            lines = ' '.join(explain.explanation('s.toml', text.encode(), 'motesim: ' + fault.message))
+            self.assertIn('`every = 1` loses every packet', lines)
+            self.assertNotIn('Write, as', lines)
+
     def test_what_is_lacking_at_the_top_is_shown_and_nothing_is_marked(self) -> None:
         for changes, head, begin, more in LACKS:
             with self.subTest(head + more):

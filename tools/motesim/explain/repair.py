@@ -172,7 +172,8 @@ def _attempts_at_value(text: str, rows: list[str], tables: object, fault: Scenar
         truth = 'true' if str(value).lower() in ('1', 'true', 'yes', 'on') else 'false'
         hint = 'The truth values are `true` and `false`, in small letters and without quotes.'
         yield Repair(hint, number, number, (_replaced(row, place, truth),))
-    if type(value) is int and rule and rule.kind is int:
+    # (a link that loses nothing has no loss, and the nearest value, 1, would lose every packet)
+    if type(value) is int and rule and rule.kind is int and not (name == 'every' and value < 1):
         least = 1 if name in ('base', 'per', 'every') else rule.least
         nearest = min(max(value, least), rule.most)
         hint = '`%s` is at %s %s' % (name, 'most' if value > nearest else 'least', '{:,}'.format(nearest))
