@@ -179,7 +179,7 @@ def _attempts_at_value(text: str, rows: list[str], tables: object, fault: Scenar
         hint = '`%s` is at %s %s' % (name, 'most' if value > nearest else 'least', '{:,}'.format(nearest))
         more = ', in moments: a moment may be as long as you like.' if name == 'end' else '.'
         yield from _attempts_at_number(hint + more, row, number, place, (name, value, nearest))
-    if fault.message == 'medium fault 4' and type(value) is int:
+    if fault.message == 'medium fault 4' and name != 'every' and type(value) is int:
         count = len(synonyms.at(tables, ('mote',)) or ())  # type: ignore[arg-type]
         hint = 'Motes are numbered from 0, in the order of the file: here 0 to %d.' % (count - 1)
         for other in (value - 1, *range(count)):
