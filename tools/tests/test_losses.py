@@ -183,10 +183,10 @@ class Resonances(unittest.TestCase):
             self.assertIsNone(hit(values, found.better or 0, kinds_of(values), RARE))
 
     def test_the_page_has_the_numbers_of_the_criteria(self) -> None:
-        text = ' '.join((TOP / 'docs/use/EXPERIMENTS.md').read_text().split())
+        text = ' '.join((TOP / 'docs/use/LOSSES.md').read_text().split())
         self.assertEqual((resonance.REPEATED, resonance.FREQUENT, resonance.LEAST_PACKETS, resonance.RARE,
                           resonance.MORE, resonance.LEAST_TOGETHER), (3, 1 / 8, 5, 0.001, 1.8, 2))
-        for words in ('each value that the mote sends at least 3 times', 'at least an eighth of the packets',
+        for words in ('| by value | the mote sends it at least 3 times |', 'at least an eighth of the packets',
                       'A kind counts if it has at least 5 packets', 'the sender sends at least 10 packets in the run',
                       'by chance is below 0.001 / m', 'at least 1.8 times as many packets of the kind',
                       'k is at least 2, and', 'k is at least 5, and at least 1.8 times the expected number n * p'):
@@ -236,7 +236,7 @@ class Primes(unittest.TestCase):
 WORD = 65_536
 ASSIGNED = re.compile(r'(\w+) = (\(.*\));')
 # Programs whose motes draw by chance, each with the variable that has its generator's state.
-DRAWING = {'docs/use/EXPERIMENTS.md': 'dice', 'examples/studies/density.mote': 'dice',
+DRAWING = {'docs/use/LOSSES.md': 'dice', 'examples/studies/density.mote': 'dice',
            'examples/studies/flooding.mote': 'seed', 'examples/studies/trickle.mote': 'seed'}
 STEP = '((dice * 25173) + 13849)'
 # The pattern's second variable, and the sum that it compares with the limit.
@@ -333,12 +333,12 @@ def measured(cycle: Cycle, motes: int, packets: int, limit: int) -> Measured:
 
 class ByChance(unittest.TestCase):
     """The generator of the page, as a program computes it, against what chance would give."""
-    cycle = Cycle(mixing_of('docs/use/EXPERIMENTS.md'))
+    cycle = Cycle(mixing_of('docs/use/LOSSES.md'))
 
     def test_all_programs_mix_their_seeds_in_the_same_way(self) -> None:
-        page = mixing_of('docs/use/EXPERIMENTS.md')
+        page = mixing_of('docs/use/LOSSES.md')
         self.assertEqual(len(page), 4)
-        text = (TOP / 'docs/use/EXPERIMENTS.md').read_text('utf-8')
+        text = (TOP / 'docs/use/LOSSES.md').read_text('utf-8')
         for it in 'var luck = 1;', 'dice = %s;' % STEP, 'luck = %s;' % SECOND, 'if (%s >= ${limit}) {' % SUM:
             self.assertIn(it, text)
         for file in DRAWING:
@@ -361,7 +361,7 @@ class ByChance(unittest.TestCase):
             self.assertEqual(warned(report([7] * 9, 2), net, 60), ['warning: ' + SAME_DRAWS] * count)
 
     def test_two_processes_of_a_mote_draw_as_two_motes_do(self) -> None:
-        page = (TOP / 'docs/use/EXPERIMENTS.md').read_text('utf-8')
+        page = (TOP / 'docs/use/LOSSES.md').read_text('utf-8')
         self.assertIn('    dice = (((self * 257) + ${seed}) + 128);\n', page)
         pairs = [(mote, seed) for mote in range(255) for seed in range(1, 129)]
         for limit in 6_554, 32_768:
@@ -408,14 +408,14 @@ class ByChance(unittest.TestCase):
 
     def test_without_the_mixing_they_lose_in_step(self) -> None:
         # (in each draw the values of successive motes differ by the same number: this is what the mixing is for)
-        cycle = Cycle(mixing_of('docs/use/EXPERIMENTS.md')[:1])
+        cycle = Cycle(mixing_of('docs/use/LOSSES.md')[:1])
         few, many = measured(cycle, 50, 20, 13_107), measured(cycle, 99, 100, 32_768)
         self.assertTrue(few.spread < 0.2 and few.within < 0.2, few)
         self.assertTrue(many.spread > 1.8 and many.within > 1.5 and many.lag > 0.6 and many.covers < 0.65, many)
 
     def test_the_program_draws_the_same(self) -> None:
         need_program(self)
-        page = (TOP / 'docs/use/EXPERIMENTS.md').read_text('utf-8')
+        page = (TOP / 'docs/use/LOSSES.md').read_text('utf-8')
         parts = dict(re.findall(r'```\w+ (chance\.\S+)\n(.*?)```', page, re.S))
         files = Files(Path(), {'chance.mote': parts['chance.mote'].encode()})
         text = Plan('chance.plan.toml', parts['chance.plan.toml'], files).scenario({'seed': 7})
