@@ -87,8 +87,8 @@ OF_PROGRAM = ('In a scenario this text is under `[programs]`, between three quot
 OF_C = ('A scenario is a TOML document, with the text of its programs under `[programs]`. `tools/explain NAME.c '
         '--apply NAME.toml` writes a scenario with this program and corrected lines. docs/use/FROM_CONTIKI.md lists '
         'the forms of Contiki and C with their counterparts.')
-NO_LOSS = ('`every` is at least 1, and `every = 1` loses every packet. If the link must not lose packets, leave out the '
-           'whole table of this loss.')
+NO_LOSS = ('`every` is at least 1, and `every = 1` loses every packet. If the link must not lose packets, leave out '
+           'the whole table of this loss.')
 OF_PLAN = '%s is a plan, not a scenario: tools/scenario %s -o NAME.toml makes a scenario of it.'
 OF_TEXTS = ' But a program has no texts: it prints numbers, `print 1;`.'
 OF_QUOTES = 'These are quotes of another kind, as word processors make them: write plain ones, `"` or `\'`.'
