@@ -3,8 +3,16 @@ import unittest
 
 from here import TOOLS  # noqa: F401
 from motesim.explain.advice import advice
+from motesim.from_c.side_by_side import side_by_side
 from motesim.notation.faults import find_fault
+from motesim.report import Report
+from motesim.runner.run import answer
+from skips import need_program
+from test_c_programs import SCENARIO as OF_PROCESS
+from test_contiki_programs import corrected
 from test_shared_variables import followed
+
+SCENARIO = OF_PROCESS.replace('process p;\nautostart p;\ncode p {\n%s\n  body {\n%s\n  }\n}\n', '%s\n')
 
 COUNTS = """#define SIZE 8
 static struct pt_sem empty, full;
@@ -42,3 +50,116 @@ class Counts(unittest.TestCase):
         assert found
         self.assertIsNone(found.line)
         self.assertIn('choose the number n for `(n + 1)`, write `semaphore full = n;`', found.hint)
+
+
+def prints(text: str) -> list[int | None]:
+    """The numbers that the motes of a scenario print."""
+    return [it.value for it in Report.parse(answer(text.encode()).report).lines('print')]
+
+
+def buffered(loop: str, first: str = '', variable: str = '') -> str:
+    """Two protothreads that a process schedules in a loop, with other statements of the process in front of it."""
+    return """#include "contiki.h"
+#define COUNT 3
+static struct pt_sem empty, full;
+%s
+static
+PT_THREAD(producer(struct pt *pt))
+{
+  static int i;
+  PT_BEGIN(pt);
+  for(i = 0; i < COUNT; i++) {
+    PT_SEM_WAIT(pt, &empty);
+    item = i + 5;
+    PT_SEM_SIGNAL(pt, &full);
+  }
+  PT_WAIT_UNTIL(pt, 0);
+  PT_END(pt);
+}
+static PT_THREAD(consumer(struct pt *pt)) {
+  PT_BEGIN(pt);
+  while(1) {
+    PT_SEM_WAIT(pt, &full);
+    printf("%%d\\n", item);
+    PT_SEM_SIGNAL(pt, &empty);
+  }
+  PT_END(pt);
+}
+PROCESS(main_process, "Main");
+AUTOSTART_PROCESSES(&main_process);
+PROCESS_THREAD(main_process, ev, data)
+{
+  static struct pt p, c;
+  PROCESS_BEGIN();
+  PT_SEM_INIT(&empty, 2);
+  PT_SEM_INIT(&full, 0);
+  PT_INIT(&p);
+  PT_INIT(&c);
+  %s
+  while(1) {
+    %s
+  }
+  PROCESS_END();
+}
+""" % (variable or 'static int item;', first, loop)
+
+
+BOTH = 'PT_SCHEDULE(producer(&p));\n    PT_SCHEDULE(consumer(&c));\n    '
+
+
+class SideBySide(unittest.TestCase):
+    def test_two_protothreads_become_two_processes(self) -> None:
+        need_program(self)
+        for wait in 'PROCESS_PAUSE();', 'PROCESS_YIELD();', 'PROCESS_WAIT_EVENT();':
+            with self.subTest(wait):
+                text = corrected(SCENARIO % buffered(BOTH + wait))
+                assert text
+                self.assertIn('semaphore empty = 2;\nsemaphore full = 0;\nprocess producer, consumer;\n'
+                              'autostart producer, consumer;\n', text)
+                self.assertNotIn('main_process', text)
+                self.assertEqual(prints(text), [5, 6, 7])
+
+    def test_a_process_with_other_statements_starts_them(self) -> None:
+        need_program(self)
+        text = corrected(SCENARIO % buffered('PROCESS_WAIT_EVENT();\n    ' + BOTH, 'printf("%d\\n", 77);'))
+        assert text
+        self.assertIn('process producer, consumer, main_process;\nautostart main_process;\n', text)
+        self.assertEqual(prints(text), [77, 5, 6, 7])
+
+    def test_the_example_of_the_paper(self) -> None:
+        driver = ('static PT_THREAD(driver_thread(struct pt *pt))\n{\n  static struct pt a, b;\n  PT_BEGIN(pt);\n'
+                  '  PT_SEM_INIT(&empty, 0);\n  PT_SEM_INIT(&full, COUNT);\n  PT_INIT(&a);\n'
+                  '  PT_WAIT_THREAD(pt, producer(&a) &\n                 consumer(&b));\n  PT_END(pt);\n}\n'
+                  'int main(void)\n{\n  static struct pt driver_pt;\n  PT_INIT(&driver_pt);\n'
+                  '  while(PT_SCHEDULE(driver_thread(&driver_pt))) {\n    usleep(10);\n  }\n  return 0;\n}\n')
+        whole = buffered('').partition('PROCESS(')[0] + driver
+        found = side_by_side(whole)
+        assert found
+        self.assertEqual(found.named, 'semaphore empty = 0;\nsemaphore full = 3;\nprocess producer, consumer;\n'
+                         'autostart producer, consumer;')
+        text, _ = followed(whole)
+        self.assertEqual([it for it in ('driver', 'main', 'PT_', 'item') if it in text], ['item'])
+
+    def test_values_that_have_no_corrected_lines_are_named(self) -> None:
+        for variable in 'static int item[1];', 'static int item, other;':
+            found = side_by_side(buffered(BOTH + 'PROCESS_PAUSE();', variable=variable))
+            assert found
+            self.assertIn('write `post consumer msg x;` instead', ' '.join(found.reasons))
+
+    def test_an_end_begins_again(self) -> None:
+        whole = buffered(BOTH + 'PROCESS_PAUSE();').replace('  PT_WAIT_UNTIL(pt, 0);\n', '')
+        found = side_by_side(whole)
+        assert found
+        self.assertIn('begins a protothread again when it has ended', ' '.join(found.reasons))
+        self.assertIn('body { while 1 {', [it.line for it in found.edits])
+
+    def test_another_loop_has_advice(self) -> None:
+        loop = 'while(PT_SCHEDULE(producer(&p)) | PT_SCHEDULE(consumer(&c))) {'
+        whole = buffered('').replace('while(1) {\n    \n', loop)
+        found = side_by_side(whole)
+        assert found
+        self.assertEqual(found.edits, ())
+        self.assertIn('So write a process for each of them', found.reasons[0])
+
+    def test_one_protothread_stays_a_thread(self) -> None:
+        self.assertIsNone(side_by_side(buffered('PT_SCHEDULE(producer(&p));')))

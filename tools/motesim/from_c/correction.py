@@ -4,6 +4,7 @@ A correction is shown only if it helps: with it the text has no fault, or its fi
 """
 from __future__ import annotations
 
+import re
 from collections.abc import Iterator
 from dataclasses import replace
 from typing import NamedTuple
@@ -15,6 +16,7 @@ from motesim.from_c.counts import recounted
 from motesim.from_c.expressions import MIXED, NoCounterpart
 from motesim.from_c.heads import bare_body, end_of_body, process_block
 from motesim.from_c.scope import Scope
+from motesim.from_c.side_by_side import side_by_side
 from motesim.from_c.places import Surroundings, head_for, opens_endless_do, place_below, rest_of_loop
 from motesim.from_c.process_names import NewNames, new_names
 from motesim.from_c.seed import reasons_with, seed_for
@@ -26,6 +28,7 @@ from motesim.from_c.switches import OF_SWITCH, switch_at
 from motesim.notation.faults import ProgramError, find_fault, tokens_of
 
 MOST_LINES = 6
+INCLUDES = re.compile(r'[ \t]*#[ \t]*include\b')
 OF_COMMENT = 'A comment begins with `//` and ends with its line, so each line of a long one needs its own `//`.'
 STEPS_TWICE = ('The block has `%s` already, and the `for` adds the same step once more: if you have written it for the '
                '`for`, leave one of both out.')
@@ -150,6 +153,20 @@ def _bare_block(text: str, fault: ProgramError) -> Correction | None:
     return made if _rank(text, made) else None
 
 
+def _side_by_side(text: str, fault: ProgramError) -> Correction | None:
+    """Processes instead of the protothreads that run side by side, below the lines that only include files."""
+    if INCLUDES.match(text.split('\n')[fault.token.line - 1]):
+        return None
+    found = side_by_side(text)
+    if found is None or not found.edits:
+        line = fault.token.line
+        is_there = re.search(r'PT_(?:SCHEDULE|THREAD)', ''.join(text.split('\n')[line - 1:line + 1]))
+        return Correction(line, line, None, found.reasons) if found and is_there else None
+    first = next(at for at, it in enumerate(found.edits) if it.line)
+    others = (*found.edits[:first], *found.edits[first + 1:])
+    return Correction(*found.edits[first], found.reasons, (found.above, found.named), others)
+
+
 def _switch(text: str, fault: ProgramError, scope: Scope) -> Correction | None:
     """Tests instead of a `switch` that begins the line of a fault."""
     process = place_below(text.split('\n')[:fault.token.line - 1]).code
@@ -246,7 +263,8 @@ def _correction(text: str, fault: ProgramError) -> Correction | None:
     scope = Scope.of(text)
     signs = [it.text for it in tokens_of(text)]
     unclosed = signs.count('{') - signs.count('}')
-    whole = _of_preprocessor(text, fault) or _long_comment(text, fault) or _structural(text, fault)
+    whole = _of_preprocessor(text, fault) or _long_comment(text, fault) or _side_by_side(text, fault)
+    whole = whole or _structural(text, fault)
     whole = whole or _switch(text, fault, scope)
     whole = whole or _heads(text, fault) or _process_lines(text, fault) or _bare_block(text, fault)
     if whole:
@@ -272,7 +290,7 @@ def _correction(text: str, fault: ProgramError) -> Correction | None:
             below = edits_of(renamed, last, reader.closings)
             if below is None or reader.hides_else and reader.lacks_else and tokens_of(rest)[0].text == 'else':
                 continue
-            seed = seed_for(text, first, last, reader.declares)
+            seed = seed_for(text, first, last, reader.declares, written)
             twice = repeated(renamed, last, reader.closings)
             if twice:
                 reader.writer.insist(STEPS_TWICE % twice)
