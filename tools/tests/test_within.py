@@ -83,8 +83,16 @@ class Endless(unittest.TestCase):
             with self.subTest(tool):
                 self.assertRegex(self.said(tool, 'print', '--memory', '60'), (
                     r'^%s: net\.toml: the run was ended: the run needs more than 60 megabytes of memory\. Up to moment '
-                    r'\d+, process loud of mote 0 prints [\d,]+ times \(line 18\): does a loop repeat without end\? A '
-                    r'larger --memory raises the limit\n$' % tool))
+                    r'\d+, process loud of mote 0 prints [\d,]+ times \(line 18\), in each turn of `while \(i < 500\)` '
+                    r'\(line 17\) within `while 1` \(line 15\)\. A `pause` lets no time pass, so this loop repeats many '
+                    r'times in each moment\. Let it wait for a timer instead, such as `set t 10; yield_until fired\(t\);`'
+                    r'\. A larger --memory raises the limit\n$' % tool))
+
+    def test_the_message_names_the_loops_by_the_lines_of_the_program(self) -> None:
+        self.assertIn(' (line 9 of program p), in each turn of `while (i < 500)` (line 8) within `while 1` (line 6)',
+                      busiest((NET % PROGRAM % 'print').encode(), False))
+        text = (PROGRAM % 'print').replace('pause;', 'post loud msg 1; yield_until is(msg);')
+        self.assertTrue(busiest((NET % text).encode()).endswith(': does a loop repeat without end?'))
 
     def test_the_message_names_the_mote_that_sends(self) -> None:
         self.assertRegex(self.said('explain', 'send', '--seconds', '0.3'),
@@ -96,7 +104,8 @@ class Endless(unittest.TestCase):
             answer_within('net.toml', text.encode(), Limits(60, 1 << 30, 1 << 20))
         self.assertRegex(str(caught.exception), (
             r'^net\.toml: the run was ended: the report is longer than 1,048,576 bytes\. Up to moment \d+, process '
-            r'idle of mote 0 pauses [\d,]+ times \(line 15\): a loop that only pauses repeats many times in each '
+            r'idle of mote 0 pauses [\d,]+ times \(line 15\), in each turn of `while !expired\(t\)` '
+            r'\(line 15\) within `while 1` \(line 15\): a loop that only pauses repeats many times in each '
             r'moment, so let the process wait by `yield_until`\. A larger --report raises the limit$'))
 
     def test_the_message_names_the_process_to_which_events_are_posted(self) -> None:

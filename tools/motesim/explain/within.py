@@ -8,9 +8,11 @@ from collections import Counter
 from collections.abc import Callable
 from typing import NamedTuple
 
+from motesim.explain.differences import shown
 from motesim.explain.explanation import place_of_token
 from motesim.explain.lint import Program
 from motesim.faults import Fault
+from motesim.notation.faults import WAITS, Token
 from motesim.report import Report
 from motesim.runner import LimitMet, Limits, ProgramFault, Runner
 from motesim.runner.cache import Answer
@@ -31,6 +33,8 @@ DOES = {'print': 'process {0.process} of mote {0.mote} prints {1:,} times', 'sen
         'pause': 'process {0.process} of mote {0.mote} pauses {1:,} times',
         'post': 'mote {0.mote} posts {1:,} events to process {0.process}'}
 IS_ENDLESS = ': does a loop repeat without end?'
+ONLY_PAUSES = ('. A `pause` lets no time pass, so this loop repeats many times in each moment. Let it wait for a timer '
+               'instead, such as `set t 10; yield_until fired(t);`.')
 PAUSES = ': a loop that only pauses repeats many times in each moment, so let the process wait by `yield_until`.'
 
 
@@ -80,9 +84,11 @@ def busiest(data: bytes, file_lines: bool = True) -> str:
     its, count = most_of(found[1])
     if count < MANY * (found[0] + 1):
         return ''
-    where = lines_of(data, its, file_lines) if its.kind in ('print', 'pause') else ''
-    return ' Up to moment %d, %s%s%s' % (found[0], DOES[its.kind].format(its, count), where,
-                                         PAUSES if its.kind == 'pause' else IS_ENDLESS)
+    if its.kind not in ('print', 'pause'):
+        return ' Up to moment %d, %s%s' % (found[0], DOES[its.kind].format(its, count), IS_ENDLESS)
+    where, only_pauses = lines_of(data, its, file_lines)
+    return ' Up to moment %d, %s%s%s' % (found[0], DOES[its.kind].format(its, count), where, (
+        PAUSES if its.kind == 'pause' else ONLY_PAUSES if only_pauses else IS_ENDLESS))
 
 
 def most_of(report: Report) -> tuple[Does, int]:
@@ -95,15 +101,47 @@ def most_of(report: Report) -> tuple[Does, int]:
     return first[0] if 2 * first[0][1] >= second[0][1] else second[0]
 
 
-def lines_of(data: bytes, its: Does, file_lines: bool) -> str:
-    """The lines in which a process of a mote prints or pauses: of a scenario, or of the text of its program."""
+def lines_of(data: bytes, its: Does, file_lines: bool) -> tuple[str, bool]:
+    """The lines in which a process of a mote prints or pauses, and the loops around them: lines of a scenario, or of
+    the text of its program. Also returns whether the outermost of these loops is endless and waits only by `pause`."""
     scenario = Scenario.parse(data)
     name = scenario.places[its.mote].program
     program = Program(name, scenario.programs[name])
     begin = next(at for at, it in enumerate(program.words) if program.words[at:at + 2] == ['code', its.process])
-    tokens = [program.tokens[at] for at in range(begin, program.end_of_block(begin + 2))
-              if program.words[at] == its.kind]
-    if not file_lines:
-        return ' (%s of program %s)' % (', '.join('line %d' % it.line for it in tokens), one_line(name))
-    places = [place_of_token(data.decode('utf-8'), name, it) for it in tokens]
-    return ' (%s)' % ', '.join('line %d' % it.line for it in places if it) if all(places) else ''
+    places = [at for at in range(begin, program.end_of_block(begin + 2)) if program.words[at] == its.kind]
+    loops = loops_around(program, begin, places)
+    lines = [line_of(data, program.tokens[at], name, file_lines) for at in (*places, *loops)]
+    if not all(lines):
+        return '', False
+    heads = [head_of(program, at) for at in loops]
+    where = ', '.join(lines[:len(places)]) + ('' if file_lines else ' of program %s' % one_line(name))
+    turns = ['`%s` (%s)' % it for it in zip(heads, lines[len(places):])][::-1]
+    return ' (%s)%s' % (where, ', in each turn of ' * bool(turns) + ' within '.join(turns)), bool(
+        loops) and heads[0] == 'while 1' and waits_of(program, loops[0]) == {'pause'}
+
+
+def line_of(data: bytes, token: Token, program: str, is_of_file: bool) -> str:
+    """The line of a token: of the file, or of the text of its program; nothing if the file doesn't show it."""
+    if not is_of_file:
+        return 'line %d' % token.line
+    place = place_of_token(data.decode('utf-8'), program, token)
+    return 'line %d' % place.line if place else ''
+
+
+def loops_around(program: Program, begin: int, places: list[int]) -> list[int]:
+    """The places of the `while` words, behind a first place, whose blocks are around all of some places, the outermost
+    first."""
+    return [at for at in range(begin, min(places)) if program.words[at] == 'while' and program.end_of_block(
+        program.words.index('{', at)) > max(places)]
+
+
+def head_of(program: Program, at: int) -> str:
+    """The text of a `while` and its test."""
+    text = shown(program.words[at:program.words.index('{', at)])
+    return re.sub(r'\b(is|fired|expired|gone|running|count) \(', r'\1(', text)
+
+
+def waits_of(program: Program, at: int) -> set[str]:
+    """The words of the statements in the block of a loop that wait."""
+    begin = program.words.index('{', at)
+    return set(program.words[begin:program.end_of_block(begin)]) & {*WAITS, 'spawn'}
