@@ -10,7 +10,7 @@ from motesim.from_c.expressions import (
     TYPES, Expressions, NoCounterpart,
 )
 from motesim.from_c.nodes import MOMENTS_OF_SECOND, Node, number_of, value_of
-from motesim.from_c.own_names import OTHERS, OwnNames
+from motesim.from_c.own_names import OTHERS, RENAME, RENAMED, OwnNames
 from motesim.from_c.parameters import KEPT, OF_COMMENT, READ_BY_NAME, SHARED
 from motesim.from_c.places import end_of_block, has_one_user
 from motesim.from_c.scope import LONGEST, allowed
@@ -68,6 +68,7 @@ MOST_MEMBERS = 8
 OF_NAMES = 'Each member is a variable of its own: %s.'
 OF_MEMBERS = ('%s The members of this array would be the variables `%s` to `%s`, but the program has another `%s`: '
               'give the array another name first.')
+OTHER_STRUCTURE = 'The process has another structure `%s`, whose fields are variables already'
 NO_PLACE = 'Variables are declared at the head of `code`, before its timers, threads and `body`: `var %s = 0;`.'
 
 
@@ -417,7 +418,7 @@ class Declarations(Enums, OwnNames):
             is_pointer = self.accept('*') != ''
             if not its or self.token.kind != 'name' or self.ahead(1).text not in ('=', ',', ';'):
                 raise NoCounterpart(NO_FIELDS)
-            name = self.token.text
+            name = self.own_structure(self.token.text, its)
             self.at += 1
             found.append(self.with_values(name, its, is_pointer, 'static' in words))
             if not self.accept(','):
@@ -428,6 +429,19 @@ class Declarations(Enums, OwnNames):
         if is_definition and self.token.kind != 'end':
             raise NoCounterpart(NO_FIELDS)
         return ' '.join(filter(None, found))
+
+    def own_structure(self, name: str, fields: tuple[Field, ...]) -> str:
+        """The name of a structure that the token declares. If it is declared in a block, and the process has the
+        variables of another structure with its name, it gets another name, to the end of the block."""
+        if self.place.is_top or self.place.is_head or not any(map(self.is_variable, of_fields(name, fields).variables)):
+            return name
+        words = {*self.words_around(), name}
+        others = (self.fresh(name, words | {'%s%d' % (name, it) for it in range(count)}) for count in range(1, 100))
+        new = next(it for it in others if words.isdisjoint(of_fields(it, fields).variables))
+        if not self.rename(name, new, self.at):
+            raise NoCounterpart(RENAME % (OTHER_STRUCTURE % name, new))
+        self.insist(RENAMED % (OTHER_STRUCTURE % name, new))
+        return new
 
     def keep_fields(self) -> str:
         """Keeps the definition of a structure in a comment. Returns the name behind it, or nothing."""
