@@ -84,9 +84,9 @@ class Endless(unittest.TestCase):
                 self.assertRegex(self.said(tool, 'print', '--memory', '60'), (
                     r'^%s: net\.toml: the run was ended: the run needs more than 60 megabytes of memory\. Up to moment '
                     r'\d+, process loud of mote 0 prints [\d,]+ times \(line 18\), in each turn of `while \(i < 500\)` '
-                    r'\(line 17\) within `while 1` \(line 15\)\. A `pause` lets no time pass, so this loop repeats many '
-                    r'times in each moment\. Let it wait for a timer instead, such as `set t 10; yield_until fired\(t\);`'
-                    r'\. A larger --memory raises the limit\n$' % tool))
+                    r'\(line 17\) within `while 1` \(line 15\)\. A `pause` lets no time pass, so this loop repeats '
+                    r'many times in each moment\. Let it wait for a timer instead, such as `set t 10; yield_until '
+                    r'fired\(t\);`\. A larger --memory raises the limit\n$' % tool))
 
     def test_the_message_names_the_loops_by_the_lines_of_the_program(self) -> None:
         self.assertIn(' (line 9 of program p), in each turn of `while (i < 500)` (line 8) within `while 1` (line 6)',
