@@ -10,7 +10,7 @@ from motesim.notation.faults import tokens_of
 def seed_for(text: str, first: int, last: int, declares: list[str], written: str = '') -> tuple[Edit, ...]:
     """The line at the start of the `body` that mixes the seed, if lines declare the generator; nothing if the `body`
     around or below them doesn't begin on a line of its own, or if these lines mix the seed themselves."""
-    if FIRST not in declares or written.startswith('dice = (('):
+    if FIRST not in declares or MIXED.partition('257')[2] in written:
         return ()
     tokens = [it for it in tokens_of(text) if it.text]
     words = [it.text for it in tokens]
