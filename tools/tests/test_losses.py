@@ -21,6 +21,7 @@ from motesim.explain.idle import idle_losses
 from motesim.explain.lint import SAME_DRAWS, warnings
 from motesim.explain.resonance import RARE, Together, all_at_once, at_least, hit, kinds_of, resonances
 from motesim.from_c.expressions import NO_CHANCE
+from motesim.plan.chance import Chance
 from motesim.plan.files import Files
 from motesim.plan.plan import Plan
 from motesim.plan.primes import near, periods
@@ -223,14 +224,14 @@ class Primes(unittest.TestCase):
 
     def test_links_of_a_sender_differ(self) -> None:
         links = [(s, r) for s in range(5) for r in range(7) if s != r][:-2]
-        found = periods(links, 10, 3)
+        found = periods(links, 10, Chance(3))
         self.assertEqual(list(found), links)
         for s in range(5):
             its = [found[link] for link in links if link[0] == s]
             self.assertTrue(set(its) <= set(near(10)))
             self.assertEqual(len(set(its)), len(its))
-        self.assertEqual(found, periods(links, 10, 3))
-        self.assertNotEqual(found, periods(links, 10, 4))
+        self.assertEqual(found, periods(links, 10, Chance(3)))
+        self.assertNotEqual(found, periods(links, 10, Chance(4)))
 
 
 WORD = 65_536

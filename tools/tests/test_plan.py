@@ -192,6 +192,28 @@ flood = 5
         self.assertEqual(sinks, [0, 3, 4, 25, 26])
         self.assertEqual(scenario.queue, {'flood': 5})
 
+    def test_tables_with_one_seed_are_drawn_independently(self) -> None:
+        group = 'rule = "%s"\nprogram = "sink.mote"\ncount = 40\nwidth = 99\nheight = 99\nseed = 7\n%s'
+        fixed, rest = 'rule = "line"\nprogram = "sink.mote"\ncount = 2\nstep = 1\n', 'motes = 1\nspread = 0\n'
+        first, second = group % ('random', ''), group % ('clusters', rest)
+        text = PLAN.replace('[[loss]]', '').replace('rule = "link"\nfrom = 0\nto = 1\nevery = 2\n', '')
+        head = text[:text.index('[places]')].replace('range = 10', 'range = 200')
+
+        def motes_of(*groups: str) -> list[tuple[int, int]]:
+            net = Scenario.parse(plan(head + ''.join('[[places]]\n' + it for it in groups)).scenario({}))
+            return [(it.x, it.y) for it in net.places]
+
+        # (the first of them is drawn as by itself, also below a table that draws nothing)
+        both = motes_of(first, second)
+        self.assertEqual(both[:40], motes_of(first))
+        self.assertEqual(motes_of(fixed, first)[2:], both[:40])
+        self.assertLess(len(set(both[:40]) & set(both[40:])), 3)
+        loss = '[[loss]]\nrule = "random"\none_in = 2\nevery = %d\nseed = 7\n'
+        its = Scenario.parse(plan(head + '[[places]]\n' + first + loss % 3 + loss % 4).scenario({})).losses
+        links = 40 * 39
+        for every, part in (3, 4), (4, 2):
+            self.assertAlmostEqual(sum(it == every for it in its.values()) / links, 1 / part, delta=0.05)
+
     def test_places_and_programs_from_a_table(self) -> None:
         scenario = Scenario.parse(plan(with_places('rule = "csv"\nfile = "places.csv"')).scenario({}))
         self.assertEqual([tuple(it) for it in scenario.places], [(0, 0, 'flood'), (-3, 40, 'sink')])

@@ -2,7 +2,7 @@
 from __future__ import annotations
 
 from collections import Counter
-from collections.abc import Mapping, Sequence
+from collections.abc import Iterable, Mapping, Sequence
 from typing import NamedTuple
 
 from motesim.analysis.estimates import AUTO, DRAWS, NAMES, Estimate, Measured, mean_of, measured, median_with_quartiles
@@ -173,6 +173,12 @@ class Curve(NamedTuple):
     runs: int
 
 
+class Crossed(NamedTuple):
+    """The number of runs of a point that combine the values of several parameters, and the number of values of each."""
+    runs: int
+    values: tuple[tuple[str, int], ...]
+
+
 class Shown(NamedTuple):
     """The shown points, the parameters in which their runs differ, and the number of omitted runs.
 
@@ -214,6 +220,11 @@ class Shown(NamedTuple):
     def mixed(self) -> list[str]:
         """The parameters in which the runs of a point differ, also those of one net."""
         return [*self.over, *(it for it in self.within if it not in self.over)]
+
+    @property
+    def crossed(self) -> Crossed | None:
+        """The parameters of repetitions whose values the runs of a point combine."""
+        return crossed_in(self.over, [it.keys for it in self.points])
 
     @property
     def is_ordered(self) -> bool:
@@ -400,6 +411,25 @@ def check_pairs(rows: Sequence[Row], wish: Wish, kept: Sequence[str]) -> None:
     varying = [name for name in kept if name not in (wish.against, wish.by) and len({row[name] for row in good}) > 1]
     repeats = repeats_of(varying, wish.over)
     check_mixture(good, [it for it in varying if it not in repeats], repeats, wish.by, 'each point', wish.against)
+
+
+def crossed_in(names: Sequence[str], points: Iterable[Sequence[tuple[Cell, ...]]]) -> Crossed | None:
+    """Those of these parameters whose values the runs of a point combine; None if at no point several of them have
+    values that several runs share. `points`: for each run of each point, its values of the parameters."""
+    for keys in points:
+        columns = [(name, Counter(values)) for name, values in zip(names, zip(*keys))]
+        its = [(name, len(counts)) for name, counts in columns if len(counts) > 1 and max(counts.values()) > 1]
+        if len(its) > 1:
+            return Crossed(len(keys), tuple(its))
+    return None
+
+
+def crossed_rows(rows: Sequence[Row], names: Sequence[str], wish: Wish) -> Crossed | None:
+    """The parameters of repetitions whose values the runs of a point combine."""
+    points: dict[Place, list[tuple[Cell, ...]]] = {}
+    for row in rows:
+        points.setdefault(_place(row, wish), []).append(tuple(row[name] for name in names))
+    return crossed_in(names, points.values())
 
 
 def shared_nets(rows: Sequence[Row], names: Sequence[str], measure: str) -> tuple[int, int] | None:

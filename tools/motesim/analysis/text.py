@@ -13,7 +13,7 @@ from motesim.analysis.crossings import Place as CrossingPlace
 from motesim.analysis.estimates import BOUNDED, DRAWS, ENOUGH_RUNS, LEAST_RUNS, NAMES, OF_ROW, RANGE
 from motesim.analysis.estimates import Estimate, is_skewed_near_an_end, words_of
 from motesim.analysis.paired import Difference, Paired, reasons
-from motesim.analysis.points import Curve, Net, Place, Point, Shown, Wish, columns_of_by, order
+from motesim.analysis.points import Crossed, Curve, Net, Place, Point, Shown, Wish, columns_of_by, order
 from motesim.experiments.measures import Cell
 from motesim.experiments.results import line_of, number_text, text_of
 from motesim.faults import Fault
@@ -304,7 +304,7 @@ def remarks(shown: Shown, wish: Wish) -> list[str]:
     """Notes on the limits of what the intervals mean."""
     has_crossing = any(it and it.low is not None for it in crossings_of(shown, wish).values()) or any(
         it is not None for it in shares_that_cross(shown, wish).values())
-    found = of_nets(shown.shared) if wish.has_means or wish.threshold and wish.show != 'cdf' else []
+    found = of_dependent(shown.shared, shown.crossed) if wish.has_means or wish.threshold and wish.show != 'cdf' else []
     found += [*of_bars(shown, wish), *shown.warnings]
     if not wish.has_means:
         return [*([words_of(wish.draws)] if has_crossing else []), *found]
@@ -340,12 +340,16 @@ def of_bars(shown: Shown, wish: Wish) -> list[str]:
         count, *(('s reach', 'are') if count > 1 else (' reaches', 'is')))] if count else []
 
 
-def of_nets(shared: tuple[int, int] | None) -> list[str]:
-    """The warning that there are fewer nets than runs at a point."""
-    if shared is None:
+def of_dependent(shared: tuple[int, int] | None, crossed: Crossed | None) -> list[str]:
+    """The warning that the runs of a point aren't independent, because there are fewer nets than runs, or because the
+    runs combine the values of several seeds."""
+    if shared:
+        return ['%d runs in %d nets: intervals count runs as independent, and are too narrow if nets differ; use one '
+                'seed for places and chance, or average by net first: --nets' % shared]
+    if crossed is None:
         return []
-    return ['%d runs in %d nets: intervals count runs as independent, and are too narrow if nets differ; use one seed '
-            'for places and chance, or average by net first: --nets' % shared]
+    return ['%d runs combine %s: intervals count runs as independent, and are too narrow; use one parameter for all '
+            'seeds' % (crossed.runs, ' with '.join('%d values of %s' % (count, name) for name, count in crossed.values))]
 
 
 def of_intervals(estimates: Sequence[Estimate], is_drawn: bool = False, draws: int = DRAWS) -> list[str]:

@@ -14,7 +14,8 @@ from motesim.analysis.drawing import FORMATS
 from motesim.analysis.origin import origin_of, origin_path
 from motesim.analysis.paired import Difference, Paired, differences, pairs_in, pairs_of
 from motesim.analysis.points import Wish, check_measures, check_pairs, check_plans, is_repeat, measures_of, mixed_in
-from motesim.analysis.points import names_of_nets, order, parameters_of, separated_by, shared_nets, shown_of
+from motesim.analysis.points import crossed_rows, names_of_nets, order, parameters_of, separated_by, shared_nets
+from motesim.analysis.points import shown_of
 from motesim.analysis.rows import by_net, joined, warnings_of
 from motesim.experiments import packages
 from motesim.experiments.measures import Cell
@@ -54,9 +55,9 @@ def write_tables(picture: Path, made: Sequence[text.Row], source: Source, rows: 
             raise Fault('%s: %s' % (path, fault.strerror)) from None
 
 
-def warn(lines: Sequence[str], shared: tuple[int, int] | None, warnings: Sequence[str]) -> None:
+def warn(lines: Sequence[str], dependent: Sequence[str], warnings: Sequence[str]) -> None:
     """Prints on standard error, too, those of the lines that are about runs that aren't independent."""
-    for line in [*text.of_nets(shared), *warnings]:
+    for line in [*dependent, *warnings]:
         if line in lines:
             print('plot: %s' % line, file=sys.stderr)
 
@@ -84,10 +85,10 @@ def show(rows: Sequence[Row], wish: Wish, source: Source) -> bool:
         notes = [*text.crossings(shown, wish), *text.left_out(shown, wish), *text.remarks(shown, wish)]
         write_tables(picture, text.rows_of_picture(shown, wish), source, rows, [text.heading(shown, wish), *notes])
         print('\n'.join(map(str, [picture, *notes, *left_to_caption(has_room, picture)])))
-        warn(text.remarks(shown, wish), shown.shared, shown.warnings)
+        warn(text.remarks(shown, wish), text.of_dependent(shown.shared, shown.crossed), shown.warnings)
         return True
     print('\n'.join(text.table_of(shown, wish)))
-    warn(text.remarks(shown, wish), shown.shared, shown.warnings)
+    warn(text.remarks(shown, wish), text.of_dependent(shown.shared, shown.crossed), shown.warnings)
     return not wish.file
 
 
@@ -151,12 +152,13 @@ def compare(sides: Sides, wish: Wish, source: Source) -> bool:
     words = heading_of(found, sides.names, mixed, wish)
     made = text.rows_of_differences(found, wish, *sides.names)
     good = [row for row in sides.one if not row['fault']]
-    shared = None if wish.nets else shared_nets(good, [wish.against, *filter(None, [wish.by])], wish.measure)
+    dependent = [] if wish.nets else text.of_dependent(
+        shared_nets(good, [wish.against, *filter(None, [wish.by])], wish.measure), crossed_rows(good, mixed, wish))
     warnings = warnings_of(runs, [*separated_by(wish), *wish.over.split(',')], False, [wish.measure])
-    more = [*note_of_compared(sides), *note_of_measures(sides), *text.of_nets(shared),
+    more = [*note_of_compared(sides), *note_of_measures(sides), *dependent,
             *text.of_intervals([it.difference for it in found], draws=wish.draws), *warnings]
     notes = of_groups(groups, found, wish) + more
-    warn(notes, shared, warnings)
+    warn(notes, dependent, warnings)
     if wish.file and packages.is_here('matplotlib'):
         picture = source.folder / wish.file
         over = ['mean differences over %s' % ', '.join(mixed)] * bool(mixed)

@@ -37,7 +37,8 @@ LOSSES: dict[str, dict[str, Key]] = {
     'csv': {'file': needed(str)},
 }
 # The streams of random numbers of a seed: stream 0 is for the places, and this one for the losses. With `by_count`
-# each number of motes has its own stream for the places, this one or a later one.
-LOSS_STREAM, FIRST_OF_COUNTS = 1, 2
+# each number of motes has its own stream for the places, this one or a later one. If several tables of an array draw
+# numbers, each has streams of its own: these, plus a number for each such table before it.
+LOSS_STREAM, FIRST_OF_COUNTS, OF_TABLE = 1, 2, 1 << 32
 # The number of primes from which the rule `primes` chooses.
 PRIMES = 6

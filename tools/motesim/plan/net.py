@@ -2,6 +2,7 @@
 from __future__ import annotations
 
 import re
+from collections import Counter
 from collections.abc import Iterator, Mapping, Sequence
 from pathlib import PurePath
 from typing import Any
@@ -14,8 +15,8 @@ from motesim.faults import Fault
 from motesim.plan.places import Crowd, NoPlace, NotConnected, Point
 from motesim.plan.files import CsvTable, Files
 from motesim.plan.keys import (
-    CORNER, FIRST_OF_COUNTS, LOSS_STREAM, LOSSES, MEDIUM, MOST_BYTES, MOST_LOSSES, MOST_MOTES, MOST_PLACE, OTHER,
-    PLACES, TOP,
+    CORNER, FIRST_OF_COUNTS, LOSS_STREAM, LOSSES, MEDIUM, MOST_BYTES, MOST_LOSSES, MOST_MOTES, MOST_PLACE, OF_TABLE,
+    OTHER, PLACES, TOP,
 )
 from motesim.plan.tables import Key, NoParameter, PlanFault, Tables, filled, needed, optional, shown, text_of_value
 from motesim.plan.text import Mote, Net, scenario_text
@@ -48,6 +49,7 @@ class Builder:
         self.top = self._top_of_plan()
         self.medium = self.tables.read(self.top['medium'], ('medium',), MEDIUM, 'The medium')
         self.rejected = 0  # nets that weren't connected
+        self.drawing: Counter[str] = Counter()  # tables that draw numbers, by the name of their array
         self.programs: dict[str, str] = {}
         self.sources: dict[str, str] = {}
 
@@ -195,22 +197,28 @@ class Builder:
             return places.line(values['count'], values['step'])
         if rule == 'ring':
             return places.ring(values['count'], values['radius'])
-        stream = FIRST_OF_COUNTS + count if values.get('by_count') else 0
-        if rule == 'random':
-            return self.of_drawn(places.scattered(values['count'], values['width'], values['height'], values['seed'],
-                                                  values['least'], reach, stream))
-        if rule == 'clusters':
-            return self.of_drawn(places.clusters(
-                values['count'], values['motes'], values['spread'], values['width'], values['height'], values['seed'],
-                values['least'], reach, stream))
         if rule == 'list':
             return self.listed(values['at'], path + ('at',))
-        return self.places_of_csv(values, path, names)
+        if rule == 'csv':
+            return self.places_of_csv(values, path, names)
+        return self.drawn(values, reach, FIRST_OF_COUNTS + count if values.get('by_count') else 0)
 
-    def of_drawn(self, drawn: places.Drawn) -> list[Point]:
-        """The places of a group that was drawn. Counts the nets that were rejected."""
-        self.rejected += drawn.rejected
-        return drawn.points
+    def drawn(self, values: Mapping[str, Any], reach: int | None, first: int) -> list[Point]:
+        """The places of a group that is drawn. Counts the nets that were rejected. `first`: the stream of random
+        numbers of the first such group."""
+        stream = self.stream_of('places', first)
+        area = values['width'], values['height'], values['seed'], values['least'], reach, stream
+        if values['rule'] == 'random':
+            found = places.scattered(values['count'], *area)
+        else:
+            found = places.clusters(values['count'], values['motes'], values['spread'], *area)
+        self.rejected += found.rejected
+        return found.points
+
+    def stream_of(self, array: str, first: int) -> int:
+        """The stream of random numbers of the next table of an array that draws them."""
+        self.drawing[array] += 1
+        return first + OF_TABLE * (self.drawing[array] - 1)
 
     def listed(self, rows: list[Any], path: Path) -> list[Point]:
         for index, row in enumerate(rows):
@@ -291,14 +299,14 @@ class Builder:
         if rule == 'csv':
             return self.losses_of_csv(values['file'], path + ('file',), len(motes))
         if rule == 'primes':
-            return primes.periods(links, values['about'], values['seed'])
+            return primes.periods(links, values['about'], Chance(values['seed'], self.stream_of('loss', LOSS_STREAM)))
         every = values['every']
         if rule == 'all':
             return dict.fromkeys(links, every)
         if rule == 'longer':
             least = values['than'] ** 2
             return {(s, r): every for s, r in links if places.squared(motes[s][:2], motes[r][:2]) > least}
-        chance = Chance(values['seed'], LOSS_STREAM)
+        chance = Chance(values['seed'], self.stream_of('loss', LOSS_STREAM))
         return {link: every for link in links if chance.below(values['one_in']) == 0}
 
     def pair(self, sender: int, to: int, path: Path, count: int) -> tuple[int, int]:

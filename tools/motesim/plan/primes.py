@@ -5,7 +5,7 @@ from collections.abc import Iterable
 
 from motesim.explain.resonance import is_prime
 from motesim.plan.chance import Chance
-from motesim.plan.keys import LOSS_STREAM, PRIMES
+from motesim.plan.keys import PRIMES
 
 Link = tuple[int, int]
 
@@ -18,9 +18,9 @@ def near(about: int, count: int = PRIMES) -> list[int]:
     return min(rows, key=lambda row: abs(sum(1 / it for it in row) / count - 1 / about))
 
 
-def periods(links: Iterable[Link], about: int, seed: int) -> dict[Link, int]:
+def periods(links: Iterable[Link], about: int, chance: Chance) -> dict[Link, int]:
     """The period of each link. The links of one sender have different primes, as long as primes are left."""
-    chance, primes = Chance(seed, LOSS_STREAM), near(about)
+    primes = near(about)
     found: dict[Link, int] = {}
     left: dict[int, list[int]] = {}
     for link in links:
