@@ -5,6 +5,7 @@ import re
 from typing import NamedTuple
 
 from motesim.explain import capitals, forms, hints, names
+from motesim.explain.layout import in_lines
 from motesim.from_c.closings import Edit
 from motesim.from_c.correction import correction
 from motesim.from_c.expressions import SMALL_LETTERS
@@ -54,12 +55,16 @@ class Advice(NamedTuple):
             return ['Leave %s out%s' % (which, ',' if inserted else '.'), *inserted]
         # (a line that is inserted changes the numbers of those below it, which come first)
         below = [line for it in reversed(self.below) for line in _edited(source, it, offset)]
-        return ['Write, as %s:' % which, *_all_indented(source, self.first, self.line), *below, *inserted]
+        # (a line of the author remains a line)
+        line = self.line if self.first == self.last else in_lines(self.line)
+        return ['Write, as %s:' % which, *_all_indented(source, self.first, line), *below, *inserted]
 
     def _shown_above(self, source: str, offset: int | None, verb: str) -> list[str]:
         """The lines to be inserted elsewhere, below their place."""
         its = self.above
-        return ['%s %s:' % (verb, _inserted(its, offset)), *_all_indented(source, *its)] if its else []
+        if its is None:
+            return []
+        return ['%s %s:' % (verb, _inserted(its, offset)), *_all_indented(source, its[0], in_lines(its[1]))]
 
 
 def _which(first: int, last: int, offset: int | None) -> str:

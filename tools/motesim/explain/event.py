@@ -16,6 +16,8 @@ NEVER = ('`is(%s)` is never true here: the process has just waited for the timer
 HARDLY = ('`is(%s)` is hardly ever true here: the process has just set the timer `%s` and has waited until the timer '
           'is due. An event that arrives during this wait doesn\'t end the wait, and isn\'t kept. To wait for both, write '
           '`yield_until (fired(%s) || is(%s));`')
+AFTER_PAUSE = ('`%s` is never true here: a `pause` ends only at its own event, `continue`, and the process misses '
+               'other events meanwhile. Wait by `yield_until %s;` instead')
 NEVER_FIRED = ('`fired(%s)` is never true here: the process has just waited for `is(%s)`, and now has this event. '
                'To wait for both, write `yield_until (is(%s) || fired(%s));`. `expired(%s)` tests whether the timer '
                'is due')
@@ -33,8 +35,11 @@ def mistaken(words: Sequence[str], tokens: Sequence[Token]) -> Iterator[tuple[st
     for at in range(len(words)):
         wait = _wait(words, at)
         # (a timer that was due long ago is still expired when a packet arrives)
-        if wait and (wait.test == 'fired' or _is_set_before(words, at, wait.timer)):
+        if wait and (wait.test == 'fired' or _is_set_before(words, at, wait.timer) or _is_set_in_loop(
+                words, at, wait.timer)):
             yield from _after(words, tokens, wait)
+        if words[at] == 'pause':
+            yield from _after_pause(words, tokens, at + 2)
 
 
 def mistaken_timers(words: Sequence[str], tokens: Sequence[Token]) -> Iterator[tuple[str, Token]]:
@@ -75,6 +80,34 @@ def _is_set_before(words: Sequence[str], at: int, timer: str) -> bool:
     """Returns whether a statement before a place sets a timer, in the same block and behind the last wait."""
     begin = next((it for it in range(at - 1, -1, -1) if words[it] in ('{', '}') or words[it] in WAITS), 0)
     return any(words[it] in SETS and words[it + 1] == timer for it in range(begin, at))
+
+
+def _is_set_in_loop(words: Sequence[str], at: int, timer: str) -> bool:
+    """Returns whether each round of the loop whose block has a wait sets a timer behind this wait."""
+    level, begin = 0, at
+    while begin > 0 and level >= 0:
+        begin -= 1
+        level += (words[begin] == '}') - (words[begin] == '{')
+    head = next((it for it in range(begin - 1, 0, -1) if words[it - 1] in ('{', '}', ';')), 0)
+    if words[head] != 'while':
+        return False
+    level = 0
+    for here in range(at, len(words)):
+        level += (words[here] == '{') - (words[here] == '}')
+        if level < 0:
+            return False
+        if not level and words[here] in SETS and words[here + 1] == timer:
+            return True
+    return False
+
+
+def _after_pause(words: Sequence[str], tokens: Sequence[Token], begin: int) -> Iterator[tuple[str, Token]]:
+    """The warning about the first test of another event behind a `pause`, up to the next wait or end of the block."""
+    for at in _before_wait(words, begin):
+        if words[at] in ('is', 'fired', 'gone') and words[at + 2] != 'continue':
+            test = '%s(%s)' % (words[at], words[at + 2])
+            yield AFTER_PAUSE % (test, test), tokens[at]
+            return
 
 
 def _after(words: Sequence[str], tokens: Sequence[Token], wait: Wait) -> Iterator[tuple[str, Token]]:

@@ -9,11 +9,12 @@ import re
 from collections.abc import Iterator, Sequence
 from typing import NamedTuple
 
-from motesim.explain import busy, differences, event, exclusive, once, signed, unheard, unpolled, wraps
+from motesim.explain import busy, differences, event, exclusive, once, signed, unchanged, unheard, unpolled, wraps
 from motesim.explain.busy import OF_EVENT
 from motesim.explain.event import FOR_TIMER, SETS
 from motesim.explain.moments import bursts
 from motesim.explain.resonance import all_at_once, resonances
+from motesim.from_c.scope import BELOW
 from motesim.notation.faults import OPERATORS, WAITS, Token, tokens_of
 from motesim.report import Report
 from motesim.scenario import Scenario
@@ -111,6 +112,8 @@ class Program:
     def __init__(self, name: str, text: str):
         self.name, self.tokens = name, tokens_of(text)[:-1]
         self.words = [it.text for it in self.tokens]
+        # The variables that are below 0 in C at first, as comments say.
+        self.below = BELOW.findall(text)
         self.processes = self._names('process')
         self.started = self._names('autostart') + self._names('start')
         self.receivers = self._names('receiver')
@@ -228,7 +231,8 @@ class Program:
             is_right = sign in ('>=', '<') and self.words[at + 1] == '0'
             if is_right or sign in ('<=', '>') and self.words[at - 1] == '0' and self.words[at - 2] in (
                     '(', '!', '&&', '||'):
-                advice = differences.comparison(self.words, at) or signed.of_natural(self.words, at) or (
+                advice = differences.comparison(self.words, at) or signed.of_natural(self.words, at)
+                advice = advice or unchanged.for_minus_1(self.words, at) or (
                     COUNT_DOWN if self.statement_of(at) == 'while' else '')
                 yield NATURAL % ('always' if sign in ('>=', '<=') else 'never') + advice, self.tokens[at]
 
@@ -391,10 +395,11 @@ def of_program(program: Program, is_zero_given: bool) -> Iterator[Warned]:
     for token in program.awaited_ctimers():
         yield Warned(OF_CTIMER % (token.text, token.text), name, token)
     for text, token in () if is_zero_given else (*program.tests_of_sign(),
-                                                 *differences.tests(program.words, program.tokens)):
+                                                 *differences.tests(program.words, program.tokens),
+                                                 *unchanged.warnings(program.words, program.tokens)):
         yield Warned(text, name, token)
     for text, token in (*program.tests_of_two_values(), *program.chains(), *program.endless_waits(),
-                        *signed.tests(program.words, program.tokens)):
+                        *signed.tests(program.words, program.tokens, program.below)):
         yield Warned(text, name, token)
     for token in program.waits_before_set():
         yield Warned(BEHIND % token.text, name, token)

@@ -4,7 +4,7 @@ No number is below 0 here, so such a comparison has another result than in C, un
 """
 from __future__ import annotations
 
-from collections.abc import Iterator
+from collections.abc import Iterable, Iterator
 
 from motesim.explain.differences import shown
 from motesim.from_c.below import HALF, VALUES, Assigned, Words, is_negative, number, operands, split
@@ -46,16 +46,19 @@ def of_natural(words: Words, at: int) -> str:
     return IN_C % (name, '(%s %s %s)' % (raised(sides[0]), words[at], raised(sides[1]))) if sides and name else ''
 
 
-def tests(words: Words, tokens: list[Token]) -> Iterator[tuple[str, Token]]:
-    """Yields each comparison of a value that may be below 0 in C, with the warning."""
+def tests(words: Words, tokens: list[Token], first: Iterable[str] = ()) -> Iterator[tuple[str, Token]]:
+    """Yields each comparison of a value that may be below 0 in C, with the warning. `first`: the variables that are
+    below 0 in C at first."""
     for at, it in enumerate(words):
         if it == 'code' and words[at + 2:at + 3] == ['{']:
             end = at + next(place for place, word in enumerate([*words[at + 1:], 'code']) if word == 'code') + 1
-            yield from _of_code(words[at:end], tokens[at:end])
+            yield from _of_code(words[at:end], tokens[at:end], first)
 
 
-def _of_code(words: Words, tokens: list[Token]) -> Iterator[tuple[str, Token]]:
-    assigned = Assigned(words).found
+def _of_code(words: Words, tokens: list[Token], first: Iterable[str]) -> Iterator[tuple[str, Token]]:
+    nothing: Words = []
+    assigned = {name: (words.index(name), nothing, nothing) for name in first if name in words}
+    assigned.update(Assigned(words).found)
     for at, sign in enumerate(words):
         if sign in ('/', '%') and words[at - 1] in assigned:
             yield NOT_DIVIDED % (words[at - 1], tokens[assigned[words[at - 1]][0]].line, sign), tokens[at]

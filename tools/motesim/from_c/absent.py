@@ -21,6 +21,17 @@ SENT_ALREADY = 'The `send` above sends the packet already. '
 # Calls that send a packet in a way that motes don't have.
 SENDS = {'unicast_send': UNICAST, 'simple_udp_sendto': UNICAST, 'runicast_send': RUNICAST, 'mesh_send': MULTIHOP,
          'collect_send': MULTIHOP, 'netflood_send': MULTIHOP, 'trickle_send': MULTIHOP}
+# Calls that may be left out, each with the reason.
+NEEDLESS = {
+    'packetbuf_clear': 'A packet is the value of its `send`, so no buffer has to be cleared: leave this line out.',
+    'leds_init': 'A mote has no LEDs, so nothing is initialized: leave this line out.',
+    'watchdog_periodic': 'A mote has no watchdog: leave this line out.',
+    'watchdog_start': 'A mote has no watchdog: leave this line out.',
+    'watchdog_stop': 'A mote has no watchdog: leave this line out.',
+    'clock_init': 'The moments of a mote are counted by themselves: leave this line out.',
+    'rtimer_init': 'The moments of a mote are counted by themselves: leave this line out.',
+    'process_init': 'The kernel of a mote starts by itself: leave this line out.',
+}
 SENSORS = ('sensors_activate', 'sensors_deactivate')
 
 

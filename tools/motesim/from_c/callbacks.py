@@ -6,6 +6,10 @@ from typing import NamedTuple
 
 # A call that sets a timer: the timer, and the function that the timer calls.
 SETS = re.compile(r'\bctimer_set\s*\(\s*&?\s*(\w+)\s*,[^,;]*,\s*&?\s*(\w+)\s*[,)]')
+# What can't be written instead of a call of the function, because its scope or its end would be another one.
+OWN_SCOPE = re.compile(r'\breturn\b|^\s*(?:static\s+)?(?:int|char|short|long|unsigned|bool|struct|\w+_t)\s+\*?\w+',
+                       re.M)
+COMMENT = re.compile(r'//[^\n]*|/\*.*?\*/', re.S)
 BLOCK = re.compile(r'\bctimer\s+(\w+)\s*\{')
 
 
@@ -29,7 +33,8 @@ def callbacks_of(text: str) -> Callbacks:
     """The callback timers of a text."""
     functions = dict(SETS.findall(text))
     bodies = {it: _body_of(text, it) for it in set(functions.values())}
-    return Callbacks(functions, {name: body for name, body in bodies.items() if body}, frozenset(BLOCK.findall(text)))
+    kept = {name: without_returns(body) for name, body in bodies.items() if body}
+    return Callbacks(functions, kept, frozenset(BLOCK.findall(text)))
 
 
 def _body_of(text: str, function: str) -> str:
@@ -41,3 +46,50 @@ def _body_of(text: str, function: str) -> str:
         if not depth:
             return text[begin:at]
     return ''
+
+
+def calls_of(text: str, function: str) -> list[re.Match[str]]:
+    """The statements of a text that only call a function."""
+    return [it for it in re.finditer(r'\b%s\s*\([^(){};]*\)\s*;' % function, text)
+            if re.search(r'(?:^|[;{})]|\belse|\*/|//[^\n]*\n)\s*$', text[:it.start()])]
+
+
+def inlined(text: str, function: str, body: str) -> str | None:
+    """A text with the statements of a function instead of its calls; None if they can't be there."""
+    calls = calls_of(text, function)
+    if calls and OWN_SCOPE.search(body):
+        return None
+    its = ' '.join(COMMENT.sub(' ', body).split())
+    for call in reversed(calls):
+        is_branch = re.search(r'(?:\)|\belse)\s*$', text[:call.start()]) is not None
+        written = '{ %s }' % its if is_branch else its
+        text = text[:call.start()] + written + '\n' * call[0].count('\n') + text[call.end():]
+    return text
+
+
+def without_returns(body: str) -> str:
+    """The statements of a function in C without a `return`, if the block of an `if` ends with it: then the statements
+    behind the `if` are in an `else`. Unchanged if another statement has a `return`."""
+    body = re.sub(r'\breturn\s*;\s*$', '', body.rstrip())
+    depth = 0
+    for at, sign in enumerate(body):
+        depth += (sign == '{') - (sign == '}')
+        if sign != '}' or depth:
+            continue
+        begin, rest = _begin_of(body, at), body[at + 1:]
+        head = re.search(r'\bif\s*\([^{}]*\)\s*$', body[:begin])
+        ends = re.search(r'\breturn\s*;\s*$', body[begin:at])
+        if head and ends and not re.match(r'\s*else\b', rest) and not re.search(r'\belse\s*$', body[:head.start()]):
+            inner = body[:begin + ends.start()].rstrip(' ') + '}'
+            return '%s else {%s\n}' % (inner, without_returns(rest)) if rest.strip() else inner
+    return body
+
+
+def _begin_of(text: str, end: int) -> int:
+    """The place of the brace that the brace at a place closes."""
+    depth = 0
+    for at in range(end, -1, -1):
+        depth += (text[at] == '}') - (text[at] == '{')
+        if not depth:
+            return at
+    return 0

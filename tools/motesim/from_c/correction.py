@@ -13,6 +13,7 @@ from motesim.from_c.closings import Edit, edits_of, repeated, with_renamed
 from motesim.from_c.bare_block import AFTER_IF, REASON, bare_block, lacks_else
 from motesim.from_c.conditional import conditional, kept_define
 from motesim.from_c.counts import recounted
+from motesim.from_c.declarations import ORDER
 from motesim.from_c.expressions import MIXED, NoCounterpart
 from motesim.from_c.heads import bare_body, end_of_body, process_block
 from motesim.from_c.scope import Scope
@@ -231,7 +232,7 @@ def _insertions(text: str, source: str, reader: Statements) -> list[tuple[int, s
     named = 'var %s' % reader.user if reader.user else reader.declares[0]
     head = head_for(text, named, code) if is_top or is_lower else reader.place.head
     between = '\n' if any('//' in it for it in reader.declares) else ' '
-    declared = head, between.join(sorted(reader.declares, key=lambda it: it.split()[0], reverse=True))
+    declared = head, between.join(sorted(reader.declares, key=lambda it: ORDER.index(it.split()[0])))
     return [declared, None] if is_top and head else [None if is_top else declared]
 
 

@@ -2,21 +2,25 @@
 from __future__ import annotations
 
 import re
+from collections.abc import Iterable
 
 from motesim.from_c.after_send import callbacks_for_packets, has_function, names_in
+from motesim.from_c.callbacks import calls_of, inlined
 from motesim.from_c.enums import DEFINED_EVENT, NO_TYPES, Enums
 from motesim.from_c.expressions import (
-    BYTES, IN_TICKS, LONG, MOST, NO_ARRAYS, NO_FIELDS, NO_POINTERS, QUALIFIERS, READ_ONLY, SMALL, TICKS, TOO_LARGE,
-    TYPES, Expressions, NoCounterpart,
+    BYTES, IN_TICKS, LONG, MOST, NO_ARRAYS, NO_FIELDS, NO_POINTERS, NULL, OF_NULL, QUALIFIERS, READ_ONLY, SMALL, TICKS,
+    TOO_LARGE, TYPES, Expressions, NoCounterpart,
 )
+from motesim.from_c.macros import expanded
 from motesim.from_c.nodes import MOMENTS_OF_SECOND, Node, number_of, value_of
 from motesim.from_c.own_names import OTHERS, RENAME, RENAMED, OwnNames
 from motesim.from_c.parameters import KEPT, OF_COMMENT, READ_BY_NAME, SHARED
 from motesim.from_c.places import end_of_block, has_one_user
-from motesim.from_c.scope import LONGEST, allowed
+from motesim.from_c.scope import IN_C, LONGEST, allowed
 from motesim.from_c.shared import of_shared
 from motesim.from_c.structures import HALF, KEPT_FIELDS, OF_FIELDS, Field, of_fields
-from motesim.from_c.tokens import tokens_of
+from motesim.from_c.tokens import TOKEN, tokens_of
+from motesim.notation.keywords import RESERVED
 
 # The order of declarations, in a `code` and above it.
 ORDER = ('event', 'semaphore', 'process', 'autostart', 'receiver', 'var', 'etimer', 'ctimer', 'thread')
@@ -26,11 +30,18 @@ OF_BLOCK = ('There are no functions: callback timer `%s` runs its own block, at 
             'the statements of the function: `ctimer %s { %s}`.')
 OF_RETURN = ' A block has no `return`: write the statements that it skips in an `else`.'
 OF_MOVED = 'There are no functions: the block of callback timer `%s` has these lines already.'
+INLINED = ('`%s` is also called by statements, so its statements are written there, too: nothing calls the block of a '
+           'timer but the timer.')
+ALSO_CALLED = ('`%s` is called by a timer and by other statements. Only the timer runs the block of a `ctimer`, so the '
+               'statements of `%s` are needed twice: in this block, and in a `thread` at the head of the `code`, which '
+               '`spawn` runs instead of each call of `%s`. Write the thread first.')
 OF_FUNCTION = ('There are no functions: a `thread` serves as one, at the head of the `code` that calls it, below its '
                'variables and timers. Move the lines of the function there first.')
 OF_PROTOTYPE = 'A function needs no line above it: a `thread` is declared above the statements that spawn it.'
 # The words in front of the call of a function.
 BEFORE_CALL = frozenset((';', '{', '}', ')', '(', '=', ',', '!', '&&', '||', 'else', 'return'))
+# The types of addresses.
+ADDRESS = frozenset(('linkaddr_t', 'rimeaddr_t'))
 # A function with such a parameter is called for each packet.
 CONNECTION = re.compile(r'\w+_conn|rimeaddr_t|linkaddr_t|uip_ipaddr_t')
 OF_PACKETS = ('No function is called when a packet arrives: a packet is the event `packet`. Above the first `code`, '
@@ -53,11 +64,17 @@ SWITCH, CASE = re.compile(r'\bswitch\s*\(\s*ev\s*\)\s*\{'), r'\bcase\s+NAME\b'
 MACRO = re.compile(r'#\s*define\s+([A-Za-z_]\w*\([^()]*\))\s*(\S.*)')
 NO_MACROS = ('There is no preprocessor, and there are no macros: write the expression of `%s`, which is `%s`, at each '
              'place of the macro. The comment keeps it.')
+REPLACED = ('There is no preprocessor, and there are no macros: each line with `%s` has its text `%s` instead, with '
+            'the arguments in it. The comment keeps the macro.')
 OF_BYTES = ('A variable has 16 bits and no type: its values are 0 to 65,535, without a sign. To keep 8 bits, write `% '
             '256`, such as `x = ((x + 1) % 256);`.')
 OF_PARTS = ('A variable has 16 bits and no type: its values are 0 to 65,535. Count larger ones in parts, such as '
             'thousands in a second variable.')
 NO_CONSTANTS = 'There are no constants: use a variable that is never assigned'
+OF_MINUS = ('The comment keeps the value of C, so the hints on comparisons of this variable add 32768 to both sides: '
+            'without this, a test whether it is below 0 is never true here.')
+# The types without a sign.
+UNSIGNED = frozenset(('unsigned', 'uint8_t', 'uint16_t', 'uint32_t', 'size_t', 'clock_time_t'))
 OF_INITIAL = 'The initial value of a variable is a number: write 0, and assign the value at the start of `body`.'
 KEPT_VALUE = ('A `static` variable keeps its value from call to call: it has its initial value from its declaration, '
               'and no statement assigns this value again.')
@@ -70,6 +87,25 @@ OF_MEMBERS = ('%s The members of this array would be the variables `%s` to `%s`,
               'give the array another name first.')
 OTHER_STRUCTURE = 'The process has another structure `%s`, whose fields are variables already'
 NO_PLACE = 'Variables are declared at the head of `code`, before its timers, threads and `body`: `var %s = 0;`.'
+
+
+def in_lines_of_c(function: str) -> str:
+    """A function of C with a line for each statement, if it is in one line; otherwise nothing."""
+    head, brace, rest = function.strip().partition('{')
+    if '\n' in rest or not rest.rstrip().endswith('}') or '//' in rest:
+        return ''
+    lines, depth = [''], 0
+    for token in TOKEN.finditer(rest.rstrip()[:-1]):
+        depth += (token[0] in ('(', '{')) - (token[0] in (')', '}'))
+        lines[-1] += rest[len(''.join(lines)):token.end()]
+        if not depth and token[0] in (';', '}'):
+            lines.append('')
+    return '\n'.join([head + brace, *('  ' + it.strip() for it in lines if it.strip()), '}'])
+
+
+def is_minus(node: Node) -> bool:
+    """Returns whether a value is a number with a minus in front of it."""
+    return node.kind == 'unary' and node.text == '-' and node.parts[0].kind == 'number'
 
 
 def is_sum(text: str) -> bool:
@@ -102,6 +138,10 @@ class Declarations(Enums, OwnNames):
         if macro:
             self.why(NO_MACROS % macro.groups())
             self.comments.append('// %s is %s' % macro.groups())
+            below = expanded(self.below, line)
+            if below != self.below:
+                self.below = below
+                self.writer.reasons = [REPLACED % macro.groups()]
             return ''
         if not defined:
             self.why('Leave this line out: there is no preprocessor, and no file has to be included.')
@@ -248,7 +288,10 @@ class Declarations(Enums, OwnNames):
             if node and is_chosen and self.place.head and not self.place.is_head:
                 found.append(self.chosen(self.declared(name, '%s', at), node))
             else:
-                found.append(self.declared(name, self.beginning(node), at, is_static))
+                found.append(self.declared(name, self.beginning_of(node, words), at, is_static))
+                if node is not None and is_minus(node) and not UNSIGNED.intersection(words) and words != ['var']:
+                    self.comments.append('// ' + IN_C % (allowed(name), number_of(node.parts[0].text) or 0))
+                    self.writer.insist(OF_MINUS)
             if not self.accept(','):
                 break
             self.why('Each variable has a line of its own.')
@@ -269,9 +312,12 @@ class Declarations(Enums, OwnNames):
         self.at += 1
         if self.accept(']') != ']' or not 0 < count <= MOST_MEMBERS or self.token.text not in (';', ''):
             raise NoCounterpart(NO_ARRAYS)
-        members = ['%s%s' % (name, it or '') for it in range(count)]
+        base = allowed(name) if name in RESERVED else name
+        members = ['%s%s' % (base, it or '') for it in range(count)]
         taken = {allowed(it) for it in members[1:]}.intersection(self.words_around())
-        if taken or not self.place.is_head and self.reason(name, allowed(name), at, is_static):
+        # (each use of an array shows its index, so another word than its name can't be meant)
+        is_other = name not in RESERVED and not self.place.is_head
+        if taken or is_other and self.reason(name, allowed(name), at, is_static):
             raise NoCounterpart(OF_MEMBERS % (NO_ARRAYS, members[0], members[-1], min(taken, default=name)))
         self.why(NO_ARRAYS)
         self.writer.insist(OF_NAMES % ', '.join('`%s` for `%s[%d]`' % (allowed(it), name, number)
@@ -327,6 +373,7 @@ class Declarations(Enums, OwnNames):
             return False
         self.at = len(words)
         self.moved = name
+        self.inserted = in_lines_of_c(self.source)
         self.writer.reasons = [OF_FUNCTION]
         return True
 
@@ -334,11 +381,13 @@ class Declarations(Enums, OwnNames):
         """A function that a callback timer calls: the block of the timer."""
         words = [it.text for it in self.tokens]
         its, block = self.new_name(timer), self.block_of(timer)
-        is_moved = its in self.scope.callbacks.blocks and 'return' not in words
+        body = self.scope.callbacks.bodies.get(self.scope.callbacks.functions.get(timer, ''), 'return')
+        is_moved = its in self.scope.callbacks.blocks and not re.search(r'\breturn\b', body)
         if words[-1] != '}' or words.count('{') != words.count('}') or not (block or is_moved):
             has_return = 'return' in self.scope.callbacks.bodies.get(self.scope.callbacks.functions.get(timer, ''), '')
             raise NoCounterpart(CALLBACK + OF_RETURN * has_return)
         self.at = len(words)
+        self.inline_calls(self.scope.callbacks.functions[timer])
         if not block:
             self.why(OF_MOVED % its)
             return ''
@@ -347,11 +396,21 @@ class Declarations(Enums, OwnNames):
             self.declares.append('ctimer %s { %s}' % (its, block))
         return ''
 
+    def inline_calls(self, function: str) -> None:
+        """Writes the statements of the function of a timer at the places that call it themselves."""
+        below = inlined(self.below, function, self.scope.callbacks.bodies.get(function, ''))
+        if below is None or calls_of(self.place.above, function):
+            raise NoCounterpart(ALSO_CALLED % ((function,) * 3))
+        if below != self.below:
+            self.writer.insist(INLINED % function)
+            self.below = below
+
     def block_of(self, timer: str) -> str:
         """The statements of the function that a callback timer calls, or nothing if no counterpart is known."""
         callbacks = self.scope.callbacks
         try:
-            return self.translated(callbacks.bodies[callbacks.functions[timer]]) + ' '
+            body = callbacks.bodies[callbacks.functions[timer]]
+            return '' if re.search(r'\breturn\b', body) else self.translated(body) + ' '
         except (KeyError, NoCounterpart):
             return ''
 
@@ -386,15 +445,30 @@ class Declarations(Enums, OwnNames):
                 self.why(OF_COMMENT)
                 self.declares.append('var %s = 0;' % found)
 
+    def beginning_of(self, node: Node | None, words: list[str]) -> str:
+        """The initial value of a variable with these words of its type: an address of no mote, if the program tests for
+        it."""
+        if node is not None and is_minus(node):
+            return self.minus(node, words)
+        is_null = node is None and ADDRESS.intersection(words) and {'linkaddr_null', 'rimeaddr_null'} & {
+            *self.words_around()}
+        if is_null:
+            self.insist(OF_NULL)
+        return NULL if is_null else self.beginning(node)
+
+    def minus(self, node: Node, words: Iterable[str] = ()) -> str:
+        """The initial value of a variable that is below 0 in C, by the words of its type."""
+        self.why('There are no numbers below 0: values have 16 bits, and one less than 0 is 65535, the greatest value.')
+        value = -(number_of(node.parts[0].text) or 0)
+        return str(value % 256 if 'uint8_t' in words else value % (MOST + 1))
+
     def beginning(self, node: Node | None) -> str:
         """The initial value of a variable."""
         if node is None:
             self.why('The initial value of a variable is a number.')
             return '0'
-        if node.kind == 'unary' and node.text == '-' and node.parts[0].kind == 'number':
-            self.why('There are no numbers below 0: values have 16 bits, and one less than 0 is 65535, the greatest '
-                     'value.')
-            return str(-(number_of(node.parts[0].text) or 0) % 65_536)
+        if is_minus(node):
+            return self.minus(node)
         value = self.writer.text(node)
         if not value.isdecimal() and not self.place.is_head and not self.place.is_top:
             return value
@@ -520,10 +594,20 @@ class Declarations(Enums, OwnNames):
         return ''
 
     def of_callback(self) -> str:
-        """A callback timer without its block."""
-        name, block = self.new_name(self.token.text), self.block_of(self.token.text)
+        """Callback timers without their blocks."""
+        found = [self.callback_of(self.token.text)]
         self.at += 1
+        while self.accept(','):
+            if self.token.kind != 'name':
+                raise NoCounterpart
+            found.append(self.callback_of(self.token.text))
+            self.at += 1
         self.end('')
+        return ' '.join(filter(None, found))
+
+    def callback_of(self, timer: str) -> str:
+        """A callback timer without its block."""
+        name, block = self.new_name(timer), self.block_of(timer)
         if name in self.scope.callbacks.blocks:
             self.why('`%s` is declared already.' % name)
             return ''

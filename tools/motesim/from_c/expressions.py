@@ -91,6 +91,10 @@ MOST_RUNS = 2
 # A form that repeats a value isn't written for a longer one.
 LONGEST_OPERAND = 200
 OF_ADDRESS = 'An address is one number: `from` of the sender, `self` of the mote itself.'
+# A number that no mote has, for Contiki's address of no mote.
+NULL = '65535'
+OF_NULL = ('`linkaddr_null` is the address of no mote. Here, 0 is the number of a mote, so 65535 is used instead: no '
+           'mote has this number. A variable of C without a value also has this address.')
 NO_ADDRESS = (OF_ADDRESS + ' No variable is named `%s`. Write the number of the mote that is meant, such as '
               '`(from == 2)`, or declare a variable with this number.')
 # Names for the result of a `post`, and Contiki's names of its values.
@@ -627,6 +631,9 @@ class Writer:
         its = node.parts[0] if node.kind == 'unary' and node.text == '&' else node
         if its.kind == 'name' and its.text in ADDRESSES:
             return 'self'
+        if its.kind == 'name' and its.text in ('linkaddr_null', 'rimeaddr_null'):
+            self.insist(OF_NULL)
+            return NULL
         written = self.text(its)
         if its.kind == 'name' and self.scope.kinds.get(written) is None and written not in READ_ONLY:
             return self.refuse(NO_ADDRESS % its.text)

@@ -33,12 +33,17 @@ MARKED = re.compile(r'\bthread\s+(\w+)\s*\{[ \t]*//[ \t]*%s(%s)?' % (MARK, TO_MO
 # The comment of a variable that no line of C declares, so that the hints know it again.
 ADDED = 'added by a hint'
 OF_HINTS = re.compile(r'\bvar (\w+) = [0-9]+; // ' + ADDED)
+# The comment of a variable that is below 0 in C at first.
+IN_C = '%s is -%d in C'
+BELOW = re.compile(r'// .*\b(\w+) is -[0-9]+ in C')
 LONGEST = 16
 # The moments of a second, here and in C, whose number is used if a part of a second would be 0 moments here; a comment
 # then says so.
 SECOND, TICKS_OF_SECOND = 10, 128
 ALL_TICKS = 'CLOCK_SECOND is 128'
 PART_OF_SECOND = re.compile(r'\bCLOCK_SECOND\s*\)?\s*/\s*([0-9]{1,5})\b')
+MULTIPLE = re.compile(r'\bCLOCK_SECOND\s*\*\s*([0-9]{1,5})\s*\)?\s*/\s*([0-9]{1,5})\b')
+SHIFTED = re.compile(r'\bCLOCK_SECOND\s*\)?\s*>>\s*([0-9])\b')
 # The kinds of which a program may have several with similar names.
 ALIKE = ('variable', 'timer', 'event')
 # The least similarity of a misspelt name to a name of these kinds.
@@ -126,8 +131,11 @@ def set_in(text: str) -> frozenset[str]:
 
 def second_of(text: str) -> int:
     """The moments of a second that a text of C needs, so that none of its times becomes 0."""
-    parts = (int(it) for it in PART_OF_SECOND.findall(text))
-    return TICKS_OF_SECOND if ALL_TICKS in text or any(SECOND < it <= TICKS_OF_SECOND for it in parts) else SECOND
+    parts = [(1, int(it)) for it in PART_OF_SECOND.findall(text)]
+    parts += [(int(times), int(by)) for times, by in MULTIPLE.findall(text)]
+    parts += [(1, 2 ** int(it)) for it in SHIFTED.findall(text)]
+    is_part = any(by and times * SECOND // by == 0 < times * TICKS_OF_SECOND // by for times, by in parts)
+    return TICKS_OF_SECOND if ALL_TICKS in text or is_part else SECOND
 
 
 @dataclass
@@ -194,7 +202,7 @@ class Scope:
                    {allowed(name): count for name, count in counts_of(text).items()}, dict(VARIABLE.findall(text)),
                    callbacks_of(text), parameters_of(text), frozenset(LONG.findall(text)), changed_in(text),
                    callbacks_after_send(text), handlers_of(text, named), second_of(text),
-                   frozenset(Assigned(words).found), frozenset(map(str.lower, words)),
+                   frozenset((*Assigned(words).found, *BELOW.findall(text))), frozenset(map(str.lower, words)),
                    frozenset(OF_HINTS.findall(text)))
 
     def of_kind(self, kind: str) -> list[str]:

@@ -7,23 +7,25 @@ from __future__ import annotations
 
 import re
 
-from motesim.from_c.absent import NO_ACTIVATION, NO_SENSORS, NO_SINK, SENDS, SENSORS, SENT_ALREADY, is_sensor
+from motesim.from_c.absent import NEEDLESS, NO_ACTIVATION, NO_SENSORS, NO_SINK, SENDS, SENSORS, SENT_ALREADY, is_sensor
 from motesim.from_c.bits import bits_of, is_one, is_power
 from motesim.from_c.calls import CALLS, NO_NAME, Calls
 from motesim.from_c.control import ENDS, Control
 from motesim.from_c.declarations import ABOVE, Declarations
 from motesim.from_c.expressions import (
-    DICE, FIRST, IN_TICKS, MOST, NO_BITS, NO_CALLS, NO_CHANCE, NO_FIELDS, NO_POINTERS, NO_SIZES, QUALIFIERS,
+    DICE, FIRST, IN_TICKS, MIXED, MOST, NO_BITS, NO_CALLS, NO_CHANCE, NO_FIELDS, NO_POINTERS, NO_SIZES, QUALIFIERS,
     READ_ONLY, SHIFTS, SMALL_LETTERS, STEP, TYPES, NoCounterpart,
 )
 from motesim.from_c.nodes import MOMENTS_OF_SECOND, Node
-from motesim.from_c.places import last_statement
+from motesim.from_c.places import end_of_block, last_statement
 from motesim.from_c.radio import Radio
 from motesim.from_c.scope import ALL_TICKS, allowed, nearest
 from motesim.from_c.sends import BROADCAST, COPIES, PAYLOAD, TO_ONE
 from motesim.from_c.tokens import END, tokens_of
-from motesim.notation.faults import MOST_LEVELS, STATEMENTS
+from motesim.notation.faults import MOST_LEVELS, STATEMENTS, WAITS
 
+OF_SEED = ('`dice` is the variable of the generator, which begins with the seed. The statements mix the seed, so that '
+           'motes don\'t draw in step. With the same seed in all motes, all motes draw the same numbers.')
 OF_ONE_BIT = 'There are no operators on bits: `+` sets a bit that is 0, and `-` clears a bit that is 1.'
 PRINTS = ('printf', 'print', 'println', 'puts', 'putchar', 'log_info', 'log_dbg', 'log_warn', 'log_err')
 # A packet that names its receiver has 8 bits for the receiver, and 8 for the value.
@@ -52,8 +54,6 @@ ADVICE = {
     'nullnet_buf': BROADCAST, 'sleep': WAIT, 'delay': WAIT, 'clock_delay': WAIT, 'clock_wait': WAIT, 'usleep': WAIT,
     'default': 'There is no `switch`: put the statements of `default` into the last `else { .. }`.',
     'goto': NO_GOTO,
-    'random_init': 'There is no generator to set up: a seed is a variable, `seed = self;`.',
-    'srand': 'There is no generator to set up: a seed is a variable, `seed = self;`.',
     'sizeof': NO_SIZES, 'struct': NO_FIELDS,
     'typedef': 'There are no types: all values have 16 bits.', 'enum': 'There are no types: give '
     'each value a number, and note it in a comment.',
@@ -226,6 +226,8 @@ class Statements(Radio, Declarations, Calls, Control):
         """A statement that begins with a name."""
         lower, behind = word.lower(), self.ahead(1).text
         kind = self.scope.kinds.get(word)
+        if behind == '[' and self.scope.members(word):
+            return self.of_member(word)
         if (word, behind) in SPLIT:
             self.why('`%s` is one word.' % SPLIT[word, behind])
             self.tokens[self.at:self.at + 2] = [self.token._replace(text=SPLIT[word, behind])]
@@ -236,6 +238,8 @@ class Statements(Radio, Declarations, Calls, Control):
             return self.end('acquire ' + self.writer.of_kind(self.target(), 'semaphore'))
         if lower == 'wait':
             raise NoCounterpart(WAIT)
+        if lower in ('random_init', 'srand') and behind == '(':
+            return self.of_seed()
         if lower in LEDS and behind == '(':
             self.expression()
             self.why(OF_LEDS)
@@ -248,9 +252,9 @@ class Statements(Radio, Declarations, Calls, Control):
             return self.of_open()
         if kind == 'thread' and behind in ('(', ';'):
             return self.end(self.spawned(self.expression()))
-        if lower in SENSORS and behind == '(':
+        if (lower in SENSORS or lower in NEEDLESS) and behind == '(':
             self.expression()
-            self.why(NO_ACTIVATION)
+            self.why(NEEDLESS.get(lower, NO_ACTIVATION))
             return self.end('').removesuffix(';')
         if is_sensor(word) and behind in ('.', '->'):
             raise NoCounterpart(NO_SENSORS)
@@ -321,6 +325,21 @@ class Statements(Radio, Declarations, Calls, Control):
         self.tokens[self.at] = self.token._replace(text=word)
         return self.statement()
 
+    def of_seed(self) -> str:
+        """A seed of the generator: the first number from which it draws."""
+        call = self.expression()
+        seed = self.writer.text(call.parts[0]) if len(call.parts) == 1 else 'self'
+        self.end('')
+        if MIXED in self.place.above and seed == 'self':
+            self.why('The start of `body` mixes the seed already: leave this line out.')
+            return ''
+        if not self.place.head:
+            raise NoCounterpart(NO_CHANCE)
+        if not self.is_variable(DICE):
+            self.declares.append(FIRST)
+        self.why(OF_SEED)
+        return MIXED.replace('self', seed, 1)
+
     def copied(self) -> str:
         """An address that is copied, as an assignment."""
         call = self.expression()
@@ -383,7 +402,7 @@ class Statements(Radio, Declarations, Calls, Control):
             raise NoCounterpart(OF_HANDLER % head)
         reader = Statements(does, self.scope, self.place._replace(is_head=False))
         try:
-            text = reader.plain()
+            text = self.with_blocks(reader.plain())
             self.comments += reader.comments
         except NoCounterpart:
             self.why('%s Put the statements of `%s` into it.' % (OF_HANDLER % head, does.replace(' ', '').rstrip(';')))
@@ -392,6 +411,16 @@ class Statements(Radio, Declarations, Calls, Control):
         for reason in reader.writer.reasons:
             self.why(reason)
         return '%s { %s }' % (head, text)
+
+    def with_blocks(self, text: str) -> str:
+        """The statements of a handler, which can't spawn a thread: it has the statements of the thread instead."""
+        for name in re.findall(r'\bspawn (\w+);', text):
+            head = re.search(r'\bthread\s+%s\s*\{' % name, self.place.above)
+            block = self.place.above[head.end():end_of_block(self.place.above, head.end() - 1)] if head else 'exit'
+            if {'exit', *WAITS}.intersection(re.findall(r'\w+', block)):
+                raise NoCounterpart
+            text = text.replace('spawn %s;' % name, ' '.join(re.sub(r'//.*', '', block).split()))
+        return text
 
     def of_semaphore(self, name: str) -> str:
         """A semaphore whose count is incremented or decremented."""
