@@ -1591,8 +1591,8 @@ class Command(unittest.TestCase):
         # (one net that is the same for all is meant so, but runs that share one of two seeds aren't independent)
         written('net%.0s')
         self.plot(*words)
-        self.assertEqual(self.seen, 'plot: 6 runs combine 3 values of seed with 2 values of chance_seed: intervals count '
-                                    'runs as independent, and are too narrow; use one parameter for all seeds\n')
+        self.assertEqual(self.seen, 'plot: 6 runs combine 3 values of seed with 2 values of chance_seed: intervals '
+                                    'count runs as independent, and are too narrow; use one parameter for all seeds\n')
         self.plot(*words, '--where', 'chance_seed=1')
         self.assertEqual(self.seen, '')
         interpreter_with(self, 'matplotlib')
