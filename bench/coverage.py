@@ -2,7 +2,7 @@
 """Measures how often intervals of means near 1 contain the true mean: bench/coverage.py [SWEEPS]
 
 Each sweep has 5 to 30 runs, whose shares are drawn from a distribution near 1 with a known mean. The draws have fixed
-seeds, so the same count of sweeps (400 unless given) prints the same table. docs/use/EXPERIMENTS.md has its numbers,
+seeds, so the same count of sweeps (400 unless given) prints the same table. docs/use/PLOTS.md has its numbers,
 in a row for each distribution. Names of distributions after the count select some: bench/coverage.py 400 lognormal.
 Sweeps whose runs are all equal have no interval, and don't count; the column `none` has their share. The column
 `Wilson` has the share of the intervals by bootstrap-t that have an end of Wilson's score interval. The column `width`
