@@ -287,7 +287,8 @@ class Pack(unittest.TestCase):
             readme = pack.files(write_stub(top), found)['README.md'][0].decode()
             other = pack.files(write_stub(top), pack.sorted_files(['examples'], [top / 'lab'], top))['README.md']
         self.assertIn('\nThe folder mystudy has a study: its plan (mystudy/net.plan.toml) and its results '
-                      '(mystudy/net.csv). docs/use/EXPERIMENTS.md explains\n', readme)
+                      '(mystudy/net.csv). docs/use/PLANS.md explains plans,\n', readme)
+        self.assertIn('docs/use/EXPERIMENTS.md says how to compare the new results with the old ones.', readme)
         self.assertIn('`tools/sweep mystudy/net.plan.toml -o again.csv`', readme)
         self.assertNotIn('study', other[0].decode().replace('studio', ''))
         self.assertEqual(pack.how_to_unpack('a.tar.gz', 'motesim-1', found),
