@@ -104,6 +104,29 @@ PROCESS_THREAD(main_process, ev, data)
 """ % (variable or 'static int item;', first, loop)
 
 
+ONE = """PROCESS(p, "p");
+AUTOSTART_PROCESSES(&p);
+static struct pt w;
+static PT_THREAD(work(struct pt *pt))
+{
+  static struct etimer t;
+  static int k;
+  PT_BEGIN(pt);
+  for(k = 0; k < 2; k++) {
+    etimer_set(&t, 10);
+    PT_WAIT_UNTIL(pt, etimer_expired(&t));
+    printf("%%d\\n", k);
+  }
+  PT_END(pt);
+}
+PROCESS_THREAD(p, ev, data)
+{
+  PROCESS_BEGIN();
+  %s
+  printf("%%d\\n", 9);
+  PROCESS_END();
+}
+"""
 BOTH = 'PT_SCHEDULE(producer(&p));\n    PT_SCHEDULE(consumer(&c));\n    '
 
 
@@ -162,4 +185,18 @@ class SideBySide(unittest.TestCase):
         self.assertIn('So write a process for each of them', found.reasons[0])
 
     def test_one_protothread_stays_a_thread(self) -> None:
+        need_program(self)
         self.assertIsNone(side_by_side(buffered('PT_SCHEDULE(producer(&p));')))
+        for loop, wanted in (('while(PT_SCHEDULE(work(&w))) {\n    PROCESS_YIELD();\n  }', [0, 1, 9]),
+                             ('while(PT_SCHEDULE(work(&w)));', [0, 1, 9]),
+                             ('PT_SCHEDULE(work(&w));\n  printf("%d\\n", 8);', [0, 1, 8, 9])):
+            with self.subTest(loop):
+                text = corrected(SCENARIO % (ONE % loop))
+                assert text
+                self.assertIn('spawn work;', text)
+                self.assertEqual(prints(text), wanted)
+
+    def test_the_hint_on_one_protothread_names_the_difference(self) -> None:
+        for loop, wanted in (('while(PT_SCHEDULE(work(&w))) {\n    PROCESS_PAUSE();\n  }', 'write `pause;` instead of'),
+                             ('PT_SCHEDULE(work(&w));', 'put statements that are needed in each turn into another')):
+            self.assertIn(wanted, ' '.join(followed(ONE % loop)[1]))

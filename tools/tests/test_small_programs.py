@@ -39,6 +39,8 @@ CASES = [
      '    printf("%d\\n", 2);\n  }', [1, 2]),
     ('', 'static int count[3];\n  static int msg[2];', 'count[0] = 4;\n  count[2]++;\n  msg[1] = count[2] + 1;\n'
      '  printf("%d %d %d\\n", count[0], count[2], msg[1]);', [4, 1, 2]),
+    ('', 'static clock_time_t start;\n  static int stop = 4;', 'start = clock_time();\n  stop--;\n  stop += 2;\n'
+     '  printf("%d %d\\n", clock_time() - start, stop);', [0, 5]),
     ('static int set[3];', '', 'set[0] = 4;\n  set[2] = set[0] + 1;\n  printf("%d\\n", set[2]);', [5]),
     ('#define SLOT(n) ((n) * 10)\n#define MAX(a, b) ((a) > (b) ? (a) : (b))\n#define LOG(x) printf("%d\\n", x)',
      'static int x;', 'x = SLOT(3);\n  LOG(x);\n  x = MAX(x, SLOT(x + 1));\n  LOG(x);', [30, 310]),

@@ -23,6 +23,7 @@ CALLS = {
     'process_wait_until': 'wait_until expression0', 'process_wait_while': 'wait_while expression0',
     'pt_yield': 'yield', 'pt_exit': 'exit', 'pt_restart': 'restart', 'pt_wait_until': 'wait_until expression1',
     'pt_yield_until': 'yield_until expression1', 'pt_wait_while': 'wait_while expression1',
+    'pt_schedule': 'spawn thread0',
     'pt_spawn': 'spawn thread2', 'process_pt_spawn': 'spawn thread1', 'pt_wait_thread': 'spawn thread1',
     'pt_sem_wait': 'acquire semaphore1', 'pt_sem_signal': 'signal semaphore1',
     'etimer_set': 'set timer0 expression1', 'etimer_reset': 'reset timer0', 'etimer_restart': 'restart_timer timer0',
@@ -46,6 +47,8 @@ NO_THREAD = 'A protothread has a name: `thread t { .. }`, at the head of the `co
 NO_DATA = ('`start` passes no value, so `%s` is left out: in the call with `init`, `data` is 0. Post the value below '
            'the start: `post %s e %s;`, with `event e;` above the `process` line. The started process waits for it, '
            '`yield_until is(e);`, and then reads `data`.')
+OF_SCHEDULE = ('In C, the statements below `PT_SCHEDULE` are run in each turn, but a `spawn` ends only when its thread '
+               'has ended: put statements that are needed in each turn into another process.')
 # The first words of the blocks of a `code`. The process that a callback timer runs in isn't busy.
 OF_POSTED = ('The event has the value that `%s` has now: the process that gets it reads this value by `data`, also '
              'after a later change, and can\'t change `%s`.')
@@ -218,6 +221,8 @@ class Calls(Sends):
         if spawns and given(spawns[0]):
             return self.spawned(spawns[0])
         self.why('`%s` is `%s` here.' % (call.text, form.split()[0]))
+        if name == 'pt_schedule':
+            self.writer.insist(OF_SCHEDULE)
         if name == 'process_start' and len(call.parts) == 2:
             self.lose_data(*call.parts)
         self.writer.of_timer = 'fired' if form.startswith('yield_until') else 'expired'

@@ -23,9 +23,17 @@ from motesim.from_c.scope import ALL_TICKS, allowed, nearest
 from motesim.from_c.sends import BROADCAST, COPIES, PAYLOAD, TO_ONE
 from motesim.from_c.tokens import END, tokens_of
 from motesim.notation.faults import MOST_LEVELS, STATEMENTS, WAITS
+from motesim.notation.keywords import RESERVED
 
 OF_SEED = ('`dice` is the variable of the generator, which begins with the seed. The statements mix the seed, so that '
            'motes don\'t draw in step. With the same seed in all motes, all motes draw the same numbers.')
+# A loop that continues one protothread.
+SCHEDULED = re.compile(r'while \( PT_SCHEDULE \( (\w+) \( (?:& \w+ )?\) \) \) '
+                       r'(?:; |\{ (?:PROCESS_(?:PAUSE|YIELD|WAIT_EVENT) \( \) ; )?\} |PROCESS_\w+ \( \) ; )')
+OF_LOOP = 'A `spawn` continues its thread in each call of the process, until the thread has ended: it needs no loop.'
+OF_PAUSES = ('In C, each `PROCESS_PAUSE` continues the protothread at once. Here, only an event of the process does, '
+             'such as that of a timer: so write `pause;` instead of a `yield;` in thread `%s`, and let it wait for '
+             'timers and events.')
 OF_ONE_BIT = 'There are no operators on bits: `+` sets a bit that is 0, and `-` clears a bit that is 1.'
 PRINTS = ('printf', 'print', 'println', 'puts', 'putchar', 'log_info', 'log_dbg', 'log_warn', 'log_err')
 # A packet that names its receiver has 8 bits for the receiver, and 8 for the value.
@@ -158,6 +166,9 @@ class Statements(Radio, Declarations, Calls, Control):
         if token.kind == 'directive':
             self.at += 1
             return self.directive(word)
+        if word in RESERVED and self.ahead(1).text in (*ASSIGNS, *SUMS) and self.is_variable(allowed(word)):
+            self.tokens[self.at] = token = token._replace(kind='name', text=allowed(word))
+            word = token.text
         if self.accept(';'):
             self.why('A `;` ends a statement; after a `}` there is none.')
             return ''
@@ -166,6 +177,8 @@ class Statements(Radio, Declarations, Calls, Control):
             return ''
         if word == '{':
             raise NoCounterpart('A block belongs to an `if`, a `while`, a `thread` or a `code`.')
+        if word == 'while' and (scheduled := self.scheduled()):
+            return scheduled
         if word in ('if', 'while'):
             self.at += 1
             return self.choice_or_loop(word)
@@ -210,6 +223,18 @@ class Statements(Radio, Declarations, Calls, Control):
         if word == '*' or word == '(' and self.ahead(1).text == '*':
             return self.of_pointer()
         raise NoCounterpart
+
+    def scheduled(self) -> str:
+        """A loop that only continues a protothread until it has ended; nothing if the loop does something else."""
+        words = [it.text for it in self.tokens[self.at:]]
+        found = SCHEDULED.match(' '.join(words))
+        if found is None or self.scope.kinds.get(allowed(found[1])) != 'thread':
+            return ''
+        self.at += len(found[0].split())
+        self.why(OF_LOOP)
+        if 'PAUSE' in found[0]:
+            self.insist(OF_PAUSES % allowed(found[1]))
+        return 'spawn %s;' % allowed(found[1])
 
     def is_of_own_type(self) -> bool:
         """Returns whether a declaration begins with the name of a type that the program itself has defined, and reads
