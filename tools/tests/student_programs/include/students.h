@@ -1,12 +1,14 @@
 /*
  * What a program of a student needs of Contiki's libraries besides the kernel:
- * Rime's broadcasts and unicasts, LEDs, and a printf that prints each number in
- * a line of its own, with the moment and the mote. A packet has two bytes.
+ * Rime's broadcasts and unicasts, timers in seconds, LEDs, and a printf that
+ * prints each number in a line of its own, with the moment and the mote. A
+ * packet has two bytes.
  */
 #ifndef STUDENTS_H_
 #define STUDENTS_H_
 
 #include <stdarg.h>
+#include <stdbool.h>
 #include <stddef.h>
 #include <stdint.h>
 #include <string.h>
@@ -27,7 +29,7 @@
 #define LEDS_RED    4
 #define LEDS_ALL    7
 #define leds_on(leds)     student_print("%d", 1)
-#define leds_off(leds)    student_print("%d", 1)
+#define leds_off(leds)    student_print("%d", 0)
 #define leds_toggle(leds) student_print("%d", 1)
 #define printf(...)       student_print(__VA_ARGS__)
 
@@ -98,54 +100,165 @@ rimeaddr_copy(rimeaddr_t *to, const rimeaddr_t *from)
   *to = *from;
 }
 /*---------------------------------------------------------------------------*/
+/* Timers that post no event, besides those of the kernel's host. */
+static clock_time_t
+timer_remaining(const struct timer *t)
+{
+  return timer_expiration_time(t) - clock_time();
+}
+
+static unsigned long clock_seconds(void) { return (unsigned long)(clock_time() / CLOCK_SECOND); }
+
+struct stimer {
+  unsigned long start;
+  unsigned long interval;
+};
+
+static void
+stimer_set(struct stimer *t, unsigned long interval)
+{
+  t->interval = interval;
+  t->start = clock_seconds();
+}
+
+static void stimer_reset(struct stimer *t) { t->start += t->interval; }
+static void stimer_restart(struct stimer *t) { t->start = clock_seconds(); }
+static int stimer_expired(const struct stimer *t) { return clock_seconds() - (t->start + t->interval) < ~0UL >> 1; }
+static unsigned long stimer_remaining(const struct stimer *t) { return t->start + t->interval - clock_seconds(); }
+static unsigned long stimer_elapsed(const struct stimer *t) { return clock_seconds() - t->start; }
+/*---------------------------------------------------------------------------*/
+/* The buffer of packets. What a packet has besides its value is in a table that all motes share. */
+#define PACKETBUF_ADDR_SENDER   0
+#define PACKETBUF_ADDR_RECEIVER 1
+
+struct student_header { int channel, to, size; };
+#define STUDENT_HEADERS 1024
+static struct student_header student_headers[3][STUDENT_HEADERS] __attribute__((section("students_headers")));
+
+static uint16_t student_packet;
+static int student_packet_size;
+static rimeaddr_t student_addresses[2];
+static uint64_t students_sent;
+
+static void *packetbuf_dataptr(void) { return &student_packet; }
+static int packetbuf_datalen(void) { return student_packet_size; }
+static void packetbuf_set_datalen(int size) { student_packet_size = size; }
+static void packetbuf_clear(void) { student_packet = 0; student_packet_size = 0; }
+static const rimeaddr_t *packetbuf_addr(int type) { return &student_addresses[type]; }
+
+static int
+packetbuf_copyto(void *to)
+{
+  memcpy(to, &student_packet, student_packet_size < 2 ? (size_t)student_packet_size : 2);
+  return student_packet_size;
+}
+
+static int
+packetbuf_copyfrom(const void *from, int size)
+{
+  student_packet = 0;
+  student_packet_size = size;
+  memcpy(&student_packet, from, size < 2 ? (size_t)size : 2);
+  return size;
+}
+/*---------------------------------------------------------------------------*/
 struct broadcast_conn;
 struct broadcast_callbacks {
   void (*recv)(struct broadcast_conn *c, const rimeaddr_t *from);
   void (*sent)(struct broadcast_conn *c, int status, int num_tx);
 };
-struct broadcast_conn { const struct broadcast_callbacks *calls; };
+struct broadcast_conn {
+  struct broadcast_conn *next;
+  int channel;
+  const struct broadcast_callbacks *calls;
+};
 
-static struct broadcast_conn *opened;
-static uint16_t packet;
-static int packet_size;
-static uint64_t packets_sent;
+static struct broadcast_conn *student_connections;
+
+static void
+broadcast_close(struct broadcast_conn *c)
+{
+  struct broadcast_conn **it;
+
+  for(it = &student_connections; *it != NULL; it = &(*it)->next) {
+    if(*it == c) {
+      *it = c->next;
+      return;
+    }
+  }
+}
 
 static void
 broadcast_open(struct broadcast_conn *c, int channel, const struct broadcast_callbacks *calls)
 {
-  (void)channel;
+  broadcast_close(c);
+  c->channel = channel;
   c->calls = calls;
-  opened = c;
-}
-
-static void broadcast_close(struct broadcast_conn *c) { (void)c; opened = NULL; }
-static void *packetbuf_dataptr(void) { return &packet; }
-static int packetbuf_datalen(void) { return packet_size; }
-static void packetbuf_set_datalen(int size) { packet_size = size; }
-static void packetbuf_clear(void) { packet = 0; packet_size = 0; }
-static void packetbuf_copyto(void *to) { memcpy(to, &packet, 2); }
-
-static void
-packetbuf_copyfrom(const void *from, int size)
-{
-  packet = 0;
-  packet_size = size;
-  memcpy(&packet, from, size < 2 ? (size_t)size : 2);
+  c->next = student_connections;
+  student_connections = c;
 }
 
 static int
-broadcast_send(struct broadcast_conn *c)
+student_send(struct broadcast_conn *c, int to)
 {
-  medium_send(mote_number(), packets_sent++, packet);
+  struct student_header header = { c->channel, to, student_packet_size };
+
+  student_headers[mote_number()][students_sent % STUDENT_HEADERS] = header;
+  medium_send(mote_number(), students_sent++, student_packet);
   if(c->calls->sent != NULL) {
     c->calls->sent(c, 0, 1);
   }
   return 1;
 }
+
+static int broadcast_send(struct broadcast_conn *c) { return student_send(c, -1); }
 /*---------------------------------------------------------------------------*/
-/* The radio hands each packet to the callback, as the driver's process does. */
-static struct { uint16_t value; int from; } ring[8];
-static int ring_count;
+/* A unicast is a broadcast with the address of its receiver: other motes ignore it. */
+struct unicast_conn;
+struct unicast_callbacks {
+  void (*recv)(struct unicast_conn *c, const rimeaddr_t *from);
+  void (*sent)(struct unicast_conn *c, int status, int num_tx);
+};
+struct unicast_conn {
+  struct broadcast_conn c;
+  const struct unicast_callbacks *calls;
+};
+
+static void
+student_unicast(struct broadcast_conn *c, const rimeaddr_t *from)
+{
+  struct unicast_conn *uc = (struct unicast_conn *)c;
+
+  if(rimeaddr_cmp(packetbuf_addr(PACKETBUF_ADDR_RECEIVER), &rimeaddr_node_addr)) {
+    uc->calls->recv(uc, from);
+  }
+}
+
+static void
+student_unicast_sent(struct broadcast_conn *c, int status, int num_tx)
+{
+  struct unicast_conn *uc = (struct unicast_conn *)c;
+
+  if(uc->calls->sent != NULL) {
+    uc->calls->sent(uc, status, num_tx);
+  }
+}
+
+static const struct broadcast_callbacks student_unicast_calls = { student_unicast, student_unicast_sent };
+
+static void
+unicast_open(struct unicast_conn *c, int channel, const struct unicast_callbacks *calls)
+{
+  broadcast_open(&c->c, channel, &student_unicast_calls);
+  c->calls = calls;
+}
+
+static void unicast_close(struct unicast_conn *c) { broadcast_close(&c->c); }
+static int unicast_send(struct unicast_conn *c, const rimeaddr_t *to) { return student_send(&c->c, to->u8[0]); }
+/*---------------------------------------------------------------------------*/
+/* The radio hands each packet to the callback of its channel, as the driver's process does. */
+static struct { uint16_t value; int from; struct student_header header; } student_ring[8];
+static int student_ring_count;
 
 SYSTEM_PROCESS(radio_process, "radio");
 const struct host_memory radio_memory[] = { HOST_MEMORY_END };
@@ -153,10 +266,10 @@ const struct host_memory radio_memory[] = { HOST_MEMORY_END };
 void
 radio_receive(int from, uint64_t number, uint16_t value)
 {
-  (void)number;
-  if(ring_count < 8) {
-    ring[ring_count].value = value;
-    ring[ring_count++].from = from;
+  if(student_ring_count < 8) {
+    student_ring[student_ring_count].value = value;
+    student_ring[student_ring_count].header = student_headers[from][number % STUDENT_HEADERS];
+    student_ring[student_ring_count++].from = from;
     process_poll(&radio_process);
   }
 }
@@ -164,23 +277,35 @@ radio_receive(int from, uint64_t number, uint16_t value)
 uint16_t motesim_word(process_event_t ev, process_data_t data) { (void)ev; (void)data; return 0; }
 uint16_t motesim_from(process_event_t ev, process_data_t data) { (void)ev; (void)data; return 0; }
 
+static void
+student_receive(int i)
+{
+  struct broadcast_conn *c;
+  rimeaddr_t from = {{ 0, 0 }};
+
+  from.u8[0] = (unsigned char)student_ring[i].from;
+  student_packet = student_ring[i].value;
+  student_packet_size = student_ring[i].header.size;
+  student_addresses[PACKETBUF_ADDR_SENDER] = from;
+  student_addresses[PACKETBUF_ADDR_RECEIVER].u8[0] = (unsigned char)student_ring[i].header.to;
+  for(c = student_connections; c != NULL; c = c->next) {
+    if(c->channel == student_ring[i].header.channel) {
+      c->calls->recv(c, &from);
+      return;
+    }
+  }
+}
+
 PROCESS_THREAD(radio_process, ev, data)
 {
   int i;
 
   (void)data;
   if(ev == PROCESS_EVENT_POLL) {
-    for(i = 0; i < ring_count; i++) {
-      rimeaddr_t from = {{ 0, 0 }};
-
-      from.u8[0] = (unsigned char)ring[i].from;
-      packet = ring[i].value;
-      packet_size = 2;
-      if(opened != NULL) {
-        opened->calls->recv(opened, &from);
-      }
+    for(i = 0; i < student_ring_count; i++) {
+      student_receive(i);
     }
-    ring_count = 0;
+    student_ring_count = 0;
   }
   return PT_YIELDED;
 }

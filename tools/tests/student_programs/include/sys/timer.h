@@ -1,0 +1,1 @@
+#include "contiki.h"
