@@ -1,4 +1,4 @@
-"""Runs that draw the same numbers with different seeds: a limit of the pattern for random numbers in EXPERIMENTS.md.
+"""Runs that draw the same numbers with different seeds: a limit of the pattern for random numbers in LOSSES.md.
 
 In the pattern a mote draws from the sum of 257 times its number and the seed. With a seed that is 257 greater, mote k
 draws the numbers that mote k + 1 draws with the first seed. So two runs whose seeds are a multiple of 257 apart aren't

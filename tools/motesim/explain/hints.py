@@ -50,7 +50,7 @@ WISHES = {
               '`dice = ((dice * 25173) + 13849); if (dice < 6554) { .. }`, which is true 1 time in 10. At the start of '
               '`body` mix its seed, otherwise motes draw in step: `dice = ((self * 257) + 1); dice = (dice * ((2 * '
               'dice) + 1)); dice = (dice + (dice / 256)); dice = (dice * ((2 * dice) + 1));`. This is for at most 255 '
-              'motes. For packets that are lost by chance, docs/use/EXPERIMENTS.md has a pattern under "Losses by '
+              'motes. For packets that are lost by chance, docs/use/LOSSES.md has a pattern under "Losses by '
               'chance".',
     'id': 'A mote\'s number is `self`.',
     'time': 'The current moment is `now` (its low 16 bits).',
@@ -352,7 +352,7 @@ def _of_key(path: tuple[str | int, ...], name: str, tables: dict[str, object] | 
         return '`%s` belongs to version 2: begin the scenario with `version = 2`.' % name
     if name in CHANCE:
         return 'Nothing happens by chance here: a loss `[[loss]]` from one mote to another loses every k-th packet ' \
-               '(`every = k`). A receiver may ignore packets by a generator with a seed: docs/use/EXPERIMENTS.md has a ' \
+               '(`every = k`). A receiver may ignore packets by a generator with a seed: docs/use/LOSSES.md has a ' \
                'tested pattern under "Losses by chance". tools/scenario makes nets, and losses by rule, from a seed.'
     if len(path) == 1 and name in FAILURES:
         return OF_FAILURE

@@ -146,7 +146,7 @@ FIRST = 'var %s = 1;' % DICE
 MIXED = ('dice = ((self * 257) + 1); dice = (dice * ((2 * dice) + 1)); dice = (dice + (dice / 256)); '
          'dice = (dice * ((2 * dice) + 1));')
 OF_DRAWN = ('Then `((dice / 256) % 10)` is one of 0 to 9, and `(dice < 6554)` is true 1 time in 10. For packets that '
-            'are lost by chance, docs/use/EXPERIMENTS.md has a pattern under "Losses by chance".')
+            'are lost by chance, docs/use/LOSSES.md has a pattern under "Losses by chance".')
 NO_CHANCE = ('A mote has no random numbers: each run is the same. Use a generator, as below, with a seed that '
              'differs by mote, and mix the seed, so that motes don\'t draw in step. At the start of `body`: `' + MIXED +
              '`, for at most 255 motes. ' + OF_DRAWN)
