@@ -20,6 +20,7 @@ from motesim.explain import resonance
 from motesim.explain.idle import idle_losses
 from motesim.explain.lint import SAME_DRAWS, warnings
 from motesim.explain.resonance import RARE, Together, all_at_once, at_least, hit, kinds_of, resonances
+from motesim.explain.same_seed import SAME_SEED
 from motesim.from_c.expressions import NO_CHANCE
 from motesim.plan.chance import Chance
 from motesim.plan.files import Files
@@ -53,6 +54,11 @@ from = 0
 to = 1
 every = %d
 '''
+
+
+def net_of(program: str) -> Scenario:
+    """The scenario with another program."""
+    return Scenario.parse((SCENARIO % 2).replace('process a; autostart a; code a { body { send 1; } }', program))
 
 
 def report(values: list[int], every: int) -> Report:
@@ -372,6 +378,46 @@ class ByChance(unittest.TestCase):
             self.assertLess(abs(correlation(one, other)), 0.02)
         self.assertEqual(len({(mote * 257 + seed + more) % WORD for mote, seed in pairs for more in (0, 128)}),
                          2 * len(pairs))
+
+    def test_processes_that_begin_with_the_same_seed_get_a_warning(self) -> None:
+        first = 'dice = ((self * 257) + 7);'
+        page = (TOP / 'docs/use/LOSSES.md').read_text('utf-8')
+        second = re.search('    (dice = .*128\\);)\n', page)
+        assert second is not None
+        mixed = 'var dice = 0; body { %s dice = (dice * ((2 * dice) + 1)); print dice; }'
+        for seeds, count in (
+                ([first, first], 1), ([first, second[1].replace('${seed}', '7')], 0),
+                (['dice = ((self * 257) + 8);', first], 0), ([first, first, first], 2)):
+            names = ['p%d' % number for number in range(len(seeds))]
+            codes = ' '.join('code %s { %s }' % (name, mixed % seed) for name, seed in zip(names, seeds))
+            text = 'process %s; autostart %s; %s' % (', '.join(names), ', '.join(names), codes)
+            net = net_of(text)
+            found = [it for it in warnings(net) if it.text.startswith(SAME_SEED)]
+            self.assertEqual(len(found), count, text)
+            self.assertEqual(sum(SAME_SEED in it for it in warned(report([7] * 9, 2), net, 60)), count)
+            # (with the lines of the warnings there is none)
+            for number, it in enumerate(found, 1):
+                line = re.search('`(dice = .*;)`$', it.text)
+                assert line is not None
+                seeds[number] = line[1]
+            codes = ' '.join('code %s { %s }' % (name, mixed % seed) for name, seed in zip(names, seeds))
+            repaired = text.partition(' code ')[0] + ' ' + codes
+            self.assertFalse(any(SAME_SEED in it.text for it in warnings(net_of(repaired))), repaired)
+
+    def test_a_process_that_draws_nothing_and_one_that_starts_later_have_no_warning(self) -> None:
+        seed = 'dice = ((self * 257) + 7);'
+        draw = 'dice = (dice * 3);'
+        for autostart, rest, count in ('a, b', draw, 1), ('a, b', '', 0), ('a', draw, 0):
+            codes = ' '.join('code %s { var dice = 0; body { %s %s print dice; } }' % (it, seed, rest) for it in 'ab')
+            net = net_of('process a, b; autostart %s; %s' % (autostart, codes))
+            self.assertEqual(sum(it.text.startswith(SAME_SEED) for it in warnings(net)), count, (autostart, rest))
+
+    def test_two_programs_with_too_many_motes_have_a_warning_each(self) -> None:
+        head = SCENARIO.partition('[[mote]]')[0].replace('{ send 1; }', '{ print ((self * 257) + 1); send 1; }')
+        programs = head + head[head.index('p = '):].replace('p = ', 'q = ')
+        places = ''.join('[[mote]]\nx = %d\ny = 0\nprogram = "%s"\n' % (it, 'pq'[it % 2]) for it in range(300))
+        found = [it.text for it in warnings(Scenario.parse(programs + places)) if it.text.startswith(SAME_DRAWS)]
+        self.assertEqual(found, [SAME_DRAWS] * 2)
 
     def test_the_rate_over_the_cycle_is_exact(self) -> None:
         self.assertEqual((len(self.cycle.places), len(draws())), (WORD, 7_798_784))

@@ -21,12 +21,13 @@ from motesim.explain.idle import IDLE
 from motesim.explain.lint import SAME_DRAWS
 from motesim.explain.moments import SAME_MOMENT
 from motesim.explain.resonance import IN_STEP
+from motesim.explain.same_seed import SAME_SEED
 from motesim.summary.flows import SHARED, TWICE
 
 # A note with this beginning is about a run that has all its measures.
 WARNING = 'warning: '
 # The beginnings of warnings that a sweep counts separately: for each, it reports the number of runs that have it.
-ONCE = (SHARED, TWICE, OWN, OWN_LINE, SAME_MOMENT, IDLE, ALL_HALTED, IN_STEP, SAME_DRAWS)
+ONCE = (SHARED, TWICE, OWN, OWN_LINE, SAME_MOMENT, IDLE, ALL_HALTED, IN_STEP, SAME_DRAWS, SAME_SEED)
 # The column with the parameters that are seeds of the pattern; and the number of consecutive seeds that draw different
 # numbers.
 CHANCE, APART = 'chance_seeds', 257

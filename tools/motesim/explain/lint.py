@@ -9,7 +9,8 @@ import re
 from collections.abc import Iterator, Sequence
 from typing import NamedTuple
 
-from motesim.explain import busy, differences, event, exclusive, once, signed, unchanged, unheard, unpolled, wraps
+from motesim.explain import busy, differences, event, exclusive, once, same_seed, signed, unchanged, unheard, unpolled
+from motesim.explain import wraps
 from motesim.explain.busy import OF_EVENT
 from motesim.explain.event import FOR_TIMER, SETS
 from motesim.explain.moments import bursts
@@ -41,9 +42,9 @@ NO_OPEN_LINK = ('mote %d waits for packets, but no packet can reach it: each lin
 CHANGES = frozenset(('spawn', 'synch', 'set', 'reset', 'restart_timer', 'stop', 'start', 'kill', 'acquire', 'signal'))
 OF_CTIMER = ('`%s` is a `ctimer`: its event goes to the process ctimer, which runs its block, so `fired(%s)` is never '
              'true here; an `etimer` posts its event to its own process')
-# The factor of the pattern for random numbers; the greatest number of motes that draw different numbers by it with
-# neighbouring seeds; and the warning.
-FACTOR, MOST_DRAWING = '257', 255
+# The greatest number of motes that draw different numbers by the pattern for random numbers with neighbouring seeds;
+# and the warning.
+MOST_DRAWING = 255
 SAME_DRAWS = ('in a net of more than 255 motes, mote k + 255 with one seed draws the same numbers as mote k with '
               'the previous seed (255 * 257 is -1 in 16 bits). So runs of neighbouring seeds are not independent: '
               'use at most 255 motes')
@@ -426,12 +427,17 @@ def of_moments(report: Report) -> Iterator[Warned]:
 
 
 def of_seeds(scenario: Scenario, programs: dict[str, Program]) -> Iterator[Warned]:
-    """Yields the warnings about programs that draw random numbers, in more motes than can draw different ones."""
+    """Yields the warnings about programs that draw random numbers, in more motes than can draw different ones; and
+    about processes of a mote that draw the same numbers."""
     for name, program in programs.items():
-        token = program.first('self', '*', FACTOR)
+        token = program.first('self', '*', same_seed.FACTOR)
         motes = [number for number, place in enumerate(scenario.places) if place.program == name]
         if token and motes and motes[-1] - motes[0] >= MOST_DRAWING:
-            yield Warned(SAME_DRAWS, name, token, cause='seeds')
+            yield Warned(SAME_DRAWS, name, token, cause='seeds %s' % name)
+        if token and motes:
+            started = [it.text for it in program.started]
+            for text, token in same_seed.warnings(program.words, program.tokens, started):
+                yield Warned(text, name, token, cause='seeds %s %s' % (name, text))
 
 
 def programs_of(scenario: Scenario) -> dict[str, Program]:
