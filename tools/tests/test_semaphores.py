@@ -144,10 +144,13 @@ class SideBySide(unittest.TestCase):
 
     def test_a_process_with_other_statements_starts_them(self) -> None:
         need_program(self)
-        text = corrected(SCENARIO % buffered('PROCESS_WAIT_EVENT();\n    ' + BOTH, 'printf("%d\\n", 77);'))
-        assert text
-        self.assertIn('process producer, consumer, main_process;\nautostart main_process;\n', text)
-        self.assertEqual(prints(text), [77, 5, 6, 7])
+        for posted, wanted in ('process_post(&main_process, PROCESS_EVENT_CONTINUE, NULL);', [77, 5, 6, 7]), ('', [77]):
+            first = 'printf("%d\\n", 77);\n' + posted
+            text = corrected(SCENARIO % buffered('PROCESS_WAIT_EVENT();\n    ' + BOTH, first))
+            assert text
+            self.assertIn('process producer, consumer, main_process;\nautostart main_process;\n', text)
+            self.assertIn('if running(producer) { poll producer; } else { start producer; }', text)
+            self.assertEqual(prints(text), wanted)
 
     def test_the_example_of_the_paper(self) -> None:
         driver = ('static PT_THREAD(driver_thread(struct pt *pt))\n{\n  static struct pt a, b;\n  PT_BEGIN(pt);\n'

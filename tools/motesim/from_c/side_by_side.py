@@ -32,6 +32,7 @@ POLLS = re.compile(r'\bPROCESS_(?:YIELD|WAIT)')
 WAITS = re.compile(r'\bPT_(?:YIELD|WAIT|SPAWN)\w*')
 BEGIN, END = (re.compile(r'\bPT_%s\s*\([^()]*\)\s*;' % it) for it in ('BEGIN', 'END'))
 WAIT, SIGNAL = (re.compile(r'\bPT_SEM_%s\s*\([^,;]*,\s*&\s*(\w+)\s*\)\s*;' % it) for it in ('WAIT', 'SIGNAL'))
+BEGUN = 'if running(%s) { poll %s; } else { start %s; }'
 YIELD = re.compile(r'\bPT_YIELD\s*\([^()]*\)\s*;')
 VARIABLES = re.compile(r'^(?:static\s+)?(?:volatile\s+)?(?:unsigned\s+)?(?:int|char|short|long|u?int\d+_t)\s+'
                        r'(\w+)\s*(?:=\s*\w+\s*)?;', re.M)
@@ -47,8 +48,8 @@ UNSHARED = ('Processes share no variables, and no buffer. If one of them stores 
             '`post %s msg x;` instead, with the value x, below the `signal`. The other one waits by '
             '`yield_until is(msg);` above its `acquire`, and reads the value by `data`. The queue of events keeps '
             'such values in their order.')
-KEPT = ('`start` runs a process for the first time at the place of the loop, and `poll` continues it. These processes '
-        'run when `%s` waits, not in the middle of its loop.')
+KEPT = ('`start` runs a process for the first time, also if it has ended, and `poll` continues it once `%s` waits. The '
+        'event of a timer goes to the process that sets it, so `%s` doesn\'t get the events of timers in the others.')
 ADVICE = ('`PT_SCHEDULE` runs the protothreads %s side by side, but a `spawn` would wait for the end of one of them '
           'before it runs the next one. So write a process for each of them: name it in the `process` line, and give '
           'it a `code` with its statements in the `body`. `start` begins such a process instead of the first '
@@ -172,7 +173,7 @@ class Protothreads:
             text = text[:block.begin] + written + text[block.end:]
         carried = self.carried()
         reasons += [POSTED % (carried[3], carried[2], carried[1].name) if carried else UNSHARED % self.names[1]]
-        reasons += [KEPT % self.main.name] if kept and self.main else [LEFT_OUT]
+        reasons += [KEPT % ((self.main.name,) * 2)] if kept and self.main else [LEFT_OUT]
         for form in NAMES, SEMAPHORES, *([declaration_of(carried[2])] if carried else []):
             text = form.sub(lambda it: emptied(it[0]), text)
         edits = with_renamed(self.text, text, ())
@@ -195,7 +196,7 @@ class Protothreads:
     def as_code(self, block: Block, its: str, is_alone: bool) -> tuple[str, bool]:
         """The code of a protothread, and whether it begins again when it has ended."""
         inner = self.of(self.inner) if self.inner else ''
-        again = ENDLESS.search(inner) is not None and self.ends(block)
+        again = is_alone and ENDLESS.search(inner) is not None and self.ends(block)
         polls, carried = POLLS.search(inner) is None, self.carried()
 
         def signalled(found: re.Match[str]) -> str:
@@ -224,10 +225,8 @@ class Protothreads:
 
     def as_starter(self, its: str) -> str:
         """The process that schedules the protothreads and has other statements, too."""
-        starts = ' '.join('start %s;' % allowed(it) for it in self.names)
-        its = ENDLESS.sub(lambda it: '%s %s' % (starts, it[0]), its)
         for name in self.names:
-            its = re.sub(r'\bPT_SCHEDULE\s*\(\s*%s\s*\([^()]*\)\s*\)\s*;' % name, 'poll %s;' % allowed(name), its)
+            its = re.sub(r'\bPT_SCHEDULE\s*\(\s*%s\s*\([^()]*\)\s*\)\s*;' % name, BEGUN % ((allowed(name),) * 3), its)
         return its
 
 
