@@ -9,13 +9,19 @@ from skips import need_command, need_program
 from student_programs import PROGRAMS, corrected, kernel_in, lines_in_motesim, lines_on_host, title
 
 # Programs with an error for which no corrected line is known.
-ADVICE = frozenset({'average', 'beacon', 'fibonacci', 'functions', 'last_value', 'neighbour_array', 'neighbour_struct',
-                    'primes', 'pt_argument', 'tdma', 'token_ring'})
+ADVICE = frozenset({
+    'ack_retry', 'average', 'beacon', 'bool_toggle', 'checksum', 'do_while_retry', 'early_return', 'fall_through',
+    'fibonacci', 'flood_cache', 'functions', 'jitter_ctimer', 'last_value', 'morse', 'neighbour_array',
+    'neighbour_struct', 'primes', 'pt_argument', 'queue_array', 'skip_odd', 'static_local', 'stopwatch', 'tdma',
+    'token_ring', 'unicast_ring'})
 # Programs whose lines differ, and the cause.
 DIFFERS = {
     'best_signal': 'a variable that is -1 at the start is compared with the number of a packet',
     'hello_hop': 'a text that is printed by %s is a number',
     'pollhandler': 'the handlers of a process without a wait of their own are left out',
+    'rate_limit': 'a struct timer becomes an etimer, whose event wakes the process',
+    'sent_callback': 'nothing is called after a send',
+    'threshold': 'a difference that may be negative is compared',
     'timer_window': 'a struct timer becomes an etimer, whose event wakes the process',
 }
 
