@@ -29,7 +29,7 @@ IN_MOTE = [
 ]
 IN_LOSS = [
     (('every = 2', 'every = 0.5'), '0.5', 'every = 2'), (('every = 2', 'every = "2"'), '"2"', 'every = 2'),
-    (('every = 2', 'every = -2'), '-2', 'every = 1'), (('every = 2', 'every = 0'), '0', 'every = 1'),
+    (('every = 2', 'every = -2'), '-2', None), (('every = 2', 'every = 0'), '0', None),
     (('every = 2', 'rate = 0.5'), None, 'every = 2'), (('every', 'evry'), None, 'every'),
     (('from', 'source'), None, 'from'), ((', every = 2', ''), None, None),
     (('every = 2', 'every = 2, seed = 3'), 'seed', None), (('every = 2', 'every = 2, name = "a"'), 'name', ''),

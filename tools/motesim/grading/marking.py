@@ -39,7 +39,7 @@ from motesim.toml import MARK
 MOST_SHOWN = 4_000_000
 TOO_LONG = ('no page of this run: its report has {:,} bytes, and a page shows at most {:,}; with a smaller `end` in '
             'the scenario or net it is shorter, and tools/expect shows the lines without a page')
-LONGEST_WHY = 300
+LONGEST_WHY = 400
 # The most characters of a solution's name in a table.
 WIDEST_NAME = 40
 # Characters that the name of a page can't have: all but letters, digits and two others; and a dot at its beginning.
