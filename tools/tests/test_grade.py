@@ -748,8 +748,8 @@ class LimitsOfRuns(Folder):
         self.hand_in('slow.toml', net(program + 'while !expired(t) { pause; }\n} } }\n').replace('60', '20000'))
         row = self.rows('--report', '1')['slow.toml']
         self.assertIn('the report is longer than 1,048,576 bytes. Up to moment', row)
-        self.assertIn('(line 8 of program task), in each turn of `while !expired(t)` (line 8) within `while 1` (line 6): '
-                      'a loop that only pauses', row)
+        self.assertIn('(line 8 of program task), in each turn of `while !expired(t)` (line 8) within `while 1` '
+                      '(line 6): a loop that only pauses', row)
 
     def test_a_run_that_waits_for_a_busy_machine_has_no_mark(self) -> None:
         self.hand_in('wait.toml', net('// wait\n' + PROGRAM % 3))
