@@ -7,7 +7,7 @@ TOP = Path(__file__).resolve().parents[2]
 SHIPPED = [TOP / name for name in ('bench', 'crates', 'docs', 'examples', 'tests', 'tools')]
 
 
-def _is_shipped(path: Path) -> bool:
+def is_shipped(path: Path) -> bool:
     """Returns whether a file would be among the files of the repository."""
     return any(folder in path.parents for folder in SHIPPED)
 
@@ -19,9 +19,9 @@ def beside(source: str, name: str) -> Path:
     its folders, in the repository's folder `out`, which git ignores.
     """
     here = Path().resolve()
-    if source != '-' and not _is_shipped(Path(source).resolve()):
+    if source != '-' and not is_shipped(Path(source).resolve()):
         return Path(source).parent / name
-    if here != TOP and not _is_shipped(here / name):
+    if here != TOP and not is_shipped(here / name):
         return Path(name)
     out = TOP / 'out'
     out.mkdir(exist_ok=True)

@@ -9,7 +9,8 @@ Its tools need Python 3.11 or newer. Nothing is installed, and nothing is fetche
 The archive has only files that git knows. To add folders and files of your own, such as an exercise and its worksheet,
 list them: tools/pack examples/mylab worksheet.pdf. Files from outside this tree are at the top of the archive.
 
-If such a folder has the plan and the results of a study, the README.md of the archive says how to repeat the study.
+If such a folder has the plan and the results of a study, the README.md of the archive says how to repeat the study. If
+the results lack runs of the plan, tools/pack says so.
 
 Without --for-teachers, some files are left out, even if you list them: docs/use/TEACH.md, key.csv, and each file with
 a word in its name, or in its folder's name, that begins with `solution`, `hidden`, `answer` or `marks`. Files and
@@ -23,6 +24,7 @@ same tree and binary yield the same archive, byte for byte.
 """
 from __future__ import annotations
 
+import contextlib
 import csv
 import gzip
 import hashlib
@@ -31,12 +33,16 @@ import io
 import os
 import re
 import tarfile
-from collections.abc import Collection, Iterable, Iterator
+from collections.abc import Collection, Iterable, Iterator, Sequence
 from pathlib import Path, PurePosixPath
 from typing import NamedTuple
 
+from motesim.experiments.asked import Places, sweep_of
+from motesim.experiments.results import read_results
+from motesim.experiments.sweep import name_of_results
 from motesim.faults import Fault, command
 from motesim.files import refuse_inputs
+from motesim.output import is_shipped
 from motesim.plan.plan import Plan
 from motesim.runner.optimized import wait_for_optimized
 from motesim.runner.programs import COMPILED, TOP, is_proved, program_of_sources, program_path
@@ -125,8 +131,10 @@ class Sorted(NamedTuple):
         lines += ['Left out: %s (%s)' % (one_line(name), why) for name, why in self.left_out.items()]
         lines += ['Not packed: %s, which the plan %s needs' % (one_line(file), one_line(plan))
                   for plan in self.added for file in self.lacks(plan)]
+        lines += ['Not finished: %s has %d of the %d runs of %s' % (one_line(results), count, runs, one_line(plan))
+                  for plan, results, count, runs in self.unfinished()]
         return lines + ['Made with MOTESIM: %s. In a repeated sweep the column `program` may differ; '
-                        'docs/use/EXPERIMENTS.md says how to compare the files' % one_line(it)
+                        '`tools/sweep --check` ignores it' % one_line(it)
                         for it in self.added if names_another_program(self.packed[it])]
 
     def studies(self) -> dict[str, tuple[list[str], list[str]]]:
@@ -138,6 +146,19 @@ class Sorted(NamedTuple):
             if folder and (is_plan or is_results(path)):
                 found.setdefault(folder, ([], []))[not is_plan].append(name)
         return {folder: its for folder, its in found.items() if all(its)}
+
+    def unfinished(self) -> Iterator[tuple[str, str, int, int]]:
+        """Yields each plan and its results that lack runs of the plan's table `sweep`, with the number of runs in the
+        results, and of all runs."""
+        for plans, results in self.studies().values():
+            for plan, its in pairs_of(plans, results):
+                # (a plan without such a table has no runs of its own)
+                with contextlib.suppress(Fault):
+                    sweep = sweep_of(Plan.read(self.packed[plan]), [], [], None)
+                    places = Places(sweep)
+                    found = {places.of(row) for row in read_results(self.packed[its])[1]} - {None}
+                    if len(found) < sweep.runs() and (found or name_of_results(plan) == PurePosixPath(its).name):
+                        yield plan, its, len(found), sweep.runs()
 
     def lacks(self, name: str) -> list[str]:
         """The files that a packed plan needs with its own values, but that aren't packed at their place next to it.
@@ -163,8 +184,21 @@ def is_results(path: Path) -> bool:
 def about_studies(studies: dict[str, tuple[list[str], list[str]]]) -> str:
     """The part of the README about the studies of the archive, or an empty text."""
     return ''.join(template('study') % {
-        'folder': folder, 'plan': plans[0], 'plans': ', '.join(plans), 'results': ', '.join(results)}
-        for folder, (plans, results) in studies.items())
+        'folder': folder, 'plans': ', '.join(plans), 'results': ', '.join(results),
+        'command': check_of(*pairs_of(plans, results)[0])} for folder, (plans, results) in studies.items())
+
+
+def pairs_of(plans: Sequence[str], results: Sequence[str]) -> list[tuple[str, str]]:
+    """The plans of a study with their results: the plans whose results have the name that tools/sweep chooses; if there
+    is none, the first plan and the first results."""
+    named = [(it, str(PurePosixPath(it).with_name(name_of_results(it)))) for it in plans]
+    return [it for it in named if it[1] in results] or [(plans[0], results[0])]
+
+
+def check_of(plan: str, results: str) -> str:
+    """The command that repeats the runs of a plan in the archive, and compares them with the results."""
+    is_chosen = PurePosixPath(results).name == name_of_results(plan) and not is_shipped(TOP / plan)
+    return 'tools/sweep %s --check' % plan + ('' if is_chosen else ' -o %s' % results)
 
 
 def names_another_program(path: Path) -> bool:

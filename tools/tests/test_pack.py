@@ -272,7 +272,7 @@ class Pack(unittest.TestCase):
             (study / name).write_text(text)
         self.assertEqual([it for it in pack.sorted_files(['examples'], [study], top).notes() if 'MOTESIM' in it], [
             'Made with MOTESIM: study/a.csv. In a repeated sweep the column `program` may differ; '
-            'docs/use/EXPERIMENTS.md says how to compare the files'])
+            '`tools/sweep --check` ignores it'])
 
     def test_the_archive_of_a_study_says_how_to_repeat_it(self) -> None:
         top = self.tree('examples/a.toml', '')
@@ -288,14 +288,37 @@ class Pack(unittest.TestCase):
             other = pack.files(write_stub(top), pack.sorted_files(['examples'], [top / 'lab'], top))['README.md']
         self.assertIn('\nThe folder mystudy has a study: its plan (mystudy/net.plan.toml) and its results '
                       '(mystudy/net.csv). docs/use/PLANS.md explains plans,\n', readme)
-        self.assertIn('docs/use/EXPERIMENTS.md says how to compare the new results with the old ones.', readme)
-        self.assertIn('`tools/sweep mystudy/net.plan.toml -o again.csv`', readme)
+        self.assertIn('`tools/sweep mystudy/net.plan.toml --check`', readme)
         self.assertNotIn('study', other[0].decode().replace('studio', ''))
         self.assertEqual(pack.how_to_unpack('a.tar.gz', 'motesim-1', found),
                          'Readers unpack it by: tar xzf a.tar.gz && cd motesim-1\n'
                          'The README.md in it says how to repeat the study in mystudy')
         self.assertRegex(pack.how_to_unpack('a.tar.gz', 'motesim-1', pack.sorted_files(['examples'], (), top)),
                          r'^Students .* \./run examples/flooding\.toml$')
+
+    def test_the_command_that_checks_a_study_names_results_that_the_tool_would_not_find(self) -> None:
+        for plans, results, command in (
+                (['s/a.plan.toml', 's/b.plan.toml'], ['s/b.csv'], 's/b.plan.toml --check'),
+                (['s/a.plan.toml'], ['s/x.sqlite'], 's/a.plan.toml --check -o s/x.sqlite'),
+                (['docs/s/a.plan.toml'], ['docs/s/a.csv'], 'docs/s/a.plan.toml --check -o docs/s/a.csv')):
+            self.assertEqual(pack.check_of(*pack.pairs_of(plans, results)[0]), 'tools/sweep ' + command)
+
+    def test_results_that_lack_runs_are_listed(self) -> None:
+        top = self.tree('examples/a.toml', '')
+        plan = ('end = 9\n[medium]\nrange = 1\nbase = 1\nper = 1\n[parameters]\nseed = 1\n'
+                '[[places]]\nrule = "line"\ncount = 1\nstep = 1\nprogram = "p"\n')
+        table = '[sweep]\nvary = { seed = "1..3" }\nmeasure = ["sent"]\n'
+        head, row = 'seed,sent,fault,note,plan,x,parameters\n', '%d,0,,,net.plan.toml,,seed\n'
+        for more, results, seeds, count in ((table, 'net.csv', (1, 3), 2), (table, 'net.csv', (1, 2, 3), None),
+                                            (table, 'net.csv', (), 0), ('', 'net.csv', (1,), None),
+                                            (table, 'x.csv', (2,), 1), (table, 'x.csv', (4,), None)):
+            shutil.rmtree(top / 'study', ignore_errors=True)
+            (top / 'study').mkdir()
+            (top / 'study/net.plan.toml').write_text(plan + more)
+            (top / 'study' / results).write_text(head + ''.join(row % it for it in seeds))
+            notes = pack.sorted_files(['examples'], [top / 'study'], top).notes()
+            self.assertEqual([it for it in notes if it.startswith('Not finished')], [] if count is None else [
+                'Not finished: study/%s has %d of the 3 runs of study/net.plan.toml' % (results, count)], seeds)
 
     def test_a_file_that_differs_from_the_commit_is_listed(self) -> None:
         top = self.tree('examples/a.toml', '')

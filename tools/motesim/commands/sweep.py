@@ -9,6 +9,9 @@ cell is empty, and the row has a note. A plan can have values and measures in it
 plan's values of the same parameter, and --measure adds to the plan's measures. --plot draws what the plan's `plot`
 describes.
 
+--check repeats all runs of a finished sweep, writes no file, and compares the new rows with the results: it names each
+column that differs, and counts the runs that differ in it.
+
 The forms of values are 10,20,40 (these numbers), 1..30 (all whole numbers from 1 to 30), and 0..100..25 (0, 25, 50, 75
 and 100). With `name = MEASURE` the column of a measure gets this name. The measures are:
   sent, ratio, collided, ..     a column of tools/summary, for the net
@@ -36,7 +39,7 @@ and 100). With `name = MEASURE` the column of a measure gets this name. The meas
 docs/use/EXPERIMENTS.md shows a sweep from its beginning to a plot, and docs/use/SWEEPS.md describes all measures.
 
 The tool ends with status 0, with 1 if a row has an error or lacks a measure, with 2 if nothing could be done, and with
-130 after Ctrl-C.
+130 after Ctrl-C. With --check the status is 1 if a run differs.
 """
 from __future__ import annotations
 
@@ -68,8 +71,14 @@ def main() -> int:
                             'measures; this is an error if one of these rows has values that the command lacks')
     words.add_argument('--retry', action='store_true', help='repeat runs with an error or without a measure')
     words.add_argument('--plot', action='store_true', help="draw what the plan's `plot` describes")
+    words.add_argument('--check', action='store_true', help='repeat all runs, and compare them with the results')
     asked = words.parse_args()
     if asked.jobs < 1 or asked.seconds is not None and not 0 < asked.seconds <= MOST_SECONDS:
         words.error('--jobs is 1 or more, and --seconds more than 0')
+    if asked.check:
+        if asked.plot or asked.renew or asked.retry:
+            words.error('--check writes no file, so leave out --plot, --renew and --retry')
+        from motesim.experiments import repeated
+        return repeated.status_of(asked)
     from motesim.experiments.sweep import status_of
     return status_of(asked)

@@ -15,7 +15,7 @@ from motesim.experiments.measures import file_of, imports_of, mote_of, processes
 from motesim.explain.synonyms import known
 from motesim.notation.keywords import SYSTEM
 from motesim.plan.plan import Plan
-from motesim.experiments.results import PLAN_FILES
+from motesim.experiments.results import PLAN_FILES, Row, text_of
 from motesim.plan.tables import Value, optional, text_of_value, value_of_text
 from motesim.runner.run import read_file
 from motesim.scenario import Scenario
@@ -83,6 +83,29 @@ class Sweep:
             place, at = divmod(place, len(values))
             found[name] = values[at]
         return self.plan.with_given(found)
+
+
+class Places:
+    """The places of rows in the order of a sweep."""
+
+    def __init__(self, sweep: Sweep) -> None:
+        self.parameters = sweep.plan.parameters
+        # (for each parameter that varies, the place of each value)
+        self.places = {name: {text_of_value(value): place for place, value in enumerate(values)}
+                       for name, values in sweep.vary.items()}
+
+    def of(self, row: Row) -> int | None:
+        """The place of a row; None for a row of other values."""
+        place = 0
+        for name, value in self.parameters.items():
+            if name not in self.places and text_of(row.get(name)) != text_of_value(value):
+                return None
+        for name, places in self.places.items():
+            at = places.get(text_of(row.get(name)))
+            if at is None:
+                return None
+            place = place * len(places) + at
+        return place
 
 
 def sweep_of(plan: Plan, vary: Sequence[str], measures: Sequence[str], seconds: float | None) -> Sweep:

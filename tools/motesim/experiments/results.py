@@ -332,13 +332,18 @@ def open_results(path: Path, columns: Sequence[str]) -> CsvFile | SqliteFile:
         # (a file of an older sweep: rows are added to it in its own form)
         file.columns = file.found
         return file
-    if file.found != list(columns):
-        more, less = [[it for it in one if it not in other] for one, other in (
-            (file.found, columns), (columns, file.found))]
+    check_columns(path, file.found, columns)
+    return file
+
+
+def check_columns(path: Path, found: Sequence[str], columns: Sequence[str]) -> None:
+    """Raises a fault if a file of results doesn't have the columns of a sweep."""
+    if list(found) != list(columns):
+        more, less = [[it for it in one if it not in other] for one, other in ((found, columns), (columns, found))]
         ways = ['it has %s' % ', '.join(more)] * bool(more) + ['it lacks %s' % ', '.join(less)] * bool(less)
         raise Fault('%s doesn\'t have the columns of this sweep (%s), because it was made with another plan, other '
-                    'parameters or other measures. Name another file with -o' % (path, '; '.join(ways) or 'in another order'))
-    return file
+                    'parameters or other measures. Name another file with -o' % (
+                        path, '; '.join(ways) or 'in another order'))
 
 
 def columns_of_results(path: Path) -> list[str]:

@@ -24,8 +24,8 @@ from motesim.experiments.results import PLAN_FILES, CsvFile, Row, SqliteFile, op
 from motesim.experiments.results import text_of
 from motesim.runner.optimized import optimized_path
 from motesim.runner.programs import TOP
-from motesim.experiments.asked import Sweep, chance_seeds, columns_of, known_names, some_runs, sources_of, sweep_of
-from motesim.experiments.asked import unused
+from motesim.experiments.asked import Places, Sweep, chance_seeds, columns_of, known_names, some_runs, sources_of
+from motesim.experiments.asked import sweep_of, unused
 from motesim.experiments.draws import CHANCE, WARNING, Notes, Seeds, of_warned, parameter_of, warnings_in
 from motesim.experiments.wishes import wishes_of
 from motesim.experiments.progress import Progress
@@ -53,9 +53,7 @@ class Sweeper:
             'parameters': ' '.join(self.plan.parameters), 'measures': texts_of(sweep.measures, self.sources),
             'measures_sha256': digest_of(sweep.measures, self.sources)}
         self.path = path
-        # (for each parameter that varies, the place of each value)
-        self.places = {name: {text_of_value(value): place for place, value in enumerate(values)}
-                       for name, values in sweep.vary.items()}
+        self.places = Places(sweep)
         # The spot of each run's row in the file, 0 for a missing row; and the spots of the rows with other values.
         self.spots, self.others = array('Q', bytes(8 * sweep.runs())), array('Q')
         # For each set of files, the parameters that are seeds of the pattern for chance; and the seeds in the results.
@@ -67,19 +65,6 @@ class Sweeper:
         if is_shown:
             check_pictures(self.plan, self.to_come())
         self.file: CsvFile | SqliteFile = open_results(path, self.columns)
-
-    def place_of(self, row: Row) -> int | None:
-        """The place of a row in the order of the sweep; None for a row of other values."""
-        place = 0
-        for name, value in self.plan.parameters.items():
-            if name not in self.places and text_of(row[name]) != text_of_value(value):
-                return None
-        for name, places in self.places.items():
-            at = places.get(text_of(row[name]))
-            if at is None:
-                return None
-            place = place * len(places) + at
-        return place
 
     def plan_digest(self, given: Mapping[str, Value]) -> str:
         return self.plan.digest(given)[:DIGITS]
@@ -108,7 +93,7 @@ class Sweeper:
         spots, places = array('Q'), array('q')
         for spot, row in self.file.rows():
             count += 1
-            changes, place = self.changed(row), self.place_of(row)
+            changes, place = self.changed(row), self.places.of(row)
             others.update(changes)
             if changes:
                 lost += place is None
@@ -252,7 +237,7 @@ class Sweeper:
     def rows(self) -> Iterator[Row]:
         """The rows of the sweep, in the order of the file."""
         for spot, row in self.file.rows():
-            place = self.place_of(row)
+            place = self.places.of(row)
             if place is not None and self.spots[place] == spot:
                 yield row
 
@@ -273,8 +258,9 @@ def lacks_measure(row: Row) -> bool:
     return bool(row['note']) and not str(row['note']).startswith(WARNING)
 
 
-def default_output(plan: str) -> Path:
-    return beside(plan, Path(plan).name.removesuffix('.toml').removesuffix('.plan') + '.csv')
+def name_of_results(plan: str) -> str:
+    """The name of a file of results, if the command names none."""
+    return Path(plan).name.removesuffix('.toml').removesuffix('.plan') + '.csv'
 
 
 def said(sweeper: Sweeper, ran: int) -> int:
@@ -305,18 +291,23 @@ def said(sweeper: Sweeper, ran: int) -> int:
     return 1 if counts['fault'] or counts['noted'] else 0
 
 
-def status_of(asked: argparse.Namespace) -> int:
-    """The work of tools/sweep; returns the status."""
+def request_of(asked: argparse.Namespace) -> tuple[Sweep, Path]:
+    """The sweep of a command, and the file of its results."""
     if asked.dask:
         packages.hand_on('sweep', 'distributed', sys.argv)
         packages.load('distributed')
-    plan = Plan.read(asked.plan)
-    sweep = sweep_of(plan, asked.vary, asked.measure, asked.seconds)
+    sweep = sweep_of(Plan.read(asked.plan), asked.vary, asked.measure, asked.seconds)
+    sweep.most_bytes = asked.bytes
+    return sweep, Path(asked.output) if asked.output else beside(asked.plan, name_of_results(asked.plan))
+
+
+def status_of(asked: argparse.Namespace) -> int:
+    """The work of tools/sweep; returns the status."""
+    sweep, output = request_of(asked)
+    plan = sweep.plan
     if asked.plot:
         # (an error in a picture is reported before the runs, not after them)
         wishes_of(plan)
-    sweep.most_bytes = asked.bytes
-    output = Path(asked.output) if asked.output else default_output(asked.plan)
     of_measures = [plan.files.folder / it for it in map(file_of, sweep.measures) if it]
     refuse_inputs(output, [*plan.paths(sweep.run_at(0)), *of_measures])
     sweeper = Sweeper(sweep, output, asked.plot)

@@ -1,0 +1,117 @@
+"""Repeats the runs of a finished sweep, and compares the new rows with those of the file: tools/sweep --check."""
+from __future__ import annotations
+
+import argparse
+import sys
+import tempfile
+from collections.abc import Iterator, Sequence
+from pathlib import Path
+
+from motesim.experiments.asked import Places, Sweep
+from motesim.experiments.draws import without_alike
+from motesim.experiments.results import NOTE, PLAN_FILES, Row, check_columns, read_results, text_of
+from motesim.experiments.runs import Stopped
+from motesim.experiments.sweep import Sweeper, request_of
+from motesim.faults import INTERRUPTED, Fault
+
+# The columns about the build of motesim with which a row was made.
+BUILD = ('program', 'program_sha256', 'kit')
+
+
+class Finished:
+    """The rows of a finished sweep, by their places in its order, and the number of rows with other values."""
+
+    def __init__(self, path: Path, sweep: Sweep, columns: Sequence[str]) -> None:
+        found, rows = read_results(path)
+        check_columns(path, found, [it for it in columns if it in found or it != PLAN_FILES])
+        self.path, self.columns, self.rows, self.others = path, found, dict[int, Row](), 0
+        self.places = Places(sweep)
+        for row in rows:
+            place = self.places.of(row)
+            if place is None:
+                self.others += 1
+            else:
+                self.rows[place] = row
+        if len(self.rows) < sweep.runs():
+            raise Fault('%s has %d of the %d runs: the same command without --check makes the missing runs' % (
+                path, len(self.rows), sweep.runs()))
+
+    def pairs(self, rows: Iterator[Row]) -> Iterator[tuple[Row, Row]]:
+        """Each of these new rows, after the row that the file has for the same run."""
+        for row in rows:
+            place = self.places.of(row)
+            if place is not None:
+                yield self.rows[place], row
+
+
+class Compared:
+    """The comparison of all rows of a sweep with their repetitions.
+
+    first  for each column that differs, the first two rows that differ in it
+    """
+
+    def __init__(self, sweep: Sweep, finished: Finished, rows: Iterator[Row]) -> None:
+        self.sweep, self.finished = sweep, finished
+        self.counts: dict[str, int] = {}
+        self.first: dict[str, tuple[Row, Row]] = {}
+        self.faults = 0
+        for before, now in finished.pairs(rows):
+            self.faults += bool(now['fault'])
+            for column in finished.columns:
+                if value_in(before, column) != value_in(now, column):
+                    self.counts[column] = self.counts.get(column, 0) + 1
+                    self.first.setdefault(column, (before, now))
+
+    def differing(self) -> list[str]:
+        """The columns that differ, except those about the build of motesim."""
+        return [it for it in self.counts if it not in BUILD]
+
+    def lines(self) -> list[str]:
+        """The result of the comparison in words."""
+        path, runs = self.finished.path, self.sweep.runs()
+        lines = ['%s: %s differs in %d of %d runs; the first%s' % (
+            path, column, self.counts[column], runs, self.shown(column)) for column in self.differing()]
+        if not lines:
+            lines = ['%s: %s the same scenario, report and measures%s' % (
+                path, 'all %d runs have' % runs if runs > 1 else 'the run has',
+                ', %d of them with a fault' % self.faults if self.faults else '')]
+        build = [it for it in BUILD if it in self.counts]
+        if build:
+            lines.append('another build of motesim made the rows of %s: other values in %s' % (path, ', '.join(build)))
+        if self.finished.others:
+            lines.append('not compared: the rows of %s whose values are not those of this command (%d)' % (
+                path, self.finished.others))
+        return lines
+
+    def shown(self, column: str) -> str:
+        """The first run with another value in a column: its parameters that vary, and its value in both files if the
+        column is a measure."""
+        before, now = self.first[column]
+        varied = ', '.join('%s = %s' % (name, text_of(now[name])) for name in self.sweep.vary)
+        is_measure = self.finished.columns.index(column) < self.finished.columns.index('fault')
+        values = ': %s instead of %s' % tuple(
+            text_of(it[column]) or 'nothing' for it in (now, before)) if is_measure else ''
+        return (' (%s)' % varied if varied else '') + values
+
+
+def value_in(row: Row, column: str) -> str:
+    """The text of a value. A note has no part about other rows of its file."""
+    return without_alike(row[column]) if column == NOTE else text_of(row[column])
+
+
+def status_of(asked: argparse.Namespace) -> int:
+    """The work of tools/sweep --check; returns the status."""
+    sweep, path = request_of(asked)
+    with tempfile.TemporaryDirectory() as room:
+        again = Sweeper(sweep, Path(room) / path.name)
+        try:
+            finished = Finished(path, sweep, again.columns)
+            again.run(asked.jobs, asked.dask)
+            compared = Compared(sweep, finished, again.rows())
+        except Stopped:
+            print('sweep: stopped with %d runs missing, so nothing is compared' % again.left(), file=sys.stderr)
+            return INTERRUPTED
+        finally:
+            again.file.close()
+    print('\n'.join(compared.lines()))
+    return 1 if compared.differing() else 0
