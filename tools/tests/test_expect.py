@@ -240,6 +240,23 @@ class Sentences(unittest.TestCase):
             read_sentence('mote 0 prints 9 times', Names(('p',), 3))
         self.assertNotIn('prints p 9 times', str(caught.exception))
 
+    def test_an_unknown_process_has_a_hint_with_the_processes_of_the_programs(self) -> None:
+        names = Names(('etimer', 'ctimer', 'radio', 'node', 'clock'), 3)
+        hint = 'Hint: no program has a process `%s`; there are: node, clock.'
+        for sentence, last in (('every mote prints sink', hint % 'sink'), ('mote 0 prints source 4', hint % 'source'),
+                               ('mote 0 starts sink', hint % 'sink'), ('mote 0 prints p 1', hint % 'p'),
+                               ('mote 0 prints nod', 'Did you mean: node'), ('mote 0 prints clok 1', 'Did you mean: '),
+                               ('mote 0 prints betwen 1 and 2', 'Did you mean: '),
+                               ('mote 0 prints then mote 1 sends', 'Hint: two events are put in order by')):
+            with self.assertRaises(SentenceFault) as caught:
+                read_sentence(sentence, names)
+            lines = str(caught.exception).splitlines()
+            self.assertIn(last, lines[-1] if 'Hint: two' not in last else lines[-2] + lines[-1])
+            self.assertNotIn('mean: in', str(caught.exception))
+        with self.assertRaises(SentenceFault) as caught:
+            read_sentence('mote 0 prints Sink 1')
+        self.assertNotIn('Hint', str(caught.exception))
+
     def test_words_for_but_for_at_most_once_and_for_each_sender(self) -> None:
         for sentence, hint in (
                 ('every mote except 0 sends', 'Did you mean: every mote but 0 sends'),

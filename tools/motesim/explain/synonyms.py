@@ -37,9 +37,9 @@ def at(tables: object, path: tuple[str | int, ...]) -> object:
     return tables
 
 
-def nearest(word: str, known: Iterable[str]) -> str | None:
-    """The known word that is most similar to this one, if one is similar."""
-    found = difflib.get_close_matches(word.lower(), list(known), 1, 0.6)
+def nearest(word: str, known: Iterable[str], least: float = 0.6) -> str | None:
+    """The known word that is most similar to this one, if one is similar: with at least this ratio of difflib."""
+    found = difflib.get_close_matches(word.lower(), list(known), 1, least)
     return found[0] if found and found[0] != word else None
 
 

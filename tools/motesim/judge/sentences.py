@@ -20,6 +20,9 @@ from motesim.report import FIELDS, MOST_MOMENT, MOST_WORD
 from motesim.scenario import Scenario
 
 WIDTH = 110
+# The beginning of the list of processes among the allowed words; and the least ratio, as difflib computes it, of a word
+# and another word that is surely meant, even if the word may be the name of a process.
+OF_PROCESSES, LIKELY = 'a process (', 0.75
 LONGEST_NUMBER, MOST, MOST_MOTES = 9, 999_999_999, 1_000
 TOKEN = re.compile(r"\s*('[^']*'|`[^`]*`|\d+|[A-Za-z_]\w*|[^\s])")
 COMPARES = {
@@ -38,7 +41,23 @@ def meant(rest: str, wanted: list[str]) -> str | None:
     """The allowed word that was most likely meant by the first word of `rest`."""
     word = re.match(r'[A-Za-z_]\w{2,}', rest)
     names = [name for it in wanted for name in re.findall(r'\w+', it.partition('(')[2] or it.split()[0])]
-    return nearest(word[0], names) if word else None
+    if not word:
+        return None
+    processes = processes_in(wanted)
+    return nearest(word[0], names, LIKELY) or nearest(word[0], processes or names)
+
+
+def processes_in(wanted: Sequence[str]) -> list[str]:
+    """The processes that are allowed at a place."""
+    found = next((it for it in wanted if it.startswith(OF_PROCESSES)), '')
+    return found.removeprefix(OF_PROCESSES).rstrip(')').split(', ') if found else []
+
+
+def unknown_process(rest: str, wanted: Sequence[str]) -> str | None:
+    """The hint on the name of a process that no program has, if processes of programs are allowed here."""
+    word = re.match(r'[A-Za-z_]\w*', rest)
+    its = [it for it in processes_in(wanted) if it not in SYSTEM]
+    return 'no program has a process `%s`; there are: %s.' % (word[0], ', '.join(its)) if word and its else None
 
 
 # Words that sentences don't have, each with advice on what to write instead.
@@ -87,8 +106,8 @@ def other_form(sentence: str, place: int, wanted: Sequence[str]) -> str | None:
     """The sentence that was most likely meant, if it has another form: with a process, with `just`, or about a
     copy."""
     before, rest = sentence[:place], sentence[place:]
-    names = next((it for it in wanted if it.startswith('a process (')), '').partition('(')[2].rstrip(')').split(', ')
-    if names[-1] not in ('', '..') and re.search(r'\bprints? $', before) and re.match(r'\d+\b(?! times)', rest):
+    names = processes_in(wanted)
+    if names and re.search(r'\bprints? $', before) and re.match(r'\d+\b(?! times)', rest):
         return '%s%s %s' % (before, names[-1], rest)
     of_values = re.fullmatch(r'(.*\bprints? )(\w+ \d+) ?', before)
     if of_values and re.fullmatch(r'(, *\d+)+', rest):
@@ -118,7 +137,8 @@ class SentenceFault(Fault):
         lines = [sentence, ' ' * place + '^', *may]
         lines += ['Did you mean: %s' % like] if like else []
         hints = textwrap.wrap('Hint: %s' % hint, WIDTH, break_on_hyphens=False) if hint else []
-        lines += hints or ['Hint: %s' % it for it in [redirected(sentence, place)] if it]
+        more = redirected(sentence, place) or (None if like else unknown_process(sentence[place:], wanted))
+        lines += hints or ['Hint: %s' % it for it in [more] if it]
         # (the sentence with a mark under the word, and the allowed words)
         self.explained = '  ' + '\n  '.join(lines)
         super().__init__('a sentence that is not known\n' + self.explained)
@@ -489,7 +509,7 @@ class _Reader:
         if word in known if known is not None else re.fullmatch('[a-z][a-z0-9_]*', word):
             self.at += 1
             return word
-        self.want(self.at, 'a process' if known is None else 'a process (%s)' % ', '.join(known))
+        self.want(self.at, 'a process' if known is None else OF_PROCESSES + ', '.join(known) + ')')
         return None
 
     def needed_process(self) -> str:
