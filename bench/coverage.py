@@ -1,12 +1,16 @@
 #!/usr/bin/env python3
-"""Measures how often intervals of means near 1 contain the true mean: bench/coverage.py [SWEEPS]
+"""Measures how often intervals of means near 1 contain the true mean: bench/coverage.py [SWEEPS [DISTRIBUTION ..]]
+
+  bench/coverage.py 400 lognormal
 
 Each sweep has 5 to 30 runs, whose shares are drawn from a distribution near 1 with a known mean. The draws have fixed
-seeds, so the same count of sweeps (400 unless given) prints the same table. docs/use/PLOTS.md has its numbers,
-in a row for each distribution. Names of distributions after the count select some: bench/coverage.py 400 lognormal.
+seeds, so the same number of sweeps yields the same table. docs/use/PLOTS.md has the numbers of 400 sweeps, in a row for
+each distribution. 400 sweeps of all distributions need about 15 minutes of processor time; 40 sweeps, which are the
+default, need a tenth of it.
+
 Sweeps whose runs are all equal have no interval, and don't count; the column `none` has their share. The column
 `Wilson` has the share of the intervals by bootstrap-t that have an end of Wilson's score interval. The column `width`
-has the mean width of the intervals by bootstrap-t.
+has the mean width of the intervals by bootstrap-t. If no sweep has an interval, the row is empty.
 """
 from __future__ import annotations
 
@@ -20,8 +24,9 @@ sys.path.insert(0, str(Path(__file__).resolve().parents[1] / 'tools'))
 
 from motesim.analysis.estimates import BOUNDED, mean_of
 from motesim.plan.chance import Chance
+from motesim.words import words_of
 
-SWEEPS, RUNS, METHODS = 400, (5, 10, 20, 30), ('auto', 't', 'bootstrap', 'bootstrap-t')
+SWEEPS, RUNS, METHODS = 40, (5, 10, 20, 30), ('auto', 't', 'bootstrap', 'bootstrap-t')
 NORMAL = statistics.NormalDist()
 
 
@@ -78,8 +83,9 @@ SHARES: list[tuple[str, Callable[[Chance], float], float]] = [
     ('one of thirty', rare_and_small, 1 - 0.002 / 30)]
 
 
-def covered(draw: Callable[[Chance], float], true: float, runs: int, sweeps: int) -> tuple[list[float], list[float]]:
-    """The share of the intervals of 95 % that contain the true mean, by each method.
+def covered(draw: Callable[[Chance], float], true: float, runs: int, sweeps: int
+            ) -> tuple[list[float], list[float]] | None:
+    """The share of the intervals of 95 % that contain the true mean, by each method; None if no sweep has an interval.
 
     With it the share of the sweeps without an interval, that of the intervals by bootstrap-t with an end of Wilson's
     score, and the mean width of those by bootstrap-t.
@@ -100,17 +106,33 @@ def covered(draw: Callable[[Chance], float], true: float, runs: int, sweeps: int
             if method == 'bootstrap-t':
                 bounded += found.method == BOUNDED
                 width += found.high - found.low
+    if not made:
+        return None
     return [count / made for count in held.values()], [1 - made / sweeps, bounded / made, width / made]
 
 
+def line_of(name: str, runs: int, found: tuple[list[float], list[float]] | None) -> str:
+    """A line of the table."""
+    if found is None:
+        return '%-13s %4d' % (name, runs)
+    held, (*more, width) = found
+    return '%-13s %4d  %s  %11.4f' % (name, runs, '  '.join('%11.2f' % it for it in held + more), width)
+
+
 def main() -> None:
-    sweeps = int(sys.argv[1]) if len(sys.argv) > 1 else SWEEPS
+    names = [name for name, _, _ in SHARES]
+    words = words_of(__doc__)
+    words.add_argument('sweeps', metavar='SWEEPS', type=int, nargs='?', default=SWEEPS,
+                       help='the number of sweeps for each row (%d)' % SWEEPS)
+    words.add_argument('names', metavar='DISTRIBUTION', nargs='*', help='only these: ' + ', '.join(names))
+    asked = words.parse_args()
+    unknown = [it for it in asked.names if it not in names]
+    if asked.sweeps < 1 or unknown:
+        words.error('there is no distribution %s' % unknown[0] if unknown else 'SWEEPS is 1 or more')
     print('losses        runs  ' + '  '.join('%11s' % it for it in (*METHODS, 'none', 'Wilson', 'width')))
     for name, draw, true in SHARES:
-        for runs in RUNS if name in (sys.argv[2:] or name) else ():
-            held, (*more, width) = covered(draw, true, runs, sweeps)
-            print('%-13s %4d  %s  %11.4f' % (name, runs, '  '.join('%11.2f' % it for it in held + more), width),
-                  flush=True)
+        for runs in RUNS if name in (asked.names or names) else ():
+            print(line_of(name, runs, covered(draw, true, runs, asked.sweeps)), flush=True)
 
 
 if __name__ == '__main__':
