@@ -90,8 +90,6 @@ class Command(unittest.TestCase):
         self.assertEqual((status, err), (0, ''))
         self.assertIn('blink.toml has it in a net of two motes', out)
         self.assertIn('blink.toml has a report, and no fault', out)
-        # (a hint that is repeated is shown once)
-        self.assertEqual(out.count('there is no preprocessor'), 1)
         report = Report.parse(answer(output.read_bytes()).report)
         self.assertEqual([str(it).split()[-1] for it in report.motes[0].lines if ' print ' in str(it)], ['1', '2', '3'])
 
@@ -115,8 +113,22 @@ class Command(unittest.TestCase):
         self.assertIn('No line was changed: the first error has no corrected line.', out)
         self.assertIn('o.toml, line 11, which is line 5 of program p:', out)
 
+    def test_what_differs_from_c_is_shown_with_its_line(self) -> None:
+        source = C.replace('#define PERIOD 10', '#define PERIOD (5 * CLOCK_SECOND)')
+        status, out, _ = self.run_on(self.written('b.c', source), '--apply', str(self.folder / 'b.toml'))
+        self.assertEqual(status, 0)
+        self.assertIn('b.c, line 11: A second has 10 moments here', out)
+        self.assertIn('set et 50;', (self.folder / 'b.toml').read_text())
+
+    def test_a_program_in_c_that_is_not_translated_is_explained_and_nothing_is_written(self) -> None:
+        source = C.replace('n++;', 'n = strlen("abc");')
+        status, out, err = self.run_on(self.written('b.c', source), '--apply', str(self.folder / 'b.toml'))
+        self.assertEqual((status, err), (1, ''))
+        self.assertIn('b.c, line 14:\n  n = strlen("abc");\nmotesim has no `strlen`.\n\nNo file is written', out)
+        self.assertFalse((self.folder / 'b.toml').exists())
+
     def test_quotes_in_a_program_are_refused(self) -> None:
-        name = self.written('q.c', C.replace('"%d\\n"', "\"'''\""))
+        name = self.written('q.mote', "process a; // '''\n")
         status, _, err = self.run_on(name, '--apply', str(self.folder / 'q.toml'))
         self.assertEqual(status, 2)
         self.assertIn('three single quotes in a row', err)

@@ -5,12 +5,13 @@ under the error, the rule that this line breaks, and the words that are allowed 
 meant, it also shows the corrected line. If the scenario has a report, the tool warns of parts that are legal but
 probably not meant.
 
---apply writes the corrected lines for you, one error after the other:
+--apply writes the corrected lines for you, one error after the other. It translates a program in C as a whole:
 
   tools/explain net.toml --apply mine.toml      corrects the scenario, as far as the messages show corrected lines
-  tools/explain blink.c --apply blink.toml      corrects a program in C, in a net of two motes
+  tools/explain blink.c --apply blink.toml      translates a program in C, and writes it in a net of two motes
 
-Read the changes: some hints say in which way the new lines differ from C.
+Read the changes and the remarks: they say in which way the new lines differ from C. If a line of a program in C can't
+be translated, the tool shows this line with the reason, and writes no file.
 
 The tool ends with status 0 if the scenario has a report, 1 if an error is explained, and 2 if the file can't be read,
 if the run reaches a limit, or if `motesim` isn't built. To use another `motesim`, name its file in the environment
@@ -27,7 +28,7 @@ def main() -> int:
     words = words_of(__doc__)
     words.add_argument('file', metavar='FILE', help='a scenario, or with --apply also a program; - is standard input')
     words.add_argument('--apply', metavar='OUTPUT', action=Once,
-                       help='write the scenario with the corrected lines to this file, and show the changes')
+                       help='write the scenario with the corrected lines, or with the translated program, to this file')
     add_limits(words)
     asked = words.parse_args()
     from motesim.explain.applied import apply

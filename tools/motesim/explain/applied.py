@@ -1,6 +1,7 @@
 """Applies the corrected lines of tools/explain, one error after the other, as a reader would who follows each message.
 
-The hints are shown with the lines that changed, because a hint may say in which way the new lines differ from C.
+The hints are shown with the lines that changed, because a hint may say in which way the new lines differ from C. A file
+in C is translated as a whole, by `motesim.c_program`.
 """
 from __future__ import annotations
 
@@ -11,6 +12,8 @@ from collections.abc import Callable, Iterator, Sequence
 from pathlib import Path
 from typing import NamedTuple
 
+from motesim.c_program.program import translated
+from motesim.c_program.refusal import Refusal
 from motesim.explain.explanation import CONTROL, explanation, shown_explanation, wrapped
 from motesim.explain.followed import followed
 from motesim.faults import Fault
@@ -31,6 +34,8 @@ mote = [{ x = 0, y = 0, program = "%s" }, { x = 5, y = 0, program = "%s" }]
 %s = \'\'\'
 %s\'\'\'
 '''
+NOT_TRANSLATED = '%s, line %d: %s'
+NO_FILE = 'No file is written: tools/explain translates a program in C only if it can do so as a whole.'
 IN_NET = '%s is a program: %s has it in a net of two motes that hear each other.'
 NO_CHANGE = 'No line was changed: the %s.'
 QUOTES = "%s has three single quotes in a row, which end the text of a program in a scenario: leave them out."
@@ -93,9 +98,11 @@ def apply(name: str, output: str, run: Callable[[bytes], Answer]) -> int:
     except UnicodeDecodeError:
         raise Fault('%s isn\'t a text in UTF-8: tools/explain %s has a hint' % (one_line(name), one_line(name))
                     ) from None
-    if is_program_file(name, data) or begins_as_c(data) and not begins_as_scenario(data):
+    if is_program_file(name, data):
         text = in_net(name, text)
         print(IN_NET % (one_line(name), one_line(output)))
+    elif is_c_file(name, data):
+        return translate(name, text, output, run)
     known, number = set[str](), 0
     for number, (change, text) in enumerate(changes(text), 1):
         print('\n'.join(change.shown(number, known)))
@@ -105,3 +112,33 @@ def apply(name: str, output: str, run: Callable[[bytes], Answer]) -> int:
     print('\n%s' % ('%s: %d change%s' % (one_line(output), number, 's' * (number != 1)) if number
                     else NO_CHANGE % no_change))
     return shown_explanation(output, text.encode(), run)
+
+
+def is_c_file(name: str, data: bytes) -> bool:
+    """Returns whether a file has a program in C, by its name or by its beginning."""
+    return name.endswith('.c') or begins_as_c(data) and not begins_as_scenario(data)
+
+
+def translate(name: str, text: str, output: str, run: Callable[[bytes], Answer]) -> int:
+    """Writes a scenario with a program in C, and prints what differs from C; returns the status of tools/explain. If a
+    line of the program isn't translated, nothing is written."""
+    try:
+        found = translated(text)
+    except Refusal as refusal:
+        print('\n'.join(refused(name, text, refusal)))
+        return 1
+    data = in_net(name, found.text).encode()
+    write_whole(output, [data])
+    print(IN_NET % (one_line(name), one_line(output)))
+    for it in found.remarks:
+        print('\n'.join(['', *wrapped(NOT_TRANSLATED % (one_line(name), it.line, it.text))]))
+    print()
+    return shown_explanation(output, data, run)
+
+
+def refused(name: str, text: str, refusal: Refusal) -> list[str]:
+    """The message about a line of C that isn't translated."""
+    lines = text.split('\n')
+    shown = lines[refusal.line - 1].strip() if refusal.line <= len(lines) else ''
+    place = ['  ' + CONTROL.sub('\ufffd', shown)] if shown else []
+    return ['%s, line %d:' % (one_line(name), refusal.line), *place, *wrapped(refusal.reason), '', *wrapped(NO_FILE)]

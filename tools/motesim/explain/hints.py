@@ -85,8 +85,8 @@ OF_ARGUMENTS = 'A `spawn` passes nothing, `spawn t;`: set a variable of the proc
 OF_PROGRAM = ('In a scenario this text is under `[programs]`, between three quotes: `p = """ .. """`. Or a plan names '
               'the file of the program, and tools/scenario makes a scenario from the plan.')
 OF_C = ('A scenario is a TOML document, with the text of its programs under `[programs]`. `tools/explain NAME.c '
-        '--apply NAME.toml` writes a scenario with this program and corrected lines. docs/use/FROM_CONTIKI.md lists '
-        'the forms of Contiki and C with their counterparts.')
+        '--apply NAME.toml` translates this program, and writes a scenario with it. docs/use/FROM_CONTIKI.md lists the '
+        'forms of Contiki and C with their counterparts.')
 MOST_BELOW = 1 << 63
 NO_LOSS = ('`every` is at least 1, and `every = 1` loses every packet. If the link must not lose packets, leave out '
            'the whole table of this loss.')

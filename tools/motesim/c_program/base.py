@@ -1,0 +1,233 @@
+"""The state that the parts of the translator share: the program, a process, the written statements, and names."""
+from __future__ import annotations
+
+from collections.abc import Iterable, Iterator
+from contextlib import contextmanager
+from dataclasses import dataclass, field
+
+from motesim.c_program.knowledge import Knowledge, LoopLimits
+from motesim.c_program.names import fresh
+from motesim.c_program.refusal import Refusal
+from motesim.c_program.tree import File, Function, Variable
+from motesim.c_program.types import INT, Type
+from motesim.c_program.usage import Usage
+from motesim.c_program.values import Limits, Value, converted, united
+from motesim.c_program.written import Block, Line, Target
+
+OF_LONG = 'Values have 16 bits here: those of this type above 65,535 wrap.'
+
+
+@dataclass
+class Program:
+    """The state that the codes of all processes share."""
+    file: File
+    usage: Usage
+    knowledge: Knowledge
+    second: int
+    names: dict[str, str] = field(default_factory=dict)
+    events: dict[str, str] = field(default_factory=dict)
+    semaphores: dict[Variable, str] = field(default_factory=dict)
+    counts: dict[Variable, int] = field(default_factory=dict)
+    remarks: dict[str, tuple[int, str]] = field(default_factory=dict)
+    has_short_time: bool = False
+
+    def remark(self, line: int, text: str) -> None:
+        """Notes what differs from C, once for each cause."""
+        self.remarks.setdefault(text, (line, text))
+
+
+@dataclass
+class Unit:
+    """A part of a code that runs by itself: the body, a thread or a simple block."""
+    name: str
+    function: Function
+    may_wait: bool = True
+    may_spawn: bool = True
+    is_callback: bool = False
+    temporaries: int = 0
+    flags: int = 0
+
+
+@dataclass
+class Code:
+    """The parts of the code of a process that are written already."""
+    name: str
+    names: set[str] = field(default_factory=set)
+    variables: dict[str, int] = field(default_factory=dict)
+    etimers: list[str] = field(default_factory=list)
+    ctimers: dict[str, Block] = field(default_factory=dict)
+    threads: dict[str, Block] = field(default_factory=dict)
+    handlers: dict[str, Block] = field(default_factory=dict)
+    body: Block = field(default_factory=list)
+    is_random: bool = False
+
+
+class Base:
+    """The state of the translation of a process."""
+
+    def __init__(self, program: Program, process: str):
+        self.program, self.process = program, process
+        self.use = program.usage.uses[process]
+        self.code = Code(program.names[process])
+        self.code.names |= {*program.names.values(), *program.events.values(), *program.semaphores.values()}
+        self.unit = Unit('body', program.file.bodies[process])
+        self.out: Block = []
+        self.posts: list[Block] = []
+        # The limits of variables at this place, if they are narrower than those in the whole program.
+        self.known: dict[str, Limits] = {}
+        self.open_loops: list[LoopLimits] = []
+        self.log: list[str] = []
+        self.loop_count = 0
+        # The variables that C doesn't have, by what they are for.
+        self.extra: dict[str, str] = {}
+        self.own_names: dict[tuple[Variable, tuple[str | int, ...]], str] = {}
+
+    @property
+    def file(self) -> File:
+        return self.program.file
+
+    def refuse(self, line: int, reason: str) -> Refusal:
+        return Refusal(line, reason)
+
+    def remark(self, line: int, text: str) -> None:
+        self.program.remark(line, text)
+
+    # Names.
+
+    def new_name(self, name: str) -> str:
+        found = fresh(name, self.code.names)
+        self.code.names.add(found)
+        return found
+
+    def declare(self, name: str, initial: int = 0) -> str:
+        self.code.variables.setdefault(name, initial)
+        return name
+
+    def named(self, variable: Variable, path: tuple[str | int, ...], initial: int = 0) -> str:
+        """The name of a part of a variable in this process: `a`, `a1` for `a[1]`, `p_x` for `p.x`."""
+        key = variable, path
+        if key not in self.own_names:
+            parts = ['_' + it if isinstance(it, str) else str(it or '') for it in path]
+            name = variable.name + ''.join(parts)
+            self.own_names[key] = self.new_name(name)
+        return self.own_names[key]
+
+    # Statements.
+
+    def emit(self, text: str) -> None:
+        self.out.append(Line(text))
+
+    @contextmanager
+    def into(self, block: Block) -> Iterator[Block]:
+        """Writes statements into another block."""
+        outer, self.out = self.out, block
+        yield block
+        self.out = outer
+
+    def flush(self) -> None:
+        """Writes the effects that come after the value of an expression, such as the step of `n++`."""
+        posts, self.posts = self.posts, []
+        for block in posts:
+            self.out += block
+        for it in (it for block in posts for it in block):
+            self.note_line(it.text if isinstance(it, Line) else '')
+
+    def note_line(self, text: str) -> None:
+        """Notes that a variable is assigned, if a line does so."""
+        name, sign, _ = text.partition(' = ')
+        if sign and name.isidentifier():
+            self.log.append(name)
+
+    def limits(self, name: str, its: Type) -> Limits:
+        """The limits of the value of a variable at this place."""
+        found = self.known.get(name) or self.program.knowledge.limits.get((self.process, name))
+        initial = self.code.variables.get(name, 0)
+        start = initial - 65_536 if its.signed and initial > 32_767 else initial
+        return found or (start, start)
+
+    def assign(self, name: str, value: Value, its: Type = INT) -> None:
+        """Writes an assignment."""
+        held = converted(value, its)
+        self.note_assigned(name, (held.low, held.high))
+        if held.text != name:
+            self.emit('%s = %s;' % (name, held.text))
+
+    def note_assigned(self, name: str, limits: Limits) -> None:
+        """Notes that a variable gets a value with these limits."""
+        self.program.knowledge.assign((self.process, name), limits, self.unit.name)
+        self.known[name] = limits
+        self.log.append(name)
+        for loop in self.open_loops:
+            known = loop.get(name, limits)
+            loop[name] = united(known, limits) if known is not None else None
+
+    def note_effects(self, names: Iterable[str]) -> None:
+        """Notes that variables got values somewhere else."""
+        for name in names:
+            self.known.pop(name, None)
+            self.log.append(name)
+            for loop in self.open_loops:
+                loop[name] = None
+
+    def forget_others(self) -> None:
+        """Forgets limits of variables that other parts of the program may have changed meanwhile."""
+        for name in [*self.known]:
+            if self.program.knowledge.writers.get((self.process, name), set()) - {self.unit.name}:
+                del self.known[name]
+
+    # Variables of the translator.
+
+    def temporary(self, value: Value, name: str = 't') -> Value:
+        """A variable that keeps a value within a statement."""
+        found = self.temporary_name(name)
+        self.assign(found, value, value.type if value.type.kind == 'int' else INT)
+        return value._replace(text=found, reads=frozenset([found]), test=None, truth='')
+
+    def temporary_name(self, name: str = 't') -> str:
+        self.unit.temporaries += 1
+        return self.own('%s %s %d' % (self.unit.name, name, self.unit.temporaries), name)
+
+    def own(self, key: str, name: str) -> str:
+        """A variable that C doesn't have, by a key."""
+        if key not in self.extra:
+            self.extra[key] = self.new_name(name)
+        return self.declare(self.extra[key])
+
+    def target(self, kind: str) -> Target:
+        """A place to jump to, with a flag that is declared when something tests it."""
+        self.unit.flags += 1
+        name = {'break': 'done', 'continue': 'skip', 'return': 'left', 'switch': 'over', 'again': 'again'}[kind]
+        key = '%s flag %d' % (self.unit.name, self.unit.flags)
+
+        def named() -> str:
+            found = self.own(key + name, name)
+            self.note_effects([found])
+            return found
+        return Target(kind, named)
+
+    @contextmanager
+    def statement_of(self) -> Iterator[None]:
+        """Lets the statements behind this one use its variables again."""
+        temporaries, flags = self.unit.temporaries, self.unit.flags
+        yield
+        self.unit.temporaries, self.unit.flags = temporaries, flags
+
+    def guard(self, targets: Iterable[Target]) -> Value:
+        """A test whether no jump is under way."""
+        names = [it.test() for it in sorted(targets, key=lambda it: id(it))]
+        names = sorted(names)
+        text = '!' + names[0] if len(names) == 1 else ''
+        if not text:
+            inner = names[0]
+            for name in names[1:]:
+                inner = '(%s || %s)' % (inner, name)
+            text = '!' + inner
+        return Value(text, INT, 0, 1, frozenset(names), ('!1' if len(names) == 1 else '!', names[0], ''))
+
+
+def joined_limits(a: dict[str, Limits], b: dict[str, Limits]) -> dict[str, Limits]:
+    """The limits of variables at a place that is reached in two ways."""
+    return {name: united(a[name], b[name]) for name in a if name in b}
+
+
+

@@ -1,0 +1,473 @@
+"""Translates calls of Contiki: processes, events, timers, printing."""
+from __future__ import annotations
+
+import re
+from collections.abc import Callable
+
+from motesim.c_program.constants import constant_of
+from motesim.c_program.expressions import Expressions
+from motesim.c_program.places import OF_DATA, Pointer
+from motesim.c_program.tree import Expression
+from motesim.c_program.types import INT, UNSIGNED
+from motesim.c_program.values import MOST, NOTHING, Value, added, as_type, compared, number
+from motesim.c_program.written import Block, If, Line
+from motesim.from_c.absent import MULTIHOP, NO_SENSORS, RUNICAST
+from motesim.from_c.expressions import DRAWN, STEP
+
+NO_CALL = 'motesim has no `%s`.'
+CONVERSION = re.compile(r'%(?:%|[-+ #0]*[0-9]*(?:\.[0-9*]+)?(?:hh|h|ll|l|z|j|t)?([a-zA-Z]))')
+# Calls that have no effect here.
+IGNORED = ('broadcast_open', 'unicast_open', 'abc_open', 'random_init', 'leds_init', 'packetbuf_set_attr', 'PT_INIT',
+           'PROCESS_BEGIN', 'PROCESS_END', 'PT_BEGIN', 'PT_END', 'watchdog_periodic', 'packetbuf_clear',
+           'packetbuf_set_datalen')
+LEDS = ('leds_on', 'leds_off', 'leds_toggle', 'leds_blink', 'leds_invert')
+OF_LEDS = 'A mote has no LEDs: a `print` shows the moment in the report.'
+OF_TEXT = 'There are no texts: a `printf` without a number prints 1, and each number of a `printf` has a `print`.'
+OF_BELOW = 'This value may be below 0. Then it is printed as a number that is 65,536 above it.'
+NO_DATA = ('`process_start` passes no value here: post the value to `%s` after the start, and let it wait for this '
+           'event.')
+OF_ITSELF = 'A process ends itself by `PROCESS_EXIT()`: `process_exit` of the current process is refused here.'
+TO_ITSELF = 'The event `%s` can\'t be posted: only the kernel posts it.'
+OF_SYNCH = '`process_post_synch` can\'t reach all processes here.'
+OF_CHANCE = ('A mote has no random numbers: each run is the same. `dice` is a generator whose seed differs by mote, '
+             'for at most 255 motes, and `(dice / 256)`, one of 0 to 255, is the value of `random_rand()`. '
+             'docs/use/LOSSES.md has a pattern for packets that are lost by chance.')
+OF_STRUCT_TIMER = ('A `struct timer` and a `struct stimer` post no event when they expire, so `%s` has two variables '
+                   'here, and a wait for it ends only if another event arrives.')
+OF_SHORT = ('With 10 moments for a second, a time of this program would be 0, so `CLOCK_SECOND` is 128 here, as in '
+            'Contiki. Then the ratios of all times stay; `end` of the scenario is in moments, too.')
+OF_RADIO_TIMER = ('In Contiki, the function that is called for packets runs in a process of the radio. So if it sets '
+                  '`%s`, the event of this timer goes to the process of the radio. Here, `%s` gets the event.')
+NO_CLOSE = 'A connection isn\'t closed here: `%s` runs for each packet up to the end.'
+NOT_OPEN = 'A connection isn\'t opened here: `%s` runs for each packet from the start.'
+OF_RECEIVER = 'In Contiki, `%s` still runs for packets after this process has ended.'
+
+
+class Calls(Expressions):
+    """Translates calls."""
+
+    def _call(self, it: Expression) -> Value:
+        """The value of a call."""
+        if it.text in self.file.functions and it.variable is None:
+            return self.own_call(it, True)
+        made: Callable[[Expression], Value] | None = getattr(self, 'value_' + it.text, None)
+        if made is None:
+            if getattr(self, 'call_' + it.text, None):
+                raise self.refuse(it.line, 'The result of `%s` isn\'t known here.' % it.text)
+            raise self.unknown(it)
+        return made(it)
+
+    def call_only(self, it: Expression) -> None:
+        """A call that is a statement."""
+        if it.text in self.file.functions and it.variable is None:
+            self.own_call(it, False)
+            return
+        if it.text in IGNORED or it.text.endswith('_close'):
+            self.note_connection(it)
+            return
+        if it.text in LEDS:
+            self.remark(it.line, OF_LEDS)
+            self.emit('print %d;' % (it.text != 'leds_off'))
+            return
+        made: Callable[[Expression], None] | None = getattr(self, 'call_' + it.text, None)
+        if made is None:
+            if getattr(self, 'value_' + it.text, None) is None:
+                raise self.unknown(it)
+            self._call(it)
+            return
+        made(it)
+
+    def note_connection(self, it: Expression) -> None:
+        """Notes that packets arrive before a connection is opened, and after it is closed."""
+        callback = self.program.usage.callback
+        if callback is None or self.unit.name in ('onpoll', 'onexit'):
+            return
+        if it.text.endswith('_close'):
+            self.remark(it.line, NO_CLOSE % callback.name)
+        elif it.text.endswith('_open') and not self.is_first:
+            self.remark(it.line, NOT_OPEN % callback.name)
+
+    # Whether nothing above has waited.
+    is_first = True
+
+    def unknown(self, it: Expression) -> Exception:
+        advice = ''
+        if it.text.startswith(('runicast_', 'simple_udp')):
+            advice = ' ' + RUNICAST
+        elif it.text.startswith(('mesh_', 'collect_', 'netflood_', 'trickle_', 'multihop_')):
+            advice = ' ' + MULTIHOP
+        elif 'sensor' in it.text.lower():
+            advice = ' ' + NO_SENSORS
+        return self.refuse(it.line, NO_CALL % it.text + advice)
+
+    def own_call(self, it: Expression, is_value: bool) -> Value:
+        raise NotImplementedError
+
+    def arguments(self, it: Expression, count: int) -> tuple[Expression, ...]:
+        if len(it.parts) != count:
+            raise self.refuse(it.line, '`%s` needs %d arguments.' % (it.text, count))
+        return it.parts
+
+    # Processes and events.
+
+    def target_process(self, it: Expression) -> str:
+        return self.process_named(self.pointer(it), it.line)
+
+    def is_to_all(self, it: Expression) -> bool:
+        return it.kind == 'name' and it.text == 'PROCESS_BROADCAST' or constant_of(it) == 0
+
+    def posted(self, it: Expression) -> tuple[str, str]:
+        """The event and the value of a post."""
+        event = self.event_named(it.parts[1])
+        if event in ('init', 'poll', 'exited', 'timer'):
+            raise self.refuse(it.line, TO_ITSELF % event)
+        value = self.data_value(it.parts[2], it.line)
+        self.program.knowledge.assign(('', 'data'), (value.low, value.high), self.unit.name)
+        return event, value.text
+
+    def data_value(self, it: Expression, line: int) -> Value:
+        """The value that an event gets: a number, or that of the variable whose address is given."""
+        while it.kind == 'cast' and it.type and it.type.kind in ('pointer', 'data'):
+            it = it.parts[0]
+        if it.kind == 'unary' and it.text == '&' or self.type_of(it).kind in ('array', 'pointer', 'struct'):
+            pointer = self.pointer(it)
+            if pointer.kind == 'null':
+                return number(0)
+            if pointer.kind == 'data':
+                return self.whole('data')
+            if pointer.kind in ('place', 'packet') and pointer.place is not None:
+                self.remark(line, OF_DATA)
+                return self.packed(pointer.place, line)
+            raise self.refuse(line, 'The data of an event is a number here, or the address of a variable.')
+        return self.operand(it)
+
+    def packed(self, place: object, line: int) -> Value:
+        raise NotImplementedError
+
+    def call_process_post(self, it: Expression) -> None:
+        self.post(it, '')
+
+    def value_process_post(self, it: Expression) -> Value:
+        result = self.temporary_name('full')
+        self.post(it, ' into ' + result)
+        self.note_assigned(result, (0, 1))
+        return Value(result, INT, 0, 1, frozenset([result]))
+
+    def post(self, it: Expression, result: str) -> None:
+        target, event_of, _ = self.arguments(it, 3)
+        if event_of.kind == 'choice':
+            self.post_chosen(it, result)
+            return
+        to_all = self.is_to_all(target)
+        head = 'broadcast' if to_all else 'post ' + self.target_process(target)
+        event, value = self.posted(it)
+        if to_all and event == 'exit':
+            raise self.refuse(it.line, TO_ITSELF % event)
+        self.emit('%s %s %s%s;' % (head, event, value, result))
+        self.flush()
+
+    def post_chosen(self, it: Expression, result: str) -> None:
+        """A post of one of two events."""
+        choice = it.parts[1]
+        test, blocks = self.settled_test(choice.parts[0]), list[Block]()
+        for part in choice.parts[1:]:
+            with self.into([]) as block:
+                self.post(it._replace(parts=(it.parts[0], part, it.parts[2])), result)
+            blocks.append(block)
+        self.out.append(If(test, *blocks))
+
+    def call_process_post_synch(self, it: Expression) -> None:
+        target, _, _ = self.arguments(it, 3)
+        if self.is_to_all(target):
+            raise self.refuse(it.line, OF_SYNCH)
+        name, (event, value) = self.target_process(target), self.posted(it)
+        if event == 'packet':
+            raise self.refuse(it.line, TO_ITSELF % event)
+        self.emit('synch %s %s %s;' % (name, event, value))
+
+    def call_process_poll(self, it: Expression) -> None:
+        self.emit('poll %s;' % self.target_process(self.arguments(it, 1)[0]))
+
+    def call_process_start(self, it: Expression) -> None:
+        name = self.target_process(it.parts[0])
+        if len(it.parts) > 1 and constant_of(self.without_casts(it.parts[1])) != 0:
+            raise self.refuse(it.line, NO_DATA % name)
+        self.emit('start %s;' % name)
+
+    def call_process_exit(self, it: Expression) -> None:
+        name = self.target_process(self.arguments(it, 1)[0])
+        if name == self.code.name and self.unit.name in ('body', 'onpoll', 'onexit'):
+            raise self.refuse(it.line, OF_ITSELF)
+        if name == self.program.names.get(self.program.usage.receiver) and self.program.usage.callback:
+            self.remark(it.line, OF_RECEIVER % self.program.usage.callback.name)
+        self.emit('kill %s;' % name)
+
+    def value_process_is_running(self, it: Expression) -> Value:
+        name = self.target_process(self.arguments(it, 1)[0])
+        return Value('running(%s)' % name, INT, 0, 1, NOTHING, ('!1', 'running', ''))
+
+    def without_casts(self, it: Expression) -> Expression:
+        while it.kind == 'cast':
+            it = it.parts[0]
+        return it
+
+    # Timers.
+
+    def timer(self, it: Expression, *kinds: str) -> str:
+        """The name of an etimer or of a ctimer."""
+        pointer = self.pointer(it)
+        if pointer.kind != 'timer' or pointer.place is None or pointer.place.type.kind not in kinds:
+            raise self.refuse(it.line, 'The address of a `struct %s` is expected here.' % kinds[0])
+        place = pointer.place
+        if place.chosen is not None or place.variable is None:
+            raise self.refuse(it.line, 'A timer is chosen by a constant here, not by a variable.')
+        name = self.named(place.variable, place.paths[0])
+        if place.type.kind == 'etimer' and name not in self.code.etimers:
+            self.code.etimers.append(name)
+        if place.type.kind == 'ctimer':
+            self.code.ctimers.setdefault(name, [])
+        if place.type.kind == 'etimer' and self.unit.is_callback:
+            self.in_callback.setdefault(name, it.line)
+        return name
+
+    in_callback: dict[str, int]
+
+    def interval(self, it: Expression) -> str:
+        """The time to which a timer is set."""
+        value = self.operand(it)
+        if value.constant == 0 and any(part.text == 'CLOCK_SECOND' for part in self.all_in(it)):
+            self.program.has_short_time = True
+        if value.is_negative:
+            value = as_type(value, UNSIGNED)
+        return value.text
+
+    def all_in(self, it: Expression) -> list[Expression]:
+        return [it, *(inner for part in it.parts for inner in self.all_in(part))]
+
+    def call_etimer_set(self, it: Expression) -> None:
+        timer, interval = self.arguments(it, 2)
+        name = self.timer(timer, 'etimer')
+        self.note_callback_timer(name, it.line)
+        self.emit('set %s %s;' % (name, self.interval(interval)))
+
+    def note_callback_timer(self, name: str, line: int) -> None:
+        if self.unit.is_callback:
+            self.remark(line, OF_RADIO_TIMER % (name, self.code.name))
+
+    def changed_timer(self, it: Expression, word: str, *kinds: str) -> None:
+        name = self.timer(self.arguments(it, 1)[0], *kinds)
+        if kinds[0] == 'etimer' and word != 'stop':
+            self.note_callback_timer(name, it.line)
+        self.emit('%s %s;' % (word, name))
+
+    def call_etimer_reset(self, it: Expression) -> None:
+        self.changed_timer(it, 'reset', 'etimer')
+
+    def call_etimer_restart(self, it: Expression) -> None:
+        self.changed_timer(it, 'restart_timer', 'etimer')
+
+    def call_etimer_stop(self, it: Expression) -> None:
+        self.changed_timer(it, 'stop', 'etimer')
+
+    def call_ctimer_reset(self, it: Expression) -> None:
+        self.changed_timer(it, 'reset', 'ctimer')
+
+    def call_ctimer_restart(self, it: Expression) -> None:
+        self.changed_timer(it, 'restart_timer', 'ctimer')
+
+    def call_ctimer_stop(self, it: Expression) -> None:
+        self.changed_timer(it, 'stop', 'ctimer')
+
+    def value_etimer_expired(self, it: Expression) -> Value:
+        return self.expired(it, 'etimer')
+
+    def value_ctimer_expired(self, it: Expression) -> Value:
+        return self.expired(it, 'ctimer')
+
+    def expired(self, it: Expression, kind: str) -> Value:
+        name = self.timer(self.arguments(it, 1)[0], kind)
+        return Value('expired(%s)' % name, INT, 0, 1, NOTHING, ('!1', 'expired', ''))
+
+    def fired(self, pointer: Pointer, line: int) -> Value:
+        place = pointer.place
+        if place is None or place.type.kind != 'etimer' or place.chosen is not None or place.variable is None:
+            raise self.refuse(line, 'Only a `struct etimer` has an event whose data is the timer.')
+        name = self.named(place.variable, place.paths[0])
+        if name not in self.code.etimers:
+            self.code.etimers.append(name)
+        return Value('fired(%s)' % name, INT, 0, 1, NOTHING, ('!1', 'fired', ''))
+
+    # Timers without an event.
+
+    def parts_of_timer(self, it: Expression, kind: str) -> tuple[str, str, Value]:
+        """The variables of a timer without an event: its start and its interval; and the time now."""
+        pointer = self.pointer(it)
+        place = pointer.place
+        if pointer.kind != 'timer' or place is None or place.type.kind != kind or place.variable is None \
+                or place.chosen is not None:
+            raise self.refuse(it.line, 'The address of a `struct %s` is expected here.' % kind)
+        self.remark(it.line, OF_STRUCT_TIMER % place.variable.name)
+        names = [self.declare(self.named(place.variable, (*place.paths[0], part))) for part in ('start', 'interval')]
+        now = Value('now', UNSIGNED, 0, MOST)
+        if kind == 'stimer':
+            now = Value('(now / %d)' % self.program.second, UNSIGNED, 0, MOST // self.program.second)
+        return names[0], names[1], now
+
+    def in_variable(self, name: str) -> Value:
+        return Value(name, UNSIGNED, 0, MOST, frozenset([name]))
+
+    def set_timer(self, it: Expression, kind: str) -> None:
+        timer, interval = self.arguments(it, 2)
+        start, length, now = self.parts_of_timer(timer, kind)
+        value = self.operand(interval)
+        self.assign(start, now, UNSIGNED)
+        self.assign(length, value, UNSIGNED)
+
+    def expired_timer(self, it: Expression, kind: str) -> Value:
+        start, length, now = self.parts_of_timer(self.arguments(it, 1)[0], kind)
+        if kind == 'stimer':
+            # (as in Contiki's stimer.c: less than half of all numbers ago)
+            end = added(self.in_variable(start), self.in_variable(length), '+')
+            return compared('<', added(now, end, '-'), number(32_768, UNSIGNED))
+        return compared('>=', added(now, self.in_variable(start), '-'), self.in_variable(length))
+
+    def call_timer_set(self, it: Expression) -> None:
+        self.set_timer(it, 'timer')
+
+    def call_stimer_set(self, it: Expression) -> None:
+        self.set_timer(it, 'stimer')
+
+    def value_timer_expired(self, it: Expression) -> Value:
+        return self.expired_timer(it, 'timer')
+
+    def value_stimer_expired(self, it: Expression) -> Value:
+        return self.expired_timer(it, 'stimer')
+
+    def again(self, it: Expression, kind: str, is_reset: bool) -> None:
+        start, length, now = self.parts_of_timer(self.arguments(it, 1)[0], kind)
+        its = added(self.in_variable(start), self.in_variable(length), '+') if is_reset else now
+        self.assign(start, its, UNSIGNED)
+
+    def call_timer_reset(self, it: Expression) -> None:
+        self.again(it, 'timer', True)
+
+    def call_timer_restart(self, it: Expression) -> None:
+        self.again(it, 'timer', False)
+
+    def call_stimer_reset(self, it: Expression) -> None:
+        self.again(it, 'stimer', True)
+
+    def call_stimer_restart(self, it: Expression) -> None:
+        self.again(it, 'stimer', False)
+
+    def remaining(self, it: Expression, kind: str) -> Value:
+        start, length, now = self.parts_of_timer(self.arguments(it, 1)[0], kind)
+        return added(added(self.in_variable(start), self.in_variable(length), '+'), now, '-')
+
+    def value_timer_remaining(self, it: Expression) -> Value:
+        return self.remaining(it, 'timer')
+
+    def value_stimer_remaining(self, it: Expression) -> Value:
+        return self.remaining(it, 'stimer')
+
+    def value_stimer_elapsed(self, it: Expression) -> Value:
+        start, _, now = self.parts_of_timer(self.arguments(it, 1)[0], 'stimer')
+        return added(now, self.in_variable(start), '-')
+
+    def value_clock_time(self, it: Expression) -> Value:
+        return Value('now', UNSIGNED, 0, MOST)
+
+    def value_clock_seconds(self, it: Expression) -> Value:
+        second = self.program.second
+        return Value('(now / %d)' % second, UNSIGNED, 0, MOST // second)
+
+    # Printing, random numbers, addresses.
+
+    def call_printf(self, it: Expression) -> None:
+        """Each number of a text is a line; a text without a number is the number 1."""
+        if not it.parts or it.parts[0].kind != 'text':
+            raise self.refuse(it.line, 'The first argument of `printf` is a text in quotes.')
+        kinds = [found[1] for found in CONVERSION.finditer(it.parts[0].text) if found[1]]
+        if len(kinds) > len(it.parts) - 1:
+            raise self.refuse(it.line, 'The text of this `printf` has %d values, but %d are given.' % (
+                len(kinds), len(it.parts) - 1))
+        count = 0
+        for kind, part in zip(kinds, it.parts[1:]):
+            if kind in 'sp':
+                self.skip_text(part)
+                continue
+            if kind in 'feg':
+                raise self.refuse(it.line, 'Numbers are whole here, with 16 bits.')
+            count += 1
+            self.printed(part, kind in 'di')
+        for part in it.parts[len(kinds) + 1:]:
+            self.effect(part)
+        if not count:
+            self.remark(it.line, OF_TEXT)
+            self.emit('print 1;')
+
+    def skip_text(self, it: Expression) -> None:
+        """Skips a text that is printed: it has no effects."""
+        if any(part.kind in ('call', 'assign', 'postfix') and part.text != 'packetbuf_dataptr'
+               for part in self.all_in(it)):
+            raise self.refuse(it.line, 'There are no texts here: a program prints numbers.')
+
+    def printed(self, it: Expression, is_signed: bool) -> None:
+        value = self.operand(it)
+        if is_signed and value.is_negative:
+            self.remark(it.line, OF_BELOW)
+        self.emit('print %s;' % value.text)
+
+    def call_puts(self, it: Expression) -> None:
+        self.remark(it.line, OF_TEXT)
+        self.emit('print 1;')
+
+    def call_putchar(self, it: Expression) -> None:
+        self.call_puts(it)
+
+    def value_random_rand(self, it: Expression) -> Value:
+        self.remark(it.line, OF_CHANCE)
+        self.code.is_random = True
+        name = self.declare(self.extra.setdefault('dice', self.extra.get('dice') or self.new_name('dice')), 1)
+        self.emit(STEP.replace('dice', name))
+        self.log.append(name)
+        return Value(DRAWN.replace('dice', name), UNSIGNED, 0, 255, frozenset([name]))
+
+    def value_rand(self, it: Expression) -> Value:
+        return self.value_random_rand(it)
+
+    def value_rimeaddr_cmp(self, it: Expression) -> Value:
+        one, other = self.arguments(it, 2)
+        return self.address_compared(one, other, it.line)
+
+    def value_linkaddr_cmp(self, it: Expression) -> Value:
+        return self.value_rimeaddr_cmp(it)
+
+    def call_rimeaddr_copy(self, it: Expression) -> None:
+        target, source = self.arguments(it, 2)
+        value = self.address(source)
+        pointer = self.pointer(target)
+        if pointer.place is None:
+            raise self.refuse(it.line, 'The address of a variable is expected here.')
+        self.write(pointer.place, value, it.line)
+
+    def call_linkaddr_copy(self, it: Expression) -> None:
+        self.call_rimeaddr_copy(it)
+
+    def value_PT_SEM_COUNT(self, it: Expression) -> Value:
+        return Value('count(%s)' % self.semaphore(it.parts[0]), UNSIGNED, 0, MOST)
+
+    def semaphore(self, it: Expression) -> str:
+        pointer = self.pointer(it)
+        if pointer.kind != 'semaphore' or pointer.variable is None:
+            raise self.refuse(it.line, 'The address of a `struct pt_sem` is expected here.')
+        return self.program.semaphores[pointer.variable]
+
+    def value_abs(self, it: Expression) -> Value:
+        value = self.operand(self.arguments(it, 1)[0])
+        if not value.is_negative:
+            return value
+        kept = self.temporary(value)
+        self.out.append(If(compared('<', kept, number(0)), [Line('%s = (0 - %s);' % (kept.text, kept.text))], []))
+        return kept._replace(low=0, high=max(-value.low, value.high))
+

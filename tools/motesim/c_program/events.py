@@ -1,0 +1,139 @@
+"""Tests about the event that a process was called with, and about addresses and processes."""
+from __future__ import annotations
+
+from motesim.c_program.constants import EVENT_NUMBERS, constant_of
+from motesim.c_program.places import OF_ADDRESS, Places, Pointer
+from motesim.c_program.tree import Expression, Variable
+from motesim.c_program.types import INT
+from motesim.c_program.values import NOTHING, Value, both, compared, negated, number
+
+KERNEL = {129: 'init', 130: 'poll', 131: 'exit', 133: 'continue', 134: 'msg', 135: 'exited', 136: 'timer', 137: 'com'}
+NO_EVENT = ('The event of a call is compared with events here: `ev == PROCESS_EVENT_TIMER`, or an event of the '
+            'program. It has no number.')
+NO_DATA = 'The data of an event is compared with a number, with `&` and a timer, or with `&` and a process here.'
+NO_KERNEL_EVENT = 'motesim has no event with the number %d.'
+
+
+class Events(Places):
+    """Translates tests about events."""
+
+    # Parameters whose value is known at this place, such as `ev` of a function that gets the event.
+    values: dict[Variable, Value]
+    event_parameters: set[Variable]
+
+    def is_event(self, it: Expression) -> bool:
+        """Returns whether an expression is the event of the call."""
+        it = it.parts[0] if it.kind == 'cast' else it
+        return it.kind == 'name' and it.variable is not None and it.variable.type.kind == 'event' \
+            and it.variable.is_parameter
+
+    def of_event(self, it: Expression) -> Value:
+        raise self.refuse(it.line, NO_EVENT)
+
+    def event_named(self, it: Expression) -> str:
+        """The name of an event: of the kernel, or of the program."""
+        it = it.parts[0] if it.kind == 'cast' else it
+        if it.kind == 'name' and it.variable and it.variable.type.kind == 'event' and not it.variable.is_parameter:
+            if it.variable.function:
+                raise self.refuse(it.line, NO_EVENT)
+            return self.program.events['variable ' + it.variable.name]
+        value = constant_of(it)
+        if value is None:
+            raise self.refuse(it.line, NO_EVENT)
+        if value in KERNEL:
+            return KERNEL[value]
+        if 128 <= value < EVENT_NUMBERS['PROCESS_EVENT_MAX']:
+            raise self.refuse(it.line, NO_KERNEL_EVENT % value)
+        return self.program.events['number %d' % value]
+
+    def is_of(self, event: str) -> Value:
+        return Value('is(%s)' % event, INT, 0, 1, NOTHING, ('!1', 'is', ''))
+
+    def of_events(self, it: Expression) -> Value | None:
+        """A comparison of the event, of its data, of an address or of a pointer; None if it is one of numbers."""
+        left, right = it.parts
+        for one, other in ((left, right), (right, left)):
+            if self.is_event(one):
+                if it.text not in ('==', '!='):
+                    raise self.refuse(it.line, NO_EVENT)
+                found = self.is_of(self.event_named(other))
+                return found if it.text == '==' else negated(found)
+        if it.text not in ('==', '!='):
+            return None
+        for one, other in ((left, right), (right, left)):
+            found_data = self.of_data(one, other)
+            if found_data is not None:
+                return found_data if it.text == '==' else negated(found_data)
+        return None
+
+    def is_data(self, it: Expression) -> bool:
+        """Returns whether an expression is the data of the event, as a pointer."""
+        while it.kind == 'cast' and it.type and it.type.kind in ('pointer', 'data'):
+            it = it.parts[0]
+        return it.kind == 'name' and it.variable is not None and it.variable.type.kind == 'data'
+
+    def of_data(self, one: Expression, other: Expression) -> Value | None:
+        """A comparison of data with the address of a timer, of a process, or with NULL; or of a pointer with NULL."""
+        if self.is_data(one):
+            return self.data_is(other)
+        is_pointer = self.type_of(one).kind == 'pointer' and one.kind in ('name', 'unary')
+        if is_pointer and constant_of(other) == 0:
+            return negated(self.of_pointer_test(one))
+        return None
+
+    def of_pointer_test(self, it: Expression) -> Value:
+        return number(int(self.pointer(it).kind != 'null'))
+
+    def data_is(self, other: Expression) -> Value:
+        """A test whether the data of the event is the address of something."""
+        while other.kind == 'cast' and other.type and other.type.kind in ('pointer', 'data'):
+            other = other.parts[0]
+        if constant_of(other) is not None and (constant_of(other) != 0 or other.kind == 'number'):
+            return compared('==', self.whole('data'), self.evaluate(other))
+        if other.kind == 'name' and other.text == 'NULL':
+            found = compared('==', self.whole('data'), number(0))
+            others = both(self.is_of('timer'), self.is_of('exited'), '||')
+            return both(found, negated(others), '&&')
+        if self.type_of(other).is_number and other.kind != 'unary':
+            return compared('==', self.whole('data'), self.evaluate(other))
+        pointer = self.pointer(other)
+        if pointer.kind == 'timer':
+            return self.fired(pointer, other.line)
+        if pointer.kind == 'process':
+            name = self.process_named(pointer, other.line)
+            return Value('gone(%s)' % name, INT, 0, 1, NOTHING, ('!1', 'gone', ''))
+        raise self.refuse(other.line, NO_DATA)
+
+    def fired(self, pointer: Pointer, line: int) -> Value:
+        raise NotImplementedError
+
+    def process_named(self, pointer: Pointer, line: int) -> str:
+        """The name of a process here."""
+        if pointer.kind != 'process' or pointer.name not in self.program.names:
+            raise self.refuse(line, 'The process `%s` isn\'t in this file.' % pointer.name)
+        return self.program.names[pointer.name]
+
+    def of_event_and_data(self, it: Expression) -> Value | None:
+        """`ev == PROCESS_EVENT_TIMER && data == &t`, which is one test."""
+        for one, other in ((it.parts[0], it.parts[1]), (it.parts[1], it.parts[0])):
+            if not (one.kind == 'binary' and one.text == '==' and other.kind == 'binary' and other.text == '=='):
+                continue
+            event = next((b for a, b in (one.parts, one.parts[::-1]) if self.is_event(a)), None)
+            data = next((b for a, b in (other.parts, other.parts[::-1]) if self.is_data(a)), None)
+            if event is None or data is None or constant_of(event) not in (135, 136):
+                continue
+            while data.kind == 'cast':
+                data = data.parts[0]
+            if data.kind != 'unary' and data.kind != 'name' or data.text == 'NULL':
+                continue
+            pointer = self.pointer(data)
+            if pointer.kind == ('timer' if constant_of(event) == 136 else 'process'):
+                return self.data_is(data)
+        return None
+
+    def address_compared(self, one: Expression, other: Expression, line: int) -> Value:
+        """`linkaddr_cmp(a, b)`."""
+        a, b = self.address(one), self.address(other)
+        if 'self' in (a.text, b.text) or a.constant is not None or b.constant is not None:
+            self.remark(line, OF_ADDRESS)
+        return compared('==', a, b)

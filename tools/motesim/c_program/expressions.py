@@ -1,0 +1,554 @@
+"""Translates expressions: values, tests, assignments and their effects."""
+from __future__ import annotations
+
+from motesim.c_program import bits
+from motesim.c_program.base import OF_LONG, joined_limits
+from motesim.c_program.constants import EVENT_NUMBERS, NUMBERS
+from motesim.c_program.events import Events
+from motesim.c_program.places import ADDRESSES, OF_ADDRESS, TEXTS, Place
+from motesim.c_program.tree import Expression
+from motesim.c_program.types import INT, UNSIGNED, Type, size_of
+from motesim.c_program.values import (
+    HALF, MOST, Value, added, both, common, compared, converted, divided, is_true, multiplied, negated, number,
+    promoted,
+)
+from motesim.c_program.written import Block, If, Line, While
+
+COMPARES = ('==', '!=', '<', '<=', '>', '>=')
+NO_SIGNED_DIVISION = ('`%s` of a value that may be below 0 isn\'t translated here: divide a value without a sign, or '
+                      'use an `if`.')
+NO_BITS = 'This operation on bits needs statements of its own: write it above, into a variable.'
+NO_NAME = 'motesim has no `%s`.'
+SECOND = 10
+OF_SECONDS = 'A second has 10 moments here, so `CLOCK_SECOND` is 10. `end` of the scenario is in moments, too.'
+
+
+class Expressions(Events):
+    """Translates expressions."""
+
+    def evaluate(self, it: Expression) -> Value:
+        """The value of an expression; the statements that it needs are written before."""
+        found: Value = getattr(self, '_' + it.kind)(it)
+        return found
+
+    def operand(self, it: Expression) -> Value:
+        """A value that an operation uses: small types become `int`."""
+        return promoted(self.evaluate(it))
+
+    def test(self, it: Expression) -> Value:
+        """The value of an expression as a test."""
+        return self.evaluate(it)
+
+    # Values.
+
+    def _number(self, it: Expression) -> Value:
+        if it.number > MOST or it.number < -HALF:
+            self.remark(it.line, OF_LONG)
+        its = it.type if it.type and it.type.bits <= 16 else UNSIGNED if it.number > 32_767 else INT
+        return number(it.number % 65_536 if it.number > MOST else it.number, its)
+
+    def _text(self, it: Expression) -> Value:
+        raise self.refuse(it.line, TEXTS)
+
+    def _name(self, it: Expression) -> Value:
+        variable = it.variable
+        if variable is None:
+            return self.named_number(it)
+        if variable.type.kind == 'event':
+            return self.of_event(it)
+        if variable in self.values:
+            return self.values[variable]
+        if variable.type.kind == 'data' and variable not in self.aliases:
+            return self.whole('data')
+        if variable.type.kind == 'pointer' or variable in self.aliases:
+            return self.of_pointer(it)
+        if variable.type.kind == 'array' and variable.type.of and variable.type.of.name == 'char':
+            raise self.refuse(it.line, TEXTS)
+        return self.read(self.place(it), it.line)
+
+    def of_pointer(self, it: Expression) -> Value:
+        """A pointer as a test: whether it isn't NULL."""
+        pointer = self.pointer(it)
+        if pointer.kind == 'data':
+            return self.whole('data')
+        if pointer.kind == 'place' and it.variable and it.variable.type.kind not in ('pointer', 'array'):
+            return self.read(self.place(it), it.line)
+        return number(int(pointer.kind != 'null'))
+
+    def named_number(self, it: Expression) -> Value:
+        """A number that Contiki or C's library names."""
+        if it.text == 'CLOCK_SECOND':
+            if self.program.second == SECOND:
+                self.remark(it.line, OF_SECONDS)
+            return number(self.program.second, UNSIGNED)
+        if it.text == 'node_id':
+            self.remark(it.line, OF_ADDRESS)
+            return Value('self', UNSIGNED, 0, MOST)
+        if it.text in ADDRESSES:
+            return self.own_address(it)
+        if it.text in NUMBERS:
+            return number(NUMBERS[it.text], UNSIGNED if NUMBERS[it.text] > 32_767 else INT)
+        if it.text in EVENT_NUMBERS:
+            return number(EVENT_NUMBERS[it.text])
+        raise self.refuse(it.line, NO_NAME % it.text)
+
+    def _index(self, it: Expression) -> Value:
+        if it.parts[0].kind in ('member', 'arrow') and it.parts[0].text in ('u8', 'u16'):
+            return self.byte_of_address(it)
+        return self.read(self.place(it), it.line)
+
+    def byte_of_address(self, it: Expression) -> Value:
+        """`u8[0]` of an address is the number of the mote, and the other bytes are 0."""
+        base, index = it.parts[0].parts[0], self.evaluate(it.parts[1])
+        found = self.address(base)
+        if found.text == 'self':
+            self.remark(it.line, OF_ADDRESS)
+        if index.constant != 0:
+            return number(0)
+        return found._replace(type=INT, high=255 if found.high > 255 else found.high)
+
+    def _member(self, it: Expression) -> Value:
+        return self.read(self.place(it), it.line)
+
+    def _arrow(self, it: Expression) -> Value:
+        return self.read(self.place(it), it.line)
+
+    def _sizeof(self, it: Expression) -> Value:
+        return number(size_of(self.type_of(it.parts[0])), UNSIGNED)
+
+    def _list(self, it: Expression) -> Value:
+        raise self.refuse(it.line, 'Values in braces are only possible in a declaration.')
+
+    def _cast(self, it: Expression) -> Value:
+        its = it.type
+        assert its is not None
+        if its.kind in ('pointer', 'data', 'void'):
+            return self.evaluate(it.parts[0])
+        if its.kind == 'real':
+            raise self.refuse(it.line, 'Numbers are whole here, with 16 bits.')
+        if its.kind == 'int' and its.bits > 16:
+            self.remark(it.line, OF_LONG)
+        return converted(self.evaluate(it.parts[0]), its)
+
+    # Operations.
+
+    def _unary(self, it: Expression) -> Value:
+        inner = it.parts[0]
+        if it.text == '*':
+            return self.read(self.place(it), it.line)
+        if it.text == '&':
+            return self.of_pointer(it)
+        if it.text in ('++', '--'):
+            return self.stepped(it, True)
+        if it.text == '!':
+            return negated(self.test(inner))
+        value = self.operand(inner)
+        if it.text == '~':
+            return bits.inverted(value)
+        return added(number(0), value, '-') if it.text == '-' else value
+
+    def _postfix(self, it: Expression) -> Value:
+        return self.stepped(it, False)
+
+    def stepped(self, it: Expression, is_before: bool) -> Value:
+        """`++` or `--`: the value before or after the step."""
+        place = self.place(it.parts[0])
+        one = Expression('number', '1', number=1, line=it.line)
+        if is_before:
+            self.write(place, added(promoted(self.read(place, it.line)), self._number(one), it.text[0]), it.line)
+            return self.read(place, it.line)
+        old = self.read(place, it.line)
+        if place.chosen is not None:
+            old = self.temporary(old)
+        with self.into([]) as block:
+            self.write(place, added(promoted(self.read(place, it.line)), self._number(one), it.text[0]), it.line)
+        self.posts.append(block)
+        return old
+
+    def _binary(self, it: Expression) -> Value:
+        if it.text in ('&&', '||'):
+            return self.logical(it)
+        if it.text in COMPARES:
+            special = self.of_events(it)
+            if special is not None:
+                return special
+        left, right = self.two(it.parts[0], it.parts[1])
+        if it.text in COMPARES:
+            return compared(it.text, left, right)
+        return self.operation(it.text, left, right, it.line)
+
+    def two(self, first: Expression, second: Expression) -> tuple[Value, Value]:
+        """Two operands; the first one is kept in a variable if the second one changes what it reads."""
+        left = self.operand(first)
+        at, changes = len(self.out), len(self.log)
+        right = self.operand(second)
+        return self.kept_before(left, at, changes), right
+
+    def kept_before(self, value: Value, at: int, changes: int) -> Value:
+        """A value that was found before some statements: it is kept in a variable if they change what it reads."""
+        if not value.reads & {*self.log[changes:]} or len(self.out) == at:
+            return value
+        with self.into([]) as block:
+            value = self.temporary(value)
+        self.out[at:at] = block
+        return value
+
+    def operation(self, sign: str, left: Value, right: Value, line: int) -> Value:
+        """The result of an operation on two numbers."""
+        if sign in '+-':
+            return added(left, right, sign)
+        if sign == '*':
+            return multiplied(left, right)
+        if sign in '/%':
+            return divided(left, right, sign) or self.signed_division(left, right, sign, line)
+        if sign in ('<<', '>>'):
+            return self.shift(sign, left, right, line)
+        return self.with_bits(sign, left, right, line)
+
+    def signed_division(self, left: Value, right: Value, sign: str, line: int) -> Value:
+        """A quotient or a remainder of a value below 0 by a positive number, as C rounds it."""
+        if self.is_wait_test or right.is_negative:
+            raise self.refuse(line, NO_SIGNED_DIVISION % sign)
+        kept = self.temporary(left)
+        if not right.is_simple:
+            right = self.temporary(right)
+        block = [Line('%s = (0 - ((0 - %s) %s %s));' % (kept.text, kept.text, sign, right.text))]
+        other = [Line('%s = (%s %s %s);' % (kept.text, kept.text, sign, right.text))]
+        self.out.append(If(compared('<', kept, number(0)), [*block], [*other]))
+        low = left.low if sign == '/' else max(left.low, -(right.high - 1))
+        high = max(left.high, 0) if sign == '/' else max(min(left.high, right.high - 1), 0)
+        return kept._replace(type=INT, low=low, high=high)
+
+    def shift(self, sign: str, left: Value, right: Value, line: int) -> Value:
+        if right.constant is not None:
+            return (bits.shifted_left if sign == '<<' else bits.shifted_right)(left, right.low)
+        if self.is_wait_test or sign == '>>' and left.is_negative:
+            raise self.refuse(line, NO_BITS)
+        kept, count = self.temporary(left), self.temporary(right)
+        step = '*' if sign == '<<' else '/'
+        body: Block = [Line('%s = (%s %s 2);' % (kept.text, kept.text, step)),
+                       Line('%s = (%s - 1);' % (count.text, count.text))]
+        self.out.append(While(count, body))
+        its = common(left, left)
+        high = left.high if sign == '>>' else its.highest
+        return kept._replace(type=its, low=0 if left.low >= 0 else its.lowest, high=high)
+
+    def with_bits(self, sign: str, left: Value, right: Value, line: int) -> Value:
+        """`&`, `|` or `^`."""
+        its = common(left, right)
+        for one, other in ((left, right), (right, left)):
+            if other.constant is not None and other.low >= 0 or other.constant is not None and sign == '&':
+                made = {'&': bits.masked, '|': bits.with_bits, '^': bits.turned}[sign](one, other.low)
+                found = bits.joined(one, other) if sign == '|' else made
+                return (found or made)._replace(type=its)
+        if sign == '|':
+            found = bits.joined(left, right)
+            if found:
+                return found
+        if self.is_wait_test:
+            raise self.refuse(line, NO_BITS)
+        return self.bit_by_bit(sign, left, right)._replace(type=its)
+
+    def bit_by_bit(self, sign: str, left: Value, right: Value) -> Value:
+        """An operation on the bits of two values that aren't constants: a loop over all bits."""
+        a = left if left.is_simple else self.temporary(left)
+        b = right if right.is_simple else self.temporary(right)
+        found, bit = self.temporary(number(0), 'bits'), self.temporary(number(1), 'bit')
+        own = ['((%s / %s) %% 2)' % (it.text, bit.text) for it in (a, b)]
+        chosen = {'&': '(%s && %s)', '|': '(%s || %s)', '^': '(%s != %s)'}[sign] % (own[0], own[1])
+        body: Block = [Line('%s = (%s + (%s * %s));' % (found.text, found.text, bit.text, chosen)),
+                       Line('%s = (%s * 2);' % (bit.text, bit.text))]
+        self.out.append(While(bit, body))
+        is_small = 0 <= min(left.low, right.low)
+        high = (1 << max(left.high, right.high).bit_length()) - 1 if is_small else MOST
+        return found._replace(low=0 if is_small else -HALF, high=high, type=INT)
+
+    # Tests that aren't evaluated always.
+
+    def logical(self, it: Expression) -> Value:
+        """`&&` or `||`: the right side is evaluated only if it is needed."""
+        event = self.of_event_and_data(it) if it.text == '&&' else None
+        if event is not None:
+            return event
+        left = self.test(it.parts[0])
+        if self.posts:
+            left = self.temporary(is_true(left))
+            self.flush()
+        known = dict(self.known)
+        self.refine(it.parts[0], it.text == '&&')
+        with self.into([]) as block:
+            right = self.test(it.parts[1])
+            if self.posts:
+                right = self.temporary(is_true(right))
+                self.flush()
+        if not block:
+            self.known = known
+            return both(left, right, it.text)
+        kept = self.temporary(is_true(left))
+        with self.into(block):
+            self.assign(kept.text, is_true(right))
+        self.known = joined_limits(known, self.known)
+        self.out.append(If(kept if it.text == '&&' else negated(kept), block, []))
+        return kept._replace(low=0, high=1)
+
+    def _choice(self, it: Expression) -> Value:
+        test = self.settled_test(it.parts[0])
+        if test.constant is not None:
+            return self.operand(it.parts[1 if test.low else 2])
+        known = dict(self.known)
+        values, blocks, ends = [], [], []
+        for part, is_first in ((it.parts[1], True), (it.parts[2], False)):
+            self.known = dict(known)
+            self.refine(it.parts[0], is_first)
+            with self.into([]) as block:
+                values.append(self.operand(part))
+                if self.posts:
+                    values[-1] = self.temporary(values[-1])
+                    self.flush()
+            blocks.append(block)
+            ends.append(self.known)
+        self.known = joined_limits(*ends)
+        its = common(*values)
+        low, high = min(one.low for one in values), max(one.high for one in values)
+        reads = test.reads | values[0].reads | values[1].reads
+        if self.is_wait_test and not any(blocks):
+            text = '((%s * %s) + (%s * %s))' % (is_true(test).text, values[0].text, negated(test).text, values[1].text)
+            return Value(text, its, low, high, reads)
+        kept = self.temporary_name('t')
+        for value, block in zip(values, blocks):
+            with self.into(block):
+                self.assign(kept, value, its)
+        self.out.append(If(test, *blocks))
+        return Value(kept, its, *(0, MOST) if not its.signed and low < 0 else (low, high), frozenset([kept]))
+
+    def settled_test(self, it: Expression) -> Value:
+        """A test whose effects are over."""
+        found = self.test(it)
+        if self.posts:
+            found = self.temporary(is_true(found))
+            self.flush()
+        return found
+
+    def _comma(self, it: Expression) -> Value:
+        self.effect(it.parts[0])
+        return self.evaluate(it.parts[1])
+
+    # Assignments.
+
+    def _assign(self, it: Expression) -> Value:
+        self.assigned(it)
+        place = self.place(it.parts[0])
+        if place.type.kind in ('struct', 'pointer', 'event', 'address'):
+            return number(0)
+        return self.read(place, it.line)
+
+    def assigned(self, it: Expression) -> None:
+        """Writes an assignment."""
+        target = it.parts[0]
+        if self.special_assignment(it):
+            return
+        if it.text == '=' and it.parts[1].kind == 'choice' and self.is_plain(target):
+            self.chosen(it)
+            return
+        if it.text == '=':
+            value = self.evaluate(it.parts[1])
+            at, changes = len(self.out), len(self.log)
+            place = self.place(target)
+            value = self.kept_before(value, at, changes)
+            if place.type.bits > 16 and place.type.kind == 'int':
+                self.remark(it.line, OF_LONG)
+            self.write(place, value, it.line)
+            return
+        self.compound(it, target)
+
+    def is_plain(self, it: Expression) -> bool:
+        return it.kind == 'name' or it.kind in ('member', 'arrow') and self.is_plain(it.parts[0])
+
+    def chosen(self, it: Expression) -> None:
+        """`x = c ? a : b;` is an `if`."""
+        choice = it.parts[1]
+        test = self.settled_test(choice.parts[0])
+        known, blocks, ends = dict(self.known), [], []
+        for part, is_first in ((choice.parts[1], True), (choice.parts[2], False)):
+            self.known = dict(known)
+            self.refine(choice.parts[0], is_first)
+            with self.into([]) as block:
+                self.assigned(it._replace(parts=(it.parts[0], part)))
+                self.flush()
+            blocks.append(block)
+            ends.append(self.known)
+        self.known = joined_limits(*ends)
+        self.out.append(If(test, *blocks))
+
+    def compound(self, it: Expression, target: Expression) -> None:
+        """`x += 2;` and the like."""
+        sign, line = it.text[:-1], it.line
+        value = self.operand(it.parts[1])
+        place = self.place(target)
+        if place.chosen is None and sign in '|&' and self.one_bit(sign, place, value, line):
+            return
+        if place.chosen is None:
+            self.write(place, self.operation(sign, promoted(self.read(place, line)), value, line), line)
+            return
+        kept = value if value.is_simple else self.temporary(value)
+        known, blocks = dict(self.known), list[Block]()
+        for path in place.paths:
+            one = place._replace(paths=(path,), chosen=None)
+            with self.into([]) as block:
+                self.write(one, self.operation(sign, promoted(self.read(one, line)), kept, line), line)
+            blocks.append(block)
+        self.known = joined_limits(known, self.known)
+        self.choose(place.chosen, blocks)
+
+    def one_bit(self, sign: str, place: Place, value: Value, line: int) -> bool:
+        """`x |= 4;` and `x &= ~4;`: one bit is set or cleared by an `if`. Returns whether it is such a statement."""
+        constant = value.constant
+        if constant is None:
+            return False
+        bit = constant % 65_536 if sign == '|' else ~constant % 65_536
+        if bit & bit - 1 or not bit or place.type.bits == 8 and bit > 255:
+            return False
+        old = promoted(self.read(place, line))
+        test = Value(bits.masked(old, bit).condition, INT, 0, 1, old.reads)
+        if bit == HALF:
+            test = test._replace(text='(%s / 32768)' % old.text)
+        known = dict(self.known)
+        with self.into([]) as block:
+            self.write(place, added(old, number(bit), '+' if sign == '|' else '-')._replace(
+                low=min(old.low, 0), high=max(old.high, (1 << max(old.high, bit).bit_length()) - 1)), line)
+        self.known = joined_limits(known, self.known)
+        self.out.append(If(negated(test) if sign == '|' else test, block, []))
+        return True
+
+    def special_assignment(self, it: Expression) -> bool:
+        raise NotImplementedError
+
+    # Effects.
+
+    def effect(self, it: Expression) -> None:
+        """Writes an expression that is a statement."""
+        if it.kind == 'comma':
+            self.effect(it.parts[0])
+            self.effect(it.parts[1])
+        elif it.kind == 'cast':
+            self.effect(it.parts[0])
+        elif it.kind == 'assign':
+            self.assigned(it)
+        elif it.kind in ('unary', 'postfix') and it.text in ('++', '--'):
+            self.step_only(it)
+        elif it.kind == 'call':
+            self.call_only(it)
+        elif it.kind == 'choice' or it.kind == 'binary' and it.text in ('&&', '||'):
+            self.conditional_effect(it)
+        elif it.kind != 'name' or it.variable is None or it.variable.type.is_number:
+            if it.kind == 'name' and it.variable is None:
+                raise self.refuse(it.line, NO_NAME % it.text)
+            self.evaluate(it)
+        self.flush()
+
+    def step_only(self, it: Expression) -> None:
+        """`n++;`."""
+        one = Expression('number', '1', number=1, line=it.line, type=INT)
+        self.compound(Expression('assign', it.text[0] + '=', (it.parts[0], one), it.line), it.parts[0])
+
+    def conditional_effect(self, it: Expression) -> None:
+        """`c ? f() : g();` and `c && f();` as statements."""
+        test = self.settled_test(it.parts[0])
+        known = dict(self.known)
+        with self.into([]) as first:
+            if it.text != '||':
+                self.effect(it.parts[1])
+        ends, self.known = self.known, dict(known)
+        with self.into([]) as second:
+            if it.text != '&&':
+                self.effect(it.parts[2 if it.kind == 'choice' else 1])
+        self.known = joined_limits(ends, self.known)
+        self.out.append(If(test, first, second))
+
+    def call_only(self, it: Expression) -> None:
+        raise NotImplementedError
+
+    # Limits of variables that follow from tests.
+
+    def refine(self, it: Expression, is_true_here: bool) -> None:
+        """Notes the limits of variables that follow from a test, if the test itself changes none."""
+        parts = self.all_parts(it)
+        is_step = any(one.kind == 'postfix' for one in parts)
+        if any(one.kind in ('assign', 'comma') or one.kind == 'unary' and one.text in ('++', '--')
+               or one.kind == 'call' and one.text in self.file.functions for one in parts):
+            return
+        if is_step and (it.kind not in ('postfix', 'binary') or it.text in ('&&', '||')):
+            return
+        self.refined(it, is_true_here)
+
+    def all_parts(self, it: Expression) -> list[Expression]:
+        return [it, *(inner for part in it.parts for inner in self.all_parts(part))]
+
+    def refined(self, it: Expression, is_true_here: bool) -> None:
+        """Notes the limits of variables that follow from a test without effects."""
+        if it.kind == 'unary' and it.text == '!':
+            self.refined(it.parts[0], not is_true_here)
+        elif it.kind == 'binary' and it.text == ('&&' if is_true_here else '||'):
+            self.refined(it.parts[0], is_true_here)
+            self.refined(it.parts[1], is_true_here)
+        elif it.kind == 'binary' and it.text in COMPARES:
+            sign = it.text if is_true_here else {'<': '>=', '>=': '<', '>': '<=', '<=': '>', '==': '!=', '!=': '=='}[
+                it.text]
+            self.refine_by(it.parts[0], sign, it.parts[1])
+            mirrored = {'<': '>', '>': '<', '<=': '>=', '>=': '<='}.get(sign, sign)
+            self.refine_by(it.parts[1], mirrored, it.parts[0])
+        elif it.kind in ('name', 'postfix', 'member'):
+            zero = Expression('number', '0', number=0, type=INT)
+            self.refine_by(it, '!=' if is_true_here else '==', zero)
+
+    def refine_by(self, it: Expression, sign: str, other: Expression) -> None:
+        """Notes the limits of a variable that follow from its comparison with another value."""
+        shift = 0
+        if it.kind == 'postfix':
+            # (the limits are those of the variable after its step)
+            shift, it = (1 if it.text == '++' else -1), it.parts[0]
+        name, its = self.plain_name(it)
+        limits = self.plain_limits(other)
+        if not name or limits is None or shift and (not its.signed or its.bits != 16):
+            return
+        limits = limits[0] + shift, limits[1] + shift
+        low, high = self.limits(name, its)
+        if (low < 0 or limits[0] < 0) and (not its.signed or limits[1] > 32_767):
+            return
+        if sign in ('>', '>=', '=='):
+            low = max(low, limits[0] + (sign == '>'))
+        if sign in ('<', '<=', '=='):
+            high = min(high, limits[1] - (sign == '<'))
+        if sign == '!=' and limits == (0, 0):
+            low = 1 if low == 0 else low
+        # (if no value is possible, this place isn't reached, as far as is known yet)
+        self.known[name] = (low, high) if low <= high else (high, high) if sign in ('<', '<=') else (low, low)
+
+    def plain_name(self, it: Expression) -> tuple[str, Type]:
+        """The name of a variable here, if an expression is only this variable."""
+        its = self.type_of(it)
+        if it.kind == 'name' and it.variable and its.kind == 'int' and it.variable not in self.aliases \
+                and it.variable not in self.values:
+            return self.own_names.get((it.variable, ()), ''), its
+        return '', its
+
+    def plain_limits(self, it: Expression) -> tuple[int, int] | None:
+        """The limits of a number or a variable."""
+        if it.kind == 'number':
+            return it.number, it.number
+        name, its = self.plain_name(it)
+        if name:
+            return self.limits(name, its)
+        if any(one.variable and one.kind == 'name' and not self.is_size(it) for one in self.all_parts(it)):
+            return None
+        if any(one.kind in ('call', 'text', 'name') and one.text != 'CLOCK_SECOND' and not self.is_size(it)
+               for one in self.all_parts(it)):
+            return None
+        with self.into([]):
+            value = self.operand(it)
+        return (value.low, value.high) if value.constant is not None else None
+
+    def is_size(self, it: Expression) -> bool:
+        """Returns whether all variables of an expression are in a `sizeof`."""
+        return it.kind in ('sizeof', 'number') or it.kind == 'binary' and all(self.is_size(one) for one in it.parts)
+

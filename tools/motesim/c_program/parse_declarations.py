@@ -1,0 +1,240 @@
+"""Reads types and declarations of C."""
+from __future__ import annotations
+
+from collections.abc import Iterator
+from typing import NamedTuple
+
+from motesim.c_program.parse_expressions import Expressions
+from motesim.c_program.refusal import Refusal
+from motesim.c_program.tree import Expression, File, Variable
+from motesim.c_program.types import (
+    CHARACTER, INT, NAMED, REAL, STRUCTURES, VOID, Type, leaves_of, pointer_to,
+)
+
+QUALIFIERS = ('static', 'const', 'volatile', 'extern', 'inline', 'register', 'auto', '__inline', 'CC_INLINE')
+WORDS = ('unsigned', 'signed', 'short', 'long', 'int', 'char', 'void', 'float', 'double')
+
+
+class Declared(NamedTuple):
+    """A name that is declared, with its type; of a function also its parameters."""
+    name: str
+    type: Type
+    line: int
+    parameters: tuple[tuple[str, Type], ...] | None = None
+
+
+class Declarations(Expressions):
+    """Reads declarations."""
+
+    file: File
+    function = ''
+
+    def is_type(self) -> bool:
+        it = self.token
+        if it.kind != 'name':
+            return False
+        known = self.known(it.text)
+        if known is not None:
+            return isinstance(known, Type)
+        return it.text in QUALIFIERS or it.text in WORDS or it.text in NAMED or it.text in ('struct', 'union', 'enum')
+
+    def type_name(self) -> Type:
+        """A type in a cast or a sizeof."""
+        its, _ = self.specifiers()
+        return self.declarator(its).type
+
+    def specifiers(self) -> tuple[Type, set[str]]:
+        """The type at the beginning of a declaration, and its qualifiers."""
+        qualifiers, words, found = set[str](), list[str](), None
+        line = self.token.line
+        while True:
+            word = self.token.text
+            if word in QUALIFIERS:
+                qualifiers.add(self.step().text)
+            elif word == '__attribute__':
+                self.skip_brackets()
+            elif word in WORDS and self.token.kind == 'name':
+                words.append(self.step().text)
+            elif found is None and not words and self.is_type():
+                found = self.named_type()
+            else:
+                break
+        if found is None and not words:
+            raise Refusal(line, 'A type is expected here, not `%s`.' % self.token.text)
+        return found or of_words(words), qualifiers
+
+    def skip_brackets(self) -> None:
+        """Skips an attribute of the compiler."""
+        self.step()
+        depth = 0
+        while self.token.kind != 'end':
+            depth += (self.token.text == '(') - (self.token.text == ')')
+            self.step()
+            if not depth:
+                return
+
+    def named_type(self) -> Type:
+        it = self.step()
+        if it.text == 'enum':
+            return self.enumeration()
+        if it.text == 'union':
+            raise Refusal(it.line, 'A union has no counterpart: use a variable for each of its members.')
+        if it.text == 'struct':
+            return self.structure(it.line)
+        known = self.known(it.text)
+        return known if isinstance(known, Type) else NAMED[it.text]
+
+    def structure(self, line: int) -> Type:
+        while self.token.text == '__attribute__':
+            self.skip_brackets()
+        name = self.step().text if self.token.kind == 'name' else ''
+        if not self.accept('{'):
+            known = self.known('struct ' + name)
+            if isinstance(known, Type):
+                return known
+            return STRUCTURES.get(name) or Type('struct', name=name)
+        fields = list[tuple[str, Type]]()
+        while not self.accept('}'):
+            its, _ = self.specifiers()
+            while True:
+                one = self.declarator(its)
+                if self.is_sign(':'):
+                    raise Refusal(self.token.line, 'A field with a number of bits has no counterpart.')
+                fields.append((one.name, one.type))
+                if not self.accept(','):
+                    break
+            self.need(';')
+        while self.token.text == '__attribute__':
+            self.skip_brackets()
+        found = Type('struct', fields=tuple(fields), name=name)
+        if name:
+            self.scopes[-1]['struct ' + name] = found
+        return found
+
+    def enumeration(self) -> Type:
+        if self.token.kind == 'name':
+            self.step()
+        value = 0
+        if self.accept('{'):
+            while not self.accept('}'):
+                it = self.step()
+                if self.accept('='):
+                    value = self.constant('The value of `%s`' % it.text)
+                self.scopes[-1][it.text] = Expression('number', it.text, number=value, type=INT, origin=it.text)
+                value += 1
+                if not self.is_sign('}'):
+                    self.need(',')
+        return INT
+
+    def declarator(self, its: Type) -> Declared:
+        """A name with the `*`, the `[..]` and the `(..)` around it."""
+        while self.is_sign('*', 'const', 'volatile', '__attribute__'):
+            if self.token.text == '__attribute__':
+                self.skip_brackets()
+            elif self.step().text == '*':
+                its = pointer_to(its)
+        if self.is_sign('(') and self.ahead(1).text == '*':
+            return self.function_pointer()
+        it = self.step() if self.token.kind == 'name' else self.token._replace(text='')
+        if self.is_sign('('):
+            return Declared(it.text, its, it.line, self.parameters())
+        return Declared(it.text, self.array(its), it.line)
+
+    def function_pointer(self) -> Declared:
+        self.step()
+        self.step()
+        it = self.step() if self.token.kind == 'name' else self.token._replace(text='')
+        self.need(')')
+        self.parameters()
+        return Declared(it.text, pointer_to(Type('function')), it.line)
+
+    def array(self, its: Type) -> Type:
+        if not self.accept('['):
+            return its
+        line = self.token.line
+        size = 0 if self.is_sign(']') else self.constant('The size of an array')
+        self.need(']')
+        if size < 0:
+            raise Refusal(line, 'An array has at least one member.')
+        return Type('array', of=self.array(its), size=size)
+
+    def parameters(self) -> tuple[tuple[str, Type], ...]:
+        self.need('(')
+        found = list[tuple[str, Type]]()
+        while not self.accept(')'):
+            if self.token.text == '...':
+                raise Refusal(self.token.line, 'A function has a fixed number of parameters here.')
+            its, _ = self.specifiers()
+            one = self.declarator(its)
+            kind = pointer_to(one.type.of) if one.type.kind == 'array' and one.type.of else one.type
+            if one.parameters is not None:
+                kind = pointer_to(Type('function'))
+            if kind != VOID:
+                found.append((one.name, kind))
+            if not self.is_sign(')'):
+                self.need(',')
+        return tuple(found)
+
+    def initial(self, its: Type) -> tuple[Expression, Type]:
+        """The initial value of a variable, and its type: an array gets its size from this value."""
+        found = self.values() if self.is_sign('{') else self.assignment()
+        if its.kind == 'array' and not its.size:
+            size = len(found.parts) if found.kind == 'list' else len(found.text) + 1
+            its = its._replace(size=size)
+        return found, its
+
+    def values(self) -> Expression:
+        line, parts = self.step().line, list[Expression]()
+        while not self.accept('}'):
+            name = ''
+            if self.is_sign('.') or self.token.kind == 'name' and self.ahead(1).text == ':':
+                self.accept('.')
+                name = self.step().text
+                self.need(':' if self.is_sign(':') else '=')
+            if self.is_sign('['):
+                raise Refusal(self.token.line, 'Write the members of this array in their order.')
+            value = self.values() if self.is_sign('{') else self.assignment()
+            parts.append(Expression('field', name, (value,), value.line) if name else value)
+            if not self.is_sign('}'):
+                self.need(',')
+        return Expression('list', '{', tuple(parts), line)
+
+    def declare(self, one: Declared, qualifiers: set[str], initial: Expression | None) -> Variable:
+        """A new variable of the innermost scope."""
+        if one.type.kind == 'void' or one.type.kind == 'real':
+            raise Refusal(one.line, 'Numbers are whole here, with 16 bits: `%s` has another type.' % one.name)
+        if one.type.kind == 'struct' and not one.type.fields:
+            raise Refusal(one.line, '`%s` has a type that motesim doesn\'t have: `struct %s`.' % (
+                one.name, one.type.name))
+        if len(leaves_of(one.type)) > 64 and one.type.of and one.type.of.name != 'char':
+            raise Refusal(one.line, 'A process has at most 64 variables, so `%s` has too many members.' % one.name)
+        is_static = not self.function or 'static' in qualifiers
+        found = Variable(one.name, one.type, one.line, self.function, is_static, 'const' in qualifiers, False, initial)
+        self.scopes[-1][one.name] = found
+        return found
+
+    def declared_variables(self) -> Iterator[Variable]:
+        """Reads a declaration inside of a function, up to its end."""
+        is_typedef = bool(self.accept('typedef'))
+        its, qualifiers = self.specifiers()
+        while not self.accept(';'):
+            one = self.declarator(its)
+            initial, kind = (self.initial(one.type) if self.accept('=') else (None, one.type))
+            if is_typedef:
+                self.scopes[-1][one.name] = one.type
+            elif one.parameters is None:
+                yield self.declare(one._replace(type=kind), qualifiers, initial)
+            if not self.is_sign(';'):
+                self.need(',')
+
+
+def of_words(words: list[str]) -> Type:
+    """The type of words such as `unsigned long int`."""
+    if 'void' in words:
+        return VOID
+    if 'float' in words or 'double' in words:
+        return REAL
+    signed = 'unsigned' not in words
+    if 'char' in words:
+        return CHARACTER if words == ['char'] else Type('int', 8, signed)
+    return Type('int', 32 if 'long' in words else 16, signed)

@@ -1,0 +1,208 @@
+"""Reads expressions of C."""
+from __future__ import annotations
+
+from collections.abc import Sequence
+
+from motesim.c_program.constants import NotConstant, value_of
+from motesim.c_program.refusal import Refusal
+from motesim.c_program.tokens import Token
+from motesim.c_program.tree import Expression, Variable
+from motesim.c_program.types import INT, UNSIGNED, Type, size_of
+
+ASSIGNS = ('=', '+=', '-=', '*=', '/=', '%=', '&=', '|=', '^=', '<<=', '>>=')
+LEVELS = (('||',), ('&&',), ('|',), ('^',), ('&',), ('==', '!='), ('<', '<=', '>', '>='), ('<<', '>>'), ('+', '-'),
+          ('*', '/', '%'))
+ESCAPES = {'n': 10, 't': 9, 'r': 13, '0': 0, 'a': 7, 'b': 8, 'f': 12, 'v': 11}
+LONG = Type('int', 32)
+
+
+class Expressions:
+    """Reads expressions from tokens. Declarations are read by the classes below."""
+
+    def __init__(self, tokens: Sequence[Token]):
+        self.tokens, self.at = tokens, 0
+        self.scopes: list[dict[str, Variable | Type | Expression]] = [{}]
+
+    # Tokens.
+
+    @property
+    def token(self) -> Token:
+        return self.tokens[self.at]
+
+    def ahead(self, count: int) -> Token:
+        return self.tokens[min(self.at + count, len(self.tokens) - 1)]
+
+    def step(self) -> Token:
+        self.at += self.token.kind != 'end'
+        return self.tokens[self.at - 1]
+
+    def is_sign(self, *signs: str) -> bool:
+        return self.token.text in signs and self.token.kind in ('sign', 'name')
+
+    def accept(self, *signs: str) -> str:
+        return self.step().text if self.is_sign(*signs) else ''
+
+    def need(self, sign: str) -> None:
+        if not self.accept(sign):
+            found = '`%s`' % self.token.text if self.token.text else 'the end of the file'
+            raise Refusal(self.token.line, 'A `%s` is expected here, not %s.' % (sign, found))
+
+    def known(self, name: str) -> Variable | Type | Expression | None:
+        """The meaning of a name, in the innermost scope that declares it."""
+        return next((it[name] for it in reversed(self.scopes) if name in it), None)
+
+    def is_type(self) -> bool:
+        raise NotImplementedError
+
+    def type_name(self) -> Type:
+        raise NotImplementedError
+
+    # Expressions.
+
+    def expression(self) -> Expression:
+        found = self.assignment()
+        while self.is_sign(','):
+            line = self.step().line
+            found = Expression('comma', ',', (found, self.assignment()), line)
+        return found
+
+    def assignment(self) -> Expression:
+        left = self.choice()
+        if self.is_sign(*ASSIGNS):
+            sign = self.step()
+            return Expression('assign', sign.text, (left, self.assignment()), sign.line)
+        return left
+
+    def choice(self) -> Expression:
+        test = self.binary(0)
+        if not self.is_sign('?'):
+            return test
+        line = self.step().line
+        first = self.expression()
+        self.need(':')
+        return Expression('choice', '?', (test, first, self.choice()), line)
+
+    def binary(self, level: int) -> Expression:
+        if level == len(LEVELS):
+            return self.unary()
+        left = self.binary(level + 1)
+        while self.token.kind == 'sign' and self.token.text in LEVELS[level]:
+            sign = self.step()
+            left = Expression('binary', sign.text, (left, self.binary(level + 1)), sign.line)
+        return left
+
+    def unary(self) -> Expression:
+        it = self.token
+        if it.text == 'sizeof' and it.kind == 'name':
+            return self.size()
+        if it.kind == 'sign' and it.text in ('!', '~', '-', '+', '&', '*', '++', '--'):
+            self.step()
+            return Expression('unary', it.text, (self.unary(),), it.line)
+        if it.text == '(' and self.is_type_ahead():
+            self.step()
+            its = self.type_name()
+            self.need(')')
+            if self.is_sign('{'):
+                raise Refusal(it.line, 'A structure without a name is used here: declare a variable for it.')
+            return Expression('cast', '', (self.unary(),), it.line, type=its)
+        return self.postfix()
+
+    def is_type_ahead(self) -> bool:
+        """Returns whether a type is behind the next token."""
+        self.at += 1
+        found = self.is_type()
+        self.at -= 1
+        return found
+
+    def size(self) -> Expression:
+        line = self.step().line
+        if self.is_sign('(') and self.is_type_ahead():
+            self.step()
+            its = self.type_name()
+            self.need(')')
+            return Expression('number', str(size_of(its)), line=line, number=size_of(its), type=UNSIGNED)
+        return Expression('sizeof', '', (self.unary(),), line)
+
+    def postfix(self) -> Expression:
+        found = self.primary()
+        while self.token.kind == 'sign':
+            it = self.token
+            if it.text == '[':
+                self.step()
+                found = Expression('index', '[', (found, self.expression()), it.line)
+                self.need(']')
+            elif it.text in ('.', '->'):
+                self.step()
+                found = Expression('member' if it.text == '.' else 'arrow', self.step().text, (found,), it.line)
+            elif it.text in ('++', '--'):
+                self.step()
+                found = Expression('postfix', it.text, (found,), it.line)
+            elif it.text == '(':
+                found = self.call(found)
+            else:
+                break
+        return found
+
+    def call(self, function: Expression) -> Expression:
+        line, parts = self.step().line, list[Expression]()
+        while not self.is_sign(')'):
+            parts.append(self.assignment())
+            if not self.is_sign(')'):
+                self.need(',')
+        self.need(')')
+        if function.kind != 'name':
+            raise Refusal(line, 'A pointer to a function is called here: call the function by its name.')
+        return Expression('call', function.text, tuple(parts), function.line, function.variable)
+
+    def primary(self) -> Expression:
+        it = self.token
+        if it.kind == 'number':
+            return self.number(self.step())
+        if it.kind == 'char':
+            self.step()
+            inner = it.text[1:-1]
+            value = ESCAPES.get(inner[1], ord(inner[1])) if inner[0] == '\\' and len(inner) == 2 else ord(inner[0])
+            return Expression('number', it.text, line=it.line, number=value, type=INT, origin=it.origin)
+        if it.kind == 'text':
+            texts = [self.step().text[1:-1]]
+            while self.token.kind == 'text':
+                texts.append(self.step().text[1:-1])
+            return Expression('text', ''.join(texts), line=it.line)
+        if it.kind == 'name':
+            return self.name(self.step())
+        if self.accept('('):
+            found = self.expression()
+            self.need(')')
+            return found
+        shown = '`%s`' % it.text if it.text else 'the end of the file'
+        raise Refusal(it.line, 'An expression is expected here, not %s.' % shown)
+
+    def name(self, it: Token) -> Expression:
+        known = self.known(it.text)
+        if isinstance(known, Expression):
+            return known._replace(line=it.line)
+        if isinstance(known, Type):
+            raise Refusal(it.line, '`%s` is a type: an expression is expected here.' % it.text)
+        return Expression('name', it.text, line=it.line, variable=known, origin=it.origin)
+
+    def number(self, it: Token) -> Expression:
+        plain = it.text.rstrip('uUlL') if it.text[:2].lower() == '0x' else it.text.rstrip('uUlLfF')
+        suffix = it.text[len(plain):].lower()
+        try:
+            is_octal = len(plain) > 1 and plain[0] == '0' and plain.isdigit()
+            value = int(plain, 8) if is_octal else int(plain, 0)
+        except ValueError:
+            raise Refusal(it.line, 'Numbers are whole here, with 16 bits: `%s` isn\'t.' % it.text) from None
+        is_plain = plain.isdigit() and not is_octal
+        its = UNSIGNED if 'u' in suffix or 32767 < value <= 65535 and not is_plain else INT
+        if value > (65535 if its == UNSIGNED else 32767) or 'l' in suffix and value > 65535:
+            its = LONG
+        return Expression('number', it.text, line=it.line, number=value, type=its, origin=it.origin)
+
+    def constant(self, what: str) -> int:
+        """The value of a constant expression."""
+        line, found = self.token.line, self.choice()
+        try:
+            return value_of(found)
+        except NotConstant:
+            raise Refusal(line, '%s isn\'t a constant here.' % what) from None

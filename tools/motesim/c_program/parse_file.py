@@ -1,0 +1,289 @@
+"""Reads a whole file in C: its statements, its functions and the macros of Contiki that declare something."""
+from __future__ import annotations
+
+from collections.abc import Sequence
+
+from motesim.c_program.constants import constant_of
+from motesim.c_program.parse_declarations import Declarations, Declared
+from motesim.c_program.parse_expressions import Expressions
+from motesim.c_program.preprocess import Preprocessor
+from motesim.c_program.refusal import Refusal
+from motesim.c_program.tokens import Token
+from motesim.c_program.tree import Expression, File, Function, Statement, Variable
+from motesim.c_program.types import DATA, EVENT, VOID, Type, pointer_to
+
+# Macros of Contiki that are statements, also without a `;`.
+STATEMENTS = ('PROCESS_BEGIN', 'PROCESS_END', 'PT_BEGIN', 'PT_END', 'PROCESS_YIELD', 'PROCESS_WAIT_EVENT',
+              'PROCESS_PAUSE', 'PROCESS_EXIT', 'PROCESS_WAIT_EVENT_UNTIL', 'PROCESS_WAIT_UNTIL')
+HANDLERS = {'PROCESS_POLLHANDLER': 'onpoll', 'PROCESS_EXITHANDLER': 'onexit'}
+NO_GOTO = 'There is no `goto`, and no labels: use a `while` with a flag, or an `if`.'
+
+
+class FileReader(Declarations):
+    """Reads the tokens of a file."""
+
+    def __init__(self, tokens: Sequence[Token]):
+        super().__init__(tokens)
+        self.file = File()
+
+    def read(self) -> File:
+        while self.token.kind != 'end':
+            self.external()
+        return self.file
+
+    # Declarations outside of functions.
+
+    def external(self) -> None:
+        it = self.token
+        if self.accept(';'):
+            return
+        if it.text in ('PROCESS', 'PROCESS_NAME', 'AUTOSTART_PROCESSES') and self.ahead(1).text == '(':
+            self.of_processes()
+            return
+        at, comments = self.at, it.comments
+        while self.token.text in ('static', 'inline', 'extern'):
+            self.step()
+        if self.token.text in ('PROCESS_THREAD', 'PT_THREAD') and self.ahead(1).text == '(':
+            self.protothread(comments)
+            return
+        self.at = at
+        if self.ahead(1).text == '(' and it.kind == 'name' and not self.is_type():
+            raise Refusal(it.line, 'motesim has no `%s`.' % it.text)
+        self.declaration(comments)
+
+    def of_processes(self) -> None:
+        word = self.step()
+        self.need('(')
+        names = list[str]()
+        while not self.accept(')'):
+            self.accept('&')
+            it = self.step()
+            if it.kind == 'name' and it.text != 'NULL':
+                names.append(it.text)
+            elif it.kind == 'end':
+                self.need(')')
+            self.accept(',')
+        self.accept(';')
+        if word.text == 'AUTOSTART_PROCESSES':
+            self.file.autostart, self.file.autostart_line = names, word.line
+        for name in names[:1] if word.text != 'AUTOSTART_PROCESSES' else ():
+            self.file.processes.setdefault(name, word.line)
+            self.scopes[0].setdefault(name, Variable(name, Type('process'), word.line))
+
+    def declaration(self, comments: tuple[str, ...]) -> None:
+        is_typedef = bool(self.accept('typedef'))
+        its, qualifiers = self.specifiers()
+        while not self.accept(';'):
+            one = self.declarator(its)
+            if one.parameters is not None and self.is_sign('{'):
+                self.define(one, comments)
+                return
+            initial, kind = (self.initial(one.type) if self.accept('=') else (None, one.type))
+            if is_typedef:
+                self.scopes[-1][one.name] = one.type
+            elif one.parameters is None and not (one.type.kind == 'process' or 'extern' in qualifiers):
+                self.file.variables.append(self.declare(one._replace(type=kind), qualifiers, initial))
+            if not self.is_sign(';'):
+                self.need(',')
+
+    def define(self, one: Declared, comments: tuple[str, ...]) -> None:
+        """A function with its body."""
+        found = Function('function', one.name, one.line, one.type, (), (), comments)
+        self.with_body(found, one.parameters or ())
+        if one.name in self.file.functions:
+            raise Refusal(one.line, 'The function `%s` is defined twice.' % one.name)
+        self.file.functions[one.name] = found
+
+    def with_body(self, function: Function, parameters: Sequence[tuple[str, Type]]) -> None:
+        """Reads the body of a function."""
+        self.function = function.name
+        self.scopes.append({})
+        found = []
+        for name, its in parameters:
+            variable = Variable(name, its, function.line, function.name, False, False, True)
+            self.scopes[-1][name] = variable
+            found.append(variable)
+        function.parameters = tuple(found)
+        function.body = self.block()
+        self.scopes.pop()
+        self.function = ''
+
+    def protothread(self, comments: tuple[str, ...]) -> None:
+        """A process or a protothread: its macro and its body."""
+        word = self.step()
+        self.need('(')
+        name = self.step()
+        parameters: tuple[tuple[str, Type], ...] = ()
+        if word.text == 'PT_THREAD':
+            parameters = self.parameters()
+        else:
+            self.need(',')
+            event = self.step().text
+            self.need(',')
+            parameters = ((event, EVENT), (self.step().text, DATA))
+        self.need(')')
+        if self.accept(';'):
+            return
+        kind = 'thread' if word.text == 'PT_THREAD' else 'process'
+        found = Function(kind, name.text, name.line, VOID, (), (), comments)
+        if kind == 'process':
+            self.scopes[-1]['process_pt'] = Variable('process_pt', pointer_to(Type('pt')), name.line)
+        self.with_body(found, parameters)
+        (self.file.functions if kind == 'thread' else self.file.bodies)[name.text] = found
+
+    # Statements.
+
+    def block(self) -> tuple[Statement, ...]:
+        """The statements between braces."""
+        self.need('{')
+        self.scopes.append({})
+        found = list[Statement]()
+        while not self.is_sign('}'):
+            if self.token.kind == 'end':
+                self.need('}')
+            found += self.statement()
+        last = self.step()
+        if last.comments:
+            found.append(Statement('empty', last.line, last.comments))
+        self.scopes.pop()
+        return tuple(found)
+
+    def statement(self) -> list[Statement]:
+        """A statement; a declaration may be several ones."""
+        it = self.token
+        read = getattr(self, '_%s' % it.text, None) if it.kind == 'name' and it.text in KEYWORDS else None
+        if it.text == '{':
+            return [Statement('block', it.line, it.comments, (), self.block())]
+        if self.accept(';'):
+            return [Statement('empty', it.line, it.comments)]
+        if read:
+            self.step()
+            found: Statement = read()
+            return [found._replace(line=it.line, comments=it.comments)]
+        if it.text in HANDLERS:
+            return [self.handler(HANDLERS[it.text])]
+        if it.text == 'goto' or it.kind == 'name' and self.ahead(1).text == ':' and it.text != 'default':
+            raise Refusal(it.line, NO_GOTO)
+        if self.is_type() or it.text == 'typedef':
+            found_all = [Statement('declare', it.line, (), (), (), (), one) for one in self.declared_variables()]
+            return [one._replace(comments=it.comments if not at else ()) for at, one in enumerate(found_all)]
+        value = self.expression()
+        if value.text not in STATEMENTS or value.kind not in ('call', 'name') or self.is_sign(';'):
+            self.need(';')
+        return [Statement('expression', it.line, it.comments, (value,))]
+
+    def body(self) -> tuple[Statement, ...]:
+        """The statement that belongs to an `if` or a loop, as a block."""
+        self.scopes.append({})
+        found = self.statement()
+        self.scopes.pop()
+        return found[0].body if len(found) == 1 and found[0].kind == 'block' else tuple(found)
+
+    def test(self) -> Expression:
+        self.need('(')
+        found = self.expression()
+        self.need(')')
+        return found
+
+    def _if(self) -> Statement:
+        test, then = self.test(), self.body()
+        return Statement('if', 0, (), (test,), then, self.body() if self.accept('else') else ())
+
+    def _while(self) -> Statement:
+        return Statement('while', 0, (), (self.test(),), self.body())
+
+    def _do(self) -> Statement:
+        body = self.body()
+        self.need('while')
+        test = self.test()
+        self.accept(';')
+        return Statement('do', 0, (), (test,), body)
+
+    def _for(self) -> Statement:
+        self.need('(')
+        self.scopes.append({})
+        first: tuple[Statement, ...] = ()
+        if self.is_type():
+            line = self.token.line
+            first = tuple(Statement('declare', line, (), (), (), (), one) for one in self.declared_variables())
+        elif not self.accept(';'):
+            first = (Statement('expression', self.token.line, (), (self.expression(),)),)
+            self.need(';')
+        test = None if self.is_sign(';') else self.expression()
+        self.need(';')
+        step = None if self.is_sign(')') else self.expression()
+        self.need(')')
+        found = Statement('for', 0, (), (test, step), self.body(), first)
+        self.scopes.pop()
+        return found
+
+    def _switch(self) -> Statement:
+        return Statement('switch', 0, (), (self.test(),), self.body())
+
+    def _case(self) -> Statement:
+        value = self.choice()
+        self.need(':')
+        return Statement('case', 0, (), (value,))
+
+    def _default(self) -> Statement:
+        self.need(':')
+        return Statement('default', 0)
+
+    def _break(self) -> Statement:
+        self.need(';')
+        return Statement('break', 0)
+
+    def _continue(self) -> Statement:
+        self.need(';')
+        return Statement('continue', 0)
+
+    def _return(self) -> Statement:
+        value = None if self.is_sign(';') else self.expression()
+        self.need(';')
+        return Statement('return', 0, (), (value,))
+
+    def handler(self, kind: str) -> Statement:
+        """The statements of a handler, which are in the brackets of its macro."""
+        it = self.step()
+        self.need('(')
+        found = list[Statement]()
+        while not self.is_sign(')'):
+            if self.is_sign('{', ';') or self.token.text in KEYWORDS:
+                found += self.statement()
+                continue
+            value = self.expression()
+            found.append(Statement('expression', value.line, (), (value,)))
+            if not self.accept(';') and not self.is_sign(')'):
+                self.need(';')
+        self.step()
+        self.accept(';')
+        return Statement('handler', it.line, it.comments, (), tuple(found), (), None, kind)
+
+
+KEYWORDS = ('if', 'while', 'do', 'for', 'switch', 'case', 'default', 'break', 'continue', 'return')
+
+
+class TestReader(Expressions):
+    """Reads the test of an `#if`, in which no names of types are."""
+
+    def is_type(self) -> bool:
+        return False
+
+
+def tested(tokens: Sequence[Token]) -> int:
+    """The value of the test of an `#if`."""
+    end = Token('end', '', tokens[0].line if tokens else 0)
+    reader = TestReader([*tokens, end])
+    found = constant_of(reader.choice())
+    if reader.token.kind != 'end' or found is None:
+        raise Refusal(end.line, '')
+    return found
+
+
+def read_file(text: str) -> File:
+    """The tree of a file in C. Raises a Refusal."""
+    reading = Preprocessor(text, tested)
+    found = FileReader(reading.result()).read()
+    found.comments = reading.tokens[0].comments
+    return found
+

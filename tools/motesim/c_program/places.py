@@ -1,0 +1,373 @@
+"""Places that hold values in C: variables, members, fields, the packet, the data of an event; and pointers to them."""
+from __future__ import annotations
+
+from typing import NamedTuple
+
+from motesim.c_program.base import Base, joined_limits
+from motesim.c_program.tree import Expression, Variable
+from motesim.c_program.types import (
+    ADDRESS, BYTE, INT, UNSIGNED, Type, leaves_of, pointer_to, size_of,
+)
+from motesim.c_program.values import Value, added, compared, converted, multiplied, number
+from motesim.c_program.written import Block, If, Line
+
+Path = tuple[str | int, ...]
+NO_POINTER = 'There are no pointers here: `%s` isn\'t the address of a variable that is known at this place.'
+NO_PLACE = 'A value can\'t be assigned to this.'
+NO_INDEX = 'The array `%s` has the members 0 to %d: there is no member %d.'
+NO_FIELD = 'There is no field `%s` here.'
+OF_PACKET = ('A packet is one number of 16 bits, so it has one value or two fields that are at most 255: `%s` doesn\'t '
+             'fit. Send a packet for each value.')
+OF_ADDRESS = 'An address is one number: the motes are numbered from 0, in the order of the scenario.'
+OF_NULL = 'The address that no mote has is 255 here.'
+TEXTS = 'There are no texts here: a program prints numbers.'
+OF_DATA = ('The event has the value of the variable at the time of the `process_post`, also if the variable changes '
+           'before the event arrives.')
+
+
+class Place(NamedTuple):
+    """A place: a variable with the paths of its parts. If several paths are possible, `chosen` says which one.
+
+    source  variable, packet or data
+    root    for a packet or for data, the type that it is read as
+    """
+    source: str
+    type: Type
+    variable: Variable | None = None
+    paths: tuple[Path, ...] = ((),)
+    chosen: Value | None = None
+    root: Type = INT
+
+
+class Pointer(NamedTuple):
+    """The target of a pointer: its kind, and a place, a name or an address.
+
+    kind  place, packet, data, sender, null, timer, process, text, connection, function
+    """
+    kind: str
+    place: Place | None = None
+    name: str = ''
+    variable: Variable | None = None
+    value: Value | None = None
+
+
+class Places(Base):
+    """Finds places, and reads and writes them."""
+
+    # What pointers that never change point to, by their variables.
+    aliases: dict[Variable, Pointer]
+
+    def evaluate(self, it: Expression) -> Value:
+        raise NotImplementedError
+
+    # Places.
+
+    def place(self, it: Expression) -> Place:
+        """The place that an expression names."""
+        if it.kind == 'name' and it.variable:
+            alias = self.aliases.get(it.variable)
+            if alias and alias.kind == 'place' and alias.place and it.variable.type.kind != 'pointer':
+                return alias.place
+            return Place('variable', it.variable.type, it.variable)
+        if it.kind == 'index':
+            return self.member(it)
+        if it.kind in ('member', 'arrow'):
+            base = self.place(it.parts[0]) if it.kind == 'member' else self.pointed(it.parts[0])
+            field = dict(base.type.fields).get(it.text)
+            if field is None:
+                raise self.refuse(it.line, NO_FIELD % it.text)
+            return base._replace(type=field, paths=tuple((*path, it.text) for path in base.paths))
+        if it.kind == 'unary' and it.text == '*':
+            return self.pointed(it.parts[0])
+        raise self.refuse(it.line, NO_PLACE)
+
+    def member(self, it: Expression) -> Place:
+        """A member of an array."""
+        array = it.parts[0]
+        its = self.type_of(array)
+        base = self.place(array) if its.kind == 'array' and not self.is_alias(array) else self.pointed(array, True)
+        index = self.evaluate(it.parts[1])
+        if base.type.kind != 'array' or not base.type.of:
+            if base.source != 'variable' and index.constant in (0, 1):
+                wide = Type('array', of=base.type, size=2)
+                base = base._replace(type=wide, root=wide if base.root == base.type else base.root)
+            elif index.constant == 0:
+                return base
+            else:
+                raise self.refuse(it.line, NO_POINTER % (array.text or 'this'))
+        size, of = base.type.size, base.type.of
+        assert of is not None
+        if index.low == index.high:
+            if not 0 <= index.low < size:
+                raise self.refuse(it.line, NO_INDEX % (array.text, size - 1, index.low))
+            return base._replace(type=of, paths=tuple((*path, index.low) for path in base.paths))
+        if not index.is_simple:
+            index = self.temporary(index, 'at')
+        paths = tuple((*path, at) for path in base.paths for at in range(size))
+        whole = index if base.chosen is None else added(multiplied(base.chosen, number(size)), index, '+')
+        return base._replace(type=of, paths=paths, chosen=whole)
+
+    def is_alias(self, it: Expression) -> bool:
+        return it.kind == 'name' and it.variable is not None and it.variable in self.aliases
+
+    def pointed(self, it: Expression, is_array: bool = False) -> Place:
+        """The place to which a pointer points."""
+        pointer = self.pointer(it)
+        its = self.type_of(it)
+        its = its.of if its.kind in ('pointer', 'array') and its.of else BYTE
+        if pointer.kind in ('packet', 'data'):
+            if pointer.kind == 'data':
+                self.remark(it.line, OF_DATA)
+            return Place(pointer.kind, its, None, ((),), None, its)
+        if pointer.kind != 'place' or pointer.place is None:
+            raise self.refuse(it.line, NO_POINTER % (it.text or 'this'))
+        place = pointer.place
+        if place.type.kind == 'array' and not is_array and place.type.of:
+            return place._replace(type=place.type.of, paths=tuple((*path, 0) for path in place.paths))
+        return place
+
+    # Pointers.
+
+    def pointer(self, it: Expression) -> Pointer:
+        """The target of an expression that is a pointer."""
+        if it.kind == 'cast':
+            return self.pointer(it.parts[0])
+        if it.kind == 'number' and it.number == 0:
+            return Pointer('null')
+        if it.kind == 'text':
+            return Pointer('text')
+        if it.kind == 'unary' and it.text == '&':
+            return self.address_of(it.parts[0])
+        if it.kind == 'call' and it.text == 'packetbuf_dataptr':
+            return Pointer('packet')
+        if it.kind == 'call' and it.text == 'PROCESS_CURRENT':
+            if self.unit.is_callback:
+                raise self.refuse(it.line, 'In Contiki, the current process is one of the radio here: name a process.')
+            return Pointer('process', None, self.process)
+        if it.kind == 'call' and it.text == 'packetbuf_addr':
+            return Pointer('sender')
+        if it.kind == 'name':
+            return self.named_pointer(it)
+        its = self.type_of(it)
+        if its.kind == 'array':
+            return Pointer('place', self.place(it))
+        if it.kind == 'binary' and it.text == '+':
+            return Pointer('place', self.member(Expression('index', '[', it.parts, it.line)))
+        raise self.refuse(it.line, NO_POINTER % (it.text or 'this'))
+
+    def named_pointer(self, it: Expression) -> Pointer:
+        """The target of a pointer with a name."""
+        variable = it.variable
+        if variable is None:
+            if it.text == 'NULL':
+                return Pointer('null')
+            if it.text in self.file.functions:
+                return Pointer('function', None, it.text)
+            if it.text in ADDRESSES:
+                return Pointer('address', value=self.own_address(it))
+            raise self.refuse(it.line, 'motesim has no `%s`.' % it.text)
+        if variable in self.aliases:
+            return self.aliases[variable]
+        if variable.type.kind == 'data':
+            return Pointer('data')
+        if variable.type.kind == 'array':
+            if variable.type.of and variable.type.of.name == 'char':
+                return Pointer('text')
+            return Pointer('place', Place('variable', variable.type, variable))
+        raise self.refuse(it.line, NO_POINTER % it.text)
+
+    def address_of(self, it: Expression) -> Pointer:
+        """The pointer to what an expression names."""
+        if it.kind == 'name' and it.variable is None:
+            return self.named_pointer(it)
+        its = self.type_of(it)
+        kind = {'process': 'process', 'etimer': 'timer', 'ctimer': 'timer', 'timer': 'timer', 'stimer': 'timer',
+                'rtimer': 'timer', 'connection': 'connection', 'callbacks': 'connection', 'pt': 'connection',
+                'semaphore': 'semaphore'}.get(its.kind)
+        if kind == 'process':
+            return Pointer('process', None, it.text)
+        if kind == 'timer':
+            return Pointer('timer', self.place(it))
+        if kind:
+            return Pointer(kind, variable=it.variable)
+        return Pointer('place', self.place(it))
+
+    # Addresses of motes.
+
+    def own_address(self, it: Expression) -> Value:
+        if it.text.endswith('_null'):
+            self.remark(it.line, OF_NULL)
+            return number(255, ADDRESS)
+        return Value('self', ADDRESS, 0, 65_535)
+
+    def address(self, it: Expression) -> Value:
+        """The number of a mote, from an address or a pointer to one."""
+        if it.kind == 'name' and it.text in ADDRESSES and it.variable is None:
+            return self.own_address(it)
+        if it.kind in ('name', 'index', 'member', 'arrow') and self.type_of(it).kind == 'address':
+            return self.read(self.place(it), it.line)
+        pointer = self.pointer(it)
+        if pointer.kind == 'sender':
+            return Value('from', ADDRESS, 0, 65_535)
+        if pointer.value:
+            return pointer.value
+        if pointer.kind == 'null':
+            raise self.refuse(it.line, NO_POINTER % 'NULL')
+        if pointer.place is None or pointer.place.type.kind != 'address':
+            raise self.refuse(it.line, 'The address of a mote is expected here.')
+        return self.read(pointer.place, it.line)
+
+    # Values.
+
+    def leaf(self, place: Place, path: Path, line: int) -> str:
+        assert place.variable is not None
+        if not place.type.is_number:
+            raise self.refuse(line, NO_POINTER % place.variable.name)
+        name = self.named(place.variable, path)
+        return self.declare(name, self.initial(place.variable, path))
+
+    def initial(self, variable: Variable, path: Path) -> int:
+        raise NotImplementedError
+
+    def read(self, place: Place, line: int) -> Value:
+        """The value at a place."""
+        if place.source != 'variable':
+            return self.received(place, line)
+        names = [self.leaf(place, path, line) for path in place.paths]
+        if place.chosen is None:
+            name = names[0]
+            self.note_read(place, line)
+            return Value(name, place.type, *self.limits(name, place.type), frozenset([name]))
+        limits = [self.limits(it, place.type) for it in names]
+        found = Value('', place.type, min(it[0] for it in limits), max(it[1] for it in limits), frozenset(names))
+        if self.is_wait_test:
+            return self.chosen_in_expression(found, names, place.chosen)
+        kept = self.temporary_name('member')
+        self.note_assigned(kept, (found.low, found.high))
+        self.choose(place.chosen, [[Line('%s = %s;' % (kept, name))] for name in names])
+        return found._replace(text=kept, reads=frozenset([kept]))
+
+    is_wait_test = False
+
+    def chosen_in_expression(self, found: Value, names: list[str], index: Value) -> Value:
+        """A member of an array, as an expression without statements."""
+        text = ''
+        for at, name in enumerate(names):
+            part = '(%s * %s)' % (name, compared('==', index, number(at)).text)
+            text = '(%s + %s)' % (text, part) if text else part
+        return found._replace(text=text, reads=found.reads | index.reads)
+
+    def note_read(self, place: Place, line: int) -> None:
+        """Notes that a variable is read."""
+
+    def received(self, place: Place, line: int) -> Value:
+        """The value of a packet or of an event, or a field of it."""
+        its = place.root
+        parts = leaves_of(its)
+        path = place.paths[0]
+        if place.chosen is not None or place.type.kind in ('struct', 'array', 'pointer'):
+            raise self.refuse(line, OF_PACKET % 'this')
+        at = next((at for at, (known, _) in enumerate(parts) if known == path), 0)
+        whole = self.whole(place.source)
+        if len(parts) == 1:
+            return self.single(whole, place, line)
+        if len(parts) != 2 or any(size_of(it) != 1 for _, it in parts):
+            raise self.refuse(line, OF_PACKET % (its.name or 'this'))
+        if place.source == 'packet' and self.is_to_one:
+            raise self.refuse(line, OF_PACKET % (its.name or 'this'))
+        text = '(%s %s 256)' % (whole.text, '%' if at else '/')
+        return converted(Value(text, UNSIGNED, 0, 255), place.type)
+
+    def single(self, whole: Value, place: Place, line: int) -> Value:
+        """The only value of a packet or of an event."""
+        forms = self.program.knowledge.forms
+        if place.source == 'packet' and 'pair' in forms and size_of(place.type) == 1:
+            whole = Value('(%s / 256)' % whole.text, UNSIGNED, 0, 255)
+        elif place.source == 'packet' and 'pair' in forms:
+            raise self.refuse(line, 'The packets of this program have two fields: read each field by itself.')
+        elif place.source == 'packet' and place.type.signed and whole.high > 255:
+            # (a packet of another program is taken to have a value of the same kind)
+            low, high = self.program.knowledge.limits.get(('', 'packet'), (-1, -1))
+            whole = whole._replace(high=32_767) if 0 <= low and high <= 32_767 else whole
+        return converted(whole, place.type)
+
+    @property
+    def is_to_one(self) -> bool:
+        """Returns whether packets name the mote that they are for."""
+        return self.program.usage.connection == 'unicast'
+
+    def whole(self, source: str) -> Value:
+        """The whole value of a packet or of an event."""
+        if source == 'packet' and self.is_to_one:
+            return Value('(data % 256)', UNSIGNED, 0, 255)
+        limits = self.program.knowledge.limits.get(('', source), (0, 0))
+        is_known = source == 'data' and limits[0] >= 0
+        return Value('data', UNSIGNED, *(limits if is_known else (0, 65_535)))
+
+    def write(self, place: Place, value: Value, line: int) -> None:
+        """Writes a value to a place."""
+        if place.source != 'variable':
+            raise self.refuse(line, 'A packet that has arrived can\'t be changed: use a variable.')
+        self.note_written(place)
+        if place.chosen is None:
+            self.assign(self.leaf(place, place.paths[0], line), value, place.type)
+            return
+        if not value.is_simple:
+            value = self.temporary(value)
+        known = dict(self.known)
+        blocks = list[Block]()
+        for path in place.paths:
+            with self.into([]) as block:
+                self.assign(self.leaf(place, path, line), value, place.type)
+            blocks.append(block)
+        self.known = joined_limits(known, self.known)
+        self.choose(place.chosen, blocks)
+
+    def choose(self, index: Value, blocks: list[Block]) -> None:
+        """Runs one of several blocks: that of the member with an index. If the statements before choose by the same
+        index, their blocks get the new statements."""
+        members = [at for at in range(len(blocks)) if index.low <= at <= index.high]
+        tests = [compared('==', index, number(at)) for at in members]
+        last = self.out[len(self.out) - len(tests):] if len(self.out) >= len(tests) else []
+        is_same = all(isinstance(it, If) and it.test.text == test.text and not it.other
+                      for it, test in zip(last, tests)) and len(last) == len(tests)
+        lines = [line for it in last if isinstance(it, If) for line in it.then]
+        if is_same and all(isinstance(it, Line) and it.text.split(' = ')[0] not in index.reads for it in lines):
+            for it, at in zip(last, members):
+                assert isinstance(it, If)
+                it.then.extend(blocks[at])
+            return
+        for test, at in zip(tests, members):
+            self.out.append(If(test, blocks[at], []))
+
+    def note_written(self, place: Place) -> None:
+        """Notes that a variable is written."""
+
+    # Types.
+
+    def type_of(self, it: Expression) -> Type:
+        """The type of an expression, as far as it names a place."""
+        if it.kind == 'name' and it.variable:
+            return it.variable.type
+        if it.kind == 'name':
+            return ADDRESS if it.text in ADDRESSES else INT
+        if it.kind == 'cast' and it.type:
+            return it.type
+        if it.kind == 'text':
+            return Type('array', of=Type('int', 8, name='char'), size=len(it.text) + 1)
+        if it.kind in ('index', 'member', 'arrow', 'assign', 'postfix'):
+            base = self.type_of(it.parts[0])
+            if it.kind in ('assign', 'postfix'):
+                return base
+            if it.kind == 'index':
+                return base.of or INT
+            inner = base.of if it.kind == 'arrow' and base.of else base
+            return dict(inner.fields).get(it.text, BYTE if inner.kind == 'address' else INT)
+        if it.kind == 'unary' and it.text == '*':
+            return self.type_of(it.parts[0]).of or INT
+        if it.kind == 'unary' and it.text == '&':
+            return pointer_to(self.type_of(it.parts[0]))
+        return it.type or INT
+
+
+ADDRESSES = ('rimeaddr_node_addr', 'linkaddr_node_addr', 'rimeaddr_null', 'linkaddr_null')

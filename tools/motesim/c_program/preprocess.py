@@ -1,0 +1,189 @@
+"""The preprocessor: macros and conditions. Files that are included are ignored."""
+from __future__ import annotations
+
+from collections.abc import Callable, Sequence
+from typing import NamedTuple
+
+from motesim.c_program.refusal import Refusal
+from motesim.c_program.tokens import Token, tokens_of
+
+MOST_TOKENS = 200_000
+NO_TEST = 'The test of this `#%s` can\'t be evaluated.'
+
+
+class Macro(NamedTuple):
+    """A macro: its parameters, or None if it has none, and its tokens."""
+    parameters: tuple[str, ...] | None
+    tokens: tuple[Token, ...]
+
+
+class Preprocessor:
+    """Expands the macros of a text. `evaluate` evaluates the test of an `#if`."""
+
+    def __init__(self, text: str, evaluate: Callable[[Sequence[Token]], int]):
+        self.tokens, self.evaluate = tokens_of(text), evaluate
+        self.macros: dict[str, Macro] = {}
+        # For each `#if` around: whether its lines are read, and whether one of its branches was.
+        self.branches: list[tuple[bool, bool]] = []
+        self.found: list[Token] = []
+
+    def result(self) -> list[Token]:
+        """The tokens after all macros are expanded, and the end."""
+        at, plain = 0, list[Token]()
+        while self.tokens[at].kind != 'end':
+            if self.tokens[at].first and self.tokens[at].text == '#':
+                self.flush(plain)
+                end = self.end_of_line(at + 1)
+                self.directive(self.tokens[at + 1:end], self.tokens[at].line)
+                at = end
+                continue
+            if self.is_read():
+                plain.append(self.tokens[at])
+            at += 1
+        self.flush(plain)
+        return [*self.found, self.tokens[-1]]
+
+    def flush(self, plain: list[Token]) -> None:
+        """Expands some tokens between two directives."""
+        self.found += self.expanded(plain, frozenset())
+        plain.clear()
+
+    def end_of_line(self, at: int) -> int:
+        while not self.tokens[at].first and self.tokens[at].kind != 'end':
+            at += 1
+        return at
+
+    def is_read(self) -> bool:
+        return all(its for its, _ in self.branches)
+
+    def directive(self, line: Sequence[Token], number: int) -> None:
+        word, rest = (line[0].text, line[1:]) if line else ('', line)
+        if word in ('if', 'ifdef', 'ifndef'):
+            is_true = self.is_read() and self.test(word, rest, number)
+            self.branches.append((is_true, is_true))
+        elif word in ('elif', 'else', 'endif'):
+            if not self.branches:
+                raise Refusal(number, 'There is no `#if` for this `#%s`.' % word)
+            _, was = self.branches.pop()
+            if word != 'endif':
+                is_true = not was and self.is_read() and (word == 'else' or self.test('if', rest, number))
+                self.branches.append((is_true, was or is_true))
+        elif not self.is_read():
+            return
+        elif word == 'define' and rest:
+            self.define(rest)
+        elif word == 'undef' and rest:
+            self.macros.pop(rest[0].text, None)
+        elif word == 'error':
+            raise Refusal(number, 'The program has an `#error` here.')
+
+    def test(self, word: str, rest: Sequence[Token], number: int) -> bool:
+        if not rest:
+            raise Refusal(number, NO_TEST % word)
+        if word != 'if':
+            return (rest[0].text in self.macros) == (word == 'ifdef')
+        replaced, at = list[Token](), 0
+        while at < len(rest):
+            if rest[at].text == 'defined':
+                at += 1 + (rest[at + 1:at + 2] != [] and rest[at + 1].text == '(')
+                known = rest[at].text in self.macros if at < len(rest) else False
+                replaced.append(rest[0]._replace(kind='number', text=str(int(known))))
+                at += 1 + (at + 1 < len(rest) and rest[at + 1].text == ')')
+            else:
+                replaced.append(rest[at])
+                at += 1
+        expanded = self.expanded(replaced, frozenset())
+        plain = [it._replace(kind='number', text='0') if it.kind == 'name' else it for it in expanded]
+        try:
+            return self.evaluate(plain) != 0
+        except Refusal:
+            raise Refusal(number, NO_TEST % word) from None
+
+    def define(self, line: Sequence[Token]) -> None:
+        name, rest = line[0].text, line[1:]
+        is_call = bool(rest) and rest[0].text == '(' and rest[0].glued
+        if not is_call:
+            self.macros[name] = Macro(None, tuple(rest))
+            return
+        end = next((at for at, it in enumerate(rest) if it.text == ')'), 0)
+        parameters = tuple('__VA_ARGS__' if it.text == '...' else it.text for it in rest[1:end] if it.text != ',')
+        self.macros[name] = Macro(parameters, tuple(rest[end + 1:]))
+
+    def expanded(self, tokens: Sequence[Token], hidden: frozenset[str]) -> list[Token]:
+        """Tokens with all macros expanded, except those that are hidden because they are being expanded."""
+        found, at = list[Token](), 0
+        while at < len(tokens):
+            it = tokens[at]
+            macro = self.macros.get(it.text) if it.kind == 'name' and it.text not in hidden else None
+            at += 1
+            if macro is None:
+                found.append(it)
+                continue
+            arguments: list[list[Token]] = []
+            if macro.parameters is not None:
+                if at >= len(tokens) or tokens[at].text != '(':
+                    found.append(it)
+                    continue
+                arguments, at = arguments_of(tokens, at + 1, it)
+            body = self.substituted(macro, arguments, it, hidden)
+            inner = self.expanded(body, hidden | {it.text})
+            found += with_origin(inner, it)
+            if len(found) > MOST_TOKENS:
+                raise Refusal(it.line, 'The macros of this program are too long.')
+        return found
+
+    def substituted(self, macro: Macro, arguments: list[list[Token]], use: Token, hidden: frozenset[str]
+                    ) -> list[Token]:
+        """The tokens of a macro with its arguments."""
+        names = macro.parameters or ()
+        if len(arguments) > len(names) and names and names[-1] == '__VA_ARGS__':
+            rest = [part for it in arguments[len(names) - 1:] for part in (use._replace(kind='sign', text=','), *it)]
+            arguments = [*arguments[:len(names) - 1], rest[1:]]
+        values = dict(zip(names, arguments))
+        found, at = list[Token](), 0
+        while at < len(macro.tokens):
+            it = macro.tokens[at]._replace(line=use.line, comments=(), first=False)
+            at += 1
+            if it.text == '##' and found and at < len(macro.tokens):
+                following = macro.tokens[at]
+                pasted = values.get(following.text, [following])
+                at += 1
+                if it.kind == 'sign' and not pasted:
+                    continue
+                found[-1] = found[-1]._replace(text=found[-1].text + pasted[0].text)
+                found += pasted[1:]
+            elif it.text == '#' and at < len(macro.tokens) and macro.tokens[at].text in values:
+                text = ' '.join(part.text for part in values[macro.tokens[at].text])
+                found.append(it._replace(kind='text', text='"%s"' % text.replace('"', '')))
+                at += 1
+            elif it.kind == 'name' and it.text in values:
+                found += [part._replace(line=use.line) for part in self.expanded(values[it.text], hidden)]
+            else:
+                found.append(it)
+        return found
+
+
+def arguments_of(tokens: Sequence[Token], at: int, use: Token) -> tuple[list[list[Token]], int]:
+    """The arguments of a macro behind its `(`, and the place behind its `)`."""
+    found, depth = [list[Token]()], 0
+    while at < len(tokens):
+        text = tokens[at].text if tokens[at].kind == 'sign' else ''
+        if text == ')' and not depth:
+            return (found if found != [[]] else []), at + 1
+        if text == ',' and not depth:
+            found.append([])
+        else:
+            depth += (text in ('(', '[', '{')) - (text in (')', ']', '}'))
+            found[-1].append(tokens[at])
+        at += 1
+    raise Refusal(use.line, 'A `)` is missing behind `%s(`.' % use.text)
+
+
+def with_origin(tokens: list[Token], use: Token) -> list[Token]:
+    """The tokens of a macro that was expanded: a single number, also in brackets, keeps the macro's name."""
+    plain = [it for it in tokens if it.text not in '()']
+    is_number = len(plain) == 1 and plain[0].kind in ('number', 'char')
+    found = [it._replace(origin=use.text) if is_number and it.kind in ('number', 'char') else it for it in tokens]
+    if found:
+        found[0] = found[0]._replace(comments=use.comments, first=use.first)
+    return found

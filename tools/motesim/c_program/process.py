@@ -1,0 +1,285 @@
+"""Translates a process: its code with variables, timers, threads, handlers and the body."""
+from __future__ import annotations
+
+import re
+
+from motesim.c_program.base import OF_LONG, Program, Unit
+from motesim.c_program.functions import Functions, without_last_exit
+from motesim.c_program.places import Pointer
+from motesim.c_program.tree import Expression, Function, Statement, Variable
+from motesim.c_program.types import INT, Type, leaves_of
+from motesim.c_program.usage import GLOBAL
+from motesim.c_program.values import Limits, Value, compared, number, united
+from motesim.c_program.walk import all_parts
+from motesim.c_program.written import Block, If, Line, lines_of
+from motesim.from_c.expressions import MIXED
+from motesim.from_c.packets import IF_OTHER, OF_ORDER
+
+NO_BEGIN = 'The process `%s` has no `PROCESS_BEGIN();` that isn\'t inside of another statement.'
+BEFORE_BEGIN = ('In C, this statement runs in each call of the process, because it is above `PROCESS_BEGIN();`. Only '
+                'declarations and handlers are translated there.')
+EACH_CALL = ('In C, `%s` gets this value in each call of the process, because it is above `PROCESS_BEGIN();`. Only a '
+             'constant is translated there: assign the value at the place that needs it.')
+IN_CIRCLE = ('The functions of ctimers set each other. Here, a ctimer may set only those above it: let the process '
+             'set them.')
+NO_CALLBACK = 'The function of a ctimer is expected here.'
+OF_POINTER = 'The last value of `ctimer_set` is NULL, a constant, or the address of a variable here.'
+
+
+class ProcessWriter(Functions):
+    """Translates a process."""
+
+    def __init__(self, program: Program, process: str):
+        super().__init__(program, process)
+        self.permanent: set[Variable] = set()
+        self.locals: set[str] = set()
+        # The functions of each callback timer with what they get, and their blocks.
+        self.callbacks: dict[str, list[tuple[str, str]]] = {}
+        self.blocks: dict[str, list[Block]] = {}
+        self.name_variables()
+        self.to_inline = self.chosen_to_inline()
+
+    def name_variables(self) -> None:
+        """Names all variables that the process uses, in the order of their declarations."""
+        ordered = sorted(self.use.variables, key=lambda it: (not it.is_static, it.line))
+        for variable in ordered:
+            its = variable.type
+            if its.kind in (*GLOBAL, 'pointer', 'function') or its.of and its.of.name == 'char':
+                continue
+            for path, leaf in leaves_of(its):
+                if leaf.kind in ('timer', 'stimer'):
+                    for part in ('start', 'interval'):
+                        self.named(variable, (*path, part))
+                elif leaf.kind != 'pointer':
+                    if leaf.kind == 'int' and leaf.bits > 16:
+                        self.remark(variable.line, OF_LONG)
+                    name = self.named(variable, path)
+                    if not variable.is_static:
+                        self.locals.add(name)
+
+    def chosen_to_inline(self) -> frozenset[str]:
+        """The functions whose statements are written at each call, because a process has at most seven threads."""
+        functions = [it for it in self.use.functions.values() if it.kind == 'function']
+        sizes = {it.name: len([*all_parts(it.body)]) for it in functions}
+        threads = [it.name for it in functions if self.is_called(it)]
+        room = 7 - sum(it.kind == 'thread' for it in self.use.functions.values()) - self.receives
+        room -= self.receives and self.program.usage.sent is not None
+        chosen = sorted(threads, key=lambda it: sizes[it])
+        return frozenset(chosen[:max(0, len(threads) - max(room, 0))])
+
+    def is_called(self, function: Function) -> bool:
+        """Returns whether a function is called, not only named as a callback."""
+        bodies = [self.file.bodies[self.process], *self.use.functions.values()]
+        return any(it.kind == 'call' and it.text == function.name for one in bodies for it in all_parts(one.body))
+
+    def limits(self, name: str, its: Type) -> Limits:
+        found = self.known.get(name)
+        if found:
+            return found
+        known = self.program.knowledge.limits.get((self.process, name))
+        initial = self.code.variables.get(name, 0)
+        start = initial - 65_536 if its.signed and initial > 32_767 else initial
+        if name in self.locals:
+            return known or (start, start)
+        return united(known, (start, start)) if known else (start, start)
+
+    # The parts of the code.
+
+    def translate(self) -> None:
+        """Translates the process."""
+        if self.receives:
+            self.translate_receiver()
+        function = self.file.bodies[self.process]
+        before, rest = self.parts(function)
+        with self.into(self.code.body):
+            for it in before:
+                self.before_begin(it)
+            flow = self.run(rest)
+            if flow.falls and self.receives:
+                self.ends_with_packets()
+            self.code.body = self.out
+        self.finish_ctimers()
+        if self.code.is_random:
+            text = MIXED.replace('dice', self.extra['dice'])
+            self.code.body[:0] = [Line(it.strip() + ';') for it in text.split(';') if it.strip()]
+
+    def parts(self, function: Function) -> tuple[list[Statement], list[Statement]]:
+        """The statements above PROCESS_BEGIN, and those between it and PROCESS_END."""
+        first = [it.expressions[0] if it.kind == 'expression' else None for it in function.body]
+        names = [it.text if it else '' for it in first]
+        if 'PROCESS_BEGIN' not in names:
+            raise self.refuse(function.line, NO_BEGIN % function.name)
+        begin = names.index('PROCESS_BEGIN')
+        end = names.index('PROCESS_END') if 'PROCESS_END' in names else len(names)
+        heading = [Statement('empty', function.line, function.body[begin].comments)]
+        ending = [Statement('empty', function.line, function.body[end].comments)] if end < len(names) else []
+        return [*function.body[:begin], *heading], [*function.body[begin + 1:end], *ending]
+
+    def before_begin(self, it: Statement) -> None:
+        """A statement above PROCESS_BEGIN."""
+        if it.kind == 'handler':
+            self.handler(it)
+        elif it.kind == 'declare':
+            variable = it.variable
+            assert variable is not None
+            if not variable.is_static and variable.initial and variable.type.kind != 'pointer':
+                self.check_constant(it, variable)
+            self.of_declare(it)
+        elif it.kind == 'empty':
+            self.comments(it)
+        elif it.kind != 'expression' or it.expressions[0] is None or it.expressions[0].kind != 'cast':
+            raise self.refuse(it.line, BEFORE_BEGIN)
+
+    def check_constant(self, it: Statement, variable: Variable) -> None:
+        """Checks the value of a variable that C assigns in each call."""
+        initial = variable.initial
+        assert initial is not None
+        for part in initial.parts if initial.kind == 'list' else [initial]:
+            with self.into([]) as block:
+                value = self.operand(part)
+            if value.constant is None or block:
+                raise self.refuse(it.line, EACH_CALL % variable.name)
+        if variable not in self.program.usage.assigned:
+            self.permanent.add(variable)
+
+    def check_wait(self, it: Expression) -> None:
+        super().check_wait(it)
+        self.fresh |= self.permanent
+
+    def handler(self, it: Statement) -> None:
+        """A block that runs when the process is polled, or when it exits."""
+        unit = Unit(it.name, self.file.bodies[self.process], may_wait=False, may_spawn=False)
+        with self.unit_of(unit), self.into([]) as block:
+            self.jumps = [self.target('return')]
+            self.run(it.body)
+        if block:
+            self.code.handlers[it.name] = block
+
+    def translate_receiver(self) -> None:
+        """The thread that runs for each packet."""
+        function = self.program.usage.callback
+        assert function is not None
+        self.receiving = self.new_name(function.name)
+        self.threads[function.name] = self.receiving
+        self.bind_callback(function)
+        unit = Unit('receive', function, may_wait=False, is_callback=True)
+        with self.unit_of(unit), self.into([]) as block:
+            if self.is_to_one:
+                self.emit(IF_OTHER)
+            self.body_of(function)
+        self.code.threads[self.receiving] = [*self.heading(function), *without_last_exit(block)]
+        self.note_order(function)
+
+    def bind_callback(self, function: Function) -> None:
+        """The parameters of the function that is called for packets: the connection and the sender."""
+        for it in function.parameters:
+            of = it.type.of
+            if of and of.kind == 'address':
+                self.aliases[it] = Pointer('sender')
+            elif of:
+                self.aliases[it] = Pointer('connection')
+            else:
+                self.values[it] = number(0)
+
+    def note_order(self, function: Function) -> None:
+        """Notes that a poll and an event of the callback may arrive in another order than in Contiki."""
+        calls = [it for it in all_parts(function.body) if it.kind == 'call']
+        polled = {it.parts[0].parts[0].text for it in calls if it.text == 'process_poll' and it.parts[0].parts}
+        for it in calls:
+            name = it.parts[0].parts[0].text if it.text == 'process_post' and it.parts[0].parts else ''
+            if name in polled:
+                self.remark(it.line, OF_ORDER % (function.name, name))
+
+    # Callback timers.
+
+    def call_ctimer_set(self, it: Expression) -> None:
+        """A ctimer is set: its block has the statements of its function."""
+        timer, interval, function, pointer = self.arguments(it, 4)
+        name = self.timer(timer, 'ctimer')
+        self.emit('set %s %s;' % (name, self.interval(interval)))
+        target = self.pointer(function)
+        if target.kind != 'function':
+            raise self.refuse(it.line, NO_CALLBACK)
+        shown, known = (target.name, self.shown(pointer)), self.callbacks.setdefault(name, [])
+        is_new = shown not in known
+        known += [shown] * is_new
+        key = self.process, name
+        if len(known) > 1:
+            self.program.knowledge.new_shared_timers.add(key)
+        if key in self.program.knowledge.shared_timers:
+            self.assign(self.function_of(name), number(known.index(shown)))
+        if is_new:
+            self.blocks.setdefault(name, []).append([])
+            block = self.callback_block(name, self.file.functions[target.name], pointer)
+            self.blocks[name][known.index(shown)] = block
+
+    def function_of(self, timer: str) -> str:
+        """The variable that says which function a callback timer runs."""
+        return self.own('function of ' + timer, timer + '_calls')
+
+    def finish_ctimers(self) -> None:
+        """Writes the blocks of the callback timers: one that has several functions chooses by a variable."""
+        for name, blocks in self.blocks.items():
+            found = blocks[-1]
+            for at in range(len(blocks) - 2, -1, -1):
+                which = self.function_of(name)
+                test = compared('==', Value(which, INT, 0, len(blocks), frozenset([which])), number(at))
+                found = [If(test, blocks[at], found)]
+            self.code.ctimers[name] = found
+
+    def shown(self, it: Expression) -> str:
+        """An expression as a text, to compare it with another one."""
+        it = self.without_casts(it)
+        if it.kind == 'number':
+            return str(it.number)
+        return '%s(%s)' % (it.text, ','.join(self.shown(part) for part in it.parts))
+
+    def callback_block(self, name: str, function: Function, pointer: Expression) -> Block:
+        """The block of a function that a ctimer calls."""
+        for variable in function.parameters:
+            self.bind_pointer(variable, self.without_casts(pointer))
+        unit = Unit('ctimer ' + name, function, may_wait=False, may_spawn=False)
+        with self.unit_of(unit), self.into([]) as block:
+            self.jumps = [self.target('return')]
+            self.run(function.body)
+        return [*self.heading(function), *block]
+
+    def bind_pointer(self, variable: Variable, it: Expression) -> None:
+        """The value that the function of a ctimer gets."""
+        if it.kind == 'number' and it.number or it.kind == 'name' and it.variable and it.variable.type.is_number:
+            value = self.operand(it)
+            if value.constant is None:
+                raise self.refuse(it.line, OF_POINTER)
+            self.values[variable] = value
+            return
+        self.aliases[variable] = self.pointer(it)
+
+    # The text.
+
+    def ordered_ctimers(self) -> list[str]:
+        """The ctimers, in an order in which each one is declared before the blocks that use it."""
+        texts = {name: '\n'.join(lines_of(block, '')) for name, block in self.code.ctimers.items()}
+        uses = {name: {other for other in texts if other != name and re.search(r'\b%s\b' % other, text)}
+                for name, text in texts.items()}
+        found = list[str]()
+        while len(found) < len(uses):
+            following = next((name for name in uses if name not in found and uses[name] <= {*found}), None)
+            if following is None:
+                raise self.refuse(self.file.bodies[self.process].line, IN_CIRCLE)
+            found.append(following)
+        return found
+
+    def text(self) -> list[str]:
+        """The lines of the code."""
+        code, found = self.code, list[str]()
+        order = {name: at for at, name in enumerate(self.own_names.values())}
+        names = sorted(code.variables, key=lambda it: order.get(it, len(order)))
+        parts = [('ctimer %s' % name, code.ctimers[name]) for name in self.ordered_ctimers()]
+        parts += [('thread %s' % name, block) for name, block in code.threads.items()]
+        parts += [(name, code.handlers[name]) for name in ('onpoll', 'onexit') if name in code.handlers]
+        for head, block in (*parts, ('body', code.body)):
+            found += ['  %s {' % head, *lines_of(block, '    '), '  }']
+        heading = ['  var %s = %d;' % (name, code.variables[name]) for name in names]
+        heading += ['  etimer %s;' % it for it in code.etimers]
+        return ['code %s {' % code.name, *heading, *found, '}']
+

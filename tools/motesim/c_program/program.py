@@ -1,0 +1,187 @@
+"""Translates a whole program in C.
+
+    from motesim.c_program.program import translated
+
+    found = translated('blink.c', text)
+    found.text       the program in the notation
+    found.remarks    what differs from C: the line, and the reason
+"""
+from __future__ import annotations
+
+from typing import NamedTuple
+
+from motesim.c_program.base import Program
+from motesim.c_program.calls import OF_SHORT
+from motesim.c_program.constants import EVENT_NUMBERS, constant_of
+from motesim.c_program.knowledge import Knowledge
+from motesim.c_program.names import fresh
+from motesim.c_program.parse_file import read_file
+from motesim.c_program.process import ProcessWriter
+from motesim.c_program.refusal import Refusal
+from motesim.c_program.tree import Expression, File, Statement
+from motesim.c_program.usage import usage_of
+from motesim.c_program.walk import all_parts
+from motesim.notation.faults import ProgramError, find_fault
+
+MOST_ROUNDS = 40
+SECOND, TICKS = 10, 128
+NO_PROCESS = 'No process is here: a program for Contiki has at least one `PROCESS` with its `PROCESS_THREAD`.'
+NO_BODY = 'The process `%s` has no `PROCESS_THREAD(%s, ev, data)` in this file.'
+TOO_LARGE = 'The program is too large for a mote: %s'
+LIMITS = {7: 'blocks or brackets are nested more than 32 deep.',
+          8: 'a process has at most 64 variables, 64 timers and 7 threads, and a program at most 4,096 statements.'}
+
+
+class Remark(NamedTuple):
+    """A difference from C, with the line in C."""
+    line: int
+    text: str
+
+
+class Translation(NamedTuple):
+    """A program in the notation, and what differs from C."""
+    text: str
+    remarks: tuple[Remark, ...]
+
+
+def translated(text: str) -> Translation:
+    """A program in C in the notation. Raises a Refusal if it isn't translated."""
+    try:
+        file = read_file(text)
+        check_processes(file)
+        program, lines = settled(file, SECOND)
+        if program.has_short_time:
+            program, lines = settled(file, TICKS)
+            program.remark(first_second(file), OF_SHORT)
+    except RecursionError:
+        raise Refusal(1, TOO_LARGE % LIMITS[7]) from None
+    found = '\n'.join(lines) + '\n'
+    fault = find_fault(found)
+    if fault is not None:
+        raise Refusal(*of_fault(fault, file))
+    remarks = sorted(Remark(*it) for it in program.remarks.values())
+    return Translation(found, tuple(remarks))
+
+
+def of_fault(fault: ProgramError, file: File) -> tuple[int, str]:
+    """The refusal for a program that is too large for the notation."""
+    line = min(file.processes.values(), default=1)
+    shown = LIMITS.get(fault.kind, 'error %d at `%s`, line %d of the translation.' % (
+        fault.kind, fault.token.text, fault.token.line))
+    return line, TOO_LARGE % shown
+
+
+def check_processes(file: File) -> None:
+    if not file.processes:
+        raise Refusal(1, NO_PROCESS)
+    for name in [*file.processes]:
+        if name not in file.bodies:
+            raise Refusal(file.processes[name], NO_BODY % (name, name))
+    for name in file.autostart:
+        if name not in file.processes:
+            raise Refusal(file.autostart_line, NO_BODY % (name, name))
+
+
+def first_second(file: File) -> int:
+    lines = [it.line for one in (*file.functions.values(), *file.bodies.values()) for it in all_parts(one.body)
+             if it.text == 'CLOCK_SECOND']
+    return min(lines, default=1)
+
+
+def settled(file: File, second: int) -> tuple[Program, list[str]]:
+    """Translates a file until the translation is what it relies on."""
+    knowledge, usage = Knowledge(), usage_of(file)
+    for _ in range(MOST_ROUNDS):
+        program = Program(file, usage, knowledge, second)
+        lines = written(program)
+        if knowledge.settle():
+            return program, lines
+    raise Refusal(1, 'The values of this program can\'t be followed.')
+
+
+def written(program: Program) -> list[str]:
+    """The lines of a program."""
+    file = program.file
+    name_all(program)
+    writers = []
+    for name in file.processes:
+        writer = ProcessWriter(program, name)
+        writer.translate()
+        writers.append(writer)
+    lines = ['// ' + it for it in file.comments if it]
+    lines += ['event %s;' % it for it in dict.fromkeys(program.events.values())]
+    lines += ['semaphore %s = %d;' % (name, program.counts.get(it, 0)) for it, name in program.semaphores.items()]
+    lines += ['process %s;' % ', '.join(program.names[it] for it in file.processes)]
+    if file.autostart:
+        lines.append('autostart %s;' % ', '.join(program.names[it] for it in dict.fromkeys(file.autostart)))
+    if program.usage.receiver:
+        lines.append('receiver %s;' % program.names[program.usage.receiver])
+    for writer in writers:
+        lines += writer.text()
+    return lines
+
+
+def name_all(program: Program) -> None:
+    """Names the processes, the events and the semaphores."""
+    taken = set[str]()
+
+    def new(name: str) -> str:
+        found = fresh(name, taken)
+        taken.add(found)
+        return found
+    file = program.file
+    program.names = {it: new(it) for it in file.processes}
+    for variable in file.variables:
+        if variable.type.kind == 'event':
+            program.events['variable ' + variable.name] = new(variable.name)
+        elif variable.type.kind == 'semaphore':
+            program.semaphores[variable] = new(variable.name)
+    for value, name in event_numbers(file).items():
+        program.events['number %d' % value] = new(name)
+
+
+def event_numbers(file: File) -> dict[int, str]:
+    """The numbers that are events of the program, with their names."""
+    found: dict[int, str] = {}
+    functions = (*file.functions.values(), *file.bodies.values())
+    events = [it for one in functions for it in events_in(one.body)]
+    for it in events:
+        value = constant_of(it)
+        if value is not None and not 128 <= value < EVENT_NUMBERS['PROCESS_EVENT_MAX']:
+            found.setdefault(value, it.origin or 'event_%d' % value)
+    return found
+
+
+def events_in(statements: tuple[Statement, ...]) -> list[Expression]:
+    """The expressions of events in some statements: those that are posted or compared with the event of a call."""
+    found = list[Expression]()
+    for it in all_parts(statements):
+        if it.kind == 'call' and it.text in ('process_post', 'process_post_synch') and len(it.parts) == 3:
+            found.append(without_cast(it.parts[1]))
+        elif it.kind == 'binary' and it.text in ('==', '!='):
+            for one, other in (it.parts, it.parts[::-1]):
+                if is_event(one):
+                    found.append(without_cast(other))
+    for one_statement in switches_in(statements):
+        test = one_statement.expressions[0]
+        if test is not None and is_event(test):
+            found += [case.expressions[0] for case in one_statement.body if case.kind == 'case' and case.expressions[0]]
+    return found
+
+
+def without_cast(it: Expression) -> Expression:
+    return it.parts[0] if it.kind == 'cast' else it
+
+
+def is_event(it: Expression) -> bool:
+    it = without_cast(it)
+    return it.variable is not None and it.variable.type.kind == 'event' and it.variable.is_parameter
+
+
+def switches_in(statements: tuple[Statement, ...]) -> list[Statement]:
+    """All `switch` statements in some statements."""
+    found = list[Statement]()
+    for it in statements:
+        found += [it] if it.kind == 'switch' else []
+        found += switches_in(it.body) + switches_in(it.others)
+    return found

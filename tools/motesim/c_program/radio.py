@@ -1,0 +1,213 @@
+"""Translates packets: the buffer, sends, and the wait of the process that gets packets."""
+from __future__ import annotations
+
+from motesim.c_program.calls import Calls
+from motesim.c_program.places import OF_PACKET, Place
+from motesim.c_program.tree import Expression, Statement
+from motesim.c_program.types import UNSIGNED, leaves_of, size_of
+from motesim.c_program.values import MOST, Value, added, as_type, multiplied, number
+from motesim.c_program.written import Line, While
+from motesim.from_c.structures import OF_TWO
+
+SENDS = ('broadcast_send', 'abc_send', 'unicast_send')
+OF_TEXT = 'A packet is one number: the text is sent as 1.'
+OF_ONE_MOTE = ('A packet goes to all motes that hear it: its upper 8 bits say for which mote it is, and its lower 8 '
+               'bits are its value, which is at most 255. The motes are numbered from 0.')
+OF_SENT = 'In Contiki, `%s` is called when the send has ended. Here, its statements follow the `send`.'
+TOO_LARGE = 'A packet to one mote has 8 bits for its value: this one has more.'
+SIZES = 'The packets of this program have several sizes, and none of them is known here.'
+
+
+class Radio(Calls):
+    """Translates packets."""
+
+    # The value that the next send sends, if it is known.
+    buffer: Value | None = None
+
+    # The value of a packet.
+
+    def packed(self, place: object, line: int) -> Value:
+        """The value of a variable, or of a structure with two small fields, in one number."""
+        assert isinstance(place, Place)
+        if place.source != 'variable':
+            return self.whole(place.source)
+        parts = leaves_of(place.type)
+        places = [place._replace(type=its, paths=tuple((*path, *inner) for path in place.paths))
+                  for inner, its in parts]
+        if len(parts) == 1:
+            return self.read(places[0], line)
+        name = place.variable.name if place.variable else 'this'
+        if len(parts) != 2 or any(size_of(its) != 1 for _, its in parts):
+            raise self.refuse(line, OF_PACKET % name)
+        first, second = (self.read(it, line) for it in places)
+        values = [it if it.low >= 0 else Value('(%s %% 256)' % it.text, UNSIGNED, 0, 255, it.reads)
+                  for it in (first, second)]
+        self.remark(line, OF_TWO % (first.text, second.text))
+        return added(multiplied(as_type(values[0], UNSIGNED)._replace(type=UNSIGNED), number(256, UNSIGNED)), values[1],
+                     '+')
+
+    def form_of(self, place: Place) -> str:
+        """The form of a packet: byte, word or pair."""
+        if place.source != 'variable':
+            return ''
+        parts = leaves_of(place.type)
+        return 'pair' if len(parts) == 2 else 'byte' if size_of(parts[0][1]) == 1 else 'word'
+
+    def call_packetbuf_copyfrom(self, it: Expression) -> None:
+        source = self.without_casts(it.parts[0])
+        if source.kind == 'text' or self.pointer(source).kind == 'text':
+            self.remark(it.line, OF_TEXT)
+            self.fill(number(1, UNSIGNED), it)
+            return
+        pointer = self.pointer(source)
+        if pointer.kind in ('packet', 'data'):
+            self.fill(self.whole(pointer.kind), it)
+            return
+        if pointer.kind != 'place' or pointer.place is None:
+            raise self.refuse(it.line, 'The address of a variable is expected here.')
+        place = pointer.place
+        if place.type.kind == 'array' and place.type.of and len(it.parts) > 1:
+            size = self.evaluate(it.parts[1]).constant
+            if size is not None and size == size_of(place.type.of):
+                place = place._replace(type=place.type.of, paths=tuple((*path, 0) for path in place.paths))
+        form = self.form_of(place)
+        self.program.knowledge.new_forms.add(form)
+        self.fill(self.packed(place, it.line), it, form)
+
+    def fill(self, value: Value, it: Expression, form: str = '') -> None:
+        """Fills the buffer: the value is kept up to the send, unless this is the next statement."""
+        if form == 'byte' and 'pair' in self.program.knowledge.forms:
+            value = multiplied(as_type(value, UNSIGNED), number(256, UNSIGNED))
+        self.flush()
+        if self.next_sends:
+            self.buffer = value
+            return
+        kept = self.payload()
+        self.assign(kept, value, UNSIGNED)
+        self.buffer = Value(kept, UNSIGNED, 0, MOST, frozenset([kept]))
+
+    # Whether the statement behind the one that is translated sends the buffer.
+    next_sends = False
+
+    def payload(self) -> str:
+        return self.own('payload', 'payload')
+
+    @staticmethod
+    def is_send(it: Statement) -> bool:
+        """Returns whether a statement sends the buffer."""
+        found = it.expressions[0] if it.kind == 'expression' else None
+        return found is not None and found.kind == 'call' and found.text in SENDS
+
+    def sent_value(self) -> Value:
+        """The value in the buffer."""
+        if self.buffer is not None:
+            return self.buffer
+        if self.unit.is_callback and self.unit.name == 'receive':
+            return self.whole('packet')
+        kept = self.payload()
+        return Value(kept, UNSIGNED, *self.limits(kept, UNSIGNED), frozenset([kept]))
+
+    def send(self, it: Expression, value: Value) -> None:
+        self.emit('send %s;' % value.text)
+        self.flush()
+        sent = self.program.usage.sent
+        if sent is not None:
+            self.remark(it.line, OF_SENT % sent.name)
+            self.call_of_sent(it)
+
+    def call_of_sent(self, it: Expression) -> None:
+        raise NotImplementedError
+
+    def note_packet(self, value: Value) -> None:
+        self.program.knowledge.assign(('', 'packet'), (value.low, value.high), self.unit.name)
+
+    def call_broadcast_send(self, it: Expression) -> None:
+        value = self.sent_value()
+        self.note_packet(value)
+        self.send(it, value)
+
+    def call_abc_send(self, it: Expression) -> None:
+        self.call_broadcast_send(it)
+
+    def call_unicast_send(self, it: Expression) -> None:
+        _, target = self.arguments(it, 2)
+        value, address = self.sent_value(), self.address(target)
+        self.remark(it.line, OF_ONE_MOTE)
+        if value.low < 0 or value.high > 255:
+            if 'pair' in self.program.knowledge.forms:
+                raise self.refuse(it.line, TOO_LARGE)
+            value = Value('(%s %% 256)' % value.text, UNSIGNED, 0, 255, value.reads)
+        self.note_packet(value)
+        whole = Value('((%s * 256) + %s)' % (address.text, value.text), UNSIGNED, 0, MOST, address.reads | value.reads)
+        self.send(it, whole)
+
+    def value_packetbuf_datalen(self, it: Expression) -> Value:
+        sizes = {{'byte': 1}.get(form, 2) for form in self.program.knowledge.forms if form}
+        if len(sizes) > 1:
+            raise self.refuse(it.line, SIZES)
+        return number(min(sizes, default=2), UNSIGNED)
+
+    def call_packetbuf_copyto(self, it: Expression) -> None:
+        self.copy(it.parts[0], Place('packet', UNSIGNED), it.line)
+
+    def call_memcpy(self, it: Expression) -> None:
+        target, source, _ = self.arguments(it, 3)
+        pointer = self.pointer(source)
+        if pointer.kind in ('packet', 'data'):
+            self.copy(target, Place(pointer.kind, UNSIGNED), it.line)
+            return
+        to = self.pointer(target)
+        if to.kind == 'packet':
+            raise self.refuse(it.line, 'Use `packetbuf_copyfrom` to fill a packet.')
+        if pointer.place is None or to.place is None:
+            raise self.refuse(it.line, 'The addresses of two variables are expected here.')
+        self.copy_parts(to.place, pointer.place, it.line)
+
+    def call_memset(self, it: Expression) -> None:
+        target, value, _ = self.arguments(it, 3)
+        place = self.pointer(target).place
+        if place is None or self.evaluate(value).constant != 0:
+            raise self.refuse(it.line, '`memset` sets a variable to 0 here.')
+        for path, its in leaves_of(place.type):
+            self.write(place._replace(type=its, paths=tuple((*one, *path) for one in place.paths)), number(0), it.line)
+
+    def copy(self, target: Expression, source: Place, line: int) -> None:
+        """Copies a packet or the data of an event into a variable."""
+        pointer = self.pointer(target)
+        if pointer.place is None or pointer.place.source != 'variable':
+            raise self.refuse(line, 'The address of a variable is expected here.')
+        its = pointer.place.type
+        self.copy_parts(pointer.place, source._replace(type=its, root=its), line)
+
+    def copy_parts(self, target: Place, source: Place, line: int) -> None:
+        """Copies all parts of a structure."""
+        if leaves_of(target.type) != leaves_of(source.type) and len(leaves_of(target.type)) != 1:
+            raise self.refuse(line, 'Both structures have the same type here.')
+        for (path, its), (other, kind) in zip(leaves_of(target.type), leaves_of(source.type)):
+            to = target._replace(type=its, paths=tuple((*it, *path) for it in target.paths))
+            value = self.read(source._replace(type=kind, paths=tuple((*it, *other) for it in source.paths)), line)
+            self.write(to, value, line)
+
+    # Waits.
+
+    @property
+    def receives(self) -> bool:
+        """Returns whether each wait of this process spawns the thread for packets."""
+        return self.program.usage.receiver == self.process
+
+    def yield_lines(self, test: Value | None) -> None:
+        """A wait for an event, in which packets run the thread for packets."""
+        if not self.receives:
+            self.emit('yield;' if test is None else 'yield_until %s;' % test.condition)
+            return
+        line = 'yield;' if test is None else 'yield_until (is(packet) || %s);' % test.condition
+        self.emit(line)
+        packet = Value('is(packet)', UNSIGNED, 0, 1)
+        self.out.append(While(packet, [Line('spawn %s;' % self.receiving), Line(line)]))
+
+    receiving = ''
+
+    def forever(self) -> None:
+        """The loop of a process that only waits for packets after its end in C."""
+        inner = [Line('yield_until is(packet);'), Line('spawn %s;' % self.receiving)]
+        self.out.append(While(number(1), [*inner]))

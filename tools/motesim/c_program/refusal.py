@@ -1,0 +1,10 @@
+"""Reasons for which a program in C isn't translated."""
+from __future__ import annotations
+
+
+class Refusal(Exception):
+    """A line of a file in C, and the reason for which it isn't translated."""
+
+    def __init__(self, line: int, reason: str):
+        super().__init__(reason)
+        self.line, self.reason = line, reason

@@ -1,0 +1,273 @@
+"""The text of programs in C that are translated as a whole: forms that readers know, refusals and remarks."""
+import textwrap
+import unittest
+
+import here  # noqa: F401
+from motesim.c_program.program import translated
+from motesim.c_program.refusal import Refusal
+from motesim.notation.faults import find_fault
+from translated_c import body_of, in_process, translation
+
+VARIABLES = '  static int n, x, i; static uint8_t b; static uint16_t u; static int a[3]; static struct etimer et;'
+FUNCTIONS = '''static int f(int k) { printf("%d", k); return k + 1; }
+static void show(uint8_t v) { if(v) printf("%u", v); }
+static int later(void) { return 7; }'''
+# Statements of C, and the lines of the body.
+FORMS = (
+    ('n++; n += 2; n = n * 3 - 1; b++; u--;', '''
+     n = (n + 1);
+     n = (n + 2);
+     n = ((n * 3) - 1);
+     b = ((b + 1) % 256);
+     u = (u - 1);'''),
+    ('for(i = 0; i < 3; i++) { if(i == 1) continue; printf("%d", i); }', '''
+     i = 0;
+     while (i < 3) {
+       if (i != 1) {
+         print i;
+       }
+       i = (i + 1);
+     }'''),
+    ('while(n > 0) { n--; if(n == 3) break; printf("%d", n); }', '''
+     done = 0;
+     while ((n > 0) && !done) {
+       n = (n - 1);
+       if (n == 3) {
+         done = 1;
+       } else {
+         print n;
+       }
+     }'''),
+    ('n = 5; while(n--) printf("%u", b);', '''
+     n = 5;
+     while n {
+       n = (n - 1);
+       print b;
+     }
+     n = (n - 1);'''),
+    ('do { n++; } while(n < 5);', '''
+     again = 1;
+     while again {
+       n = (n + 1);
+       again = (n < 5);
+     }'''),
+    ('x = f(3) + f(4);', '''
+     k = 3;
+     spawn f;
+     t = result;
+     k = 4;
+     spawn f;
+     x = (t + result);'''),
+    ('if(n > 0 && f(n) == 2) x = 1;', '''
+     if (n > 0) {
+       k = n;
+       spawn f;
+       if (result == 2) {
+         x = 1;
+       }
+     }'''),
+    ('x = n > 3 ? n : 3;', '''
+     if (n > 3) {
+       x = n;
+     } else {
+       x = 3;
+     }'''),
+    ('n = -1; if(n < 0) x = 1; if(n == -1) x = 2; if(n > x) x = n; if(n >= -5) x = 3;', '''
+     n = (0 - 1);
+     if (n >= 32768) {
+       x = 1;
+     }
+     if (n == 65535) {
+       x = 2;
+     }
+     if ((n + 32768) > (x + 32768)) {
+       x = n;
+     }
+     if ((n + 32768) >= 32763) {
+       x = 3;
+     }'''),
+    ('b |= 4; b &= ~4; if(b & 4) x = 1; u = (b << 8) | 3; b = ~b;', '''
+     if !((b / 4) % 2) {
+       b = (b + 4);
+     }
+     if ((b / 4) % 2) {
+       b = (b - 4);
+     }
+     if ((b / 4) % 2) {
+       x = 1;
+     }
+     u = ((b * 256) + 3);
+     b = ((65535 - b) % 256);'''),
+    ('x = later(); show(300); while((x = f(1)) < 3) b = 1;', '''
+     x = 7;
+     v = 44;
+     spawn show;
+     k = 1;
+     spawn f;
+     x = result;
+     while (x < 3) {
+       b = 1;
+       k = 1;
+       spawn f;
+       x = result;
+     }'''),
+    ('switch(n) { case 1: x = 1; break; case 2: case 3: x = 2; default: x++; }', '''
+     if (n == 1) {
+       x = 1;
+     } else {
+       if ((n == 2) || (n == 3)) {
+         x = 2;
+         x = (x + 1);
+       } else {
+         x = (x + 1);
+       }
+     }'''),
+    ('etimer_set(&et, 5); PROCESS_WAIT_EVENT_UNTIL(ev == PROCESS_EVENT_TIMER && data == &et); PROCESS_PAUSE();', '''
+     set et 5;
+     yield_until fired(et);
+     pause;'''),
+    ('if(process_post(&p, PROCESS_EVENT_MSG, NULL) == 1) x = 1; process_post(PROCESS_BROADCAST, 10, NULL);', '''
+     post p msg 0 into full;
+     if (full == 1) {
+       x = 1;
+     }
+     broadcast event_10 0;'''),
+    ('a[n] = 2; a[n] += x; n = 2; a[n] = 3;', '''
+     if (n == 0) {
+       a = 2;
+       a = (a + x);
+     }
+     if (n == 1) {
+       a1 = 2;
+       a1 = (a1 + x);
+     }
+     if (n == 2) {
+       a2 = 2;
+       a2 = (a2 + x);
+     }
+     n = 2;
+     a2 = 3;'''),
+)
+# Statements that aren't translated, and a part of the reason.
+REFUSALS = (
+    ('frobnicate(3);', 'motesim has no `frobnicate`.'), ('goto out;', 'There is no `goto`'),
+    ('x = unknown;', 'motesim has no `unknown`.'), ('runicast_send(&rc, &to, 3);', 'the receiver sends an answer'),
+    ('x = PT_SCHEDULE(sub(&pt));', '`PT_SCHEDULE` is translated only'), ('x = 1.5;', 'Numbers are whole'),
+    ('switch(n) { case 1: PROCESS_YIELD(); }', 'can\'t wait inside of a `switch`'),
+    ('process_start(&p, (void *)3);', 'passes no value'), ('process_exit(&p);', 'ends itself by `PROCESS_EXIT()`'),
+    ('x = a[4];', 'the members 0 to 2'), ('x = ev;', 'is compared with events'), ('return;', '`return` in a process'),
+    ('while(n) { PT_SEM_INIT(&s, 1); }', 'is set once'), ('x = ;', 'An expression is expected here, not `;`.'),
+    ('if(x { }', 'A `)` is expected here, not `{`.'),
+)
+
+
+class Forms(unittest.TestCase):
+    def test_statements_of_c_become_what_readers_expect(self) -> None:
+        for body, wanted in FORMS:
+            with self.subTest(body):
+                text, notes = translation(in_process('  ' + body, FUNCTIONS, VARIABLES))
+                self.assertIsNotNone(text, notes)
+                self.assertIsNone(find_fault(text or ''))
+                self.assertEqual('\n'.join(body_of(text)), textwrap.dedent(wanted).strip('\n'))
+
+    def test_comments_are_kept(self) -> None:
+        text, _ = translation('/* Counts. */\n' + in_process('  /* one more,\n   * each time */\n  n++; // here', '',
+                                                            VARIABLES))
+        self.assertTrue((text or '').startswith('// Counts.\n'))
+        self.assertEqual(body_of(text), ['// one more,', '// each time', 'n = (n + 1);', '// here'])
+
+    def test_each_variable_of_c_has_a_variable_of_its_own(self) -> None:
+        text, _ = translation(in_process('  { int i = 3; printf("%d", i); } { int i; i = 2; printf("%d", i); }', '',
+                                         VARIABLES))
+        self.assertEqual(body_of(text), ['i2 = 3;', 'print i2;', 'i3 = 2;', 'print i3;'])
+
+    def test_names_are_allowed(self) -> None:
+        text, _ = translation(in_process('  print = 1; veryLongNameOfAVariable = 2; Timer = 3;', '',
+                                         '  static int print, veryLongNameOfAVariable, Timer;'))
+        self.assertEqual(body_of(text), ['my_print = 1;', 'verylongnameable = 2;', 'my_timer = 3;'])
+
+    def test_a_process_has_at_most_seven_threads(self) -> None:
+        functions = '\n'.join('static void f%d(void) { printf("%%d", %d); n++; }' % (it, it) for it in range(9))
+        calls = '\n'.join('  f%d();' % it for it in range(9))
+        text, notes = translation(in_process(calls, 'static int n;\n' + functions))
+        self.assertIsNotNone(text, notes)
+        self.assertEqual((text or '').count('thread f'), 7)
+        self.assertEqual((text or '').count('print '), 9)
+
+    def test_a_second_has_128_moments_if_a_time_would_be_0(self) -> None:
+        text, notes = translation(in_process('  etimer_set(&et, CLOCK_SECOND / 32); etimer_set(&et, CLOCK_SECOND);', '',
+                                             VARIABLES))
+        self.assertEqual(body_of(text), ['set et 4;', 'set et 128;'])
+        self.assertIn('so `CLOCK_SECOND` is 128 here', notes)
+
+
+class Refusals(unittest.TestCase):
+    def test_a_refusal_names_the_line_and_the_reason(self) -> None:
+        for body, reason in REFUSALS:
+            with self.subTest(body):
+                source = in_process('  n = 1;\n  ' + body, 'static struct pt_sem s;', VARIABLES)
+                line = source.split('\n').index('  ' + body) + 1
+                with self.assertRaises(Refusal) as found:
+                    translated(source)
+                self.assertIn(reason, found.exception.reason)
+                self.assertEqual(found.exception.line, line)
+
+    def test_processes_share_no_variables(self) -> None:
+        source = '''PROCESS(a, "a");
+PROCESS(b, "b");
+AUTOSTART_PROCESSES(&a, &b);
+static int shared;
+static const int limit = 3;
+PROCESS_THREAD(a, ev, data) { PROCESS_BEGIN(); shared = limit; PROCESS_END(); }
+PROCESS_THREAD(b, ev, data) { PROCESS_BEGIN(); printf("%d", shared + limit); PROCESS_END(); }
+'''
+        text, notes = translation(source)
+        self.assertIsNone(text)
+        self.assertTrue(notes.startswith('line 7: Several processes use `shared`: `a` and `b`.'), notes)
+        self.assertIsNotNone(translation(source.replace('shared = limit', ''))[0])
+
+    def test_a_function_that_calls_itself_is_refused(self) -> None:
+        for above in ('static int f(int n) { return n ? f(n - 1) : 0; }',
+                      'static void g(void);\nstatic int f(int n) { g(); return n; }\nstatic void g(void) { f(1); }'):
+            self.assertIn('calls itself', translation(in_process('  f(3);', above))[1])
+
+    def test_a_file_without_a_process_is_refused(self) -> None:
+        for source in ('int main(void) { return 0; }', 'static int n;', ''):
+            self.assertIn('No process is here', translation(source)[1])
+
+    def test_lines_that_the_preprocessor_skips_may_have_anything(self) -> None:
+        source = in_process('#if 0\n  frobnicate(3) + ;\n#elif VERSION > 2 && defined(HAS_N)\n  n = 1;\n#else\n  n = 2;'
+                            '\n#endif', '#define VERSION 3\n#define HAS_N', VARIABLES)
+        self.assertEqual(body_of(translation(source)[0]), ['n = 1;'])
+
+
+class Remarks(unittest.TestCase):
+    def remarks(self, body: str, above: str = '', inside: str = VARIABLES) -> str:
+        text, notes = translation(in_process('  ' + body, above, inside))
+        self.assertIsNotNone(text, notes)
+        return notes
+
+    def test_a_remark_says_what_differs_from_c(self) -> None:
+        for body, wanted in (
+                ('printf("hello");', 'There are no texts'), ('leds_on(1);', 'A mote has no LEDs'),
+                ('x = -1; printf("%d", x);', 'may be below 0'), ('u = random_rand();', 'the value of `random_rand()`'),
+                ('u = CLOCK_SECOND;', '`CLOCK_SECOND` is 10'), ('if(node_id == 1) x = 1;', 'numbered from 0')):
+            with self.subTest(body):
+                self.assertIn(wanted, self.remarks(body))
+
+    def test_numbers_of_32_bits_wrap(self) -> None:
+        self.assertIn('above 65,535 wrap', self.remarks('l = 70000;', '', '  static uint32_t l;'))
+
+    def test_a_value_that_a_wait_loses_is_named(self) -> None:
+        lost = '`l` isn\'t static'
+        self.assertIn(lost, self.remarks('l = 3; PROCESS_YIELD(); printf("%d", l);', '', '  int l;'))
+        self.assertNotIn(lost, self.remarks('l = 3; printf("%d", l); PROCESS_YIELD(); l = 4; printf("%d", l);', '',
+                                            '  int l;'))
+        self.assertNotIn(lost, self.remarks('l = 3; PROCESS_YIELD(); printf("%d", l);', '', '  static int l;'))
+
+    def test_each_cause_has_one_remark(self) -> None:
+        self.assertEqual(self.remarks('leds_on(1); leds_on(2); leds_off(1);').count('LEDs'), 1)
+
+
+if __name__ == '__main__':
+    unittest.main()

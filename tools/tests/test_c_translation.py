@@ -1,0 +1,97 @@
+"""Programs in C that are translated as a whole do in motesim what they do in C."""
+import shutil
+import tempfile
+import unittest
+from pathlib import Path
+
+from c_programs import CProgram
+from contiki_callbacks import CallbackProgram
+from contiki_programs import ContikiProgram
+from motesim.report import Report
+from motesim.runner.run import answer
+from skips import need_command, need_program
+from student_programs import END, PROGRAMS, SCENARIO, kernel_in, lines_in_motesim, lines_on_host
+from test_contiki_callbacks import MOTE, first_meeting
+from test_contiki_programs import TEXT, OnHost
+from translated_c import in_process, translation
+
+# The seeds of the random programs that are compared, and the least number that has to be translated.
+OF_C, OF_CONTIKI, OF_CALLBACKS = range(0, 40), range(0, 25), range(0, 25)
+LEAST_OF_C, LEAST_OF_CONTIKI, LEAST_OF_CALLBACKS = 35, 18, 22
+# Programs of students that aren't translated: they schedule protothreads themselves.
+REFUSED = frozenset({'shared_item', 'side_by_side'})
+
+
+class Students(unittest.TestCase):
+    def test_programs_of_students_print_what_they_print_with_the_kernel_of_contiki(self) -> None:
+        need_program(self)
+        need_command(self, 'gcc', 'gcc')
+        need_command(self, 'objcopy', 'binutils')
+        folder = Path(tempfile.mkdtemp())
+        self.addCleanup(shutil.rmtree, folder)
+        kernel = kernel_in(folder)
+        for file in sorted((*PROGRAMS.glob('*.c'), *PROGRAMS.glob('more/*.c'))):
+            source = file.read_text()
+            with self.subTest(file.stem):
+                text, notes = translation(source)
+                self.assertEqual(text is None, file.stem in REFUSED, notes)
+                if text is not None:
+                    found = lines_in_motesim(SCENARIO % (END, text))
+                    self.assertEqual(found, lines_on_host(source, folder, kernel), text)
+
+
+class Random(OnHost):
+    def test_programs_in_c_print_what_they_print_when_they_are_compiled(self) -> None:
+        count = 0
+        for seed in OF_C:
+            program = CProgram(seed, bool(seed % 2))
+            wanted = program.prints()
+            text, notes = translation(in_process('\n'.join(program.body), '\n'.join(program.functions)))
+            if wanted is None:
+                continue
+            count += 1
+            with self.subTest(seed=seed, text=text, notes=notes):
+                report = Report.parse(answer((SCENARIO % (END, text)).encode()).report)
+                self.assertIsNone(report.motes[0].halted())
+                self.assertEqual([str(it.value) for it in report.lines('print') if it.mote == 0], wanted)
+        self.assertGreaterEqual(count, LEAST_OF_C)
+
+    def test_programs_for_contiki_print_what_they_print_with_its_kernel(self) -> None:
+        kernel, count = self.kernel(), 0
+        for seed in OF_CONTIKI:
+            program = ContikiProgram(seed)
+            wanted, (text, notes) = program.prints_on(self.folder, kernel), translation('\n'.join(program.lines))
+            if wanted is None or text is None:
+                self.assertIn('switch', notes or 'switch')
+                continue
+            count += 1
+            with self.subTest(seed=seed, text=text):
+                lines = Report.parse(answer((TEXT % text).encode()).report).lines('print')
+                got = ['%s %s %s' % (it.at, str(it.process).removesuffix('_process'), it.value) for it in lines]
+                self.assertEqual(got, wanted)
+        self.assertGreaterEqual(count, LEAST_OF_CONTIKI)
+
+    def test_programs_with_a_callback_print_and_send_what_they_do_with_its_kernel(self) -> None:
+        kernel, count = self.kernel(), 0
+        for seed in OF_CALLBACKS:
+            program = CallbackProgram(seed)
+            wanted, (text, notes) = program.prints_on(self.folder, kernel), translation('\n'.join(program.lines))
+            if wanted is None:
+                continue
+            count += 1
+            with self.subTest(seed=seed, text=text, notes=notes):
+                scenario = TEXT.partition('[[mote]]')[0] % text + program.peer + MOTE % (0, 'p') + MOTE % (1, 'q')
+                report = Report.parse(answer(scenario.encode()).report)
+                end = first_meeting(report)
+                prints = ['%s %s %s' % (it.at, str(it.process).removesuffix('_process'), it.value)
+                          for it in report.lines('print') if it.at < end]
+                sends = ['%s send %s' % (it.at, it.value) for it in report.lines('send')
+                         if it.mote == 0 and it.at < end]
+                known = [it for it in wanted if int(it.split()[0]) < end]
+                self.assertEqual(prints, [it for it in known if ' send ' not in it])
+                self.assertEqual(sends, [it for it in known if ' send ' in it])
+        self.assertGreaterEqual(count, LEAST_OF_CALLBACKS)
+
+
+if __name__ == '__main__':
+    unittest.main()
