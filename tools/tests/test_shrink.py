@@ -242,8 +242,20 @@ class Shrinks(unittest.TestCase):
             (Path(folder) / 'others.toml').write_text('expect = ["mote 0 sends", "mote 3 halts"]')
             done = subprocess.run([*words, 'others.toml'], cwd=folder, capture_output=True, text=True)
             self.assertEqual(done.returncode, 0, done.stderr)
-            self.assertTrue(done.stdout.endswith('\ns.toml breaks: mote 1 halts\n  in diamond.toml, mote 0 was 2, mote '
-                                                 '1 was 3\n'), done.stdout)
+            self.assertIn('s.toml breaks: mote 1 halts\n  in diamond.toml, mote 0 was 2, mote 1 was 3\n', done.stdout)
+            self.assertIn('In the small run, the end is 0 and no mote sends a packet. So it may break', done.stdout)
+            done = subprocess.run([*words, 'others.toml', '--keep', 'some packet is sent'], cwd=folder,
+                                  capture_output=True, text=True)
+            self.assertNotIn('no mote sends a packet', done.stdout)
+            self.assertEqual(done.returncode, 0, done.stderr)
+
+    def test_a_run_that_a_line_breaks_or_that_has_a_fault_has_no_remark_on_its_end(self) -> None:
+        silent = (('silent', 0),)
+        for effects, sentence, is_seen in (((), 'mote 0 sends exactly 9 times', True),
+                                           ((), 'mote 0 never sends', False), (silent, REACHED, False)):
+            shrinking = Shrinking(self.program, case_of(DIAMOND, sentence, effects))
+            shrinking.run()
+            self.assertEqual(bool(shrinking.remark), is_seen, (sentence, shrinking.remark, shrinking.text))
 
     def test_the_command_with_a_fault(self) -> None:
         with folder_with() as folder:
@@ -381,7 +393,7 @@ class Shrinks(unittest.TestCase):
                           '# Mote 1 is mote 3 of diamond.toml, at 12, 0 there.\nversion', text)
             # (the mote that is left has the number that it had)
             done = subprocess.run([*words[:4], 'mote 0 halts'], cwd=folder, capture_output=True, text=True)
-            self.assertTrue(done.stdout.endswith('breaks: mote 0 halts\n'), done.stdout)
+            self.assertIn('breaks: mote 0 halts\nIn the small run', done.stdout)
             text = (Path(folder) / 'diamond.small.toml').read_text()
             self.assertIn('\n# Mote 0 is mote 0 of diamond.toml, at 0, 0 there.\nversion', text)
 

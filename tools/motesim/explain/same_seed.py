@@ -1,7 +1,8 @@
-"""The warning about processes of a mote whose random generators begin with the same seed: they draw the same numbers.
+"""Random generators in programs, and the warning about processes of a mote whose generators begin with the same seed.
 
-It is about the pattern for random numbers in LOSSES.md, in which the seed of a process is in a line of its own. A
-variable is a generator if the process assigns it the seed, and also a product of the variable itself.
+Such processes draw the same numbers. The warning is about the pattern for random numbers in LOSSES.md, in which the
+seed of a process is in a line of its own. A variable is a generator if the process assigns it the seed, and also a
+product of the variable itself.
 """
 from __future__ import annotations
 
@@ -15,6 +16,8 @@ FACTOR = '257'
 APART = int(FACTOR)
 SAME_SEED = 'two processes of a mote draw the same numbers'
 TEXT = SAME_SEED + ': the generators of `%s` and `%s` begin with the same seed; in `%s`, write `%s = (%s + %d);`'
+# The least factor of a generator, as in `dice = ((dice * 25173) + 13849);`: a variable that is only doubled has none.
+LEAST_FACTOR = 75
 # The words of a seed that has the same value in all processes of a mote.
 FIXED = frozenset(('(', ')', 'self', *OPERATORS))
 
@@ -44,6 +47,20 @@ def seeds(words: Sequence[str], tokens: Sequence[Token], started: Sequence[str]
             if is_seed(seed) and is_generator(words[at:], words[at - 1]):
                 found.setdefault(seed, {}).setdefault(process, tokens[at - 1])
     return found
+
+
+def draws(words: Sequence[str]) -> bool:
+    """Returns whether a program draws random numbers: whether it multiplies a variable by a large number, and adds a
+    number to the product or divides it with a remainder."""
+    for at, word in enumerate(words):
+        if word == '=':
+            name, value = words[at - 1], words[at + 1:words.index(';', at)]
+            factors = [int(number) for one, sign, number in zip(value, value[1:], value[2:])
+                       if (one, sign) == (name, '*') and number.isdecimal()]
+            is_alone = all(it == name or it in FIXED or it.isdecimal() for it in value)
+            if max(factors, default=0) >= LEAST_FACTOR and is_alone and ('+' in value or '%' in value):
+                return True
+    return False
 
 
 def is_seed(words: Sequence[str]) -> bool:

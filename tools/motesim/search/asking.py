@@ -5,8 +5,11 @@ import hashlib
 from collections.abc import Callable
 
 from motesim.experiments.one_run import program_digest
+from motesim.explain.same_seed import draws
 from motesim.judge.sentences import Sentence
+from motesim.notation.faults import tokens_of
 from motesim.runner.optimized import optimized_path
+from motesim.scenario import Scenario
 from motesim.search.by_dask import ByDask
 from motesim.search.change import Base
 from motesim.search.faults import WHY_NONE, Asked, absent_kinds, faults_of, untried_copies, without_effect
@@ -17,6 +20,19 @@ from motesim.search.runner import Here, Runner
 from motesim.search.search import Bounds, Search
 from motesim.search.sets import Known
 from motesim.search.work import Work, mask_of, numbers_of
+
+
+# The remark on a search in a net whose programs draw random numbers.
+DRAWN = ('%s %s random numbers: a fault also changes which draws follow it, so a broken expectation may only show '
+         'other draws; compare several seeds')
+
+
+def drawn(scenario: Scenario) -> str:
+    """The remark on the programs of motes that draw random numbers, or an empty text."""
+    names = [name for name, text in scenario.programs.items() if draws([it.text for it in tokens_of(text)])
+             and any(it.program == name for it in scenario.places)]
+    many = len(names) > 1
+    return DRAWN % ('the program%s %s' % ('s' * many, ', '.join(names)), 'draw' if many else 'draws') if names else ''
 
 
 def runner_of(work: Work, processes: int, address: str | None) -> Runner:
@@ -62,8 +78,9 @@ class Asking:
     @property
     def remarks(self) -> list[str]:
         """The notes, a line about the single copies whose loss isn't tried, because the results say nothing about
-        these copies, and a line about faults without an effect."""
-        return [*self.notes, *(['left out: ' + self.untried] if self.untried else []), *filter(None, [self.idle])]
+        these copies, a line about faults without an effect, and a line about programs that draw random numbers."""
+        left_out = ['left out: ' + self.untried] if self.untried else []
+        return [*self.notes, *left_out, *filter(None, [self.idle, drawn(self.base.scenario_itself)])]
 
     def digest(self) -> str:
         """The identity of a search, by which it differs from others."""

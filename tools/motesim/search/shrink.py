@@ -29,6 +29,12 @@ NAME = 'the scenario'
 MOTE = re.compile(r'\bmotes? \d+')
 STEPS: dict[str, Callable[[Net], Iterator[NetStep]]] = {
     'motes': mote_steps, 'losses': loss_steps, 'programs': program_steps, 'numbers': number_steps}
+# The end of the way in which a line breaks a sentence.
+SHOWN = ' (a line shows it)'
+# The remark on a run that may break a sentence only because hardly anything happens in it.
+EMPTY = ('In the small run, %s. So it may break the sentence for another reason. Two options prevent this: --fault '
+         'adds the fault without which the sentence has to hold, and --keep names a sentence that has to hold, such '
+         'as --keep "some packet is sent"')
 # The steps that change no program.
 STEPS_OF_NET: dict[str, Callable[[Net], Iterator[NetStep]]] = {**STEPS, 'programs': unused_program_steps}
 
@@ -48,7 +54,7 @@ def way_of(broken: Broken) -> str:
     An extra line, or a wrong line, is a different way from a missing line.
     """
     why = re.sub(r'\d+', lambda found: '0' if found[0] == '0' else 'N', broken.why)
-    return why if broken.row is None else why + ' (a line shows it)'
+    return why if broken.row is None else why + SHOWN
 
 
 def moved(effect: Effect, removed: frozenset[int]) -> Effect | None:
@@ -119,12 +125,18 @@ class Shrinking:
     first: str = ''
     now: str = ''
     tried: str = ''
+    # Whether a mote sends a packet in the first run, in the present one, and in the last one that was judged.
+    sent_first: bool = False
+    sent_now: bool = False
+    sent: bool = False
 
     def __post_init__(self) -> None:
         self.motes = list(range(len(self.case.net.motes)))
         self.way = self.way_now(self.case)
         self.longest = self.last
         self.first = self.now = self.tried
+        self.sent_first = self.sent_now = self.sent
+        self.first_end = self.case.net.end
         if self.way is None:
             more = (' with these faults, or breaks it even without them' if self.case.effects else
                     ', or breaks a sentence of --keep' * bool(self.case.keeps))
@@ -156,6 +168,7 @@ class Shrinking:
             return None
         broken = found.broken(case.sentence)
         self.tried = broken.why if broken else ''
+        self.sent = b' send ' in found.report
         return way_of(broken) if broken else None
 
     def after(self, step: NetStep) -> Case | None:
@@ -197,6 +210,7 @@ class Shrinking:
                 case = self.after(tried[index])
                 if case is not None and self.way_now(case) == self.way:
                     self.case, self.now, found, at = case, self.tried, True, index
+                    self.sent_now = self.sent
                     self.motes = [it for mote, it in enumerate(self.motes) if mote not in tried[index].removed]
                     self.taken.append(tried[index].words)
                     break
@@ -208,6 +222,16 @@ class Shrinking:
     def may_differ(self) -> bool:
         """Returns whether the explanation has other numbers than at first, apart from those of motes."""
         return MOTE.sub('', self.first) != MOTE.sub('', self.now)
+
+    @property
+    def remark(self) -> str:
+        """The remark on a present run without the packets of the first one, or with the end 0, if no fault is given and
+        the sentence lacks a line. Otherwise an empty text."""
+        if self.case.effects or self.way is None or self.way.endswith(SHOWN):
+            return ''
+        parts = ['the end is 0'] * (self.case.net.end == 0 < self.first_end)
+        parts += ['no mote sends a packet'] * (self.sent_first and not self.sent_now)
+        return EMPTY % ' and '.join(parts) if parts else ''
 
     @property
     def renumbered(self) -> str:

@@ -3,6 +3,7 @@ from __future__ import annotations
 
 import argparse
 import sys
+import textwrap
 import time
 from functools import partial
 from pathlib import Path
@@ -170,6 +171,8 @@ class Work:
             print('The explanation has other numbers now, so the cause may be another one:')
             print('  before: %s' % shrinking.first)
             print('  now:    %s' % shrinking.now)
+        for line in textwrap.wrap(shrinking.remark, 110, break_on_hyphens=False):
+            print(line)
 
 
 def status_of(asked: argparse.Namespace) -> int:
