@@ -1,5 +1,5 @@
 """Programs for Contiki 2.x as students write them, on three motes in a row: their lines on the host of Contiki's kernel,
-and their lines in motesim after `tools/explain --apply`.
+and their lines in motesim after the corrections of tools/explain.
 
 A line is a mote, a moment and a printed number. The files are in student_programs/.
 """
@@ -53,7 +53,8 @@ def lines_on_host(source: str, folder: Path, kernel: Sequence[str]) -> list[str]
 
 
 def corrected(source: str) -> tuple[str, str]:
-    """A scenario with a program in C as `tools/explain --apply` corrects it, and all hints in one text."""
+    """A scenario with a program in C as the messages of tools/explain correct it line by line, and all hints in one
+    text."""
     text, hints = SCENARIO % (END, source), list[str]()
     for change, text in changes(text):
         hints.append(change.hint)

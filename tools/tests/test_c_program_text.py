@@ -157,6 +157,9 @@ REFUSALS = (
     ('process_start(&p, (void *)3);', 'passes no value'), ('process_exit(&p);', 'ends itself by `PROCESS_EXIT()`'),
     ('x = a[4];', 'the members 0 to 2'), ('x = ev;', 'is compared with events'), ('return;', '`return` in a process'),
     ('while(n) { PT_SEM_INIT(&s, 1); }', 'is set once'), ('x = ;', 'An expression is expected here, not `;`.'),
+    ('static int *q = &n; q = &x;', 'is a pointer that changes'),
+    ('x = *(int *)packetbuf_dataptr();', 'The packet is known only in the function'),
+    ('etimer_set(&et, 7000L * CLOCK_SECOND);', 'at most 65,535 moments'), ('x = strlen("a");', 'no `strlen`'),
     ('if(x { }', 'A `)` is expected here, not `{`.'),
 )
 
@@ -194,6 +197,17 @@ class Forms(unittest.TestCase):
         self.assertEqual((text or '').count('thread f'), 7)
         self.assertEqual((text or '').count('print '), 9)
 
+    def test_a_pointer_to_a_member_keeps_its_index(self) -> None:
+        text, _ = translation(in_process('  q = &a[n]; n++; *q = 3;', '', VARIABLES + ' int *q;'))
+        self.assertEqual(body_of(text)[:4], ['q = n;', 'n = (n + 1);', 'if (q == 0) {', '  a = 3;'])
+
+    def test_a_ctimer_with_two_functions_chooses_by_a_variable(self) -> None:
+        above = ('static struct ctimer c;\nstatic void off(void *p) { printf("%d", 0); }\n'
+                 'static void on(void *p) { printf("%d", 1); ctimer_set(&c, 3, off, NULL); }')
+        text, notes = translation(in_process('  ctimer_set(&c, 5, on, NULL);', above))
+        self.assertIsNotNone(text, notes)
+        self.assertIn('if (c_calls == 0) {\n      print 1;\n      set c 3;\n      c_calls = 1;', text or '')
+
     def test_a_second_has_128_moments_if_a_time_would_be_0(self) -> None:
         text, notes = translation(in_process('  etimer_set(&et, CLOCK_SECOND / 32); etimer_set(&et, CLOCK_SECOND);', '',
                                              VARIABLES))
@@ -225,6 +239,11 @@ PROCESS_THREAD(b, ev, data) { PROCESS_BEGIN(); printf("%d", shared + limit); PRO
         self.assertIsNone(text)
         self.assertTrue(notes.startswith('line 7: Several processes use `shared`: `a` and `b`.'), notes)
         self.assertIsNotNone(translation(source.replace('shared = limit', ''))[0])
+
+    def test_ctimers_that_set_each_other_are_refused(self) -> None:
+        above = ('static struct ctimer one, two;\nstatic void b(void *p) { ctimer_stop(&one); }\n'
+                 'static void a(void *p) { ctimer_set(&two, 3, b, NULL); }')
+        self.assertIn('set each other', translation(in_process('  ctimer_set(&one, 5, a, NULL);', above))[1])
 
     def test_a_function_that_calls_itself_is_refused(self) -> None:
         for above in ('static int f(int n) { return n ? f(n - 1) : 0; }',

@@ -18,6 +18,22 @@ from translated_c import in_process, translation
 # The seeds of the random programs that are compared, and the least number that has to be translated.
 OF_C, OF_CONTIKI, OF_CALLBACKS = range(0, 40), range(0, 25), range(0, 25)
 LEAST_OF_C, LEAST_OF_CONTIKI, LEAST_OF_CALLBACKS = 35, 18, 22
+# Statements of C, and the numbers that they print with an `int` of 16 bits.
+VALUES = (
+    ('int8_t i = 127; i++; printf("%d", i);', '65408'), ('uint8_t b = 0; b--; printf("%d", b);', '255'),
+    ('int n = -7; printf("%d %d %d", n / 2, n % 2, n >> 1);', '65533 65535 65532'),
+    ('uint16_t u = 5; printf("%d %d", u - 6 > 0, u > 65000);', '1 0'),
+    ('int a = -1; uint16_t u = 1; printf("%d %d", a > u, a < 1);', '1 1'),
+    ('uint8_t b = 5; printf("%d %d", ~b & 0xff, (uint8_t)~b == 250);', '250 1'),
+    ('uint8_t b = 200; uint16_t u = (b << 8) | b; printf("%u %u", u, u & 0x7fff);', '51400 18632'),
+    ('int8_t s = -123; s &= ~0x80; printf("%d", s); s |= 0x80; printf("%d %d", s, s < 0);', '5 65413 1'),
+    ('int n = -1; printf("%d %d %d", n ^ 3, n & ~4, (n & 0xfff0) == -16);', '65532 65531 1'),
+    ('int n = 3; int x = 9; while(n-- > 0) x -= 4; printf("%d %d %d", n, x, x > -4);', '65535 65533 1'),
+    ('uint8_t a[3] = {250, 1}; uint8_t i = 0; a[i++] += 10; a[i] -= 2; printf("%d %d %d %d", a[0], a[1], a[2], i);',
+     '4 255 0 1'),
+    ('int x = 2; switch(x) { case 1: x = 10; case 2: x += 1; case 3: x += 1; if(x > 3) break; x = 0; default: x = 7; }'
+     ' printf("%d", x);', '4'),
+)
 # Programs of students that aren't translated: they schedule protothreads themselves.
 REFUSED = frozenset({'shared_item', 'side_by_side'})
 
@@ -38,6 +54,17 @@ class Students(unittest.TestCase):
                 if text is not None:
                     found = lines_in_motesim(SCENARIO % (END, text))
                     self.assertEqual(found, lines_on_host(source, folder, kernel), text)
+
+
+class Values(unittest.TestCase):
+    def test_values_have_the_types_of_c(self) -> None:
+        need_program(self)
+        for body, wanted in VALUES:
+            with self.subTest(body):
+                text, notes = translation(in_process('  ' + body))
+                self.assertIsNotNone(text, notes)
+                report = Report.parse(answer((SCENARIO % (END, text)).encode()).report)
+                self.assertEqual(' '.join(str(it.value) for it in report.lines('print') if it.mote == 0), wanted, text)
 
 
 class Random(OnHost):

@@ -1,5 +1,5 @@
-"""Programs of students in C, corrected by `tools/explain --apply`, print on three motes the numbers that they print with
-Contiki's kernel, at the same moments."""
+"""Programs of students in C, corrected line by line as tools/explain says, print on three motes the numbers that they
+print with Contiki's kernel, at the same moments."""
 import shutil
 import tempfile
 import unittest

@@ -46,8 +46,10 @@ def masked(it: Value, mask: int) -> Value:
     assert found is not None
     truth = part_of(it, *runs[0]).text if len(runs) == 1 else ''
     is_kept = len(runs) == 1 and not runs[0][0]
-    return found._replace(low=0, high=min(mask, MOST), type=it.type, zeros=runs[0][0],
-                          truth='' if is_kept else truth)
+    low, high = (0, min(mask, it.high)) if it.low >= 0 else (0, mask)
+    if it.low < 0 and it.type.signed and mask >= HALF:
+        low, high = -HALF, HALF - 1
+    return found._replace(low=low, high=high, type=it.type, zeros=runs[0][0], truth='' if is_kept else truth)
 
 
 def joined(a: Value, b: Value) -> Value | None:
@@ -67,24 +69,32 @@ def with_bits(it: Value, mask: int) -> Value:
     own = masked(it, mask)
     if own.constant == 0:
         return added(it, number(mask), '+')
-    return added(added(it, own, '-'), number(mask), '+')._replace(
-        low=min(it.low, 0), high=MOST if it.high > HALF - 1 or mask >= HALF else HALF - 1)
+    return in_width(added(added(it, own, '-'), number(mask), '+'), it, mask)
 
 
 def turned(it: Value, mask: int) -> Value:
     """`it ^ mask`."""
     mask &= MOST
     twice = multiplied(number(2), masked(it, mask))
-    return added(added(it, number(mask), '+'), twice, '-')._replace(
-        low=min(it.low, 0), high=MOST if it.high > HALF - 1 or mask >= HALF else HALF - 1)
+    return in_width(added(added(it, number(mask), '+'), twice, '-'), it, mask)
+
+
+def in_width(found: Value, it: Value, mask: int) -> Value:
+    """A value with the limits of a result that has no more bits than a value and a mask."""
+    if it.low >= 0:
+        return found._replace(low=0, high=(1 << max(it.high, mask).bit_length()) - 1)
+    return found._replace(low=-HALF, high=HALF - 1)
 
 
 def shifted_left(a: Value, count: int) -> Value:
-    return multiplied(a, number(1 << count)) if count < 16 else number(0, a.type)
+    found = multiplied(a, number(1 << count)) if count < 16 else number(0, a.type)
+    if found.type.signed and (a.high << count >= HALF or a.low << count < -HALF):
+        return found._replace(low=-HALF, high=HALF - 1)
+    return found
 
 
 def shifted_right(a: Value, count: int) -> Value:
-    """`a >> count`: of a value below 0, the next whole number below, as compilers do it."""
+    """`a >> count`: of a value below 0, the next whole number below, as compilers calculate it."""
     count = min(count, 15)
     if a.constant is not None:
         return number(a.low >> count, a.type)

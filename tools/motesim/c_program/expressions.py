@@ -9,8 +9,8 @@ from motesim.c_program.places import ADDRESSES, OF_ADDRESS, TEXTS, Place
 from motesim.c_program.tree import Expression
 from motesim.c_program.types import INT, UNSIGNED, Type, size_of
 from motesim.c_program.values import (
-    HALF, MOST, Value, added, both, common, compared, converted, divided, is_true, multiplied, negated, number,
-    promoted,
+    HALF, MOST, OPPOSITE, Value, added, both, common, compared, converted, divided, is_true, multiplied, negated,
+    number, promoted,
 )
 from motesim.c_program.written import Block, If, Line, While
 
@@ -174,6 +174,9 @@ class Expressions(Events):
                 return special
         left, right = self.two(it.parts[0], it.parts[1])
         if it.text in COMPARES:
+            for one, other in ((it.parts[0], right), (it.parts[1], left)):
+                if one.kind == 'number' and one.number > 32_767 and other.is_negative:
+                    self.remark(it.line, OF_LONG)
             return compared(it.text, left, right)
         return self.operation(it.text, left, right, it.line)
 
@@ -413,9 +416,10 @@ class Expressions(Events):
         if bit == HALF:
             test = test._replace(text='(%s / 32768)' % old.text)
         known = dict(self.known)
+        low, high = 0 if old.low >= 0 else old.low - bit, (1 << max(old.high, bit).bit_length()) - 1
+        changed = added(old, number(bit), '+' if sign == '|' else '-')._replace(low=low, high=max(old.high, high))
         with self.into([]) as block:
-            self.write(place, added(old, number(bit), '+' if sign == '|' else '-')._replace(
-                low=min(old.low, 0), high=max(old.high, (1 << max(old.high, bit).bit_length()) - 1)), line)
+            self.write(place, changed, line)
         self.known = joined_limits(known, self.known)
         self.out.append(If(negated(test) if sign == '|' else test, block, []))
         return True
@@ -492,8 +496,7 @@ class Expressions(Events):
             self.refined(it.parts[0], is_true_here)
             self.refined(it.parts[1], is_true_here)
         elif it.kind == 'binary' and it.text in COMPARES:
-            sign = it.text if is_true_here else {'<': '>=', '>=': '<', '>': '<=', '<=': '>', '==': '!=', '!=': '=='}[
-                it.text]
+            sign = it.text if is_true_here else OPPOSITE[it.text]
             self.refine_by(it.parts[0], sign, it.parts[1])
             mirrored = {'<': '>', '>': '<', '<=': '>=', '>=': '<='}.get(sign, sign)
             self.refine_by(it.parts[1], mirrored, it.parts[0])

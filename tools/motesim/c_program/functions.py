@@ -115,11 +115,21 @@ class Functions(Control):
 
     def point(self, variable: Variable, target: Expression, line: int) -> None:
         """Notes what a pointer points to."""
-        pointer = self.pointer(target)
+        pointer = self.with_own_index(variable, self.pointer(target))
         known = self.aliases.get(variable)
-        if known is not None and known != pointer and known.kind != 'null':
+        if known is not None and known != pointer:
             raise self.refuse(line, OF_POINTERS % variable.name)
         self.aliases[variable] = pointer
+
+    def with_own_index(self, variable: Variable, pointer: Pointer) -> Pointer:
+        """A pointer to a member of an array that a variable chooses: it keeps the index if the variable changes."""
+        place = pointer.place
+        if place is None or place.chosen is None:
+            return pointer
+        name = self.own('index of %s %d' % (variable.name, variable.line), variable.name)
+        self.assign(name, place.chosen)
+        index = Value(name, INT, 0, len(place.paths) - 1, frozenset([name]))
+        return pointer._replace(place=place._replace(chosen=index))
 
     def special_assignment(self, it: Expression) -> bool:
         """Assignments to pointers, structures, events and addresses. Returns whether it is one."""
@@ -248,7 +258,7 @@ class Functions(Control):
             if kind in ('pointer', 'data'):
                 if kind == 'data' and not self.is_data(part):
                     raise self.refuse(call.line, OF_EVENT)
-                self.aliases[variable] = self.pointer(part)
+                self.aliases[variable] = self.with_own_index(variable, self.pointer(part))
                 bound.append(variable)
             elif kind == 'event':
                 if not self.is_event(part):

@@ -18,6 +18,7 @@ NO_INDEX = 'The array `%s` has the members 0 to %d: there is no member %d.'
 NO_FIELD = 'There is no field `%s` here.'
 OF_PACKET = ('A packet is one number of 16 bits, so it has one value or two fields that are at most 255: `%s` doesn\'t '
              'fit. Send a packet for each value.')
+NO_PACKET = 'The packet is known only in the function that is called for packets: keep its value in a variable.'
 OF_ADDRESS = 'An address is one number: the motes are numbered from 0, in the order of the scenario.'
 OF_NULL = 'The address that no mote has is 255 here.'
 TEXTS = 'There are no texts here: a program prints numbers.'
@@ -262,6 +263,8 @@ class Places(Base):
 
     def received(self, place: Place, line: int) -> Value:
         """The value of a packet or of an event, or a field of it."""
+        if place.source == 'packet' and not self.unit.is_callback:
+            raise self.refuse(line, NO_PACKET)
         its = place.root
         parts = leaves_of(its)
         path = place.paths[0]

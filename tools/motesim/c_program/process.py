@@ -252,7 +252,10 @@ class ProcessWriter(Functions):
                 raise self.refuse(it.line, OF_POINTER)
             self.values[variable] = value
             return
-        self.aliases[variable] = self.pointer(it)
+        pointer = self.pointer(it)
+        if pointer.place is not None and pointer.place.chosen is not None:
+            raise self.refuse(it.line, OF_POINTER)
+        self.aliases[variable] = pointer
 
     # The text.
 

@@ -84,7 +84,7 @@ class Radio(Calls):
             return
         kept = self.payload()
         self.assign(kept, value, UNSIGNED)
-        self.buffer = Value(kept, UNSIGNED, 0, MOST, frozenset([kept]))
+        self.buffer = Value(kept, UNSIGNED, *self.limits(kept, UNSIGNED), frozenset([kept]))
 
     # Whether the statement behind the one that is translated sends the buffer.
     next_sends = False
