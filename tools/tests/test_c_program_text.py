@@ -132,6 +132,14 @@ FORMS = (
        x = 1;
      }
      broadcast event_10 0;'''),
+    ('if(data) x = 1; if(ev == PROCESS_EVENT_EXITED && data == &p) x = 2; x = (int)data;', '''
+     if !((data == 0) && !(is(timer) || is(exited))) {
+       x = 1;
+     }
+     if gone(p) {
+       x = 2;
+     }
+     x = data;'''),
     ('a[n] = 2; a[n] += x; n = 2; a[n] = 3;', '''
      if (n == 0) {
        a = 2;
@@ -160,6 +168,8 @@ REFUSALS = (
     ('static int *q = &n; q = &x;', 'is a pointer that changes'),
     ('x = *(int *)packetbuf_dataptr();', 'The packet is known only in the function'),
     ('etimer_set(&et, 7000L * CLOCK_SECOND);', 'at most 65,535 moments'), ('x = strlen("a");', 'no `strlen`'),
+    ('x = sht11_sensor.value(0);', 'A mote has no sensors'), ('SENSORS_ACTIVATE(b);', 'no sensors and no buttons'),
+    ('int *q = (int *)data; PROCESS_YIELD(); x = *q;', '`q` isn\'t the address of a variable'),
     ('if(x { }', 'A `)` is expected here, not `{`.'),
 )
 

@@ -36,7 +36,9 @@ class Expressions(Events):
         return promoted(self.evaluate(it))
 
     def test(self, it: Expression) -> Value:
-        """The value of an expression as a test."""
+        """The value of an expression as a test: a pointer is true if it isn't NULL."""
+        if it.kind in ('name', 'cast') and self.is_data(it):
+            return negated(self.data_is(Expression('name', 'NULL', line=it.line)))
         return self.evaluate(it)
 
     # Values.

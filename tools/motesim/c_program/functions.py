@@ -43,6 +43,8 @@ class Functions(Control):
         self.effects: dict[str, set[str]] = {}
         self.inlined: set[str] = set()
         self.fresh: set[Variable] = set()
+        # Variables that get their value in each call of the process.
+        self.permanent: set[Variable] = set()
 
     # Variables.
 
@@ -389,6 +391,9 @@ class Functions(Control):
         self.is_first = False
         self.fresh = {one for one in self.fresh if one.is_static}
         self.buffer = None
+        for variable, pointer in [*self.aliases.items()]:
+            if pointer.kind in ('data', 'packet') and not variable.is_parameter and variable not in self.permanent:
+                del self.aliases[variable]
 
     def waits(self, it: Expression, test: Expression | None) -> None:
         """A wait for an event, until a test is true."""

@@ -8,6 +8,7 @@ from motesim.c_program.refusal import Refusal
 from motesim.c_program.tokens import Token
 from motesim.c_program.tree import Expression, Variable
 from motesim.c_program.types import INT, UNSIGNED, Type, size_of
+from motesim.from_c.absent import OF_READING
 
 ASSIGNS = ('=', '+=', '-=', '*=', '/=', '%=', '&=', '|=', '^=', '<<=', '>>=')
 LEVELS = (('||',), ('&&',), ('|',), ('^',), ('&',), ('==', '!='), ('<', '<=', '>', '>='), ('<<', '>>'), ('+', '-'),
@@ -150,6 +151,8 @@ class Expressions:
             if not self.is_sign(')'):
                 self.need(',')
         self.need(')')
+        if function.parts and function.parts[0].text.endswith('_sensor'):
+            raise Refusal(line, OF_READING)
         if function.kind != 'name':
             raise Refusal(line, 'A pointer to a function is called here: call the function by its name.')
         return Expression('call', function.text, tuple(parts), function.line, function.variable)

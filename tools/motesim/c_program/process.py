@@ -31,7 +31,6 @@ class ProcessWriter(Functions):
 
     def __init__(self, program: Program, process: str):
         super().__init__(program, process)
-        self.permanent: set[Variable] = set()
         self.locals: set[str] = set()
         # The functions of each callback timer with what they get, and their blocks.
         self.callbacks: dict[str, list[tuple[str, str]]] = {}
@@ -124,6 +123,8 @@ class ProcessWriter(Functions):
             assert variable is not None
             if not variable.is_static and variable.initial and variable.type.kind != 'pointer':
                 self.check_constant(it, variable)
+            if variable.type.kind == 'pointer':
+                self.permanent.add(variable)
             self.of_declare(it)
         elif it.kind == 'empty':
             self.comments(it)
