@@ -56,7 +56,7 @@ DEED = Table('DEED', 'Lines of the report', ('mote 1 %s',), (
     (('prints just P 1 to 29 in any order',),
      'all lines `print P V`: exactly these values, in any order'),
     (('prints just P its distance from mote 0',),
-     'all lines `print P V`: exactly one, with this value or with any other VALUE of the next table'),
+     'all lines `print P V`: exactly one, with this value. You can also write another VALUE of the next table'),
     (('finally prints P VALUE',), 'the last line `print P V`: this value'),
     (('sends', 'sends VALUE'), '`send N V`'),
     (('receives', 'receives VALUE', 'receives VALUE from mote 2'), '`recv F N V`'),
@@ -74,11 +74,11 @@ VALUE = Table('VALUE', 'Is', ('mote 1 prints p %s',), (
     (('its distance from mote 0',),
      'the least number of hops from mote 0 to the mote, over links that don\'t lose every packet'),
     (('the set of motes that it hears', 'the set of motes that it hears but 5'),
-     'a number in which bit n is set for each mote n that the mote hears, except those after `but`; these motes must '
-     'be 0 to 15'),
+     'a number in which bit n is set for each mote n that the mote hears, except those after `but`. All motes in the '
+     'set must have numbers up to 15'),
     (('the set of motes linked with it', 'the set of motes linked with it but 5'),
      'a number in which bit n is set for each mote n that the mote hears and that hears the mote, except those after '
-     '`but`; these motes must be 0 to 15'),
+     '`but`. All motes in the set must have numbers up to 15'),
     (('a mote that it hears, one hop nearer to mote 0',),
      'the number of any mote that the mote hears and that is one hop nearer to mote 0'),
 ))
