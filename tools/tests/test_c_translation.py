@@ -57,6 +57,16 @@ class Students(unittest.TestCase):
 
 
 class Values(unittest.TestCase):
+    def test_other_parts_of_a_process_change_variables_during_its_waits(self) -> None:
+        need_program(self)
+        above = 'static int x, i; static struct ctimer c;\nstatic void later(void *p) { x = -5; }'
+        body = ('  x = 0; ctimer_set(&c, 5, later, NULL); for(i = 0; i < 3; i++) { if(x < 0) printf("%d", i); '
+                'etimer_set(&et, 4); PROCESS_WAIT_EVENT_UNTIL(etimer_expired(&et)); }')
+        text, notes = translation(in_process(body, above, '  static struct etimer et;'))
+        self.assertIsNotNone(text, notes)
+        report = Report.parse(answer((SCENARIO % (END, text)).encode()).report)
+        self.assertEqual([(it.at, it.value) for it in report.lines('print') if it.mote == 0], [(8, 2)], text)
+
     def test_values_have_the_types_of_c(self) -> None:
         need_program(self)
         for body, wanted in VALUES:

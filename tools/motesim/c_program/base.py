@@ -171,9 +171,11 @@ class Base:
 
     def forget_others(self) -> None:
         """Forgets limits of variables that other parts of the program may have changed meanwhile."""
-        for name in [*self.known]:
-            if self.program.knowledge.writers.get((self.process, name), set()) - {self.unit.name}:
-                del self.known[name]
+        for (process, name), units in self.program.knowledge.writers.items():
+            if process == self.process and units - {self.unit.name}:
+                self.known.pop(name, None)
+                for loop in self.open_loops:
+                    loop[name] = None
 
     # Variables of the translator.
 

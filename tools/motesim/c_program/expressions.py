@@ -518,7 +518,7 @@ class Expressions(Events):
             return
         limits = limits[0] + shift, limits[1] + shift
         low, high = self.limits(name, its)
-        if (low < 0 or limits[0] < 0) and (not its.signed or limits[1] > 32_767):
+        if (low < 0 or limits[0] < 0) and (not its.signed or limits[1] > 32_767 or self.is_unsigned(other)):
             return
         if sign in ('>', '>=', '=='):
             low = max(low, limits[0] + (sign == '>'))
@@ -552,6 +552,13 @@ class Expressions(Events):
         with self.into([]):
             value = self.operand(it)
         return (value.low, value.high) if value.constant is not None else None
+
+    def is_unsigned(self, it: Expression) -> bool:
+        """Returns whether a number or a variable makes a comparison one of values without a sign."""
+        if it.kind == 'name' and it.variable:
+            return not it.variable.type.signed and it.variable.type.bits >= 16
+        with self.into([]):
+            return self.operand(it).unsigned
 
     def is_size(self, it: Expression) -> bool:
         """Returns whether all variables of an expression are in a `sizeof`."""
