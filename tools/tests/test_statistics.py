@@ -218,10 +218,17 @@ class Crossings(unittest.TestCase):
                                 '  rises above 0.6 at x 0.5, between the points 0 and 1\n'
                                 '  falls below 0.6 at x 1.5, between the points 1 and 2\n'
                                 '  rises above 0.6 at x 3, between the points 2 and 4\n'
-                                '  with 95 %, by the bootstrap of 2 runs: the first crossing at 0 to 1, and the last '
-                                'at 2 to 4\n'
-                                '  how often the true curve crosses isn\'t known: report the range 0 to 4, or make '
-                                'more runs there')
+                                '  95 % interval of the first crossing, by the bootstrap of 2 runs: from 0 to 1\n'
+                                '  95 % interval of the last crossing, by the bootstrap of 2 runs: from 2 to 4\n'
+                                '  how often the true curve crosses isn\'t known: report the range from 0 to 4, or '
+                                'make more runs there')
+        is_open = found._replace(high=math.inf, last=(-math.inf, 4), share=0.9)
+        self.assertEqual(of_crossing(is_open, Wish('m', 'x', show='mean', threshold='0.6')).split('\n')[4:], [
+            '  95 % interval of the first crossing, by the bootstrap of 2 runs: from 0 to beyond the last point',
+            '  95 % interval of the last crossing, by the bootstrap of 2 runs: from before the first point to 4; 90 % '
+            'of the drawn curves cross upwards',
+            '  how often the true curve crosses isn\'t known: report the range from before the first point to beyond '
+            'the last point, or make more runs there'])
         wish = Wish('m', 'x', show='mean', threshold='0.6')
         self.assertEqual(of_crossing_in_short(found, wish), 'the mean crosses 0.6 3 times (95 %: 0 to 4)')
         self.assertEqual(of_crossing_in_short(found._replace(share=0.9), wish),
@@ -956,12 +963,36 @@ class Command(unittest.TestCase):
             self.assertIn('density', self.seen)
         self.plot('--measure', 'sent', '--against', 'ratio', '--show', 'points')
 
+    def test_unequal_numbers_of_runs_that_are_mixed_have_a_warning(self) -> None:
+        words = '--measure', 'sent', '--against', 'period', '--over', 'seed,density'
+        self.plot(*words, '--show', 'mean')
+        self.assertNotIn('unequal', self.seen)
+        rows = results().splitlines(True)
+        (self.folder / 'net.csv').write_text(''.join(rows[:9] + rows[11:-1]))
+        self.plot(*words, '--show', 'mean')
+        self.assertIn('plot: --over mixes unequal numbers of runs: at period 1, 5 with density = thin, but 3 with '
+                      'density = dense (and at 1 more). So these values don\'t count equally\n', self.seen)
+        self.plot(*words[:2], '--over', 'seed,density,period', '--show', 'cdf')
+        self.assertIn('unequal numbers of runs: 15 with density = thin, but 12 with density = dense. So', self.seen)
+        for others in ('--show', 'points'), ('--show', 'mean', '--by', 'density', '--over', 'seed'):
+            self.plot(*words[:4], *(others if '--over' in others else (*words[4:], *others)))
+            self.assertNotIn('unequal', self.seen)
+
+    def test_matplotlib_reports_nothing_about_its_list_of_fonts(self) -> None:
+        interpreter = interpreter_with(self, 'matplotlib')
+        with mock.patch.dict(os.environ, {'HOME': '/proc/none', 'MPLCONFIGDIR': ''}):
+            os.environ.pop('XDG_CONFIG_HOME', None)
+            words = '--measure', 'sent', '--against', 'period', *ONE, '-o', 'a.svg'
+            done = subprocess.run([interpreter, '-B', str(TOOLS / 'plot'), 'net.csv', *words], cwd=self.folder,
+                                  capture_output=True, text=True)
+        self.assertEqual((done.returncode, done.stderr), (0, ''))
+
     def test_a_crossing(self) -> None:
         rows = self.plot('--measure', 'ratio', '--against', 'period', '--by', 'density', '--show', 'mean',
                          '--threshold', '0.6')
         self.assertEqual(' '.join(rows[-3]), 'density thin: the mean rises above 0.6 at period 5.97, between the '
                                              'points 4 and 8')
-        self.assertEqual(' '.join(rows[-2]), 'with 95 %, by the bootstrap of 5 runs: 4 to 8')
+        self.assertEqual(' '.join(rows[-2]), '95 % interval of the crossing, by the bootstrap of 5 runs: from 4 to 8')
         self.assertEqual(' '.join(rows[-1]), 'bootstrap: 2,000 draws with replacement, by SplitMix64 with the seed 1')
         rows = self.plot('--measure', 'ratio', '--against', 'period', '--by', 'density', '--threshold', '0.6', '--log')
         self.assertIn('the median rises above 0.6 at period 5.628', ' '.join(rows[-3]))
@@ -1493,7 +1524,7 @@ class Command(unittest.TestCase):
             16384.0, True, (8192.0, 32768.0)),), (5, 5))
         self.assertEqual(of_crossing(found, wish).split('\n'), [
             'the mean rises above 1234567 at memory 16384, between the points 8192 and 32768',
-            '  with 95 %, by the bootstrap of 5 runs: 8192 to 32768'])
+            '  95 % interval of the crossing, by the bootstrap of 5 runs: from 8192 to 32768'])
 
     def test_a_cdf_does_not_mix_the_values_of_against(self) -> None:
         for name in 'period', 'ratio':

@@ -2,6 +2,7 @@
 from __future__ import annotations
 
 import itertools
+import logging
 import math
 import re
 import warnings
@@ -54,6 +55,8 @@ METADATA: dict[str, dict[str, str | None]] = {
 
 
 def _pyplot(wish: Wish) -> Any:
+    # (matplotlib reports in each process that it can't keep its list of fonts, which concerns no picture)
+    logging.getLogger('matplotlib').setLevel(logging.ERROR)
     matplotlib: Any = packages.load('matplotlib')
     matplotlib.use('Agg')
     matplotlib.rcParams.update({'svg.hashsalt': 'motesim', 'svg.fonttype': 'none', 'pdf.fonttype': 42,

@@ -432,6 +432,27 @@ def crossed_rows(rows: Sequence[Row], names: Sequence[str], wish: Wish) -> Cross
     return crossed_in(names, points.values())
 
 
+def unequal_runs(shown: Shown, wish: Wish) -> list[str]:
+    """A line for each parameter of `--over`, except seeds, of whose values a point has unequal numbers of runs: some
+    values then count more than others."""
+    found = []
+    for place, name in enumerate(shown.over):
+        if name not in wish.over.split(',') or is_seed(name) or wish.show == 'points' or shown.along:
+            continue
+        values = sorted({key[place] for point in shown.points for key in point.keys}, key=order)
+        counts = [(point, Counter(key[place] for key in point.keys)) for point in shown.points]
+        unequal = [(point, its) for point, its in counts if len({its[value] for value in values}) > 1]
+        if unequal:
+            point, its = unequal[0]
+            at = 'at %s %s, ' % (wish.against, text_of(point.against)) if wish.against else ''
+            few, many = min(values, key=lambda it: its[it]), max(values, key=lambda it: its[it])
+            more = ' (and at %d more)' % (len(unequal) - 1) if len(unequal) > 1 else ''
+            found.append('--over mixes unequal numbers of runs: %s%d with %s = %s, but %d with %s = %s%s. So these '
+                         'values don\'t count equally' % (
+                             at, its[many], name, text_of(many), its[few], name, text_of(few), more))
+    return found
+
+
 def shared_nets(rows: Sequence[Row], names: Sequence[str], measure: str) -> tuple[int, int] | None:
     """The numbers of runs and nets of the first point that has several nets, but fewer nets than runs."""
     groups: dict[tuple[Cell, ...], list[Cell]] = {}

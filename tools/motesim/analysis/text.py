@@ -29,7 +29,7 @@ OF_COMPARISON = 'nets', 'pairs', 'left out', 'difference', 'low', 'high', 'inter
 # The directions of a crossing, by whether the curve rises there.
 DIRECTIONS = {True: 'upwards', False: 'downwards'}
 # The ends of the interval of a crossing beyond all points, if the axis shows a parameter, and if it shows a measure.
-OF_PARAMETER = 'before the first point', 'after the last point'
+OF_PARAMETER = 'before the first point', 'beyond the last point'
 OF_MEASURE = 'less than at any point', 'more than at any point'
 # The lines about the bootstrap of few runs, and about bootstrap-t, which is better than other methods if the runs are
 # skewed.
@@ -548,14 +548,14 @@ def of_crossing(found: Crossing | None, wish: Wish, between: Sequence[str] = (),
 def _of_interval(found: Crossing, low: float, high: float, wish: Wish, between: Sequence[str]) -> list[str]:
     """The lines about the interval of a crossing, or about those of the first and the last."""
     few = ', %d to %d at a point' % found.sizes if found.sizes[0] < found.sizes[1] else ''
-    by = 'with %g %%, by the bootstrap of %d %s%s: ' % (wish.confidence, found.draws, counted(wish), few)
-    ends = _ends(low, high, between)
-    if found.last is None:
-        return ['%s%s to %s%s' % (by, *ends, _share(found))]
-    return ['%sthe first crossing at %s to %s, and the last at %s to %s%s' % (
-        by, *ends, *_ends(*found.last, between), _share(found)),
-        'how often the true curve crosses isn\'t known: report the range %s to %s, or make more runs there' % _ends(
-            *_range(found), between)]
+    by = 'by the bootstrap of %d %s%s' % (found.draws, counted(wish), few)
+    its = [('the crossing', (low, high))] if found.last is None else [
+        ('the first crossing', (low, high)), ('the last crossing', found.last)]
+    lines = ['%g %% interval of %s, %s: from %s to %s' % (wish.confidence, name, by, *_ends(*ends, between))
+             for name, ends in its]
+    lines[-1] += _share(found)
+    return lines + ['how often the true curve crosses isn\'t known: report the range from %s to %s, or make more runs '
+                    'there' % _ends(*_range(found), between)] * (found.last is not None)
 
 
 def _share(found: Crossing) -> str:

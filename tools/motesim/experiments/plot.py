@@ -15,7 +15,7 @@ from motesim.analysis.origin import origin_of, origin_path
 from motesim.analysis.paired import Difference, Paired, differences, pairs_in, pairs_of
 from motesim.analysis.points import Wish, check_measures, check_pairs, check_plans, is_repeat, measures_of, mixed_in
 from motesim.analysis.points import crossed_rows, names_of_nets, order, parameters_of, separated_by, shared_nets
-from motesim.analysis.points import shown_of
+from motesim.analysis.points import shown_of, unequal_runs
 from motesim.analysis.rows import by_net, joined, warnings_of
 from motesim.experiments import packages
 from motesim.experiments.measures import Cell
@@ -70,9 +70,10 @@ def left_to_caption(has_room: bool, picture: Path) -> list[str]:
 
 def show(rows: Sequence[Row], wish: Wish, source: Source) -> bool:
     """Draws a picture or prints a table; returns whether the output has the wanted form."""
-    shown = shown_of(by_net(rows, wish) if wish.nets else rows, wish)._replace(
-        warnings=warnings_of(rows, [*separated_by(wish), *wish.over.split(',')], measures=[wish.measure, wish.against]),
-        within=mixed_in(rows, parameters_of(rows), wish) if wish.nets else [])
+    shown = shown_of(by_net(rows, wish) if wish.nets else rows, wish)
+    warnings = warnings_of(rows, [*separated_by(wish), *wish.over.split(',')], measures=[wish.measure, wish.against])
+    shown = shown._replace(warnings=[*unequal_runs(shown, wish), *warnings],
+                           within=mixed_in(rows, parameters_of(rows), wish) if wish.nets else [])
     if not shown.points:
         raise Fault('; '.join(['there is no value of %s to show' % wish.measure, *text.left_out(shown, wish)]))
     text.check_log(shown, wish)
