@@ -218,11 +218,22 @@ class Forms(unittest.TestCase):
         self.assertIsNotNone(text, notes)
         self.assertIn('if (c_calls == 0) {\n      print 1;\n      set c 3;\n      c_calls = 1;', text or '')
 
+    def test_a_second_has_128_moments_if_10_would_change_the_ratio_of_times(self) -> None:
+        for body, second in (('etimer_set(&et, CLOCK_SECOND * 3);', 10), ('etimer_set(&et, CLOCK_SECOND / 2);', 10),
+                             ('etimer_set(&et, 25);', 10), ('etimer_set(&et, CLOCK_SECOND / 4);', 128),
+                             ('etimer_set(&et, CLOCK_SECOND); etimer_set(&et, 100);', 128),
+                             ('u = 100; etimer_set(&et, u); u = CLOCK_SECOND;', 128),
+                             ('etimer_set(&et, CLOCK_SECOND); if(clock_time() > 300) u = 1;', 128),
+                             ('u = 7; etimer_set(&et, CLOCK_SECOND / u);', 128)):
+            found = translated(in_process('  ' + body, '', VARIABLES))
+            self.assertEqual(found.second, second, body)
+            self.assertEqual(any('128 moments' in it.text for it in found.remarks), second == 128)
+
     def test_a_second_has_128_moments_if_a_time_would_be_0(self) -> None:
         text, notes = translation(in_process('  etimer_set(&et, CLOCK_SECOND / 32); etimer_set(&et, CLOCK_SECOND);', '',
                                              VARIABLES))
         self.assertEqual(body_of(text), ['set et 4;', 'set et 128;'])
-        self.assertIn('so `CLOCK_SECOND` is 128 here', notes)
+        self.assertIn('A second has 128 moments here', notes)
 
 
 class Refusals(unittest.TestCase):

@@ -7,6 +7,7 @@ from pathlib import Path
 from c_programs import CProgram
 from contiki_callbacks import CallbackProgram
 from contiki_programs import ContikiProgram
+from motesim.c_program.seconds import SECOND
 from motesim.report import Report
 from motesim.runner.run import answer
 from skips import need_command, need_program
@@ -49,7 +50,7 @@ class Students(unittest.TestCase):
         for file in sorted((*PROGRAMS.glob('*.c'), *PROGRAMS.glob('more/*.c'))):
             source = file.read_text()
             with self.subTest(file.stem):
-                text, notes = translation(source)
+                text, notes = translation(source, SECOND)
                 self.assertEqual(text is None, file.stem in REFUSED, notes)
                 if text is not None:
                     found = lines_in_motesim(SCENARIO % (END, text))
@@ -83,7 +84,7 @@ class Random(OnHost):
         for seed in OF_C:
             program = CProgram(seed, bool(seed % 2))
             wanted = program.prints()
-            text, notes = translation(in_process('\n'.join(program.body), '\n'.join(program.functions)))
+            text, notes = translation(in_process('\n'.join(program.body), '\n'.join(program.functions)), SECOND)
             if wanted is None:
                 continue
             count += 1
@@ -97,7 +98,8 @@ class Random(OnHost):
         kernel, count = self.kernel(), 0
         for seed in OF_CONTIKI:
             program = ContikiProgram(seed)
-            wanted, (text, notes) = program.prints_on(self.folder, kernel), translation('\n'.join(program.lines))
+            wanted = program.prints_on(self.folder, kernel)
+            text, notes = translation('\n'.join(program.lines), SECOND)
             if wanted is None or text is None:
                 self.assertIn('switch', notes or 'switch')
                 continue
@@ -112,7 +114,8 @@ class Random(OnHost):
         kernel, count = self.kernel(), 0
         for seed in OF_CALLBACKS:
             program = CallbackProgram(seed)
-            wanted, (text, notes) = program.prints_on(self.folder, kernel), translation('\n'.join(program.lines))
+            wanted = program.prints_on(self.folder, kernel)
+            text, notes = translation('\n'.join(program.lines), SECOND)
             if wanted is None:
                 continue
             count += 1

@@ -23,10 +23,10 @@ def in_process(body: str, above: str = '', inside: str = '') -> str:
     return PROCESS % (above, inside, body)
 
 
-def translation(source: str) -> tuple[str | None, str]:
-    """A translated program, or None; and its remarks, or the refusal."""
+def translation(source: str, second: int | None = None) -> tuple[str | None, str]:
+    """A translated program, or None; and its remarks, or the refusal. `second`: the moments of a second."""
     try:
-        found = translated(source)
+        found = translated(source, second)
     except Refusal as refusal:
         return None, 'line %d: %s' % (refusal.line, refusal.reason)
     return found.text, '\n'.join('line %d: %s' % it for it in found.remarks)

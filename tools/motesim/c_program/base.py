@@ -29,7 +29,6 @@ class Program:
     semaphores: dict[Variable, str] = field(default_factory=dict)
     counts: dict[Variable, int] = field(default_factory=dict)
     remarks: dict[str, tuple[int, str]] = field(default_factory=dict)
-    has_short_time: bool = False
 
     def remark(self, line: int, text: str) -> None:
         """Notes what differs from C, once for each cause."""

@@ -35,8 +35,6 @@ OF_CHANCE = ('A mote has no random numbers: each run is the same. `dice` is a ge
 OF_STRUCT_TIMER = ('A `struct timer` and a `struct stimer` post no event when they expire, so `%s` has two variables '
                    'here, and a wait for it ends only if another event arrives.')
 TOO_LONG = 'A timer is set to at most 65,535 moments: wait for it several times.'
-OF_SHORT = ('With 10 moments for a second, a time of this program would be 0, so `CLOCK_SECOND` is 128 here, as in '
-            'Contiki. Then the ratios of all times stay; `end` of the scenario is in moments, too.')
 OF_RADIO_TIMER = ('In Contiki, the function that is called for packets runs in a process of the radio. So if it sets '
                   '`%s`, the event of this timer goes to the process of the radio. Here, `%s` gets the event.')
 NO_CLOSE = 'A connection isn\'t closed here: `%s` runs for each packet up to the end.'
@@ -239,8 +237,6 @@ class Calls(Expressions):
         if exact is not None and exact > MOST:
             raise self.refuse(it.line, TOO_LONG)
         value = self.operand(it)
-        if value.constant == 0 and any(part.text == 'CLOCK_SECOND' for part in self.all_in(it)):
-            self.program.has_short_time = True
         if value.is_negative:
             value = as_type(value, UNSIGNED)
         return value.text

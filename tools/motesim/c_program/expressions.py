@@ -6,6 +6,7 @@ from motesim.c_program.base import OF_LONG, joined_limits
 from motesim.c_program.constants import EVENT_NUMBERS, NUMBERS
 from motesim.c_program.events import Events
 from motesim.c_program.places import ADDRESSES, OF_ADDRESS, TEXTS, Place
+from motesim.c_program.seconds import SECOND
 from motesim.c_program.tree import Expression
 from motesim.c_program.types import INT, UNSIGNED, Type, size_of
 from motesim.c_program.values import (
@@ -19,7 +20,6 @@ NO_SIGNED_DIVISION = ('`%s` of a value that may be below 0 isn\'t translated her
                       'use an `if`.')
 NO_BITS = 'This operation on bits needs statements of its own: write it above, into a variable.'
 NO_NAME = 'motesim has no `%s`.'
-SECOND = 10
 OF_SECONDS = 'A second has 10 moments here, so `CLOCK_SECOND` is 10. `end` of the scenario is in moments, too.'
 
 

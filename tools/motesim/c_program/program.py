@@ -11,20 +11,21 @@ from __future__ import annotations
 from typing import NamedTuple
 
 from motesim.c_program.base import Program
-from motesim.c_program.calls import OF_SHORT
 from motesim.c_program.constants import EVENT_NUMBERS, constant_of
 from motesim.c_program.knowledge import Knowledge
 from motesim.c_program.names import fresh
 from motesim.c_program.parse_file import read_file
 from motesim.c_program.process import ProcessWriter
 from motesim.c_program.refusal import Refusal
+from motesim.c_program.seconds import TICKS, second_of
 from motesim.c_program.tree import Expression, File, Statement
 from motesim.c_program.usage import usage_of
 from motesim.c_program.walk import all_parts
 from motesim.notation.faults import ProgramError, find_fault
 
 MOST_ROUNDS = 40
-SECOND, TICKS = 10, 128
+OF_TICKS = ('A second has 128 moments here, as `CLOCK_SECOND` on the Tmote Sky, because this program has parts of a '
+            'second or times in ticks. `end` of the scenario is in moments, too.')
 NO_PROCESS = 'No process is here: a program for Contiki has at least one `PROCESS` with its `PROCESS_THREAD`.'
 NO_BODY = 'The process `%s` has no `PROCESS_THREAD(%s, ev, data)` in this file.'
 TOO_LARGE = 'The program is too large for a mote: %s'
@@ -39,20 +40,22 @@ class Remark(NamedTuple):
 
 
 class Translation(NamedTuple):
-    """A program in the notation, and what differs from C."""
+    """A program in the notation, what differs from C, and the moments of a second."""
     text: str
     remarks: tuple[Remark, ...]
+    second: int
 
 
-def translated(text: str) -> Translation:
-    """A program in C in the notation. Raises a Refusal if it isn't translated."""
+def translated(text: str, second: int | None = None) -> Translation:
+    """A program in C in the notation. Raises a Refusal if it isn't translated. `second`: the moments of a second, which
+    depend on the program if they aren't given."""
     try:
         file = read_file(text)
         check_processes(file)
-        program, lines = settled(file, SECOND)
-        if program.has_short_time:
-            program, lines = settled(file, TICKS)
-            program.remark(first_second(file), OF_SHORT)
+        second = second or second_of(file)
+        program, lines = settled(file, second)
+        if second == TICKS:
+            program.remark(first_second(file), OF_TICKS)
     except RecursionError:
         raise Refusal(1, TOO_LARGE % LIMITS[7]) from None
     found = '\n'.join(lines) + '\n'
@@ -60,7 +63,7 @@ def translated(text: str) -> Translation:
     if fault is not None:
         raise Refusal(*of_fault(fault, file))
     remarks = sorted(Remark(*it) for it in program.remarks.values())
-    return Translation(found, tuple(remarks))
+    return Translation(found, tuple(remarks), second)
 
 
 def of_fault(fault: ProgramError, file: File) -> tuple[int, str]:

@@ -14,6 +14,7 @@ from typing import NamedTuple
 
 from motesim.c_program.program import translated
 from motesim.c_program.refusal import Refusal
+from motesim.c_program.seconds import SECOND
 from motesim.explain.explanation import CONTROL, explanation, shown_explanation, wrapped
 from motesim.explain.followed import followed
 from motesim.faults import Fault
@@ -25,9 +26,11 @@ from motesim.terminal import one_line
 from motesim.toml import MARK
 
 MOST_CHANGES = 1_000
+# The last moment, if a second has 10 moments.
+END = 1_000
 # The net for a file that has only a program: two motes that hear each other.
 NET = '''version = 2
-end = 1000
+end = %d
 medium = { range = 10, base = 2, per = 100, collide = false }
 mote = [{ x = 0, y = 0, program = "%s" }, { x = 5, y = 0, program = "%s" }]
 [programs]
@@ -80,12 +83,12 @@ def _change(old: str, new: str, message: Sequence[str]) -> Change:
     return Change(hint, tuple(it[1:] for it in rows if it[0] == '-'), tuple(it[1:] for it in rows if it[0] == '+'))
 
 
-def in_net(name: str, source: str) -> str:
+def in_net(name: str, source: str, end: int = END) -> str:
     """A scenario with a program in a net of two motes."""
     if "'''" in source:
         raise Fault(QUOTES % one_line(name))
     program = re.sub(r'[^a-z0-9_]', '_', Path(name).stem.lower()).strip('_')[:16] or 'p'
-    return NET % (program, program, program, source if source.endswith('\n') else source + '\n')
+    return NET % (end, program, program, program, source if source.endswith('\n') else source + '\n')
 
 
 def apply(name: str, output: str, run: Callable[[bytes], Answer]) -> int:
@@ -127,7 +130,7 @@ def translate(name: str, text: str, output: str, run: Callable[[bytes], Answer])
     except Refusal as refusal:
         print('\n'.join(refused(name, text, refusal)))
         return 1
-    data = in_net(name, found.text).encode()
+    data = in_net(name, found.text, END * found.second // SECOND).encode()
     write_whole(output, [data])
     print(IN_NET % (one_line(name), one_line(output)))
     for it in found.remarks:
