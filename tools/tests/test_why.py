@@ -684,6 +684,30 @@ p = """process p; autostart p; receiver p; code p { body {
                 done = subprocess.run(words, cwd=folder, capture_output=True, text=True)
                 self.assertEqual((done.returncode, hint % (value, value) in done.stdout), (1, is_shown), done)
 
+    def test_another_mote_that_dropped_the_packet_is_named(self) -> None:
+        text = '''version = 2
+end = 60
+medium = { range = 10, base = 2, per = 100, collide = false }
+mote = [{ x = 0, y = 0, program = "p" }, { x = 8, y = 0, program = "%s" }, { x = 16, y = 0, program = "p" }]
+[programs]
+p = """process p; autostart p; receiver p; code p { etimer t; body {
+  if (self == 0) { set t 9; yield_until fired(t); send 7; }
+  while 1 { yield_until is(packet); print data; }
+} }"""
+ends = "process q; autostart q; receiver q; code q { body { print 1; } }"
+deaf = "process q; autostart q; code q { body { print 1; } }"
+hears = "process q; autostart q; receiver q; code q { body { while 1 { yield_until is(packet); print data; } } }"
+'''
+        packet = '  packet 0 of mote 0, with the value 7, was sent at 9: at mote 1, it'
+        for program, said in (('ends', packet + 's event was dropped at 11, because q was not on the process list ('),
+                              ('deaf', packet + ' was received, but the program has no receiver ('), ('hears', '')):
+            with self.subTest(program), tempfile.TemporaryDirectory() as folder:
+                (Path(folder) / 'net.toml').write_text(text % program)
+                words = [sys.executable, '-B', str(TOOLS / 'why'), 'net.toml', 'mote 2 prints p 7']
+                done = subprocess.run(words, cwd=folder, capture_output=True, text=True)
+                self.assertEqual((done.returncode, 'Dropped at other motes:' in done.stdout), (1, bool(said)), done)
+                self.assertIn(said, done.stdout)
+
     def taken(self, text: str, question: str) -> list[str]:
         """The near misses that are about packets which a process took."""
         run = Source('test', answer(text.encode()).report, Scenario.parse(text))

@@ -72,11 +72,12 @@ class Notes(unittest.TestCase):
         for sentence in 'mote 0 prints just a 7, 3', 'mote 0 prints just b 7, 3, 2', 'mote 0 prints a 4':
             self.assertNotIn('its process', str(self.note(sentence)))
 
-    def test_a_page_on_a_list_opens_at_no_copy_that_was_lost(self) -> None:
+    def test_a_page_on_values_opens_at_no_lost_copy_with_another_value(self) -> None:
         run = read_run(str(TOP / 'examples/small_network.toml'))
         assert run.scenario
         rest = 'copies did not reach a process here; the last'
-        for sentence, is_shown in (('mote 1 prints echo 99', True), ('mote 1 prints just echo 30, 99', False),
+        for sentence, is_shown in (('mote 1 prints echo 99', False), ('mote 1 prints just echo 30, 99', False),
+                                   ('mote 1 prints echo more than 9 times', True),
                                    ('mote 1 prints just echo 99, 30 in any order', False)):
             broken = Judge(run.report, run.scenario).broken(read_sentence(sentence, names_of(run.scenario)))
             lines = [it for it in note_of(run, sentence, broken and broken._replace(row=None)).lines if rest in it.text]

@@ -9,6 +9,7 @@ from typing import Any, NamedTuple
 
 from motesim.faults import Fault
 from motesim.judge.judge import Broken
+from motesim.judge.sentences import Value
 from motesim.runner.run import Run
 from motesim.why.miss import last_of, misses
 from motesim.why.pages import source_of
@@ -63,12 +64,13 @@ def note_of(run: Run, sentence: str, broken: Broken | None, more: tuple[str, ...
 def _near(asker: Asker, missing: Missing) -> tuple[Line, ...]:
     """The near misses of a missing line, first those about the wanted packet itself. If no run of the program can have
     this report, there are none."""
-    # (if several values are missing, the copies with other values are no reason to look at the last of them first)
-    is_list = missing.sentence.deed.way in ('just', 'set')
+    # (if a value is missing, the copies with other values are no reason to look at the last of them first)
+    deed = missing.sentence.deed
+    has_value = deed.way in ('just', 'set') or isinstance(deed.patterns[0][-1], Value)
     try:
-        lines = [Line('mote %d: %s' % (mote, it.words), 0 if is_list and it.is_rest else it.row)
+        lines = [Line('mote %d: %s' % (mote, it.words), 0 if has_value and it.is_rest else it.row)
                  for mote, its in misses(asker, missing)
-                 for it in sorted(its, key=lambda it: (not it.is_wanted, is_list and it.is_rest))]
+                 for it in sorted(its, key=lambda it: (not it.is_wanted, has_value and it.is_rest))]
     except Fault:
         return ()
     return tuple(lines[:MOST_LINES])

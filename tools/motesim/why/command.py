@@ -12,7 +12,7 @@ from motesim.why.chain import Hop, as_json, chain, on_values, path_of, rows
 from motesim.why.diverge import diverged
 from motesim.why.diverge import rows as parted_rows
 from motesim.why.miss import as_json as missed
-from motesim.why.miss import misses, value_elsewhere
+from motesim.why.miss import dropped_elsewhere, misses, value_elsewhere
 from motesim.why.miss import rows as near_rows
 from motesim.why.question import Asked, Asker, Missing
 from motesim.why.source import Source, read_source
@@ -123,6 +123,9 @@ def show_why(source: Source, asked: argparse.Namespace) -> int:
               '\n'.join(near_rows(found, near)))
         value = value_elsewhere(asker, found, near)
         if value is not None and not asked.json:
+            dropped = dropped_elsewhere(asker, found, value)
+            if dropped:
+                print('\n'.join(['', 'Dropped at other motes:', *('  ' + it for it in dropped)]))
             print('\n`tools/log %s --value %d` shows all lines with the value %d, and so the last mote that has it' % (
                 shlex.quote(asked.file), value, value))
         if asked.other is not None:

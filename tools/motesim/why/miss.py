@@ -25,6 +25,8 @@ from motesim.why.source import At, Found, Source
 from motesim.why.translate import Around, Program
 
 MOST_COPIES, MOST_OTHERS = 8, 3
+# The fates of a copy that a mote received, but that no process took.
+DROPPED = ('dropped', 'deaf', 'full')
 
 
 class Miss(NamedTuple):
@@ -438,6 +440,20 @@ def value_elsewhere(asker: Asker, missing: Missing, found: list[tuple[int, list[
     return None
 
 
+def dropped_elsewhere(asker: Asker, missing: Missing, value: int) -> list[str]:
+    """Lines about the copies with a value that another mote received and dropped: about the last few of them."""
+    source, found = asker.source, list[tuple[int, str]]()
+    for row, text in source.traces.packets(rb'\d+ \d+ %d(?: .*)?' % value):
+        words = text.split(' ')
+        for to in (int(it.partition('@')[0]) for it in words[4:]):
+            fate = fate_of(source, row, words, to) if to not in missing.motes else None
+            if fate and fate.how in DROPPED:
+                found.append((fate.at, 'packet %s of mote %s, with the value %d, was sent at %s: at mote %d, %s (line '
+                              '%d of the report)' % (words[2], words[1], value, words[0], to, fate.words,
+                                                     fate.row or row)))
+    return [said for _, said in sorted(found)[-MOST_OTHERS:]]
+
+
 def as_json(missing: Missing, found: list[tuple[int, list[Miss]]]) -> dict[str, Any]:
     """The near misses for programs."""
     return {
@@ -460,4 +476,4 @@ def rows(missing: Missing, found: list[tuple[int, list[Miss]]]) -> list[str]:
     return lines
 
 
-__all__ = ['Miss', 'as_json', 'misses', 'rows', 'value_elsewhere']
+__all__ = ['Miss', 'as_json', 'dropped_elsewhere', 'misses', 'rows', 'value_elsewhere']
