@@ -168,6 +168,7 @@ REFUSALS = (
     ('static int *q = &n; q = &x;', 'is a pointer that changes'),
     ('x = *(int *)packetbuf_dataptr();', 'The packet is known only in the function'),
     ('etimer_set(&et, 7000L * CLOCK_SECOND);', 'at most 65,535 moments'), ('x = strlen("a");', 'no `strlen`'),
+    ('packetbuf_copyfrom();', '`packetbuf_copyfrom` needs 1 argument'), ('process_start();', 'needs 1 argument'),
     ('x = sht11_sensor.value(0);', 'A mote has no sensors'), ('SENSORS_ACTIVATE(b);', 'no sensors and no buttons'),
     ('int *q = (int *)data; PROCESS_YIELD(); x = *q;', '`q` isn\'t the address of a variable'),
     ('if(x { }', 'A `)` is expected here, not `{`.'),
@@ -228,6 +229,13 @@ class Forms(unittest.TestCase):
             found = translated(in_process('  ' + body, '', VARIABLES))
             self.assertEqual(found.second, second, body)
             self.assertEqual(any('128 moments' in it.text for it in found.remarks), second == 128)
+
+    def test_a_semaphore_may_be_declared_in_a_process(self) -> None:
+        body = '  PT_SEM_INIT(&s, 2); PT_SEM_WAIT(process_pt, &s); n = PT_SEM_COUNT(&s);'
+        text, notes = translation(in_process(body, '', VARIABLES + ' static struct pt_sem s;'))
+        self.assertIsNotNone(text, notes)
+        self.assertIn('semaphore s = 2;', text or '')
+        self.assertEqual(body_of(text), ['acquire s;', 'n = count(s);'])
 
     def test_a_second_has_128_moments_if_a_time_would_be_0(self) -> None:
         text, notes = translation(in_process('  etimer_set(&et, CLOCK_SECOND / 32); etimer_set(&et, CLOCK_SECOND);', '',

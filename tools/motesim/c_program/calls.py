@@ -104,8 +104,12 @@ class Calls(Expressions):
 
     def arguments(self, it: Expression, count: int) -> tuple[Expression, ...]:
         if len(it.parts) != count:
-            raise self.refuse(it.line, '`%s` needs %d arguments.' % (it.text, count))
+            raise self.refuse(it.line, '`%s` needs %d argument%s.' % (it.text, count, 's' * (count != 1)))
         return it.parts
+
+    def first(self, it: Expression) -> Expression:
+        """The first argument of a call."""
+        return it.parts[0] if it.parts else self.arguments(it, 1)[0]
 
     # Processes and events.
 
@@ -188,7 +192,7 @@ class Calls(Expressions):
         self.emit('poll %s;' % self.target_process(self.arguments(it, 1)[0]))
 
     def call_process_start(self, it: Expression) -> None:
-        name = self.target_process(it.parts[0])
+        name = self.target_process(self.first(it))
         if len(it.parts) > 1 and constant_of(self.without_casts(it.parts[1])) != 0:
             raise self.refuse(it.line, NO_DATA % name)
         self.emit('start %s;' % name)
@@ -455,7 +459,7 @@ class Calls(Expressions):
         self.call_rimeaddr_copy(it)
 
     def value_PT_SEM_COUNT(self, it: Expression) -> Value:
-        return Value('count(%s)' % self.semaphore(it.parts[0]), UNSIGNED, 0, MOST)
+        return Value('count(%s)' % self.semaphore(self.first(it)), UNSIGNED, 0, MOST)
 
     def semaphore(self, it: Expression) -> str:
         pointer = self.pointer(it)

@@ -217,7 +217,7 @@ class Control(Radio):
         if test is not None and test.text == 'PT_SCHEDULE' and test.kind == 'call' and len(it.body) == 1:
             inner = it.body[0].expressions[0] if it.body[0].kind == 'expression' else None
             if inner is not None and inner.kind == 'call' and inner.text in YIELDS:
-                self.spawn(test, test.parts[0])
+                self.spawn(test, self.first(test))
                 return FALLS
         return self.loop(it, it.expressions[0], None)
 

@@ -480,7 +480,7 @@ class Functions(Control):
     def call_PROCESS_WAIT_WHILE(self, it: Expression) -> None:
         test = self.arguments(it, 1)[0]
         if test.kind == 'call' and test.text == 'PT_SCHEDULE':
-            self.spawn(it, test.parts[0])
+            self.spawn(it, self.first(test))
             return
         self.stays(it, test, False)
 

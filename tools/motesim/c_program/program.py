@@ -20,7 +20,7 @@ from motesim.c_program.refusal import Refusal
 from motesim.c_program.seconds import TICKS, second_of
 from motesim.c_program.tree import Expression, File, Statement
 from motesim.c_program.usage import usage_of
-from motesim.c_program.walk import all_parts
+from motesim.c_program.walk import all_parts, declared_in
 from motesim.notation.faults import ProgramError, find_fault
 
 MOST_ROUNDS = 40
@@ -134,9 +134,11 @@ def name_all(program: Program) -> None:
         return found
     file = program.file
     program.names = {it: new(it) for it in file.processes}
-    for variable in file.variables:
+    functions = (*file.functions.values(), *file.bodies.values())
+    inner = [it.variable for one in functions for it in declared_in(one.body) if it.variable and it.variable.is_static]
+    for variable in (*file.variables, *inner):
         if variable.type.kind == 'event':
-            program.events['variable ' + variable.name] = new(variable.name)
+            program.events.setdefault('variable ' + variable.name, new(variable.name))
         elif variable.type.kind == 'semaphore':
             program.semaphores[variable] = new(variable.name)
     for value, name in event_numbers(file).items():

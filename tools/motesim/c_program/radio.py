@@ -54,7 +54,7 @@ class Radio(Calls):
         return 'pair' if len(parts) == 2 else 'byte' if size_of(parts[0][1]) == 1 else 'word'
 
     def call_packetbuf_copyfrom(self, it: Expression) -> None:
-        source = self.without_casts(it.parts[0])
+        source = self.without_casts(self.first(it))
         if source.kind == 'text' or self.pointer(source).kind == 'text':
             self.remark(it.line, OF_TEXT)
             self.fill(number(1, UNSIGNED), it)
@@ -148,7 +148,7 @@ class Radio(Calls):
         return number(min(sizes, default=2), UNSIGNED)
 
     def call_packetbuf_copyto(self, it: Expression) -> None:
-        self.copy(it.parts[0], Place('packet', UNSIGNED), it.line)
+        self.copy(self.first(it), Place('packet', UNSIGNED), it.line)
 
     def call_memcpy(self, it: Expression) -> None:
         target, source, _ = self.arguments(it, 3)
