@@ -93,6 +93,17 @@ class Command(unittest.TestCase):
         report = Report.parse(answer(output.read_bytes()).report)
         self.assertEqual([str(it).split()[-1] for it in report.motes[0].lines if ' print ' in str(it)], ['1', '2', '3'])
 
+    def test_a_translated_program_has_no_warnings_of_values_below_0(self) -> None:
+        source = C.replace('static int n = 0;', 'static int n = 0; static unsigned int d;').replace(
+            'n++;', 'n = n - 5; d = n; if(d > 1000) printf("%u", d);').replace('n < 3', 'n > -20')
+        output = self.folder / 'below.toml'
+        status, out, _ = self.run_on(self.written('below.c', source), '--apply', str(output))
+        self.assertEqual((status, 'Warning' in out), (0, False), out)
+        self.assertIn("below = \'\'\'\n// Translated from below.c\n", output.read_text())
+        # (without this comment, the program might be by somebody who doesn't know that no number is below 0)
+        (self.folder / 'own.toml').write_text(output.read_text().replace('// Translated from below.c\n', ''))
+        self.assertIn('no number is below 0', self.run_on(str(self.folder / 'own.toml'))[1])
+
     def test_the_input_is_kept(self) -> None:
         name = self.written('net.toml', in_net('p', C))
         status, _, err = self.run_on(name, '--apply', name)

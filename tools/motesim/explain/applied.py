@@ -17,6 +17,7 @@ from motesim.c_program.refusal import Refusal
 from motesim.c_program.seconds import SECOND
 from motesim.explain.explanation import CONTROL, explanation, shown_explanation, wrapped
 from motesim.explain.followed import followed
+from motesim.explain.lint import TRANSLATED
 from motesim.faults import Fault
 from motesim.files import refuse_inputs, write_whole
 from motesim.runner.run import Answer, read_file
@@ -130,7 +131,8 @@ def translate(name: str, text: str, output: str, run: Callable[[bytes], Answer])
     except Refusal as refusal:
         print('\n'.join(refused(name, text, refusal)))
         return 1
-    data = in_net(name, found.text, END * found.second // SECOND).encode()
+    source = '%s%s\n%s' % (TRANSLATED, one_line(Path(name).name), found.text)
+    data = in_net(name, source, END * found.second // SECOND).encode()
     write_whole(output, [data])
     print(IN_NET % (one_line(name), one_line(output)))
     for it in found.remarks:

@@ -36,6 +36,8 @@ STILL_TRUE = STILL % (AT_ONCE, 'true', LATER, '')
 STILL_FALSE = STILL % (WHILE, 'false', LATER, ' and the opposite test')
 ONE_BRANCH = ('the `while` on line %d of the program waits in only one branch: if the test of the `if` on line %d is '
               '%s, nothing waits. Then the loop repeats until the mote\'s work is used up, and the mote halts')
+# The comment with which a program begins that tools/explain has translated from C.
+TRANSLATED = '// Translated from '
 NO_OPEN_LINK = ('mote %d waits for packets, but no packet can reach it: each link to it has a loss with `every = 1`, '
                 'which loses every packet')
 # Statements after which a test may have another value, though no variable in it is assigned.
@@ -115,6 +117,7 @@ class Program:
         self.words = [it.text for it in self.tokens]
         # The variables that are below 0 in C at first, as comments say.
         self.below = BELOW.findall(text)
+        self.is_translated = text.lstrip().startswith(TRANSLATED)
         self.processes = self._names('process')
         self.started = self._names('autostart') + self._names('start')
         self.receivers = self._names('receiver')
@@ -396,11 +399,14 @@ def of_program(program: Program, is_zero_given: bool) -> Iterator[Warned]:
     for token in program.awaited_ctimers():
         yield Warned(OF_CTIMER % (token.text, token.text), name, token)
     for text, token in () if is_zero_given else (*program.tests_of_sign(),
-                                                 *differences.tests(program.words, program.tokens),
                                                  *unchanged.warnings(program.words, program.tokens)):
         yield Warned(text, name, token)
-    for text, token in (*program.tests_of_two_values(), *program.chains(), *program.endless_waits(),
-                        *signed.tests(program.words, program.tokens, program.below)):
+    for text, token in (*program.tests_of_two_values(), *program.chains(), *program.endless_waits()):
+        yield Warned(text, name, token)
+    # (a translated program has the results of C, also for values below 0)
+    for text, token in () if program.is_translated else (
+            *(() if is_zero_given else differences.tests(program.words, program.tokens)),
+            *signed.tests(program.words, program.tokens, program.below)):
         yield Warned(text, name, token)
     for token in program.waits_before_set():
         yield Warned(BEHIND % token.text, name, token)
