@@ -278,7 +278,9 @@ class Places(Base):
             raise self.refuse(line, OF_PACKET % (its.name or 'this'))
         if place.source == 'packet' and self.is_to_one:
             raise self.refuse(line, OF_PACKET % (its.name or 'this'))
-        text = '(%s %s 256)' % (whole.text, '%' if at else '/')
+        # (the first of two fields is the upper byte, but the first byte of a value of 16 bits is its lower one)
+        is_upper = bool(at) == (place.source == 'packet' and 'word' in self.program.knowledge.forms)
+        text = '(%s %s 256)' % (whole.text, '/' if is_upper else '%')
         return converted(Value(text, UNSIGNED, 0, 255), place.type)
 
     def single(self, whole: Value, place: Place, line: int) -> Value:

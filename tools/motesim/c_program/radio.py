@@ -18,6 +18,10 @@ TOO_LARGE = 'A packet to one mote has 8 bits for its value: this one has more.'
 SIZES = 'The packets of this program have several sizes, and none of them is known here.'
 
 
+TWO_FORMS = ('Some packets of this program have two fields of 8 bits, and others have a value of 16 bits. Send the two '
+             'fields as one value, `uint16_t both = first * 256 + second;`, or only packets with two fields.')
+
+
 class Radio(Calls):
     """Translates packets."""
 
@@ -72,6 +76,8 @@ class Radio(Calls):
                 place = place._replace(type=place.type.of, paths=tuple((*path, 0) for path in place.paths))
         form = self.form_of(place)
         self.program.knowledge.new_forms.add(form)
+        if {'pair', 'word'} <= self.program.knowledge.forms:
+            raise self.refuse(it.line, TWO_FORMS)
         self.fill(self.packed(place, it.line), it, form)
 
     def fill(self, value: Value, it: Expression, form: str = '') -> None:
