@@ -112,7 +112,7 @@ class Tables(unittest.TestCase):
     def test_which_waits_ignore_an_event_that_was_posted_before(self) -> None:
         need_program(self)
         text = page('KERNEL.md')
-        part = ' '.join(text[text.index('**An event in the queue.**'):text.index('**The next expiration**')].split())
+        part = ' '.join(text[text.index('**An event in the queue.**'):text.index('## The timer processes')].split())
         by_timer, by_variable, stops = '(fired(t) && expired(t))', '(fired(t) && wanted)', 'stop t; wanted = 0;'
         for it in by_timer, by_variable, stops:
             self.assertIn('`%s`' % it, part)
