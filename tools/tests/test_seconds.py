@@ -1,4 +1,4 @@
-"""Times in parts of a second: none becomes 0, and their ratios stay."""
+"""Times in parts of a second: none is rounded, and their ratios stay."""
 import unittest
 
 from motesim.scenario.faults import find_fault
@@ -18,6 +18,12 @@ class Seconds(unittest.TestCase):
     def test_a_constant_has_the_ticks_of_c_too(self) -> None:
         text, _ = by_messages('#define RETRY (CLOCK_SECOND / 32)\n' + LINES % ('  etimer t;', '    set t retry;'))
         self.assertIn('var retry = 4;', text)
+
+    def test_a_time_that_10_moments_would_round_has_the_ticks_of_c(self) -> None:
+        for time, line in (('CLOCK_SECOND / 8', 'set t (128 / 8);'),
+                           ('(3 * CLOCK_SECOND) / 4', 'set t ((3 * 128) / 4);')):
+            text, _ = by_messages(LINES % ('  etimer t;', '    etimer_set(&t, %s);' % time))
+            self.assertIn(line, text)
 
     def test_other_times_stay_with_10_moments(self) -> None:
         text, _ = by_messages(LINES % ('  etimer t;', '    etimer_set(&t, CLOCK_SECOND / 10);'))

@@ -161,9 +161,9 @@ TICKS = ('There is no `CLOCK_SECOND`: a timer is set in moments. Decide how many
          'the line '
          'below.' % MOMENTS_OF_SECOND)
 IN_TICKS = ('There is no `CLOCK_SECOND`: a timer is set in moments. With %d moments for a second, a time of this '
-            'program would be 0, so a second has 128 moments here, as in C. Then the ratios of all times stay: write 128 '
-            'for `CLOCK_SECOND` in the other times of the program, too, and note that `end` is also in moments.'
-            % MOMENTS_OF_SECOND)
+            'program would be rounded, so a second has 128 moments here, as in C. Then the ratios of all times stay: '
+            'write 128 for `CLOCK_SECOND` in the other times of the program, too, and note that `end` is also in '
+            'moments.' % MOMENTS_OF_SECOND)
 OF_ROW = ('`%s` becomes a test of two conditions. C reads it in another way: it compares the result of the first '
           'comparison, which is 0 or 1, with the last value.')
 SMALL_LETTERS = 'Names have small letters'

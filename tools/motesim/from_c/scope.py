@@ -130,11 +130,11 @@ def set_in(text: str) -> frozenset[str]:
 
 
 def second_of(text: str) -> int:
-    """The moments of a second that a text of C needs, so that none of its times becomes 0."""
+    """The moments of a second that a text of C needs, so that no part of a second is rounded."""
     parts = [(1, int(it)) for it in PART_OF_SECOND.findall(text)]
     parts += [(int(times), int(by)) for times, by in MULTIPLE.findall(text)]
     parts += [(1, 2 ** int(it)) for it in SHIFTED.findall(text)]
-    is_part = any(by and times * SECOND // by == 0 < times * TICKS_OF_SECOND // by for times, by in parts)
+    is_part = any(by and times * SECOND % by for times, by in parts)
     return TICKS_OF_SECOND if ALL_TICKS in text or is_part else SECOND
 
 
