@@ -104,6 +104,20 @@ class Command(unittest.TestCase):
         (self.folder / 'own.toml').write_text(output.read_text().replace('// Translated from below.c\n', ''))
         self.assertIn('no number is below 0', self.run_on(str(self.folder / 'own.toml'))[1])
 
+    def test_a_program_in_c_within_a_scenario_is_translated_as_a_whole(self) -> None:
+        output = self.folder / 'whole.toml'
+        status, out, _ = self.run_on(self.written('net.toml', in_net('p', C)), '--apply', str(output))
+        self.assertEqual(status, 0)
+        self.assertIn('Program p is in C: it is translated as a whole.\n', out)
+        self.assertIn('No line was changed: the text has no other error.\n', out)
+        self.assertIn("p = \'\'\'\n// Translated from C\nprocess blink;\n", output.read_text())
+        # (what can't be translated is corrected line by line)
+        source = C.replace('n++;', 'goto out;')
+        status, out, _ = self.run_on(self.written('net.toml', in_net('p', source)), '--apply', str(output))
+        self.assertEqual(status, 1)
+        self.assertIn("Program p is in C, but it can't be translated as a whole (line 14 of the program: ", out)
+        self.assertIn('Change 1\n', out)
+
     def test_the_input_is_kept(self) -> None:
         name = self.written('net.toml', in_net('p', C))
         status, _, err = self.run_on(name, '--apply', name)

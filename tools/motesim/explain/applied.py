@@ -15,14 +15,14 @@ from typing import NamedTuple
 from motesim.c_program.program import translated
 from motesim.c_program.refusal import Refusal
 from motesim.c_program.seconds import SECOND
-from motesim.explain.explanation import CONTROL, explanation, shown_explanation, wrapped
+from motesim.explain.explanation import CONTROL, explanation, shown_explanation, tables_or_none, wrapped
 from motesim.explain.followed import followed
 from motesim.explain.lint import TRANSLATED
 from motesim.faults import Fault
 from motesim.files import refuse_inputs, write_whole
 from motesim.runner.run import Answer, read_file
 from motesim.scenario.faults import find_fault
-from motesim.scenario.kinds import begins_as_c, begins_as_scenario, is_program_file
+from motesim.scenario.kinds import begins_as_c, begins_as_scenario, is_program_file, is_program_in_c
 from motesim.terminal import one_line
 from motesim.toml import MARK
 
@@ -41,6 +41,9 @@ mote = [{ x = 0, y = 0, program = "%s" }, { x = 5, y = 0, program = "%s" }]
 NOT_TRANSLATED = '%s, line %d: %s'
 NO_FILE = 'No file is written: tools/explain translates a program in C only if it can do so as a whole.'
 IN_NET = '%s is a program: %s has it in a net of two motes that hear each other.'
+IN_C = 'Program %s is in C: it is translated as a whole.'
+LINE_BY_LINE = ('Program %s is in C, but it can\'t be translated as a whole (line %d of the program: %s) So its lines '
+                'are corrected one after the other.')
 NO_CHANGE = 'No line was changed: the %s.'
 QUOTES = "%s has three single quotes in a row, which end the text of a program in a scenario: leave them out."
 
@@ -107,15 +110,36 @@ def apply(name: str, output: str, run: Callable[[bytes], Answer]) -> int:
         print(IN_NET % (one_line(name), one_line(output)))
     elif is_c_file(name, data):
         return translate(name, text, output, run)
+    text = with_translations(text)
     known, number = set[str](), 0
     for number, (change, text) in enumerate(changes(text), 1):
         print('\n'.join(change.shown(number, known)))
         known.add(change.hint)
     write_whole(output, [text.encode()])
-    no_change = 'first error has no corrected line' if find_fault(text.encode()) else 'text has no error'
+    no_change = 'first error has no corrected line' if find_fault(text.encode()) else 'text has no other error' if (
+        text.encode() != data) else 'text has no error'
     print('\n%s' % ('%s: %d change%s' % (one_line(output), number, 's' * (number != 1)) if number
                     else NO_CHANGE % no_change))
     return shown_explanation(output, text.encode(), run)
+
+
+def with_translations(text: str) -> str:
+    """A scenario whose programs in C are translated, and what differs from C is printed. If a program can't be
+    translated as a whole, the reason is printed, and the program stays."""
+    programs = (tables_or_none(text) or {}).get('programs')
+    for name, source in programs.items() if isinstance(programs, dict) else ():
+        if not is_program_in_c(source) or text.count(source) != 1:
+            continue
+        try:
+            found = translated(source)
+        except Refusal as refusal:
+            print('\n'.join(wrapped(LINE_BY_LINE % (name, refusal.line, refusal.reason))))
+            continue
+        text = text.replace(source, '%sC\n%s' % (TRANSLATED, found.text))
+        print(IN_C % name)
+        for it in found.remarks:
+            print('\n'.join(['', *wrapped('Line %d of program %s: %s' % (it.line, name, it.text))]))
+    return text
 
 
 def is_c_file(name: str, data: bytes) -> bool:

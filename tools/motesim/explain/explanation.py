@@ -18,7 +18,7 @@ from motesim.report import Report
 from motesim.runner.run import Answer, NoReport, answer, is_report, read_file
 from motesim.scenario import Scenario
 from motesim.scenario.faults import Place, ScenarioError
-from motesim.scenario.kinds import begins_as_c, is_program_file
+from motesim.scenario.kinds import begins_as_c, is_program_file, is_program_in_c
 from motesim.terminal import one_line
 from motesim.toml import MARK, NoToml, read_toml
 
@@ -26,6 +26,7 @@ WIDTH = 112
 # (characters that a terminal would mistake for a command)
 CONTROL = re.compile(r'[\x00-\x08\x0b-\x1f\x7f-\x9f]')
 OF_REPORT = 'This is a report, not a scenario: tools/summary, tools/compare and tools/timeline read it.'
+OF_WHOLE_C = 'This program is in C: tools/explain %s --apply NEW.toml translates all of it.'
 PROGRAM = re.compile(r'program (\S+) fault (\d+) line (\d+)')
 
 
@@ -119,7 +120,8 @@ def wrapped(text: str) -> list[str]:
 def of_program(name: str, text: str, program: str, its: program_faults.ProgramError) -> list[str]:
     """The lines about a fault in a program's text, with its place."""
     source: str = tables_of(text)['programs'][program]
-    return shown_program(name, text, program, its.token) + rule_and_advice(source, its, offset_of(text, program))
+    lines = shown_program(name, text, program, its.token) + rule_and_advice(source, its, offset_of(text, program))
+    return lines + (wrapped(OF_WHOLE_C % one_line(name)) if is_program_in_c(source) else [])
 
 
 def of_program_file(name: str, source: str, its: program_faults.ProgramError) -> list[str]:

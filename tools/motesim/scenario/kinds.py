@@ -58,6 +58,11 @@ def begins_as_c(data: bytes) -> bool:
     return C.match(data) is not None
 
 
+def is_program_in_c(source: object) -> bool:
+    """Returns whether the text of a program is a whole program in C for Contiki."""
+    return isinstance(source, str) and 'PROCESS_THREAD' in source and begins_as_c(source.encode('utf-8', 'replace'))
+
+
 def begins_as_scenario(data: bytes) -> bool:
     """Returns whether a text begins like a TOML document, and not like a program."""
     return SCENARIO.match(data) is not None
