@@ -12,6 +12,7 @@ from pathlib import Path
 
 from here import TOOLS
 from motesim.explain.applied import changes
+from motesim.explain.explanation import all_warnings
 from motesim.report import Report
 from motesim.runner.run import answer
 from motesim.scenario.faults import find_fault
@@ -67,6 +68,12 @@ def lines_in_motesim(text: str) -> list[str] | None:
         return None
     report = Report.parse(answer(text.encode()).report)
     return ['%s %s print %s' % (it.mote, it.at, it.value) for it in report.lines('print')]
+
+
+def warnings(text: str) -> str:
+    """The warnings of tools/explain about a corrected scenario, in one line."""
+    data = text.encode()
+    return ' '.join(' '.join(all_warnings('x', data, answer(data).report)).split())
 
 
 def title(source: str) -> str:

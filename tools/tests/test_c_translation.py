@@ -35,8 +35,9 @@ VALUES = (
     ('int x = 2; switch(x) { case 1: x = 10; case 2: x += 1; case 3: x += 1; if(x > 3) break; x = 0; default: x = 7; }'
      ' printf("%d", x);', '4'),
 )
-# Programs of students that aren't translated: they schedule protothreads themselves.
-REFUSED = frozenset({'shared_item', 'side_by_side'})
+# Programs of students that aren't translated: they schedule protothreads themselves, have a pointer to timers, start a
+# process with a value, or have callbacks for two connections.
+REFUSED = frozenset({'callback_pointer', 'shared_item', 'side_by_side', 'start_value', 'two_connections'})
 
 
 class Students(unittest.TestCase):

@@ -347,7 +347,7 @@ class FileScope(unittest.TestCase):
                 ('#define PERIOD 40', 'set u period;', 11, 'var period = 40;'),
                 ('#define PERIOD (CLOCK_SECOND * 5)', 'set u period;', 11, 'var period = 50;'),
                 ('#define PERIOD 3*CLOCK_SECOND/2 + 1 // ticks', 'set u period;', 11, 'var period = 16;'),
-                ('#define PERIOD (-1)', 'set u period;', 11, 'var period = 65535;'),
+                ('#define PERIOD (1 << 4)', 'set u period;', 11, 'var period = 16;'),
                 ('static uint8_t x = 7;', 'yield;', 4, 'var x = 7;')):
             with self.subTest(typed):
                 source = self.SOURCE % (typed, use)
@@ -359,6 +359,13 @@ class FileScope(unittest.TestCase):
                 self.assertIsNone(find_fault(found.applied(source)))
                 self.assertEqual(shown.shown(source, 0), [
                     'Insert below line %d:' % below, '    ' + declared, 'and leave line 1 out.'])
+
+    def test_a_constant_below_0_keeps_its_value_of_c(self) -> None:
+        source = self.SOURCE % ('#define NOBODY (-1)', 'print nobody;')
+        fault = find_fault(source)
+        found = correction(source, fault) if fault else None
+        assert found
+        self.assertEqual((found.line, found.above), ('// nobody is -1 in C', (11, 'var nobody = 65535;')))
 
     def test_a_variable_is_declared_above_a_line_with_a_timer(self) -> None:
         source = self.SOURCE % ('', 'etimer_set(&timeout, TIMEOUT);')
@@ -383,7 +390,7 @@ class FileScope(unittest.TestCase):
 
     def test_no_value_of_a_constant_is_invented(self) -> None:
         for value, said in (
-                ('(CLOCK_SECOND * RATE)', 'choose a value n: `var period = n;`'), ('(1 << 4)', 'choose a value n'),
+                ('(CLOCK_SECOND * RATE)', 'choose a value n: `var period = n;`'), ('(RATE << 4)', 'choose a value n'),
                 ('0.5', 'choose a value n'), ('(1 / 0)', 'choose a value n'),
                 ('(CLOCK_SECOND * 7000)', 'set to 65535 moments at most'), ('70000', 'set to 65535 moments at most')):
             with self.subTest(value):
@@ -635,7 +642,7 @@ code a {
 
     def test_a_parameter_with_the_name_of_something_else(self) -> None:
         for parameter, said in (('data', '`data` has another meaning in a program, so write `my_data` for this'),
-                                ('x', 'The process has a variable `x` already, so each call would change it')):
+                                ('x', 'variable `x` already, which each call would change: the name is `x2` here')):
             source = self.SOURCE % ('thread show(%s) {' % parameter, 'show(1);')
             fault = find_fault(source)
             found = correction(source, fault) if fault else None
@@ -869,15 +876,14 @@ class Calls(unittest.TestCase):
         for body in ('if is(packet) { print data; done = 1; break; }',
                      'if is(packet) {\nprint data;\ndone = 1;\nbreak;\n}'):
             found, _, hint = self.corrected(both, body)
-            self.assertIn(found, ('if is(packet) { print data; done = 1; }', ''))
+            self.assertIn(found, ('if is(packet) { print data; done = 1; } else {', ''))
             self.assertIn('`done = 1;` already makes the test of the `while` false, so leave it out', hint)
             self.assertNotIn('(done == 0)', hint)
         found, _, hint = self.corrected(both, 'if is(packet) { print data; break; }')
-        self.assertEqual(found, 'if is(packet) { print data; done = 1; }')
+        self.assertEqual(found, 'if is(packet) { print data; done = 1; } else {')
         self.assertNotIn('var break', hint)
-        found, _, hint = self.corrected('((tries < 3) || (self == 0))', 'if is(packet) { break; }')
-        self.assertIn('write `done = 0; while (((tries < 3) || (self == 0)) && (done == 0))`, and here `done = 1;`',
-                      hint)
+        found, _, _ = self.corrected('((tries < 3) || (self == 0))', 'if is(packet) { break; }')
+        self.assertEqual(found, 'if is(packet) { done = 1; } else {')
 
 
 if __name__ == '__main__':

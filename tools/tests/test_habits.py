@@ -16,7 +16,6 @@ from skips import need_program
 NAME = 'typed.toml'
 # Where no line can be known: a part of the hint from which it is written.
 SAID = {
-    'c-break': 'and here `done = 1;`',
     'c-switch': '`if (mode == 1) { .. } else {', 'c-case': '`if (x == 2) { print 2; }`',
     'c-var-named-like-process': 'another name is needed here, such as `token2`',
     'c-thread-used-before-declared': 'A thread never spawns itself',
@@ -27,8 +26,9 @@ SAID = {
 }
 # Whose lines are right and mean something else than the writer of the corpus meant, as far as a line can tell.
 OTHERS = {
-    'c-for-counted', 'c-var-in-body', 'c-print-string', 'contiki-pollhandler', 'contiki-ctimer-without-block',
-    'contiki-send-to', 'contiki-leds-toggle', 'contiki-random-rand', 'toml-end-seconds-float', 'toml-end-with-unit',
+    'c-break', 'c-for-counted', 'c-var-in-body', 'c-print-string', 'contiki-pollhandler',
+    'contiki-ctimer-without-block', 'contiki-send-to', 'contiki-leds-toggle', 'contiki-random-rand',
+    'toml-end-seconds-float', 'toml-end-with-unit',
 }
 # Whose line is right, and whose scenario lacks another line too: the typed text is at the place of a declaration.
 LACKING = {'c-define'}

@@ -209,7 +209,14 @@ class Arrays(unittest.TestCase):
 
     def test_a_member_by_a_variable_has_advice(self) -> None:
         self.assertIn('An `if` for each number chooses among `v`, `v1`, `v2`, such as `if (i == 1) { .. v1 .. }`.',
-                      self.advised(PROGRAM % ('var v = 0; var v1 = 0; var v2 = 0; var i = 0;', 'v[i] = 3;')))
+                      self.advised(PROGRAM % ('var v = 0; var v1 = 0; var v2 = 0; var i = 0;',
+                                              'yield_until (v[i] == 3);')))
+
+    def test_a_member_by_a_variable_is_chosen_by_tests(self) -> None:
+        need_program(self)
+        head = 'var v = 0; var v1 = 0; var v2 = 0; var i = 1;'
+        text = PROGRAM % (head, 'v[i] = 3;\n v[i] += i;\n v[i + 1] = v[i] * 2;\n i = v[2] - v[i] - 3;\n print(v[i]);')
+        self.assertEqual(printed(followed(text)), [4])
 
     def test_a_member_whose_name_is_taken(self) -> None:
         for place in 0, 1:

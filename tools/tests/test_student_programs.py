@@ -6,23 +6,19 @@ import unittest
 from pathlib import Path
 
 from skips import need_command, need_program
-from student_programs import PROGRAMS, corrected, kernel_in, lines_in_motesim, lines_on_host, title
+from student_programs import PROGRAMS, corrected, kernel_in, lines_in_motesim, lines_on_host, title, warnings
 
 # Programs with an error for which no corrected line is known.
-ADVICE = frozenset({
-    'ack_retry', 'average', 'beacon', 'bool_toggle', 'checksum', 'do_while_retry', 'early_return', 'fall_through',
-    'fibonacci', 'flood_cache', 'functions', 'jitter_ctimer', 'last_value', 'morse', 'neighbour_array',
-    'neighbour_struct', 'primes', 'pt_argument', 'queue_array', 'skip_odd', 'static_local', 'stopwatch', 'tdma',
-    'token_ring', 'unicast_ring'})
-# Programs whose lines differ, and the cause.
+ADVICE = frozenset({'callback_pointer'})
+# Programs whose lines differ, and the words of a hint or a warning that say what differs.
 DIFFERS = {
-    'best_signal': 'a variable that is -1 at the start is compared with the number of a packet',
-    'hello_hop': 'a text that is printed by %s is a number',
-    'pollhandler': 'the handlers of a process without a wait of their own are left out',
-    'rate_limit': 'a struct timer becomes an etimer, whose event wakes the process',
-    'sent_callback': 'nothing is called after a send',
-    'threshold': 'a difference that may be negative is compared',
-    'timer_window': 'a struct timer becomes an etimer, whose event wakes the process',
+    'best_signal': 'no number is below 0, but `best` may be in C',
+    'early_return': 'no number is below 0, so this test is never true',
+    'sent_callback': 'To keep 8 bits, write `% 256`',
+    'start_value': 'Post the value below the start: `post rocket e speed;`',
+    'threshold': 'if `trend` is below 0 in C, `((trend + 32768) < 32768)` has the result of C',
+    'two_connections': 'So the value has to say that a packet is for `recv_uc`',
+    'wrap_counter': 'To keep 8 bits, write `% 256`',
 }
 
 
@@ -38,12 +34,13 @@ class StudentPrograms(unittest.TestCase):
             source = file.read_text()
             with self.subTest(file.stem):
                 self.assertTrue(title(source), 'the first comment says what the program does')
-                text, _ = corrected(source)
+                text, hints = corrected(source)
                 found, wanted = lines_in_motesim(text), lines_on_host(source, folder, kernel)
                 self.assertTrue(wanted, 'the program prints nothing')
                 self.assertEqual(found is None, file.stem in ADVICE)
                 if file.stem in DIFFERS:
-                    self.assertNotEqual(found, wanted, '%s is equal now' % file.stem)
+                    self.assertNotEqual(found, wanted, 'the program is equal')
+                    self.assertIn(DIFFERS[file.stem], hints + warnings(text))
                 elif found is not None:
                     self.assertEqual(found, wanted, text)
 

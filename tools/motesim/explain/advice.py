@@ -44,6 +44,8 @@ class Advice(NamedTuple):
             return self._shown_above(source, offset, 'Insert')
         which = _which(self.first, self.last, offset)
         inserted = self._shown_above(source, offset, 'and insert')
+        if not self.line and self.above and self.below:
+            return self._shown_around(source, offset)
         if not self.line and self.above and self.above[0] > self.last:
             # (in this order the second number is right after the first step)
             return [*self._shown_above(source, offset, 'Insert'), 'and leave %s out.' % which]
@@ -58,6 +60,19 @@ class Advice(NamedTuple):
         # (a line of the author remains a line)
         line = self.line if self.first == self.last else in_lines(self.line)
         return ['Write, as %s:' % which, *_all_indented(source, self.first, line), *below, *inserted]
+
+    def _shown_around(self, source: str, offset: int | None) -> list[str]:
+        """The lines of a hint that leaves out its own lines, inserts lines elsewhere and changes others: the last ones
+        come first, because their numbers are still those of the file."""
+        assert self.above is not None
+        inserted = self._shown_above(source, offset, 'insert')
+        parts = [(it.first, _left_out(source, it, offset)) for it in self.below]
+        parts.append((self.first, ['leave %s out,' % _which(self.first, self.last, offset)]))
+        parts.append((self.above[0], inserted))
+        *others, last = [lines for _, lines in sorted(parts, key=lambda it: it[0], reverse=True)]
+        found = [line for lines in others for line in lines]
+        closing = [re.sub(r' out,$', ' out.', last[0]), *last[1:]]
+        return [found[0][0].upper() + found[0][1:], *found[1:], 'and ' + closing[0], *closing[1:]]
 
     def _shown_above(self, source: str, offset: int | None, verb: str) -> list[str]:
         """The lines to be inserted elsewhere, below their place."""

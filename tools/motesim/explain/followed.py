@@ -5,7 +5,7 @@ import re
 from collections.abc import Sequence
 
 WRITTEN = re.compile(r'(?:and )?(?:[Ww]rite, as|[Ll]eave) lines? (\d+)(?: to (\d+))?(?::| out)')
-INSERTED = re.compile(r'(?:and insert|Insert) (below|above) line (\d+):')
+INSERTED = re.compile(r'(?:and )?[Ii]nsert (below|above) line (\d+):')
 
 
 def followed(text: str, message: Sequence[str]) -> str | None:

@@ -5,6 +5,7 @@ from __future__ import annotations
 import re
 from collections.abc import Iterator
 
+from motesim.from_c.callbacks import COMMENT, OWN_SCOPE, calls_of
 from motesim.from_c.tokens import TOKEN
 
 # A structure of callbacks with its members, also in a comment that keeps it.
@@ -30,7 +31,11 @@ BEHIND = {
     'dropped': 'No packet is dropped by its sender here, so leave the comments out.',
 }
 OF_STATEMENTS = 'The statements are `%s`.'
-ENDED = 'In the comments, %s, because each packet is sent once.'
+MOVED = 'Its statements follow each `%s` below.'
+# More sends than these have no place for the statements of a callback.
+MOST_SENDS = 4
+ENDED = '%s, because each packet is sent once.'
+IN_COMMENTS, IN_STATEMENTS = 'In the comments, ', 'In the statements, '
 HEADING = '%s, the callback `%s`:'
 # The parameters behind the connection of a callback for an unreliable send, and their values here.
 RESULTS = re.compile(r'\(\s*struct\s+\w+\s*\*\s*\w*\s*,\s*int\s+(\w+)\s*,\s*int\s+(\w+)\s*\)')
@@ -79,6 +84,21 @@ def with_results(function: str) -> tuple[str, str]:
         said += ['`%s` is %s' % (name, value)] if changed != body else []
         body = changed
     return head + body, ENDED % ' and '.join(said) if said else ''
+
+
+def written_behind(text: str, kind: str, statements: list[str]) -> str | None:
+    """A text with the statements of a callback behind each send of this kind; None if they can't be there."""
+    send = kind + '_send'
+    sends = calls_of(text, send)
+    its = COMMENT.sub(' ', '\n'.join(statements))
+    is_other = kind in WITH_ANSWERS or len(re.findall(r'\b%s\b' % send, COMMENT.sub(' ', text))) != len(sends)
+    if is_other or OWN_SCOPE.search(its) or not 0 < len(sends) <= MOST_SENDS:
+        return None
+    for it in reversed(sends):
+        is_branch = re.search(r'(?:\)|\belse)\s*$', text[:it.start()]) is not None
+        written = '%s %s' % (it[0], ' '.join(its.split()))
+        text = text[:it.start()] + ('{ %s }' % written if is_branch else written) + text[it.end():]
+    return text
 
 
 def place_of(kind: str, member: str) -> str:

@@ -7,6 +7,7 @@ from typing import NamedTuple
 # A call that sets a timer: the timer, and the function that the timer calls.
 SETS = re.compile(r'\bctimer_set\s*\(\s*&?\s*(\w+)\s*,[^,;]*,\s*&?\s*(\w+)\s*[,)]')
 # What can't be written instead of a call of the function, because its scope or its end would be another one.
+LOCAL = re.compile(r'^\s*(?:int|char|short|long|unsigned|bool|\w+_t)\s+(\w+)\s*(?:=[^,;]*)?;', re.M)
 OWN_SCOPE = re.compile(r'\breturn\b|^\s*(?:static\s+)?(?:int|char|short|long|unsigned|bool|struct|\w+_t)\s+\*?\w+',
                        re.M)
 COMMENT = re.compile(r'//[^\n]*|/\*.*?\*/', re.S)
@@ -57,7 +58,7 @@ def calls_of(text: str, function: str) -> list[re.Match[str]]:
 def inlined(text: str, function: str, body: str) -> str | None:
     """A text with the statements of a function instead of its calls; None if they can't be there."""
     calls = calls_of(text, function)
-    if calls and OWN_SCOPE.search(body):
+    if calls and OWN_SCOPE.search(_without_own(body, text)):
         return None
     its = ' '.join(COMMENT.sub(' ', body).split())
     for call in reversed(calls):
@@ -65,6 +66,15 @@ def inlined(text: str, function: str, body: str) -> str | None:
         written = '{ %s }' % its if is_branch else its
         text = text[:call.start()] + written + '\n' * call[0].count('\n') + text[call.end():]
     return text
+
+
+def _without_own(body: str, text: str) -> str:
+    """The statements of a function without the declarations of variables whose names another text doesn't have outside
+    the blocks of timers."""
+    for block in reversed([*BLOCK.finditer(text)]):
+        text = text[:block.start()] + text[_end_of(text, block.end() - 1):]
+    words = {*re.findall(r'\w+', text)}
+    return LOCAL.sub(lambda it: it[0] if it[1] in words else '', body)
 
 
 def without_returns(body: str) -> str:
@@ -83,6 +93,16 @@ def without_returns(body: str) -> str:
             inner = body[:begin + ends.start()].rstrip(' ') + '}'
             return '%s else {%s\n}' % (inner, without_returns(rest)) if rest.strip() else inner
     return body
+
+
+def _end_of(text: str, begin: int) -> int:
+    """The place behind the brace that closes the one at a place."""
+    depth = 0
+    for at in range(begin, len(text)):
+        depth += (text[at] == '{') - (text[at] == '}')
+        if not depth:
+            return at + 1
+    return len(text)
 
 
 def _begin_of(text: str, end: int) -> int:

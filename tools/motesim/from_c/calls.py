@@ -9,6 +9,7 @@ from motesim.from_c.expressions import IN_TICKS, NOT_PRINTED, TICKS, NoCounterpa
 from motesim.from_c.nodes import MOMENTS_OF_SECOND, Node, value_of
 from motesim.from_c.parameters import ASSIGNED, IN_CIRCLE, OF_ARGUMENTS, assignments
 from motesim.from_c.places import block_of
+from motesim.from_c.plain_timers import IN_SECONDS, OF_CALL, OF_PLAIN, SETS, PlainTimer, action_of, plain_timer
 from motesim.from_c.scope import allowed
 from motesim.from_c.sends import Sends
 from motesim.from_c.shared import of_other
@@ -49,6 +50,9 @@ NO_DATA = ('`start` passes no value, so `%s` is left out: in the call with `init
            '`yield_until is(e);`, and then reads `data`.')
 OF_SCHEDULE = ('In C, the statements below `PT_SCHEDULE` are run in each turn, but a `spawn` ends only when its thread '
                'has ended: put statements that are needed in each turn into another process.')
+# A conversion in the text of a `printf`.
+CONVERSION = re.compile(r'%[-+ #0-9.]*(?:hh?|ll?|z)?([a-zA-Z%])')
+NO_TEXT = 'There are no texts: what `%s` shows in C is left out.'
 # The first words of the blocks of a `code`. The process that a callback timer runs in isn't busy.
 OF_POSTED = ('The event has the value that `%s` has now: the process that gets it reads this value by `data`, also '
              'after a later change, and can\'t change `%s`.')
@@ -91,7 +95,7 @@ class Calls(Sends):
         elif self.token.text == '(' and self.ahead(1).kind == 'text' or word != 'print':
             self.need('(')
             shown = self.token.text
-            values = [it for it in self.arguments() if it.kind != 'text']
+            values = self.numbers(shown, self.arguments())
             if not values:
                 self.at -= 1
                 return self.of_text(shown)
@@ -105,7 +109,15 @@ class Calls(Sends):
                 values.append(self.expression())
         values = [it for it in values if it.kind != 'text']
         self.end('')
-        return ' '.join(self.chosen('print %s;', it) for it in values)
+        return ' '.join(self.below_calls(self.chosen('print %s;', it)) for it in values)
+
+    def numbers(self, shown: str, values: list[Node]) -> list[Node]:
+        """The values that a `printf` with this text shows as numbers."""
+        signs = [it for it in CONVERSION.findall(shown) if it != '%']
+        if 's' in signs and len(values) == len(signs) + 1:
+            self.insist(NO_TEXT)
+            values = [it for it, sign in zip(values[1:], signs) if sign != 's']
+        return [it for it in values if it.kind != 'text']
 
     def listed(self) -> list[Node]:
         """Several values in parentheses, as in `print(n, x)`; nothing if the parentheses belong to one value."""
@@ -160,6 +172,8 @@ class Calls(Sends):
             inner = self.named_by(call, NO_NAME if name == 'process_thread' else NO_THREAD)
             if name == 'pt_thread' and self.place.is_top and self.token.text != ';':
                 return self.of_thread(allowed(inner))
+            if name == 'pt_thread' and self.place.is_head and self.place.head and self.token.text != ';':
+                self.keep_parameters([it.text for it in call.parts[0].parts if it.kind == 'name' and it.text != 'pt'])
             self.why('A process is a `code NAME { .. }` with a `body`; a protothread is a `thread NAME { .. }`.')
             if self.accept(';'):
                 return ''
@@ -179,7 +193,15 @@ class Calls(Sends):
     def of_thread(self, name: str) -> str:
         """A protothread above the codes: a thread of the process that spawns it."""
         self.why(OF_THREAD % name)
-        block = self.body() if self.token.text == '{' else ''
+        begin = self.place_here
+        try:
+            block = self.body() if self.token.text == '{' else ''
+        except NoCounterpart:
+            block = ''
+            self.go_back(begin)
+        if not block and self.is_moved_whole(name):
+            self.writer.reasons = [OF_THREAD % name]
+            return ''
         if not block or self.is_cut:
             raise NoCounterpart(OF_THREAD % name)
         self.declares.append('thread %s %s' % (name, block))
@@ -214,6 +236,9 @@ class Calls(Sends):
     def of_call(self, call: Node) -> str:
         """The statement with the meaning of a call."""
         name = call.text.lower()
+        timer = plain_timer(call, self.scope)
+        if timer and action_of(name) in SETS:
+            return self.of_plain_timer(call, timer)
         form = CALLS.get(name + '()' if not call.parts else name) or CALLS[name]
         if name == 'process_post' and call.parts and call.parts[0].text.lower() == 'process_broadcast':
             form = CALLS['process_broadcast']
@@ -262,6 +287,21 @@ class Calls(Sends):
             self.declare(word, kind, its, '20' if form.startswith('set') else '0')
         self.writer.unknown = None
         return written
+
+    def of_plain_timer(self, call: Node, timer: PlainTimer) -> str:
+        """The assignments to the variables of a timer without an event."""
+        for name in (timer.start, timer.interval):
+            if not self.place.head:
+                raise NoCounterpart(OF_PLAIN % (call.text.lower().partition('_')[0], timer.start, timer.interval))
+            if not self.is_variable(name):
+                self.declares.append('var %s = 0;' % name)
+                self.scope.kinds[name] = 'variable'
+        self.why(OF_CALL % call.text)
+        if timer.is_in_seconds:
+            self.writer.insist(IN_SECONDS % (self.scope.second, self.scope.second))
+        value = self.writer.text(call.parts[1]) if len(call.parts) > 1 else ''
+        forms = zip((timer.start, timer.interval), SETS[action_of(call.text)])
+        return '; '.join('%s = %s' % (name, timer.written(form, value)) for name, form in forms if form)
 
     def note_posted(self, call: str, value: Node) -> None:
         """Notes that an event has a value, if C passes the address of a variable."""

@@ -3,11 +3,12 @@ from __future__ import annotations
 
 import re
 
+from motesim.from_c.breaks import head_with_flag, ways_around
 from motesim.from_c.closings import Closing
 from motesim.from_c.counting import caution, is_changed, loop_of, natural, refuse_endless
 from motesim.from_c.expressions import ONE_TOO_MANY, QUALIFIERS, TYPES, WORDS, NoCounterpart
 from motesim.from_c.nodes import Node
-from motesim.from_c.parameters import in_loop
+from motesim.from_c.parameters import RESULT, in_loop
 from motesim.from_c.places import block_of, conjuncts, ends_loop, last_statement
 from motesim.from_c.scope import allowed
 from motesim.from_c.sharing import is_needed
@@ -36,9 +37,7 @@ ENDS = ('end', 'endif', 'endwhile', 'fi', 'done')
 ENDLESS_DO = 'There is no `do`: `while 1 { .. }` repeats its block.'
 # The variable that is 1 in the first round of a `do` of C, and then has the result of its test.
 AGAIN = 'again'
-# The variable for the value of a function, which a call of the function uses.
-RESULT = 'result'
-OF_RESULT = 'An `exit` passes no value: `%s` keeps the value for the caller.' % RESULT
+OF_RESULT = 'An `exit` passes no value: `%s` keeps the value for the caller.'
 # The most lines below the first one of a `do` that may be written twice.
 MOST_TWICE = 5
 OF_DO = ('There is no `do`: the block of this `while` runs at least once, because `again` is 1 before it. The last '
@@ -46,6 +45,10 @@ OF_DO = ('There is no `do`: the block of this `while` runs at least once, becaus
 NO_BREAK = 'There is no `break`: let the test of the `while` become false.'
 REST_RUNS = ('The rest of the block still runs once: write it in an `else` if it must not, as the step of a count '
              'that is needed after the loop.')
+LEFT_OUT = ('There is no `break`: `%s = 1;` already makes the test of the `while` false, so leave it out. The '
+            'statements that the `break` skips are in a block that doesn\'t run then.')
+WITH_FLAG = ('There is no `break`: `%s = 1;` makes the test of the `while` false, and the statements that the `break` '
+             'skips are in a block that doesn\'t run then.')
 # The test of a flag: it is 0 until the loop ends.
 FLAG = re.compile(r'^!|== 0\b')
 # What the advice on a `break` adds for a flag.
@@ -92,13 +95,17 @@ class Control(Skips):
         """The test after a block whose `while` is above it."""
         self.at += 1
         around, self.before, self.after = (self.before, self.after), [], []
+        is_again = self.place.loop == AGAIN and self.place.levels == 1
+        self.writer.calls = [] if is_again else None
         test = self.condition()
+        calls = ' '.join(self.taken_calls())
         steps, (self.before, self.after) = (self.before, self.after), around
         if not self.accept(';'):
             raise NoCounterpart
-        if self.place.loop == AGAIN and self.place.levels == 1:
+        if is_again:
             self.why(OF_DO)
-            return ' '.join(filter(None, (self.steps(steps[0]), '%s = %s;' % (AGAIN, test), self.steps(steps[1]), '}')))
+            again = '%s = %s;' % (AGAIN, test)
+            return ' '.join(filter(None, (calls, self.steps(steps[0]), again, self.steps(steps[1]), '}')))
         self.why('There is no `do`: the test of a `while` is before its block, and `}` ends it.')
         return '}'
 
@@ -209,8 +216,36 @@ class Control(Skips):
                             'value that '
                             'is tested for `x`.' % (case, block))
 
+    def with_flag(self) -> str | None:
+        """A `break` as an assignment to the flag of the loop, whose block skips the rest; None if the rest can't be
+        skipped."""
+        names = [it.partition(' ')[0] for it in self.ends_of_loop() if it.endswith(' = 1')]
+        flag = next((it for it in names if not self.is_flag_needed(it)), '') or self.flag()
+        words, behind = [it.text for it in self.tokens], [it.text for it in self.tokens[self.at + 1:] if it.text]
+        heads = (*reversed(self.place.inner), 'while')
+        is_alone, is_own = self.at == 0 and behind in ([], [';']), words[0] == 'if' and self.nested > 1
+        depth = words[:self.at].count('{') - words[:self.at].count('}')
+        ends = behind == [';', *['}'] * depth] or behind == [] and not depth
+        if not (is_alone or is_own and ends) or len(heads) != self.place.levels or not self.place.head:
+            return None
+        head = head_with_flag('\n'.join((self.place.above, self.source)), self.place.above.count('\n') + 2, flag)
+        ways = ways_around(self.place.rest, heads, flag, is_own, 'else' in words)
+        if ways is None or head is None:
+            return None
+        self.at += 1
+        self.head_of_loop, self.skipping = head, ways
+        if not self.is_variable(flag):
+            self.declares.append('var %s = 0;' % flag)
+            self.scope.kinds[flag] = 'variable'
+        before = last_statement(words[:self.at - 1]) or self.place.before
+        self.insist((LEFT_OUT if before == flag + ' = 1' else WITH_FLAG) % flag)
+        return self.end('').removesuffix(';') if before == flag + ' = 1' else self.end('%s = 1' % flag)
+
     def of_break(self) -> str:
         """A `break`, as an assignment that makes the test of the loop false."""
+        written = self.with_flag() if self.place.loop not in ('', AGAIN) else None
+        if written is not None:
+            return written
         ends = self.ends_of_loop()
         before = last_statement([it.text for it in self.tokens[:self.at]]) or self.place.before
         if before in ends:
@@ -266,6 +301,8 @@ class Control(Skips):
             self.why('A loop without a block would run forever: `wait_while` lets other events in while it waits.')
             return 'wait_while %s;' % test
         self.is_if = word == 'if'
+        if word == 'while' and self.place.head:
+            self.writer.calls = []
         is_own = word == 'if' and self.ahead(-2).text != 'else'
         test, outside, self.is_if = self.test_of(word), self.place, False
         skipping = self.without_continue(test) if is_own else None
@@ -273,6 +310,8 @@ class Control(Skips):
             return 'if ' + skipping
         if word == 'while' and (self.before or self.after):
             return self.counting_loop(test)
+        if word == 'while' and self.writer.calls:
+            return self.calling_loop(test)
         if word == 'while':
             refuse_endless(test)
             self.place = outside._replace(loop=test, is_head=False, rest=(), kept_steps=0)
@@ -315,6 +354,16 @@ class Control(Skips):
             self.why_with_rest('The step is above the loop and at the end of its block',
                                ': write `%s` there' % last)
         return ('%s while %s %s' % (last, test, body)).strip()
+
+    def calling_loop(self, test: str) -> str:
+        """A `while` whose test has the value of a function: its calls are above the loop and at the end of its
+        block."""
+        calls = ' '.join(self.taken_calls())
+        body = self.body(calls)
+        self.note_step(calls)
+        self.why_with_rest('The test calls a function: the call is above the loop and at the end of its block',
+                           ': write `%s` there' % calls)
+        return '%s while %s %s' % (calls, test, body)
 
     def refuse_steps(self) -> None:
         its = [*self.before, *self.after][0]
@@ -473,11 +522,17 @@ class Control(Skips):
         value = None if self.token.text in (';', '}', '') else self.expression()
         self.why('There is no `return`: `exit;` ends the process or the thread.')
         if value and block_of(self.place.above) == 'thread':
-            self.why(OF_RESULT)
-            if not self.is_variable(RESULT):
-                self.declares.append('var %s = 0;' % RESULT)
-            return self.end('%s = %s; exit' % (RESULT, self.writer.text(value)))
+            return self.with_result(value)
         if value and value.kind != 'number':
             self.writer.insist('An `exit` passes no value: assign it to a variable of the process first, such as '
                                '`result = %s;`.' % self.writer.text(value))
         return self.end('exit')
+
+    def with_result(self, value: Node) -> str:
+        """A `return` with a value: a variable keeps the value for the caller."""
+        name = self.scope.for_hint(RESULT)
+        self.why(OF_RESULT % name)
+        self.add(name)
+        written = self.chosen(name + ' = %s;', value)
+        self.end('')
+        return 'exit;' if written == '%s = %s;' % (name, name) else written + ' exit;'

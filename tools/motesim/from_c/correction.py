@@ -25,7 +25,7 @@ from motesim.from_c.statements import Statements
 from motesim.from_c.structure import (
     ONE_LINE, begins_unnamed_code, extra_brace, process_line, process_lines, unclosed_block,
 )
-from motesim.from_c.switches import OF_SWITCH, switch_at
+from motesim.from_c.switches import switch_at
 from motesim.notation.faults import ProgramError, find_fault, tokens_of
 
 MOST_LINES = 6
@@ -172,7 +172,7 @@ def _switch(text: str, fault: ProgramError, scope: Scope) -> Correction | None:
     """Tests instead of a `switch` that begins the line of a fault."""
     process = place_below(text.split('\n')[:fault.token.line - 1]).code
     found = switch_at(text, fault.token.line, scope, process) if process else None
-    made = Correction(found.first, found.last, found.written, (OF_SWITCH,)) if found else None
+    made = Correction(found.first, found.last, found.written, (found.reason,)) if found else None
     return made if made and _rank(text, made) else None
 
 
@@ -222,7 +222,9 @@ def _insertions(text: str, source: str, reader: Statements) -> list[tuple[int, s
     """The lines that may be inserted with a reading of some lines, the best one first."""
     if reader.moved:
         head = head_for(text, 'thread ' + reader.moved)
-        return [(head, reader.inserted or source)] if head else []
+        # (an empty line would end the lines that a message shows)
+        rows = [it for it in (reader.inserted or source).split('\n') if it.strip()]
+        return [(head, '\n'.join(rows))] if head else []
     if not reader.declares:
         return [(_above_processes(text, reader.events[0]), ' '.join(reader.events)) if reader.events else None]
     if reader.events:
@@ -296,7 +298,8 @@ def _correction(text: str, fault: ProgramError) -> Correction | None:
             if twice:
                 reader.writer.insist(STEPS_TWICE % twice)
             reasons = reasons_with(bool(seed) or MIXED in text, reader.writer.shown())
-            below = with_renamed(text, renamed, (*seed, *recounted(text, reader.counts), *below))
+            heads = [reader.head_of_loop] if reader.head_of_loop else []
+            below = with_renamed(text, renamed, (*seed, *recounted(text, reader.counts), *heads, *below))
             made = Correction(first, last, written, reasons, below=below)
             for above in _insertions(text, source, reader):
                 made = made._replace(above=above)

@@ -5,6 +5,7 @@ import re
 from collections.abc import Iterable
 
 from motesim.from_c.after_send import callbacks_for_packets, has_function, names_in
+from motesim.from_c.bits import bits_of
 from motesim.from_c.callbacks import calls_of, inlined
 from motesim.from_c.enums import DEFINED_EVENT, NO_TYPES, Enums
 from motesim.from_c.expressions import (
@@ -12,12 +13,14 @@ from motesim.from_c.expressions import (
     TOO_LARGE, TYPES, Expressions, NoCounterpart,
 )
 from motesim.from_c.macros import expanded
-from motesim.from_c.nodes import MOMENTS_OF_SECOND, Node, number_of, value_of
-from motesim.from_c.own_names import OTHERS, RENAME, RENAMED, OwnNames
+from motesim.from_c.nodes import MOMENTS_OF_SECOND, Node, names_of, number_of, value_of, with_values
+from motesim.from_c.own_names import ONE_CASE, OTHERS, RENAME, RENAMED, OwnNames
 from motesim.from_c.parameters import KEPT, OF_COMMENT, READ_BY_NAME, SHARED
-from motesim.from_c.places import end_of_block, has_one_user
+from motesim.from_c.places import LOCAL, end_of_block, has_one_user
+from motesim.from_c.plain_timers import KINDS, OF_PLAIN, variables_of
 from motesim.from_c.scope import IN_C, LONGEST, allowed
 from motesim.from_c.shared import of_shared
+from motesim.from_c.sharing import end_of_block as end_of_words
 from motesim.from_c.structures import HALF, KEPT_FIELDS, OF_FIELDS, Field, of_fields
 from motesim.from_c.tokens import TOKEN, tokens_of
 from motesim.notation.keywords import RESERVED
@@ -83,8 +86,11 @@ WRITE_BY_NAME = '`%s` has another meaning in a program, so write `%s` in all oth
 OF_TEXT = 'Here, `%s` is the number %d. In C, the text replaces the name, so `%s * 2` is `%s * 2` there.'
 MOST_MEMBERS = 8
 OF_NAMES = 'Each member is a variable of its own: %s.'
+OF_RECORDS = 'There are no arrays and no structures: each field of each member of `%s` is a variable of its own: %s.'
 OF_MEMBERS = ('%s The members of this array would be the variables `%s` to `%s`, but the program has another `%s`: '
               'give the array another name first.')
+RENAMED_CONSTANT = '%s: the name of the constant is `%s` here.'
+OTHER_VARIABLE = 'The process has a variable `%s` already, which each call would change'
 OTHER_STRUCTURE = 'The process has another structure `%s`, whose fields are variables already'
 NO_PLACE = 'Variables are declared at the head of `code`, before its timers, threads and `body`: `var %s = 0;`.'
 
@@ -149,7 +155,7 @@ class Declarations(Enums, OwnNames):
         if self.is_event(defined[1]):
             self.writer.insist(DEFINED_EVENT)
             return self.at_top('event %s;' % self.new_name(defined[1]))
-        name = self.scope.free(defined[1], 'variable')
+        name = self.own_constant(self.scope.free(defined[1], 'variable'), defined[1])
         value = self.constant(defined[2])
         if value is None:
             raise NoCounterpart('%s. Leave this line out, and choose a value n: `var %s = n;`, at the head of the '
@@ -157,7 +163,23 @@ class Declarations(Enums, OwnNames):
         self.why(NO_CONSTANTS + '.')
         if is_sum(defined[2]):
             self.writer.insist(OF_TEXT % (defined[1], value, defined[1], defined[2].strip()))
+        if value < 0:
+            self.comments.append('// ' + IN_C % (allowed(name), -value))
+            self.writer.insist(OF_MINUS)
         return self.declared(name, str(value % (MOST + 1)))
+
+    def own_constant(self, name: str, in_c: str) -> str:
+        """The name of the variable for a name of the preprocessor: another one if a name of C differs from it only in
+        its capitals."""
+        words = {*self.words_around()}
+        alike = {it for it in words if it.lower() == in_c.lower()} - {in_c}
+        others = {it for it in alike if re.search(LOCAL % it, self.below)}
+        if not others:
+            return name
+        new = self.fresh(name, {it.lower() for it in words})
+        self.below = TOKEN.sub(lambda it: new if it.lastgroup == 'name' and it[0] == in_c else it[0], self.below)
+        self.insist(RENAMED_CONSTANT % (ONE_CASE % (in_c, min(others)), new))
+        return new
 
     def is_event(self, name: str) -> bool:
         """Returns whether the program below posts a name as an event, or compares it with the event of a call."""
@@ -170,9 +192,15 @@ class Declarations(Enums, OwnNames):
         """The value of an expression of numbers, or None if it has none."""
         reader = Expressions([it for it in tokens_of(text) if it.kind != 'comment'], self.scope)
         try:
-            value = value_of(reader.expression(), self.scope.second)
+            node = reader.expression()
         except NoCounterpart:
             return None
+        names = {it: it.lower() for it in names_of(node) - {'CLOCK_SECOND'}}
+        if any(it not in self.scope.values or it in self.scope.changed for it in names.values()):
+            return None
+        node = with_values(node, {name: self.scope.values[it] for name, it in names.items()})
+        value = value_of(node, self.scope.second)
+        value = bits_of(node) if value is None else value
         if reader.token.kind != 'end' or value is None:
             return None
         if abs(value) > MOST:
@@ -186,7 +214,7 @@ class Declarations(Enums, OwnNames):
         if not (self.place.is_top or self.place.is_head):
             return self.declared_above(name, value, at, is_static)
         found = self.new_name(name)
-        if name in OTHERS:
+        if name in OTHERS and (at is None or not self.rename(name, found, at)):
             self.writer.insist(WRITE_BY_NAME % (name, found))
         declared = 'var %s = %s;' % (found, value)
         if self.place.is_top:
@@ -242,7 +270,9 @@ class Declarations(Enums, OwnNames):
         kind = self.token.text
         if kind == 'enum':
             return self.of_enum(words)
-        if 'struct' in words and kind in ('etimer', 'ctimer', 'timer', 'stimer', 'rtimer', 'pt_sem', 'pt'):
+        if 'struct' in words and kind in KINDS:
+            return self.of_plain_timers(kind)
+        if 'struct' in words and kind in ('etimer', 'ctimer', 'rtimer', 'pt_sem', 'pt'):
             return self.of_struct(kind)
         if 'struct' in words and words[-1] == 'struct' and kind.endswith(('_callbacks', '_conn')):
             receivers = [self.of_lower(it) for it in sorted(callbacks_for_packets(self.source))]
@@ -305,12 +335,10 @@ class Declarations(Enums, OwnNames):
 
     def of_array(self, name: str, at: int, is_static: bool) -> str:
         """An array: a variable for each of its members, if they are few."""
-        self.need('[')
-        its = self.scope.meant(self.token.text, 'variable')
-        is_fixed = its in self.scope.values and its not in self.scope.changed
-        count = number_of(self.scope.values[its] if is_fixed else self.token.text) or 0
-        self.at += 1
-        if self.accept(']') != ']' or not 0 < count <= MOST_MEMBERS or self.token.text not in (';', ''):
+        count = self.members_of()
+        values = self.values_of(count) if self.accept('=') else []
+        count = count or len(values)
+        if self.token.text not in (';', '') or not count:
             raise NoCounterpart(NO_ARRAYS)
         base = allowed(name) if name in RESERVED else name
         members = ['%s%s' % (base, it or '') for it in range(count)]
@@ -324,7 +352,46 @@ class Declarations(Enums, OwnNames):
                                                 for number, it in enumerate(members)))
         if self.place.is_top:
             self.note_shared(name, members[0])
-        return ' '.join(filter(None, (self.declared(it, '0', is_static=is_static) for it in members)))
+        first = zip(members, [*values, *['0'] * (count - len(values))])
+        return ' '.join(filter(None, (self.declared(*it, is_static=is_static) for it in first)))
+
+    def values_of(self, count: int) -> list[str]:
+        """The first values of the members of an array with this number of members, or with as many as values."""
+        found = list[str]()
+        self.need('{')
+        while not self.accept('}'):
+            found.append(self.beginning(self.expression()))
+            self.accept(',')
+        if len(found) > (count or MOST_MEMBERS):
+            raise NoCounterpart(NO_ARRAYS)
+        return found
+
+    def members_of(self) -> int:
+        """The number of members in the brackets behind the name of an array; 0 if its values are counted."""
+        self.need('[')
+        if self.accept(']'):
+            return 0
+        its = self.scope.meant(self.token.text, 'variable')
+        is_fixed = its in self.scope.values and its not in self.scope.changed
+        count = number_of(self.scope.values[its] if is_fixed else self.token.text) or 0
+        self.at += 1
+        if self.accept(']') != ']' or not 0 < count <= MOST_MEMBERS:
+            raise NoCounterpart(NO_ARRAYS)
+        return count
+
+    def of_records(self, name: str, fields: tuple[Field, ...], is_static: bool) -> str:
+        """An array of structures: a variable for each field of each member."""
+        self.at += 1
+        count, its = self.members_of(), of_fields(name, fields)
+        if self.token.text != ';' or not count or max(map(len, its.variables)) >= LONGEST:
+            raise NoCounterpart(NO_FIELDS)
+        self.insist(OF_RECORDS % (name, ', '.join('`%s` to `%s%d` for `%s[..].%s`' % (
+            variable, variable, count - 1, name, it.name) for variable, it in zip(its.variables, fields))))
+        if self.place.is_top:
+            self.user = name
+            self.note_shared(name, its.variables[0])
+        names = ['%s%s' % (it, at or '') for it in its.variables for at in range(count)]
+        return ' '.join(filter(None, (self.declared(it, '0', is_static=is_static) for it in names)))
 
     def of_function(self) -> str:
         """A function: a thread, without parameters."""
@@ -431,19 +498,37 @@ class Declarations(Enums, OwnNames):
             words = [*words, ''] if self.token.text == ',' else [*words[:-1], self.token.text]
             self.at += 1
         names = [it for it in words if it.isidentifier() and it not in TYPES and it != 'pt']
-        if not (of_thread and self.place.head):
-            return
-        if names:
-            self.comments.insert(0, KEPT % ', '.join(allowed(it) for it in names))
-        for name in names:
+        if of_thread and self.place.head:
+            self.keep_parameters(names)
+
+    def keep_parameters(self, names: list[str]) -> None:
+        """Declares the parameters of a thread as variables, and keeps their order in a comment."""
+        for name in [*names]:
             found = self.new_name(name)
             if name in READ_ONLY:
                 self.writer.insist(READ_BY_NAME % (name, found))
+            if found in self.place.variables:
+                found = self.own_parameter(name, found)
+                names[names.index(name)] = found
             if found in self.place.variables:
                 self.writer.insist(SHARED % found)
             else:
                 self.why(OF_COMMENT)
                 self.declares.append('var %s = 0;' % found)
+        if names:
+            self.comments.insert(0, KEPT % ', '.join(allowed(it) for it in names))
+
+    def own_parameter(self, name: str, found: str) -> str:
+        """The name of a parameter if the process has a variable with its name: another one, to the end of the function,
+        or this name if too many lines have it."""
+        words, at = self.words_around(), max(at for at in range(self.at) if self.tokens[at].text == name)
+        place = self.count_above() + at
+        end = end_of_words(words, words.index('{', place) + 1) if '{' in words[place:] else place
+        new = self.fresh(found, {*words})
+        if not self.rename(name, new, at, end):
+            return found
+        self.insist(RENAMED % (OTHER_VARIABLE % found, new))
+        return new
 
     def beginning_of(self, node: Node | None, words: list[str]) -> str:
         """The initial value of a variable with these words of its type: an address of no mote, if the program tests for
@@ -490,6 +575,9 @@ class Declarations(Enums, OwnNames):
         found = []
         while not is_type and (self.token.text != ';' or not is_definition):
             is_pointer = self.accept('*') != ''
+            if its and self.ahead(1).text == '[' and not is_pointer:
+                found.append(self.of_records(self.token.text, its, 'static' in words))
+                break
             if not its or self.token.kind != 'name' or self.ahead(1).text not in ('=', ',', ';'):
                 raise NoCounterpart(NO_FIELDS)
             name = self.own_structure(self.token.text, its)
@@ -553,6 +641,8 @@ class Declarations(Enums, OwnNames):
 
     def of_struct(self, kind: str) -> str:
         self.at += 1
+        if self.token.text == '*':
+            raise NoCounterpart(NO_POINTERS % self.ahead(1).text)
         if kind == 'pt_sem':
             self.why(ABOVE['semaphore'])
             return self.of_names('semaphore')
@@ -567,6 +657,23 @@ class Declarations(Enums, OwnNames):
                                 'and a callback timer, `ctimer %s { .. }`, runs its block.' % ((self.token.text,) * 2))
         self.why('An event timer is declared by `etimer`.')
         return self.of_names('etimer')
+
+    def of_plain_timers(self, kind: str) -> str:
+        """Timers that post no event: two variables for each."""
+        self.at += 1
+        found = []
+        while True:
+            name, variables = self.token.text, variables_of(self.token.text)
+            self.at += 1
+            self.insist(OF_PLAIN % (kind, *variables))
+            if self.place.is_top:
+                self.user = name
+                self.note_shared(name, variables[0])
+            found += [self.declared(it, '0', is_static=True) for it in variables]
+            if not self.accept(','):
+                break
+        self.end('')
+        return ' '.join(filter(None, found))
 
     def of_connection(self) -> str:
         """A connection, or a structure of its callbacks. The structure is kept as a comment while a function below it

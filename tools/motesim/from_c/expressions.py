@@ -15,7 +15,8 @@ from motesim.from_c.nodes import (
     ADDRESSES, MOMENTS_OF_SECOND, Choice, Node, Step, address_of, has_difference, has_negative, is_difference,
     is_octal, is_of_no_mote, is_test, is_upper_byte, names_of, number_of, opposite, value_of, with_values,
 )
-from motesim.from_c.parameters import of_value
+from motesim.from_c.parameters import ALWAYS_CALLED, OF_CALL as OF_VALUE, RESULT, assignments, of_value
+from motesim.from_c.plain_timers import IN_SECONDS, OF_CALL, VALUES as OF_TIMERS, action_of, plain_timer
 from motesim.from_c.scope import Scope, abbreviated, allowed
 from motesim.from_c.tokens import END, Token
 from motesim.notation.faults import MOST_LEVELS
@@ -128,6 +129,10 @@ NO_ARRAYS = 'There are no arrays: a variable holds one number of 16 bits.'
 MEMBER = 'There are no arrays: `%s[%d]` is the variable `%s`.'
 NO_INDEX = ('There are no arrays: a variable holds one number of 16 bits. An `if` for each number chooses among `%s`, '
             'such as `if (%s == 1) { .. %s .. }`.')
+# The variable for a member of an array whose place is a variable.
+ELEMENT = 'element'
+OF_ELEMENT = 'There are no arrays: the statements above choose the variable of the member, whose value `%s` keeps.'
+OF_MEMBERS = 'There are no arrays: an `if` for each member chooses the variable that is assigned.'
 NO_FIELDS = ('There are no structures: each field is a variable of its own, such as `p_x` instead of `p.x`. A packet '
              'has one number, `data`. Two small numbers fit into one: `((a * 256) + b)`.')
 NO_POINTERS = ('There are no pointers: leave out the declaration of `%s`, and write the name of the other variable, '
@@ -422,6 +427,12 @@ class Writer:
     # The loops above a statement for its shifts by a variable: for each, the variable of the result, and the text; None
     # if no loop has a place there.
     turns: list[tuple[str, str]] | None = None
+    # The calls above a statement of functions whose values it uses; None if no call has a place there.
+    calls: list[str] | None = None
+    # The sign whose right side is written, `&&` or `||`: C evaluates it only if it is needed.
+    if_needed: str = ''
+    # The variables for the members of arrays that the statements above it have chosen.
+    elements: list[str] = field(default_factory=list)
     # The process in whose code the expression is, or nothing.
     process: str = ''
     # The variables of other processes.
@@ -605,10 +616,17 @@ class Writer:
             return '0'
         if lower == 'process_post' and len(parts) == 3:
             return self.refuse(self.of_post(*parts))
+        its = plain_timer(node, self.scope)
+        if its and action_of(lower) in OF_TIMERS and self.scope.kinds.get(its.start) == 'variable':
+            self.why(OF_CALL % node.text)
+            if its.is_in_seconds:
+                self.insist(IN_SECONDS % (self.scope.second, self.scope.second))
+            self.name(its.start)
+            self.name(its.interval)
+            return its.value_of(action_of(lower))
         test = node.text if node.text in TESTS else CALLS.get(lower, '') or self.test_meant(node)
         if not test or len(parts) != 1:
-            return self.refuse(of_value(allowed(node.text), self.scope.parameters.get(node.text, ()),
-                                        [self.text(it) for it in parts]))
+            return self.of_function(node)
         named = parts[0].text
         if test in ('fired', 'expired') and (named in OWN_EVENTS or self.scope.kinds.get(named) == 'event'):
             self.why('`%s` is about a timer; `is(%s)` is true in a call with the event `%s`.' % (test, named, named))
@@ -621,10 +639,32 @@ class Writer:
         if test == 'is':
             return 'is(%s)' % self.event(parts[0])
         kind = {'gone': 'process', 'running': 'process', 'count': 'semaphore'}.get(test, 'timer')
-        its = self.of_kind(parts[0], kind)
-        if self.unknown is not None and kind == 'timer' and self.scope.kinds.get(its) != 'timer':
-            its = self.new_name(its, 'timer')
-        return '%s(%s)' % (test, its)
+        name = self.of_kind(parts[0], kind)
+        if self.unknown is not None and kind == 'timer' and self.scope.kinds.get(name) != 'timer':
+            name = self.new_name(name, 'timer')
+        return '%s(%s)' % (test, name)
+
+    def of_function(self, node: Node) -> str:
+        """The variable with the value of a function, which a call above the statement runs."""
+        thread, result = allowed(node.text), self.scope.for_hint(RESULT)
+        names, is_first = self.scope.parameters.get(thread, ()), self.calls == []
+        values = [self.text(it) for it in node.parts]
+        is_thread = self.scope.kinds.get(thread) == 'thread' and self.scope.kinds.get(result) == 'variable'
+        assigned = assignments(names, values) if len(names) == len(values) else None
+        if not is_thread or not is_first or assigned is None or self.calls is None or self.if_needed:
+            always = ALWAYS_CALLED % self.if_needed if self.if_needed else ''
+            return self.refuse(of_value(thread, names, values, result) + always)
+        self.why(OF_VALUE % (thread, result))
+        self.calls.append(' '.join([*assigned, 'spawn %s;' % thread]))
+        return result
+
+    def sides(self, sign: str, left: Node, right: Node) -> tuple[str, str]:
+        """The sides of `&&` or `||`. The right one calls no function, because C calls it only if it is needed."""
+        first, outside = self.test(left), self.if_needed
+        self.if_needed = sign
+        second = self.test(right)
+        self.if_needed = outside
+        return first, second
 
     def address(self, node: Node) -> str:
         """An address, or the one that a pointer is to."""
@@ -722,7 +762,10 @@ class Writer:
             self.why(NO_UPPER_BYTE)
             return self.text(left if is_of_no_mote(sign, right) else right)
         assert sign in PLAIN
-        if sign in ('&&', '||') or sign in ('==', '!=') and value_of(right) == 0:
+        if sign in ('&&', '||'):
+            first, second = self.sides(sign, left, right)
+            return '(%s %s %s)' % (first, sign, second)
+        if sign in ('==', '!=') and value_of(right) == 0:
             return '(%s %s %s)' % (self.test(left), sign, self.test(right))
         return '(%s %s %s)' % (self.text(left), sign, self.text(right))
 
@@ -957,7 +1000,15 @@ class Writer:
         its = self.scope.members(array.text) if array.kind == 'name' else []
         if len(its) < 2 or count is not None:
             return self.refuse(NO_ARRAYS)
-        return self.refuse(NO_INDEX % ('`, `'.join(its), self.text(index), its[1]))
+        place = self.text(index)
+        if self.calls is None:
+            return self.refuse(NO_INDEX % ('`, `'.join(its), place, its[1]))
+        element = self.scope.for_hint(ELEMENT, len(self.elements))
+        self.why(OF_ELEMENT % element)
+        chosen = ['if (%s == %d) { %s = %s; }' % (place, at, element, it) for at, it in enumerate(its) if at]
+        self.calls.append(' '.join(['%s = %s;' % (element, its[0]), *chosen]))
+        self.elements.append(element)
+        return element
 
     def byte_of(self, address: str, node: Node) -> str:
         """A byte of an address: the address itself is the first one."""

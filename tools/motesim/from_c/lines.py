@@ -1,13 +1,16 @@
 """The base of the readers of C and Contiki: the methods that all kinds of statements share."""
 from __future__ import annotations
 
-from motesim.from_c.closings import Closing
+from motesim.from_c.breaks import Ways
+from motesim.from_c.closings import Closing, Edit
 from motesim.from_c.expressions import ONE_TOO_MANY, READ_ONLY, Expressions, NoCounterpart, Writer
 from motesim.from_c.nodes import Choice, Node, Step
 from motesim.from_c.places import Surroundings
 from motesim.from_c.scope import ADDED, Scope, allowed
-from motesim.from_c.structures import OF_FIELD, Structure, structure_of, structures_of, with_fields, with_types
-from motesim.from_c.tokens import tokens_of
+from motesim.from_c.structures import (
+    OF_FIELD, Structure, structure_of, structures_of, with_fields, with_members, with_types,
+)
+from motesim.from_c.tokens import tokens_of, with_whole_texts
 
 ONLY_IF = 'In C, `%s` is done only if `%s` is true, so it is in the block of an `if`.'
 IN_TURN = ('In C, the sides of a test are evaluated one after the other, but here both are evaluated at once. Write '
@@ -21,9 +24,10 @@ class Lines(Expressions):
 
     def __init__(self, text: str, scope: Scope, place: Surroundings = Surroundings(), end: str = ''):
         """`end` is the text that is written for `PROCESS_END`: empty, or a brace if `PROCESS_BEGIN` became a brace."""
-        super().__init__([it for it in tokens_of(text) if it.kind != 'comment'], scope)
+        super().__init__(with_whole_texts([it for it in tokens_of(text) if it.kind != 'comment']), scope)
         self.structures = structures_of('\n'.join((place.above, text, place.below)))
-        self.tokens, self.fields = with_fields(with_types(self.tokens, self.structures), scope.kinds)
+        self.tokens = with_members(with_types(self.tokens, self.structures), scope.kinds)
+        self.tokens, self.fields = with_fields(self.tokens, scope.kinds)
         self.comments = [it.text for it in tokens_of(text) if it.kind == 'comment']
         # The lines of C, and those of them that are kept as comments.
         self.source, self.kept_lines = text, list[str]()
@@ -40,10 +44,15 @@ class Lines(Expressions):
         self.is_cut = self.opens = False
         # What the blocks that continue below these lines need at their ends, the innermost first.
         self.closings: list[Closing] = []
+        # What a `break` changes: the head of its loop, and the blocks of the statements that it skips.
+        self.head_of_loop: Edit | None = None
+        self.skipping: Ways | None = None
         # Two facts: an `if` without an `else` ends these lines; it got braces around it, so an `else` that follows
         # would belong to another statement.
         self.lacks_else = self.hides_else = False
         self.nested = 0
+        # Whether the statement that fills a packet has become a `send`, before the call that sends it is read.
+        self.has_sent = False
         # Whether the test of an `if` is being read.
         self.is_if = False
         # The line (from 1 among these lines) on which the innermost of the statements that are being read begins.
@@ -99,8 +108,25 @@ class Lines(Expressions):
         if node.kind != 'choice':
             return form % self.writer.text(node)
         self.why('There is no `? :`: each side is a statement of its own.')
-        sides = [self.chosen(form, it) for it in node.parts[1:]]
-        return 'if %s { %s } else { %s }' % (self.writer.test(node.parts[0]), *sides)
+        test = self.writer.test(node.parts[0])
+        calls = self.taken_calls()
+        sides = [self.below_calls(self.chosen(form, it)) for it in node.parts[1:]]
+        if calls and self.writer.calls is not None:
+            self.writer.calls += calls
+        return 'if %s { %s } else { %s }' % (test, *sides)
+
+    def taken_calls(self) -> list[str]:
+        """The calls of functions that the expressions written so far need above their statement; a later expression
+        has its own ones."""
+        calls, self.writer.calls = self.writer.calls or [], None if self.writer.calls is None else []
+        for name in self.writer.elements:
+            self.add(name)
+        self.writer.elements = []
+        return calls
+
+    def below_calls(self, text: str) -> str:
+        """A statement below the calls of functions that its expressions need."""
+        return ' '.join([*self.taken_calls(), text])
 
     def stepped(self, name: str, sign: str) -> str:
         """A variable that is incremented or decremented."""
@@ -204,6 +230,14 @@ class Lines(Expressions):
 
     def declared(self, name: str, value: str, at: int | None = None, is_static: bool = False) -> str:
         """A variable with its initial value."""
+        raise NotImplementedError
+
+    def keep_parameters(self, names: list[str]) -> None:
+        """Declares the parameters of a thread as variables, and keeps their order in a comment."""
+        raise NotImplementedError
+
+    def is_moved_whole(self, name: str) -> bool:
+        """Moves a function above the codes, unchanged, into the code that calls it."""
         raise NotImplementedError
 
     def is_event(self, name: str) -> bool:

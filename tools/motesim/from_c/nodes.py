@@ -125,11 +125,13 @@ def is_difference(node: Node) -> bool:
 
 
 def value_of(node: Node, second: int = MOMENTS_OF_SECOND) -> int | None:
-    """The value of an expression of numbers, `CLOCK_SECOND` and + - * /; None if it has something else."""
+    """The value of an expression of numbers, characters, `CLOCK_SECOND` and + - * /; None if it has something else."""
     if node.kind == 'number':
         return number_of(node.text)
     if node == Node('name', 'CLOCK_SECOND'):
         return second
+    if node.kind == 'char' and len(node.text) == 3:
+        return ord(node.text[1])
     values = [value_of(it, second) for it in node.parts]
     if node.kind == 'unary' and node.text in '+-' and values[0] is not None:
         return values[0] if node.text == '+' else -values[0]

@@ -87,11 +87,11 @@ class OwnNames(Lines):
             found = name[:LONGEST - len(str(count))].rstrip('_') + str(count)
         return found
 
-    def rename(self, name: str, new: str, begin: int) -> bool:
-        """Renames the variable that a token declares, up to the end of its scope. Returns whether the lines with this
-        name are few enough; if they aren't, nothing is renamed."""
+    def rename(self, name: str, new: str, begin: int, last: int | None = None) -> bool:
+        """Renames the variable that a token declares, up to the end of its scope, or up to a last word of the program.
+        Returns whether the lines with this name are few enough; if they aren't, nothing is renamed."""
         above, here = self.count_above(), [it.text for it in self.tokens]
-        end = scope_of(self.words_around(), above + begin) - above
+        end = (scope_of(self.words_around(), above + begin) if last is None else last) - above
         places = [it for it in TOKEN.finditer(self.below) if it.lastgroup != 'comment']
         kinds = [it.kind for it in self.tokens] + [it.lastgroup or '' for it in places]
         words, text = here + [it[0] for it in places], self.below

@@ -14,13 +14,18 @@ ASSIGNED = 'A thread is run by `spawn`. Its parameters are variables: assign the
 IN_CIRCLE = ('The arguments of `%s` are parameters of the thread in another order: keep one of them in a variable of '
              'its own, and assign before `spawn %s;`.')
 KEPT = 'parameters: %s'
+# The variable for the value of a function, which a call of the function uses.
+RESULT = 'result'
+OF_CALL = 'A call has no value: `spawn %s;` runs the thread, which has stored its value in `%s`.'
+ALWAYS_CALLED = (' In C, the right side of `%s` is evaluated only if it is needed, but a call above the statement is '
+                 'made in any case.')
 NO_VALUE = ('A call has no value. A `thread` without waits serves as a function, and stores its result in a variable '
             'of the process, such as `result`.')
-OF_VALUE = NO_VALUE + ' Above this line write `%s`, and here `result` instead of `%s`.'
+OF_VALUE = NO_VALUE + ' Above this line write `%s`, and here `%s` instead of `%s`.'
 # The text doesn't say which variables are the parameters: the names of the arguments belong to the caller.
 OF_UNKNOWN = NO_VALUE + (' Above this line, assign the arguments to the variables that the thread uses as its '
                          'parameters: write `%s`, with the names of these variables instead of the dots, and here '
-                         '`result` instead of `%s`.')
+                         '`%s` instead of `%s`.')
 IN_LOOP = ' The `while` tests `result` in each turn, so write the same statements at the end of its block again.'
 OF_COMMENT = ('A thread uses the variables of its process. The comment keeps the order of the parameters for the lines '
               'that call it.')
@@ -35,12 +40,12 @@ def parameters_of(text: str) -> dict[str, tuple[str, ...]]:
     return {it[1]: tuple(it[2].split(', ')) for it in NOTED.finditer(text)}
 
 
-def of_value(function: str, names: tuple[str, ...], values: list[str]) -> str:
-    """Advice on a call whose value is used, with the statements that call the thread."""
+def of_value(function: str, names: tuple[str, ...], values: list[str], result: str) -> str:
+    """Advice on a call whose value is used, with the statements that call the thread; the variable of the result."""
     is_known = len(names) == len(values)
     assigned = assignments(names, values) if is_known else ['.. = %s;' % it for it in values]
     call = ' '.join([*(['..'] if assigned is None else assigned), 'spawn %s;' % function])
-    return (OF_VALUE if is_known else OF_UNKNOWN) % (call, '%s(%s)' % (function, ', '.join(values)))
+    return (OF_VALUE if is_known else OF_UNKNOWN) % (call, result, '%s(%s)' % (function, ', '.join(values)))
 
 
 def in_loop(advice: str) -> str:

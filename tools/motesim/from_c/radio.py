@@ -1,6 +1,7 @@
 """Functions of C that Contiki calls for a packet, or when a send has ended."""
 from __future__ import annotations
 
+import re
 import textwrap
 
 from motesim.from_c import after_send, packets
@@ -19,6 +20,8 @@ KEPT_STATEMENTS = ('The comments keep the statements of the function: move them 
                    '`code` of `%s`, and there leave out their `//`.')
 OF_RETURN = ('An `exit` instead of a `return` would end the process: write the statements that the `return` skips in '
              'an `else`.')
+# The line of C that names the processes that start, below which a program names its receiver.
+AUTOSTART = re.compile(r'^[ \t]*AUTOSTART_PROCESSES\s*\([^()]*\)\s*;', re.M)
 
 
 def statements_of(function: str) -> list[str]:
@@ -97,7 +100,8 @@ class Radio(OwnNames):
         """Returns whether a function for packets may become a thread: the waits of its process are still in C."""
         its, below = self.getter(function), CODE.finditer(self.place.below)
         is_of_c = any(it[2] and process_of(it, self.scope.named) == its for it in below)
-        return self.place.is_top and is_of_c and self.place.is_below and not self.scope.receiver and not self.moved
+        has_place = self.place.is_below or AUTOSTART.search(self.below) is not None
+        return self.place.is_top and is_of_c and has_place and not self.scope.receiver and not self.moved
 
     def of_lower(self, name: str) -> str:
         """The line that names the process that gets the packets, if a function for packets is below this process: the
@@ -125,7 +129,10 @@ class Radio(OwnNames):
         for name in packets.unknown_parameters(source):
             self.insist(packets.OF_PARAMETER % name)
         self.note_events(function, its, source)
-        return 'receiver %s;' % its
+        if self.place.is_below:
+            return 'receiver %s;' % its
+        self.below = AUTOSTART.sub(lambda it: '%s receiver %s;' % (it[0], its), self.below, count=1)
+        return ''
 
     def note_events(self, function: str, process: str, source: str) -> None:
         """Notes which process gets the events of the event timers that a function for packets sets, and in which order
@@ -162,6 +169,12 @@ class Radio(OwnNames):
         self.whole_function(after_send.OF_SENT % (name, member))
         source, results = after_send.with_results(self.source)
         self.kept_lines = statements_of(source)
+        is_only = self.is_only_sender(kind, member)
+        below = after_send.written_behind(self.below, kind, self.kept_lines) if is_only else None
+        if below:
+            self.below, self.kept_lines = below, []
+            moved = after_send.MOVED % (kind + '_send')
+            self.insist(moved + (' %s%s' % (after_send.IN_STATEMENTS, results) if results else ''))
         if not self.kept_lines:
             return ''
         try:
@@ -170,10 +183,16 @@ class Radio(OwnNames):
             pass
         self.kept_lines.insert(0, after_send.HEADING % (name, member))
         if results:
-            self.insist(results)
+            self.insist(after_send.IN_COMMENTS + results)
         self.insist(after_send.place_of(kind, member))
         self.note_return()
         return ''
+
+    def is_only_sender(self, kind: str, member: str) -> bool:
+        """Returns whether a callback `sent` is that of the only connection of its kind, and all sends are below."""
+        is_only = [*self.scope.after_send.values()].count((kind, member)) == 1 and member == 'sent'
+        return is_only and kind + '_send' not in self.place.above and not any(
+            it.text == 'send' for it in tokens_of(self.place.above))
 
     def note_return(self) -> None:
         """Notes what a `return` of a function becomes whose statements move into a `body`."""

@@ -68,6 +68,12 @@ def abbreviated(name: str) -> str:
     return whole[:LONGEST - 4] + whole[-4:]
 
 
+def name_of(structure: str, field: str) -> str:
+    """The variable for a field of a structure."""
+    whole = '%s_%s' % (structure, field)
+    return abbreviated(whole) if len(whole.strip('_')) > LONGEST else allowed(whole)
+
+
 def _process(name: str, known: Iterable[str]) -> str:
     """The name of a process of Contiki, without the ending `_process` if a name without it is known."""
     short = allowed(name.lower().removesuffix('_process'))

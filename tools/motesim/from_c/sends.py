@@ -32,8 +32,14 @@ class Sends(Lines):
         self.skip_sizes()
         call = self.expression()
         if word == 'packetbuf_copyfrom':
-            return self.filled(call)
+            text = self.filled(call)
+            self.has_sent = text.startswith('send ')
+            return text
         self.why(BROADCAST)
+        if self.has_sent:
+            self.has_sent = False
+            self.accept(';')
+            return ''
         is_value = len(call.parts) == 1 and self.scope.kinds.get(call.parts[0].text) == 'variable'
         if self.place.last != 'send' and is_value and call.parts[0].kind == 'name':
             return self.end('send ' + call.parts[0].text)
@@ -154,7 +160,8 @@ class Sends(Lines):
             self.why(NO_BYTE)
             return self.end('').removesuffix(';')
         self.writer.insist(OF_ADDRESS)
-        return self.end('%s = %s' % (self.variable(base.text), self.writer.text(value)))
+        self.end('')
+        return self.chosen(self.variable(base.text) + ' = %s;', value)
 
     def skip_sizes(self) -> None:
         """Replaces each `sizeof(..)` of a call by the number of bytes of a value."""
@@ -165,5 +172,8 @@ class Sends(Lines):
                 del words[2]
             if words[:1] in ([], [';']):
                 break
+            if words[:1] == ['sizeof'] and self.tokens[at + 1].kind == 'name':
+                self.tokens[at:at + 2] = [self.tokens[at]._replace(kind='number', text='2')]
+                words = ['']
             if words[:2] == ['sizeof', '('] and words[3:4] == [')']:
                 self.tokens[at:at + 4] = [self.tokens[at]._replace(kind='number', text='2')]

@@ -13,10 +13,11 @@ from motesim.from_c.calls import CALLS, NO_NAME, Calls
 from motesim.from_c.control import ENDS, Control
 from motesim.from_c.declarations import ABOVE, Declarations
 from motesim.from_c.expressions import (
-    DICE, FIRST, IN_TICKS, MIXED, MOST, NO_BITS, NO_CALLS, NO_CHANCE, NO_FIELDS, NO_POINTERS, NO_SIZES, QUALIFIERS,
-    READ_ONLY, SHIFTS, SMALL_LETTERS, STEP, TYPES, NoCounterpart,
+    DICE, FIRST, IN_TICKS, MIXED, MOST, NO_BITS, NO_CALLS, NO_CHANCE, NO_FIELDS, NO_POINTERS, NO_SIZES, OF_MEMBERS,
+    QUALIFIERS,    READ_ONLY, SHIFTS, SMALL_LETTERS, STEP, TYPES, NoCounterpart,
 )
-from motesim.from_c.nodes import MOMENTS_OF_SECOND, Node
+from motesim.from_c.nodes import MOMENTS_OF_SECOND, Node, value_of
+from motesim.from_c.parameters import NO_VALUE
 from motesim.from_c.places import end_of_block, last_statement
 from motesim.from_c.radio import Radio
 from motesim.from_c.scope import ALL_TICKS, allowed, nearest
@@ -120,6 +121,9 @@ class Statements(Radio, Declarations, Calls, Control):
         found: list[str] = []
         while self.token.kind != 'end':
             found.append(self.closing() or self.statement())
+        if self.skipping:
+            self.closings += self.skipping.closings
+            found.append(self.skipping.behind)
         found = self.in_order(found)
         self.declare_borrowed()
         self.declare_fields()
@@ -133,12 +137,18 @@ class Statements(Radio, Declarations, Calls, Control):
         """A statement, with a step of the generator before it if it needs a random number."""
         word, outside, begun = self.token.text, self.writer.draws, self.begun
         around, turns = (self.before, self.after), self.writer.turns
+        calls, elements = self.writer.calls, self.writer.elements
         self.writer.draws, self.begun, self.before, self.after = False, self.token.line, [], []
-        self.writer.turns = [] if self.place.head and not word.lower().startswith(TESTED_AGAIN) else None
+        has_room = self.place.head > 0 and not word.lower().startswith(TESTED_AGAIN)
+        self.writer.turns, self.writer.calls = ([], []) if has_room else (None, None)
+        self.writer.elements = []
         self.nested += 1
         if self.nested > MOST_LEVELS:
             raise NoCounterpart
-        text = self.with_turns(self.with_steps(word, self.one_statement()))
+        text = self.one_statement()
+        if self.writer.calls and self.before:
+            raise NoCounterpart(NO_VALUE)
+        text = self.with_turns(self.with_calls(self.with_steps(word, text)))
         self.nested -= 1
         self.before, self.after = around
         if self.writer.draws:
@@ -148,7 +158,13 @@ class Statements(Radio, Declarations, Calls, Control):
                 self.declares.append(FIRST)
             text = '%s %s' % (STEP, text)
         self.writer.draws, self.begun, self.writer.turns = outside, begun, turns
+        self.writer.calls, self.writer.elements = calls, elements
         return text
+
+    def with_calls(self, text: str) -> str:
+        """A statement below the calls of functions whose values it uses."""
+        calls = self.taken_calls()
+        return ('\n' if self.nested == 1 else ' ').join([*calls, text])
 
     def with_turns(self, text: str) -> str:
         """A statement below the loops for its shifts by a variable."""
@@ -298,7 +314,7 @@ class Statements(Radio, Declarations, Calls, Control):
             if skipping:
                 return skipping
             raise NoCounterpart(self.of_continue())
-        if lower in ADVICE and not (word in self.scope.kinds and behind == '='):
+        if lower in ADVICE and not (word in self.scope.kinds and behind in (*ASSIGNS, *SUMS)):
             raise NoCounterpart(ADVICE[lower])
         if lower in ('process_pollhandler', 'process_exithandler') and behind == '(':
             return self.of_handler('onpoll' if 'poll' in lower else 'onexit')
@@ -378,11 +394,27 @@ class Statements(Radio, Declarations, Calls, Control):
         """A statement that begins with a member of an array."""
         begin = self.at
         self.at += 2
-        name = self.writer.member(Node('name', array), self.expression())
+        index, members = self.expression(), self.scope.members(array)
+        if value_of(index) is None and len(members) > 1 and self.writer.calls is not None:
+            self.need(']')
+            return self.of_each(members, index, begin)
+        name = self.writer.member(Node('name', array), index)
         self.need(']')
         self.tokens[begin:self.at] = [self.tokens[begin]._replace(text=name)]
         self.at = begin
         return self.statement()
+
+    def of_each(self, members: list[str], index: Node, begin: int) -> str:
+        """A statement that begins with the member of an array at a variable place: one for each member."""
+        self.why(OF_MEMBERS)
+        place, here, tokens, found = self.writer.text(index), self.place_here, self.tokens, list[str]()
+        calls, elements = [*(self.writer.calls or [])], [*self.writer.elements]
+        for at, name in enumerate(members):
+            self.go_back((begin, *here[1:]))
+            self.writer.calls, self.writer.elements = [*calls], [*elements]
+            self.tokens = [*tokens[:begin], tokens[begin]._replace(text=name), *tokens[here[0]:]]
+            found.append('if (%s == %d) { %s }' % (place, at, self.one_statement()))
+        return ' '.join(found)
 
     def of_pointer(self) -> str:
         """An assignment to the variable at which a pointer points."""
@@ -419,7 +451,8 @@ class Statements(Radio, Declarations, Calls, Control):
                 raise NoCounterpart
         self.at += 1
         self.accept(';')
-        does = ' '.join(inner[1:-1])
+        inner = inner[1:-1]
+        does = ' '.join(inner[1:-1] if [*inner[:1], *inner[-1:]] == ['{', '}'] else inner)
         if CLOSES.match(does):
             self.why('No connection is opened, so none is closed: nothing is needed here.')
             return ''

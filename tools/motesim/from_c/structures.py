@@ -7,7 +7,7 @@ from typing import NamedTuple
 
 from motesim.from_c.expressions import BYTES, LONG, READ_ONLY, SMALL
 from motesim.from_c.nodes import ADDRESSES
-from motesim.from_c.scope import LONGEST, abbreviated, allowed
+from motesim.from_c.scope import name_of
 from motesim.from_c.tokens import END, Token
 
 NO_STRUCTURES = 'There are no structures:'
@@ -66,12 +66,6 @@ def width_of(words: Iterable[str]) -> int:
     return 8 if its & (BYTES | SMALL | {'bool'}) else 32 if its & LONG else 16
 
 
-def name_of(structure: str, field: str) -> str:
-    """The variable for a field."""
-    whole = '%s_%s' % (structure, field)
-    return abbreviated(whole) if len(whole.strip('_')) > LONGEST else allowed(whole)
-
-
 def is_field(tokens: Sequence[Token], at: int, kinds: dict[str, str]) -> bool:
     """Returns whether three tokens are the field of a structure that becomes variables."""
     if [it.kind for it in tokens[at:at + 3:2]] != ['name', 'name'] or tokens[at + 1].text not in ('.', '->'):
@@ -109,6 +103,30 @@ def with_fields(tokens: Sequence[Token], kinds: dict[str, str]) -> tuple[list[To
             found.append(tokens[at])
             at += 1
     return found, fields
+
+
+def with_members(tokens: Sequence[Token], kinds: dict[str, str]) -> list[Token]:
+    """Tokens in which the field of a structure in an array, `a[i].x`, is a member of the array of this field,
+    `a_x[i]`."""
+    found, at = [*tokens], 0
+    while at < len(found) - 1:
+        end = _end_of_index(found, at + 1) if found[at].kind == 'name' and found[at + 1].text == '[' else 0
+        name = name_of(found[at].text, found[end + 2].text) if end and end + 2 < len(found) else ''
+        if name and found[end + 1].text == '.' and kinds.get(name) == kinds.get(name + '1') == 'variable':
+            found[at] = found[at]._replace(text=name)
+            del found[end + 1:end + 3]
+        at += 1
+    return found
+
+
+def _end_of_index(tokens: Sequence[Token], begin: int) -> int:
+    """The place of the bracket that closes the one at a place, or 0."""
+    depth = 0
+    for at in range(begin, len(tokens)):
+        depth += (tokens[at].text == '[') - (tokens[at].text == ']')
+        if not depth:
+            return at
+    return 0
 
 
 class Structure(NamedTuple):

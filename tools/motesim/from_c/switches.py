@@ -1,4 +1,4 @@
-"""A `switch` of C as tests, one in the `else` block of the other, if no case continues in the next one."""
+"""A `switch` of C as tests, one in the `else` block of the other."""
 from __future__ import annotations
 
 import re
@@ -11,6 +11,7 @@ from motesim.from_c.tokens import TOKEN, tokens_of
 
 OF_SWITCH = ('There is no `switch`: each `case` is a test of its own, in the `else` block of the test above it. A '
              '`break` isn\'t needed.')
+FALLS = ' A `case` without `break` continues in the next `case`, so its block has the statements of both.'
 LOOPS = ('while', 'for', 'do', 'switch')
 # Statements behind which no case continues in the next one.
 LEAVES = re.compile(r'(?:break|continue|return\b[^;{}]*|PROCESS_EXIT\s*\(\s*\)|PT_EXIT\s*\([^()]*\))\s*;\s*$')
@@ -25,17 +26,19 @@ class Word(NamedTuple):
 
 
 class Case(NamedTuple):
-    """The values of a case, none for `default`, and its statements."""
+    """The values of a case, none for `default`, and its statements; whether it continues in the next case."""
     values: tuple[str, ...]
     block: str
     is_last: bool
+    falls: bool = False
 
 
 class Switch(NamedTuple):
-    """The lines of a `switch` (from 1), and the lines with the same meaning."""
+    """The lines of a `switch` (from 1), the lines with the same meaning, and the reason for them."""
     first: int
     last: int
     written: str
+    reason: str
 
 
 def words_of(text: str) -> list[Word]:
@@ -78,7 +81,8 @@ def switch_at(text: str, line: int, scope: Scope, process: str) -> Switch | None
     except NoCounterpart:
         return None
     last = line + source.count('\n', 0, words[end].begin)
-    return Switch(line, last, written) if written else None
+    reason = OF_SWITCH + FALLS * any(it.falls for it in cases)
+    return Switch(line, last, written, reason) if written else None
 
 
 def _is_plain(tested: str) -> bool:
@@ -89,7 +93,8 @@ def _is_plain(tested: str) -> bool:
 
 
 def _cases(source: str, words: list[Word], end: int) -> list[Case] | None:
-    """The cases of a `switch`; None if one continues in the next one, or if they have another form."""
+    """The cases of a `switch`; None if they have another form. A case that continues in the next one has the statements
+    of both."""
     labels = _labels(words)
     if not labels or labels[0][0] != 0:
         return None
@@ -104,8 +109,11 @@ def _cases(source: str, words: list[Word], end: int) -> list[Case] | None:
         block = _block(source[words[behind - 1].end:until], stop == len(words))
         if block is None:
             return None
-        found.append(Case(() if '' in values else tuple(values), block, stop == len(words)))
+        found.append(Case(() if '' in values else tuple(values), block[0], stop == len(words), block[1]))
         values = []
+    for at in range(len(found) - 2, -1, -1):
+        if found[at].falls:
+            found[at] = found[at]._replace(block='%s\n%s' % (found[at].block, found[at + 1].block))
     is_in_order = all(it.values or it.is_last for it in found)
     return found if is_in_order and found[0].values else None
 
@@ -123,8 +131,9 @@ def _labels(words: list[Word]) -> list[tuple[int, int]]:
     return found
 
 
-def _block(source: str, is_last: bool) -> str | None:
-    """The statements of a case without its `break`; None if it continues in the next one, or has another `break`."""
+def _block(source: str, is_last: bool) -> tuple[str, bool] | None:
+    """The statements of a case without its `break`, and whether it continues in the next one; None if it has another
+    `break`."""
     inner = _without_comment(source.strip())
     if inner.startswith('{') and BREAK.sub('', inner).rstrip().endswith('}'):
         whole = words_of(BREAK.sub('', inner).rstrip())
@@ -132,10 +141,9 @@ def _block(source: str, is_last: bool) -> str | None:
             is_left = BREAK.search(inner) is not None
             inner = BREAK.sub('', inner).rstrip()[1:-1].strip()
             is_last = is_last or is_left
-    if not is_last and not LEAVES.search(inner):
-        return None
+    falls = not is_last and not LEAVES.search(inner)
     inner = BREAK.sub('', inner).rstrip()
-    return None if _has_break(inner) else inner
+    return None if _has_break(inner) else (inner, falls)
 
 
 def _without_comment(source: str) -> str:

@@ -34,3 +34,14 @@ def tokens_of(text: str) -> list[Token]:
         line, behind = line + text.count('\n', behind, it.start()), it.start()
         found.append(Token(it.lastgroup or 'sign', it[0], line))
     return found
+
+
+def with_whole_texts(tokens: list[Token]) -> list[Token]:
+    """Tokens in which a text behind a text is one text with it, as in C."""
+    found: list[Token] = []
+    for it in tokens:
+        if found and found[-1].kind == it.kind == 'text':
+            found[-1] = found[-1]._replace(text=found[-1].text[:-1] + it.text[1:])
+        else:
+            found.append(it)
+    return found
