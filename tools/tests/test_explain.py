@@ -199,6 +199,13 @@ class Scenarios(unittest.TestCase):
                 self.assertEqual((found[0], found[1].strip()), (line, marked))
                 self.assertTrue(any(it.startswith('Allowed here: ') for it in lines))
 
+    def test_a_loss_with_a_text_is_explained_within_seconds(self) -> None:
+        for value in '"30%"', '"x"', '0.0', '[]':
+            text = changed({'every = 2': 'every = ' + value})
+            before = time.process_time()
+            self.assertTrue(explain.explanation('s.toml', text.encode(), 'motesim: scenario fault 4'))
+            self.assertLess(time.process_time() - before, 5)
+
     def test_a_loss_of_no_packets_isnt_changed_into_a_loss_of_all(self) -> None:
         for value in '0', '-1':
             text = changed({'every = 2': 'every = ' + value})

@@ -87,7 +87,6 @@ OF_PROGRAM = ('In a scenario this text is under `[programs]`, between three quot
 OF_C = ('A scenario is a TOML document, with the text of its programs under `[programs]`. `tools/explain NAME.c '
         '--apply NAME.toml` translates this program, and writes a scenario with it. docs/use/FROM_CONTIKI.md lists the '
         'forms of Contiki and C with their counterparts.')
-MOST_BELOW = 1 << 63
 NO_LOSS = ('`every` is at least 1, and `every = 1` loses every packet. If the link must not lose packets, leave out '
            'the whole table of this loss.')
 OF_PLAN = '%s is a plan, not a scenario: tools/scenario %s -o NAME.toml makes a scenario of it.'
@@ -317,7 +316,8 @@ def of_scenario(tables: dict[str, object] | None, fault: ScenarioError, text: st
         return 'Places, times and distances are whole numbers, without a point and without quotes.'
     if line == 'scenario fault 5' and name == 'version':
         return 'There are the versions 1 and 2; 2 has `collide` and the lengths of queues.'
-    if name == 'every' and tables is not None and at(tables, fault.path) in range(-MOST_BELOW, 1):
+    value = at(tables, fault.path) if tables is not None else None
+    if name == 'every' and isinstance(value, int) and value < 1:
         return NO_LOSS
     if line == 'scenario fault 6' and tables is not None:
         programs, named = tables.get('programs'), at(tables, fault.path)
