@@ -22,7 +22,7 @@ from motesim.analysis.drawing import unused_labels
 from motesim.analysis.origin import digest_of_tools, origin_of
 from motesim.analysis.paired import Pair, Paired, differences, pairs_of
 from motesim.analysis.estimates import Estimate
-from motesim.analysis.points import Joint, Point, Wish, is_seed, order, shown_of
+from motesim.analysis.points import Joint, Point, Wish, is_seed, kinds_of, order, shown_of
 from motesim.analysis.rows import by_net, once, warnings_of
 from motesim.analysis.text import columns_of_crossing, of_crossing, of_crossing_in_short, of_pairs, of_place, remarks
 from motesim.experiments.measures import Cell
@@ -1845,6 +1845,19 @@ class Command(unittest.TestCase):
             self.assertEqual(Wish(name, is_count=True).kind_of(name, [0, 1, 1]), 'count', name)
             self.assertEqual(Wish('other', name, is_count=True).kind_of(name, [0, 1, 1]), 'yes or no', name)
         self.assertEqual(Wish('collided').kind_of('collided', [0, 0.5]), 'share')
+
+    def test_a_count_with_a_name_of_the_author_is_known_by_its_text(self) -> None:
+        for text, kind in (('delay: mote 0 sends -> mote 1 sends', 'count'), ('flow most: send -> recv', 'count'),
+                           ('sent', 'count'), ('ratio', 'any'), ('python: own.py: cost', 'any')):
+            rows: list[Row] = [{**row(1, seed, value), 'measures': 'ratio; sent = %s' % text}
+                               for seed, value in enumerate((0, 0, 1, 90))]
+            wish = Wish('dl', kinds={'dl': kinds_of(rows)['sent']})
+            self.assertEqual(wish.kind_of('dl', [0, 1, 90]), kind, text)
+            self.assertEqual(wish.kind_of('dl', [-1, 1, 90]), 'any', text)
+            low = wish._replace(show='mean').estimate([0, 0, 1, 90], wish.kind_of('dl', [0, 0, 1, 90])).low
+            self.assertEqual(low == 0, kind == 'count', text)
+        mixed: list[Row] = [{**row(1, seed, 5), 'measures': text} for seed, text in enumerate(('sent', 'sent = ratio'))]
+        self.assertEqual(kinds_of(mixed)['sent'], 'any')
 
     def test_error_bars_of_several_lines_are_next_to_each_other(self) -> None:
         self.assertEqual(dodged([0, 10, 100], 0, 1, False), [0, 10, 100])

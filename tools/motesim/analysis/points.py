@@ -122,7 +122,7 @@ class Wish(NamedTuple):
             kind = measured(values)
         # (a column with the name of a count, but with parts of 1, is a share that somebody named so)
         is_named = name == REJECTED or is_count(name) and kind != 'share'
-        if self.is_count and name == self.measure or is_named:
+        if kind == 'count' or self.is_count and name == self.measure or is_named:
             return 'count' if min(values, default=0) >= 0 else 'any'
         return kind
 
@@ -258,8 +258,17 @@ def measures_of(rows: Sequence[Row]) -> list[str]:
 def kinds_of(rows: Sequence[Row]) -> dict[str, Measured]:
     """The kinds of the measures that have numbers."""
     values = {name: [row[name] for row in rows if row[name] is not None] for name in measures_of(rows)}
-    return {name: measured([float(it) for it in its if isinstance(it, int | float)]) for name, its in values.items()
-            if its and not any(isinstance(it, str) for it in its)}
+    kinds = {name: measured([float(it) for it in its if isinstance(it, int | float)]) for name, its in values.items()
+             if its and not any(isinstance(it, str) for it in its)}
+    counts = _counts_by_text(rows)
+    return {name: 'count' if name in counts and kind != 'share' else kind for name, kind in kinds.items()}
+
+
+def _counts_by_text(rows: Sequence[Row]) -> set[str]:
+    """The names of the measures that are counts by the texts of all rows, also of those that the author named."""
+    texts = {text_of(row.get(TEXTS)) for row in rows}
+    names = [{name_of(it) for it in text.split('; ') if is_count(it)} for text in texts]
+    return set.intersection(*names) if names else set()
 
 
 def order(value: Cell) -> tuple[bool, float, str, tuple[object, ...]]:

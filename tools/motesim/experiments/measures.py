@@ -51,10 +51,10 @@ OF_FLOW = re.compile(r'flow\s+([a-z]+)\s*:(.*)', re.S)
 OF_SENTENCE = re.compile(r'(%s)\s*:(.*)' % '|'.join(KINDS), re.S)
 # The beginning of a second sentence of which one line is enough for a delivery.
 OF_ONE = re.compile(r'\s*(?:mote|some mote)\b', re.I)
-# The names of columns of unnamed measures that count something, or measure time.
+# The texts of measures that count something, or measure time.
 OF_COUNT = re.compile(r'(?:%s)(?:\s+of\s+mote\s+[0-9]+)?|(?:count|motes|moment|last|delay)\s*:.*'
-                      r'|flow\s+(?:sent|delivered|copies|duplicates)\s*:.*' % '|'.join(
-                          it for it in SUMMARY if it != 'ratio'), re.S)
+                      r'|flow\s+(?:%s)\s*:.*' % tuple('|'.join(it for it in its if it != 'ratio')
+                                                     for its in (SUMMARY, FLOWS)), re.S)
 OF_PYTHON = re.compile(r'python\s*:\s*([^:]+?)\s*:\s*([A-Za-z_]\w*)')
 
 # The beginnings of the warnings about a mote that has to receive its own messages, and about a line of both sentences.
@@ -402,9 +402,10 @@ def _said(fault: Exception, file: str, sources: Mapping[str, str]) -> str:
     return '%s%s: %s' % (where, type(fault).__name__, ' '.join(what.split()))
 
 
-def is_count(name: str) -> bool:
-    """Returns whether a column has the name of a measure that counts, and so isn't a share if it is only 0 and 1."""
-    return OF_COUNT.fullmatch(name) is not None
+def is_count(words: str) -> bool:
+    """Returns whether a measure, given by its text or the name of its column, counts something or measures time, and so
+    isn't a share if it is only 0 and 1."""
+    return OF_COUNT.fullmatch(_parts(words)[1]) is not None
 
 
 def name_of(words: str) -> str:
