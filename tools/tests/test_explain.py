@@ -215,6 +215,14 @@ class Scenarios(unittest.TestCase):
             self.assertIn('`every = 1` loses every packet', lines)
             self.assertNotIn('Write, as', lines)
 
+    def test_a_percentage_of_lost_packets_is_every_kth_packet(self) -> None:
+        for value, every in (('50%', '2'), ('"50%"', '2'), ('25 %  # of all', '4'), ('33.3%', '3')):
+            text = changed({'every = 2': 'every = ' + value})
+            fault = scenario_faults.find_fault(text.encode())
+            assert fault
+            lines = ' '.join(explain.explanation('s.toml', text.encode(), 'motesim: ' + fault.message))
+            self.assertRegex(lines, 'A loss has no probability: .* Write, as line 23: +every = %s ' % every)
+
     def test_what_is_lacking_at_the_top_is_shown_and_nothing_is_marked(self) -> None:
         for changes, head, begin, more in LACKS:
             with self.subTest(head + more):

@@ -77,6 +77,9 @@ FORMS = [
           'A table is named in brackets, `[medium]`; each mote and each loss is a table of its own, named in two: '
           '`[[mote]]`, `[[loss]]`.'),
 ]
+# A share of the packets as a percentage, and a line of a scenario that has one.
+PERCENT = r'([0-9]+(?:\.[0-9]+)?)\s*%'
+OF_EVERY = re.compile(r'\bevery\s*=\s*(%s)' % PERCENT)
 
 
 def _attempts_at_quotes(rows: list[str], fault: ScenarioError) -> Iterator[Repair]:
@@ -103,6 +106,11 @@ def _attempts_at_toml(rows: list[str], fault: ScenarioError) -> Iterator[Repair]
             if row.rstrip().endswith('}'):
                 yield Repair(arrays.COMMA, number, number, (row.rstrip() + ',',))
             continue
+        percentage = OF_EVERY.search(row)
+        share = _fraction(percentage[1]) if percentage else None
+        if percentage and share:
+            every, hint = _every(share)
+            yield Repair(hint, number, number, (row.replace(percentage[1], every, 1),))
         for it in FORMS:
             written = it.form.sub(it.instead, row)
             if written != row:
@@ -115,19 +123,26 @@ def _attempts_at_toml(rows: list[str], fault: ScenarioError) -> Iterator[Repair]
 
 
 def _fraction(value: object) -> Fraction | None:
-    """A number between 0 and 1."""
+    """A number between 0 and 1, or a percentage in a text."""
     if isinstance(value, float) and 0 < value <= 1:
         return Fraction(value).limit_denominator(10_000)
-    return None
+    percent = re.fullmatch(PERCENT, value.strip()) if isinstance(value, str) else None
+    share = Fraction(percent[1]) / 100 if percent else Fraction()
+    return share if 0 < share <= 1 else None
+
+
+def _every(share: Fraction) -> tuple[str, str]:
+    """The value of `every` with which about this share of the packets is lost, with the reason."""
+    every = max(1, round(1 / share))
+    return str(every), (
+        'A loss has no probability: with `every = %d`, each %s packet is lost.' % (every, ordinal(every)))
 
 
 def _whole(name: str, value: object) -> tuple[str, str] | None:
     """A value of another kind as a whole number, with the reason."""
     chance = _fraction(value)
     if name == 'every' and chance:
-        every = max(1, round(1 / chance))
-        return str(every), (
-            'A loss has no probability: with `every = %d`, each %s packet is lost.' % (every, ordinal(every)))
+        return _every(chance)
     if isinstance(value, float) and abs(value) < 1e9:
         return str(round(value)), WHOLE
     if isinstance(value, str) and re.fullmatch(r'\s*-?[0-9]+\s*', value):
