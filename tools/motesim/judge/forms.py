@@ -56,7 +56,7 @@ DEED = Table('DEED', 'Lines of the report', ('mote 1 %s',), (
     (('prints just P 1 to 29 in any order',),
      'all lines `print P V`: exactly these values, in any order'),
     (('prints just P its distance from mote 0',),
-     'all lines `print P V`: exactly one, with this value. You can also write another VALUE of the next table'),
+     'exactly one line `print P V`, with this value. You can also write another VALUE of the next table'),
     (('finally prints P VALUE',), 'the last line `print P V`: this value'),
     (('sends', 'sends VALUE'), '`send N V`'),
     (('receives', 'receives VALUE', 'receives VALUE from mote 2'), '`recv F N V`'),
