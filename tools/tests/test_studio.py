@@ -22,6 +22,7 @@ from unittest import mock
 from here import TOOLS, TOP
 import stand_in
 from motesim.faults import Fault
+from motesim.plan.plan import Plan
 from motesim.studio import answers, guides
 from motesim.studio.command import pinned
 from motesim.studio.desk import Changed, Desk
@@ -502,6 +503,14 @@ class Guides(unittest.TestCase):
         for path in sorted((TOP / 'examples').glob('*.toml')):
             if not path.name.endswith('.expect.toml'):
                 self.assertTrue(guides.guide(path.name, path.read_text()), path.name)
+
+    def test_the_guide_leaves_out_what_tools_scenario_writes_about_a_plan(self) -> None:
+        plan = Plan.read(TOP / 'examples/studies/flooding.plan.toml')
+        text = plan.scenario({})
+        self.assertIn('not this file', text.split('\n')[0])
+        self.assertEqual(guides.comment(text), [])
+        self.assertEqual(guides.comment(text.replace('version =', '# Two motes.\nversion =', 1)),
+                         [{'kind': 'comment', 'text': 'Two motes.'}])
 
     def test_tasks_are_those_of_the_page_on_examples(self) -> None:
         found = guides.guide('flooding.toml', (TOP / 'examples/flooding.toml').read_text())

@@ -10,6 +10,8 @@ from motesim.runner.programs import TOP
 
 PAGE = TOP / 'docs/use/EXAMPLES.md'
 LINK = re.compile(r'\[([^]]*)\]\([^)]*\)')
+# The comment that tools/scenario writes: it is for the author of the plan, not for users of the scenario.
+OF_PLAN = re.compile(r'# Written by tools/scenario from the plan .*\n(?:# (?:Parameters|Files beside|SHA-256)\b.*\n)*')
 
 
 def head_of(text: str) -> list[str]:
@@ -18,8 +20,9 @@ def head_of(text: str) -> list[str]:
 
 
 def comment(text: str) -> list[dict[str, Any]]:
-    """The guide of a scenario that is not an example: the comment at its head, unchanged."""
-    rows = [row.removeprefix(' ').rstrip() for row in head_of(text)]
+    """The guide of a scenario that is not an example: the comment at its head, without the lines that tools/scenario
+    writes about a plan."""
+    rows = [row.removeprefix(' ').rstrip() for row in head_of(OF_PLAN.sub('', text, count=1))]
     return [{'kind': 'comment', 'text': '\n'.join(rows)}] if rows else []
 
 
