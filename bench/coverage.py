@@ -22,7 +22,7 @@ from pathlib import Path
 
 sys.path.insert(0, str(Path(__file__).resolve().parents[1] / 'tools'))
 
-from motesim.analysis.estimates import BOUNDED, mean_of
+from motesim.analysis.estimates import BOUNDED, NEARER, mean_of
 from motesim.plan.chance import Chance
 from motesim.words import words_of
 
@@ -104,7 +104,7 @@ def covered(draw: Callable[[Chance], float], true: float, runs: int, sweeps: int
             assert found.low is not None and found.high is not None
             held[method] += found.low <= true <= found.high
             if method == 'bootstrap-t':
-                bounded += found.method == BOUNDED
+                bounded += found.method in (BOUNDED, NEARER)
                 width += found.high - found.low
     if not made:
         return None

@@ -17,14 +17,15 @@ from here import TOOLS
 from motesim.analysis import drawing, estimates
 from motesim.analysis.around import dodged, labelled
 from motesim.analysis.crossings import Crossing, Key, Place, Runs, crossing, place
-from motesim.analysis.drawing import lengths, ticks_between, with_gaps
+from motesim.analysis.drawing import lengths, readable_on, ticks_between, with_gaps
 from motesim.analysis.drawing import unused_labels
 from motesim.analysis.origin import digest_of_tools, origin_of
 from motesim.analysis.paired import Pair, Paired, differences, pairs_of
 from motesim.analysis.estimates import Estimate
 from motesim.analysis.points import Joint, Point, Wish, is_seed, kinds_of, order, shown_of
-from motesim.analysis.rows import by_net, once, warnings_of
+from motesim.analysis.rows import by_net, joined, once, warnings_of
 from motesim.analysis.text import columns_of_crossing, of_crossing, of_crossing_in_short, of_pairs, of_place, remarks
+from motesim.analysis.text import heading, rows_of, title
 from motesim.experiments.measures import Cell
 from motesim.experiments.results import Row, number_text, read_results
 from motesim.faults import Fault
@@ -113,6 +114,17 @@ class Estimates(unittest.TestCase):
             wish = Wish('ratio', 'period', show='mean', interval='bootstrap-t')
             shown = remarks(shown_of(rows, wish), wish)
             self.assertTrue(any(it.startswith(seen) for it in shown), shown)
+
+    def test_the_note_on_an_end_by_wilson_names_its_reason(self) -> None:
+        # (half of the runs lose nothing, so 1 draw of 1,024 has only equal runs, and bootstrap-t has an end: -1.02)
+        for values, reason in (([1.0] * 9 + [0.9], 'too many draws have nearly equal runs'), (
+                [1.0] * 5 + [0.99, 0.99, 0.99, 0.98, 0.5], 'the end by bootstrap-t is farther from the mean')):
+            rows: list[Row] = [{**row(1, seed, value), 'ratio': value} for seed, value in enumerate(values)]
+            wish = Wish('ratio', 'period', show='mean', interval='bootstrap-t')
+            lines = [it for it in remarks(shown_of(rows, wish), wish) if it.startswith('an end of 1 interval')]
+            self.assertEqual(len(lines), 1)
+            self.assertIn("is that of Wilson's score, because %s. For this end" % reason, lines[0])
+            self.assertEqual(rows_of(shown_of(rows, wish), wish)[0]['interval'], 'bootstrap-t, Wilson')
 
     def test_the_bootstrap_of_t_of_shares_is_informative_and_holds_the_mean(self) -> None:
         # (few runs of few packets, of which each arrives with the same chance: most draws of some sweeps have equal
@@ -552,6 +564,12 @@ class Rows(unittest.TestCase):
         self.assertEqual(warnings_of([{**it, 'chance_seeds': None} for it in rows]), [])
         self.assertIn('mote k draws the same numbers as mote k + 2 with the seed 514 less', warnings_of(rows[2:])[0])
 
+    def test_a_warning_names_each_parameter_of_a_line_with_its_value(self) -> None:
+        rows: list[Row] = [{**row(1, seed, seed, about=about, collide=collide), 'note': 'warning: in step'}
+                           for seed in (1, 2) for about in (7, 10) for collide in ('true', 'false')]
+        self.assertIn('; the first (seed = 1, about = 7, collide = true): in step',
+                      warnings_of(joined(rows, 'about,collide'))[0])
+
     def test_warnings_in_notes_are_counted(self) -> None:
         rows: list[Row] = [{**row(period, seed, seed), 'note': 'warning: in step' if period + seed < 4 else None}
                            for period in (1, 2) for seed in (1, 2)]
@@ -608,6 +626,21 @@ class Rows(unittest.TestCase):
 
 
 class Shown(unittest.TestCase):
+    def test_a_map_has_no_intervals_in_its_title(self) -> None:
+        rows = [row(period, seed, seed, density=density) for period in (1, 2) for seed in (1, 2, 3)
+                for density in (5, 6)]
+        for show, end in ('heat', ': means'), ('mean', ": means with intervals of 95 % by Student's t cut at 0"):
+            wish = Wish('sent', 'period', 'density', show=show)
+            shown = shown_of(rows, wish)
+            self.assertEqual(title(shown, wish), 'sent against period, over seed' + end)
+            self.assertIn('means with intervals', heading(shown, wish))
+
+    def test_numbers_on_a_colour_are_black_or_white_by_the_contrast(self) -> None:
+        for grey, colour in (0.0, 'white'), (0.4, 'white'), (0.5, 'black'), (0.7, 'black'), (1.0, 'black'):
+            self.assertEqual(readable_on((grey, grey, grey, 1.0)), colour, grey)
+        # (the middle of the map's colours)
+        self.assertEqual(readable_on((0.486, 0.482, 0.471, 1.0)), 'black')
+
     def test_only_seeds_by_their_names_are_repetitions(self) -> None:
         self.assertEqual([is_seed(it) for it in ('seed', 'net_seed', 'seeders', 'seed_rate', 'seeds')],
                          [True, True, False, False, False])

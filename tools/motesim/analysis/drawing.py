@@ -15,8 +15,8 @@ from motesim.analysis.estimates import Estimate
 from motesim.analysis.origin import origin_path
 from motesim.analysis.paired import Difference
 from motesim.analysis.points import Point, Shown, Wish, order
-from motesim.analysis.text import MOST_BELOW, by_methods, counted, crossings_in_short, crossings_of, heading, left_out
-from motesim.analysis.text import parts_at_most, remarks, selected_below, threshold_of
+from motesim.analysis.text import MOST_BELOW, by_methods, counted, crossings_in_short, crossings_of, left_out
+from motesim.analysis.text import parts_at_most, remarks, selected_below, threshold_of, title
 from motesim.experiments import packages
 from motesim.experiments.measures import Cell
 from motesim.experiments.results import number_text, text_of
@@ -236,6 +236,13 @@ def texts_of_cells(numbers: Sequence[float], width: float) -> tuple[list[str], f
     return texts, max(size, 3.0)
 
 
+def readable_on(colour: Sequence[float]) -> str:
+    """Black or white: the one that has the greater contrast with a colour (WCAG 2.1, relative luminance)."""
+    linear = [it / 12.92 if it <= 0.04045 else ((it + 0.055) / 1.055) ** 2.4 for it in colour[:3]]
+    luminance = sum(part * it for part, it in zip((0.2126, 0.7152, 0.0722), linear))
+    return 'black' if (luminance + 0.05) ** 2 > 1.05 * 0.05 else 'white'
+
+
 def _draw_heat(figure: Any, axes: Any, shown: Shown, wish: Wish) -> None:
     """A cell for each pair of values, with its number."""
     xs = sorted({point.against for point in shown.points}, key=order)
@@ -250,7 +257,7 @@ def _draw_heat(figure: Any, axes: Any, shown: Shown, wish: Wish) -> None:
     texts, size = texts_of_cells(middles, figure.get_figwidth() * 43 / len(xs))
     for point, text in zip(shown.points, texts):
         axes.text(xs.index(point.against), ys.index(point.by), text, ha='center', va='center', fontsize=size,
-                  color='white' if picture.norm(point.estimate.middle) < 0.6 else 'black')
+                  color=readable_on(picture.cmap(picture.norm(point.estimate.middle))))
     axes.set_xticks(range(len(xs)), [text_of(it) for it in xs])
     axes.set_yticks(range(len(ys)), [dict(wish.labels).get(text_of(it), text_of(it)) for it in ys])
     _name_axes(axes, wish.x or wish.against, wish.y or wish.by)
@@ -366,7 +373,7 @@ def draw(shown: Shown, wish: Wish, path: Path) -> bool:
         _draw_heat(figure, axes, shown, wish)
     else:
         _draw_curves(axes, shown, wish)
-    has_room = words_around(figure, size_of(wish.size)[0], wish, heading(shown, wish), _note(shown, wish),
+    has_room = words_around(figure, size_of(wish.size)[0], wish, title(shown, wish), _note(shown, wish),
                             _place_of_notes(path, bool(shown.warnings)))
     _save(figure, pyplot, path)
     return has_room

@@ -277,8 +277,11 @@ def _within_wilson(values: Sequence[float], found: Estimate, low: float, high: f
     least, most = (1 - ends[1], 1 - ends[0]) if is_near_1 else ends
     is_low = low < least and (math.isinf(low) or is_near_1)
     is_high = high > most and (math.isinf(high) or found.middle < 0.5)
+    # (if each end is Wilson's for another reason, the missing end is the more important one)
+    is_missing = is_low and math.isinf(low) or is_high and math.isinf(high)
+    method = BOUNDED if is_missing else NEARER if is_low or is_high else found.method
     return found._replace(low=least if is_low else max(0.0, low), high=most if is_high else min(1.0, high),
-                          method=BOUNDED if is_low or is_high else found.method)
+                          method=method)
 
 
 def measured(values: Sequence[float]) -> Measured:
@@ -296,16 +299,18 @@ BY_DRAWS: dict[str, Callable[[Sequence[float], float, int], Estimate]] = {
 # The methods that can be requested.
 MEANS = (AUTO, 't', 'bootstrap', 'bootstrap-t')
 # Each method in a heading, and in a row.
-# The name of the method bootstrap-t if an end of the interval is that of Wilson's score.
-BOUNDED = 'bootstrap-t, Wilson'
+# The names of the method bootstrap-t if an end of the interval is that of Wilson's score: because bootstrap-t has no
+# end, or because its end is farther from the mean.
+BOUNDED, NEARER = 'bootstrap-t, Wilson', 'bootstrap-t, Wilson nearer'
+OF_BOUNDED = 'the bootstrap of Student\'s t within Wilson\'s score on twice the range'
 NAMES = {'t': 'Student\'s t', 'bootstrap': 'the bootstrap', 'bootstrap-t': 'the bootstrap of Student\'s t',
-         BOUNDED: 'the bootstrap of Student\'s t within Wilson\'s score on twice the range',
+         BOUNDED: OF_BOUNDED, NEARER: OF_BOUNDED,
          'wilson': 'Wilson\'s score',
          'above 0': 'Student\'s t cut at 0', 'within': 'Student\'s t cut at 0 and 1',
          'within pairs': 'Student\'s t cut at -1 and 1',
          'newcombe': 'Newcombe\'s method 10'}
-OF_ROW = {'t': 't', 'bootstrap': 'bootstrap', 'bootstrap-t': 'bootstrap-t', BOUNDED: BOUNDED, 'wilson': 'Wilson',
-          'above 0': 't, cut at 0', 'within': 't, cut at 0 and 1',
+OF_ROW = {'t': 't', 'bootstrap': 'bootstrap', 'bootstrap-t': 'bootstrap-t', BOUNDED: BOUNDED, NEARER: BOUNDED,
+          'wilson': 'Wilson', 'above 0': 't, cut at 0', 'within': 't, cut at 0 and 1',
           'within pairs': 't, cut at -1 and 1', 'newcombe': 'Newcombe 10',
           'one': 'none: one run', 'alike': 'none: equal runs',
           'too alike': 'none: nearly equal runs', 'quartiles': 'quartiles'}

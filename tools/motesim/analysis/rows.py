@@ -7,8 +7,8 @@ from collections.abc import Sequence
 
 from motesim.analysis.estimates import mean_of_net
 from motesim.analysis.points import MOST_VALUES, NET, PLACES, PLAN, PROGRAM, RUNS, SELECTS, SEPARATES, WITH, WITHOUT
-from motesim.analysis.points import Joint, Wish, changed_files, measures_of, name_of_net, names_of_nets, number_of
-from motesim.analysis.points import parameters_of, repeats_of
+from motesim.analysis.points import Joint, Wish, changed_files, columns_of_by, measures_of, name_of_net, names_of_nets
+from motesim.analysis.points import number_of, parameters_of, repeats_of
 from motesim.explain.synonyms import known
 from motesim.experiments.draws import lines_of, of_warned, warnings_in
 from motesim.experiments.measures import Cell
@@ -26,8 +26,9 @@ CHANGED = 'not all of them have the same contents of %s'
 
 
 def shown_key(names: Sequence[str], key: Key) -> str:
-    """The parameters of a row, as in `period = 20, seed = 1`."""
-    return ', '.join('%s = %s' % (name, text_of(value)) for name, value in zip(names, key))
+    """The parameters of a row, as in `period = 20, seed = 1`; of joint values, each parameter by itself."""
+    return ', '.join('%s = %s' % (name, text_of(value)) for names_of_value, values in zip(names, key)
+                     for name, value in columns_of_by(names_of_value, values).items())
 
 
 def once(rows: Sequence[Row], file: str, apart: Sequence[str] = ()) -> tuple[list[Row], list[str]]:

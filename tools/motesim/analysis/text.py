@@ -10,7 +10,7 @@ from typing import Any
 
 from motesim.analysis.crossings import Crossing, Middle, Runs, crossing, share_that_crosses
 from motesim.analysis.crossings import Place as CrossingPlace
-from motesim.analysis.estimates import BOUNDED, DRAWS, ENOUGH_RUNS, LEAST_RUNS, NAMES, OF_ROW, RANGE
+from motesim.analysis.estimates import BOUNDED, DRAWS, ENOUGH_RUNS, LEAST_RUNS, NAMES, NEARER, OF_ROW, RANGE
 from motesim.analysis.estimates import Estimate, is_skewed_near_an_end, words_of
 from motesim.analysis.paired import Difference, Paired, reasons
 from motesim.analysis.points import Crossed, Curve, Net, Place, Point, Shown, Wish, columns_of_by, order
@@ -37,7 +37,9 @@ FEW = 'the bootstrap of {} runs is too narrow: use --interval t, or {} runs or m
 FEW_OF_T = ('the interval by bootstrap-t of {} runs contains the true mean less often than its confidence says. For '
             'skewed runs other intervals are no better, so make {} runs or more, and {} or more for means near 0 or 1')
 # The methods that draw runs again.
-DRAWING = ('bootstrap', 'bootstrap-t', BOUNDED)
+DRAWING = ('bootstrap', 'bootstrap-t', BOUNDED, NEARER)
+# Why an end of an interval by bootstrap-t is that of Wilson's score.
+REASONS = {BOUNDED: 'too many draws have nearly equal runs', NEARER: 'the end by bootstrap-t is farther from the mean'}
 # The methods whose intervals of few skewed runs are too narrow.
 NARROW = ('t', 'within', 'bootstrap')
 # (a picture, its table and the lines on the terminal need the same crossings)
@@ -183,6 +185,12 @@ def heading(shown: Shown, wish: Wish) -> str:
         against += ', in the order of %s' % shown.along[0]
     nets = ', averaged by net first' if wish.nets else ''
     return '%s%s%s%s%s%s' % (wish.measure, against, selected(wish), of_mixed(shown.mixed), nets, how(shown, wish))
+
+
+def title(shown: Shown, wish: Wish) -> str:
+    """The heading of a picture: that of its table, but a map (heat) has no intervals."""
+    words = heading(shown, wish)
+    return words.removesuffix(how(shown, wish)) + ': means' if wish.show == 'heat' else words
 
 
 def of_mixed(names: Sequence[str]) -> str:
@@ -358,14 +366,15 @@ def of_intervals(estimates: Sequence[Estimate], is_drawn: bool = False, draws: i
     lines = []
     if is_drawn or any(it.method in DRAWING for it in estimates):
         lines.append(words_of(draws))
-    for methods, line in ((('bootstrap',), FEW), (('bootstrap-t', BOUNDED), FEW_OF_T)):
+    for methods, line in ((('bootstrap',), FEW), (('bootstrap-t', BOUNDED, NEARER), FEW_OF_T)):
         few = [it.runs for it in estimates if it.method in methods and it.runs < LEAST_RUNS]
         lines += [line.format(min(few), LEAST_RUNS, ENOUGH_RUNS)] if few else []
-    bounded = sum(it.method == BOUNDED for it in estimates)
-    if bounded:
-        lines.append('an end of %s by bootstrap-t is that of Wilson\'s score, because too many draws have nearly '
-                     'equal runs. For this end the tool assumes that no run is further from 0 (or from 1, if the mean '
-                     'is nearer to 1) than %d times the furthest of these runs' % (some(bounded, 'interval'), RANGE))
+    for method, reason in REASONS.items():
+        bounded = sum(it.method == method for it in estimates)
+        if bounded:
+            lines.append('an end of %s by bootstrap-t is that of Wilson\'s score, because %s. For this end the tool '
+                         'assumes that no run is further from 0 (or from 1, if the mean is nearer to 1) than %d times '
+                         'the furthest of these runs' % (some(bounded, 'interval'), reason, RANGE))
     too_alike = sum(it.method == 'too alike' for it in estimates)
     if too_alike:
         lines.append('no interval for %s by bootstrap-t: too many of its draws have equal runs, and so no standard '
