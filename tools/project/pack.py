@@ -184,8 +184,10 @@ def is_results(path: Path) -> bool:
 def about_studies(studies: dict[str, tuple[list[str], list[str]]]) -> str:
     """The part of the README about the studies of the archive, or an empty text."""
     return ''.join(template('study') % {
-        'folder': folder, 'plans': ', '.join(plans), 'results': ', '.join(results),
-        'command': check_of(*pairs_of(plans, results)[0])} for folder, (plans, results) in studies.items())
+        'folder': folder, 'plans': 'plan%s (%s)' % ('s' * (len(plans) > 1), ', '.join(plans)),
+        'results': ', '.join(results),
+        'commands': '\n'.join('- `%s`' % check_of(*it) for it in pairs_of(plans, results))}
+        for folder, (plans, results) in studies.items())
 
 
 def pairs_of(plans: Sequence[str], results: Sequence[str]) -> list[tuple[str, str]]:

@@ -290,6 +290,9 @@ class Pack(unittest.TestCase):
                       '(mystudy/net.csv). docs/use/PLANS.md explains plans,\n', readme)
         self.assertIn('`tools/sweep mystudy/net.plan.toml --check`', readme)
         self.assertNotIn('study', other[0].decode().replace('studio', ''))
+        two = pack.about_studies({'lab': (['lab/a.plan.toml', 'lab/b.plan.toml'], ['lab/a.csv', 'lab/b.csv'])})
+        self.assertIn('its plans (lab/a.plan.toml, lab/b.plan.toml) and', two)
+        self.assertIn('\n\n- `tools/sweep lab/a.plan.toml --check`\n- `tools/sweep lab/b.plan.toml --check`\n\n', two)
         self.assertEqual(pack.how_to_unpack('a.tar.gz', 'motesim-1', found),
                          'Readers unpack it by: tar xzf a.tar.gz && cd motesim-1\n'
                          'The README.md in it says how to repeat the study in mystudy')
