@@ -1438,7 +1438,7 @@ class Command(unittest.TestCase):
         for show in 'median', 'points':
             rows = self.plot('--measure', 'sent', '--against', 'period', '--show', show, '--threshold', '42',
                              '--confidence', '99', '--draws', '300', *ONE)
-            self.assertIn('with 99 %, by the bootstrap of 5 runs', '\n'.join(map(' '.join, rows)))
+            self.assertIn('99 % interval of the crossing, by the bootstrap of 5 runs', '\n'.join(map(' '.join, rows)))
         self.plot('--measure', 'sent', '--over', 'seed,period,density', '--show', 'cdf', '--threshold', '12',
                   '--confidence', '99', status=2)
         self.plot('--plan', 'a.plan.toml', '-o', 'a.svg', status=2)
