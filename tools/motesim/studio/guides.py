@@ -11,7 +11,7 @@ from motesim.runner.programs import TOP
 PAGE = TOP / 'docs/use/EXAMPLES.md'
 LINK = re.compile(r'\[([^]]*)\]\([^)]*\)')
 # The comment that tools/scenario writes: it is for the author of the plan, not for users of the scenario.
-OF_PLAN = re.compile(r'# Written by tools/scenario from the plan .*\n(?:# (?:Parameters|Files beside|SHA-256)\b.*\n)*')
+OF_PLAN = re.compile(r'# Written by tools/scenario from the plan .*\n(?:# (?:Parameters|Files|SHA-256)\b.*\n)*')
 
 
 def head_of(text: str) -> list[str]:
