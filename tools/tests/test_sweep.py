@@ -258,7 +258,10 @@ class MeasuresTest(unittest.TestCase):
         for words, seen in ('rato', 'did you mean ratio?'), ('colided of mote 1', 'did you mean collided?'), (
                 'flow raeched: print a', 'a flow has no raeched; there are: .*did you mean reached?'), (
                 'moment: at least 90 % of motes print a', 'print a. is about a number of motes, and has no moment: '), (
-                'moment: no mote halts', 'it says what must not happen'):
+                'moment: no mote halts', 'it says what must not happen'), (
+                'motes: every mote finally prints a 4', 'measure `motes:` has a sentence about lines, .* Write `every '
+                'mote prints a 4`, .* `holds: every mote finally prints a 4` is 1 '), (
+                'motes: every mote prints just a 4', 'or a comparison. A measure `holds: every mote prints just a 4`'):
             with self.assertRaisesRegex(MeasureFault, seen.replace('?', r'\?')):
                 read_measure(words, self.names)
 

@@ -226,10 +226,20 @@ def _count_rows(judge: Judge, it: Copies | Packets) -> int:
     return sum(any(begin <= at and (end is None or at <= end) for begin, end in its) for at, its in spans)
 
 
-def _plain(sentence: Sentence, words: str) -> Does:
+def _no_moment(kind: str, sentence: Sentence, words: str) -> MeasureFault:
+    """The refusal of a sentence that isn't about single lines, with the sentences that the measure can have."""
+    is_last = isinstance(sentence, Does) and sentence.deed.way == 'finally' and not sentence.relation
+    other = ' Write `%s`, which is about each such line, also if it isn\'t the last line.' % re.sub(
+        r'\bfinally\s+', '', words, count=1) if is_last else ''
+    return MeasureFault('%r has no moment: a measure `%s:` has a sentence about lines, such as `mote 3 prints flood 1` '
+                        'and `every mote sends`, without `finally`, `just`, an order or a comparison.%s A measure '
+                        '`holds: %s` is 1 if the sentence holds, otherwise 0' % (words, kind, other, words))
+
+
+def _plain(kind: str, sentence: Sentence, words: str) -> Does:
     """Reads a sentence that has a moment: it says that motes have lines of a form."""
     if not isinstance(sentence, Does) or sentence.deed.way != 'any' or sentence.than or sentence.relation:
-        raise MeasureFault('%r has no moment, unlike `mote 3 prints flood 1` and `every mote sends`' % words)
+        raise _no_moment(kind, sentence, words)
     if sentence.motes.kind == 'count':
         raise MeasureFault('%r is about a number of motes, and has no moment: write `every mote`, `some mote` or the '
                            'numbers of motes; a measure `motes: every mote ..` counts motes' % words)
@@ -272,7 +282,7 @@ def _of_sentence(kind: str, words: str, names: Names) -> Callable[[Bench], Cell]
     if kind == 'count' and isinstance(first, Copies | Packets):
         rows = first
         return _guarded(lambda judge: _count_rows(judge, rows))
-    its = [_plain(sentence, part) for sentence, part in zip(sentences, parts)]
+    its = [_plain(kind, sentence, part) for sentence, part in zip(sentences, parts)]
     for it in its:
         _check_use(kind, it)
     if kind == 'delay' and its[0] == its[1]:
@@ -296,7 +306,7 @@ def _own(messages: Sequence[Line], receivers: Sequence[tuple[int, ...]]) -> str:
 
 def _warning_of_delivery(words: str, names: Names) -> Callable[[Bench], str]:
     """The warning of a `delivery`: several messages have the same value, or a mote is its own receiver."""
-    begin, end = (_plain(read_sentence(it.strip(), names), it.strip()) for it in words.split('->'))
+    begin, end = (_plain('delivery', read_sentence(it.strip(), names), it.strip()) for it in words.split('->'))
 
     def found(judge: Judge) -> str:
         messages, receivers = _lines(judge, begin, judge.chosen(begin.motes)), _receivers(judge, end.motes)
