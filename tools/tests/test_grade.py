@@ -22,7 +22,7 @@ from unittest import mock
 
 from here import TOOLS
 from motesim.grading.command import remarks, status_of
-from motesim.grading.entries import Entry, anonymous, data_of, entries_of
+from motesim.grading.entries import TRANSLATES, Entry, anonymous, data_of, entries_of
 from motesim.grading.marking import BINARY, Mark, Marks, Task, page_name, warned_of
 from motesim.grading.nets import cut_off, nets_of, program_of
 from motesim.grading.page import page_of
@@ -160,7 +160,7 @@ class Entries(Folder):
 
     def test_a_program_in_c_in_a_scenario(self) -> None:
         self.hand_in('kira.toml', net('#include "contiki.h"\n// refuse\nPROCESS(a, "a");\n'))
-        wanted = '0 of 3  its program is in C, not in the notation of mote programs'
+        wanted = '0 of 3  its program is in C, not in the notation of mote programs (%s)' % TRANSLATES
         for words in (), ('--net', 'task.toml'):
             self.assertEqual(self.rows(*words)['kira.toml'], wanted)
 
@@ -176,10 +176,11 @@ class Entries(Folder):
         self.assertEqual(self.rows('--net', 'task.toml'), {
             'Emil_4712_file/emil.mote': '1 of 3  broken: 1, 2', 'Emil_4712_file/notes.txt': '- of 3  ' + named,
             'Emil_4712_file/work.zip': '- of 3  ' + named, 'anna.toml': '3 of 3',
-            'ivan.c': '- of 3  it is a program in C, and ' + named,
-            'jana.mote': '0 of 3  it is a program in C, not in the notation of mote programs'})
+            'ivan.c': '- of 3  it is a program in C, and %s (%s)' % (named, TRANSLATES),
+            'jana.mote': '0 of 3  it is a program in C, not in the notation of mote programs (%s)' % TRANSLATES})
         self.grade('--net', 'task.toml', '-o', 'marks.csv', '-o', 'marks.html', '-o', 'marks.toml')
-        self.assertIn('\n"ivan.c","",3,"it is a program in C, and %s","","",""\n' % named, self.page('marks.csv'))
+        row = '\n"ivan.c","",3,"it is a program in C, and %s (%s)","","",""\n'
+        self.assertIn(row % (named, TRANSLATES), self.page('marks.csv'))
         self.assertIn('<td class="number ">- of 3</td>', self.page())
         self.assertIn('<td class="number">1 of 3</td><td>every mote prints a 3</td>', self.page())
         self.assertNotIn('holds', tomllib.loads(self.page('marks.toml'))['solution'][1])

@@ -23,7 +23,7 @@ from motesim.terminal import one_line
 SUFFIXES = ('.toml', '.mote')
 OF_TEACHER = '.expect.toml'
 MOST_ENTRIES = 10_000
-IN_C = 'it is a program in C'
+IN_C, TRANSLATES = 'it is a program in C', 'tools/explain FILE.c --apply NEW.toml translates it'
 DEEPEST = 8
 
 
@@ -55,7 +55,7 @@ def _why_by_name(name: str, path: Path) -> str:
         return why + ': write the ending in small letters'
     if name.removesuffix('.txt').endswith(SUFFIXES):
         return why + ': remove the ending .txt'
-    return '%s, and %s' % (IN_C, why) if _is_c(path) else why
+    return '%s, and %s (%s)' % (IN_C, why, TRANSLATES) if _is_c(path) else why
 
 
 def _is_c(path: Path) -> bool:

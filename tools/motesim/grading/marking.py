@@ -14,7 +14,7 @@ from motesim.explain.lint import (
 from motesim.explain.within import busiest
 from motesim.faults import Fault, tried
 from motesim.files import replace_whole
-from motesim.grading.entries import IN_C, Entry, data_of, without_program
+from motesim.grading.entries import IN_C, TRANSLATES, Entry, data_of, without_program
 from motesim.grading.nets import NOT_UTF8, Net, NoProgram, program_of, unused_of
 from motesim.judge.expectations import (
     REFUSED, REQUIRED, Part, UnknownSentence, known_of, more_of, read_all, refused, same_report,
@@ -47,7 +47,8 @@ UNSAFE = re.compile(r'[^A-Za-z0-9.-]|^\.')
 LONGEST_NAME = 80
 OF_HIDDEN = 'in a hidden net'
 BINARY = 'the file is binary: it has bytes that no text has'
-OF_C, NOT_NOTATION = 'its program is in C', ', not in the notation of mote programs'
+OF_C = 'its program is in C'
+NOT_NOTATION = ', not in the notation of mote programs (%s)' % TRANSLATES
 # The most lines of an error, and the most warnings, that are shown.
 MOST_LINES, MOST_WARNED = 40, 3
 
