@@ -11,7 +11,8 @@ from translated_c import body_of, in_process, translation
 VARIABLES = '  static int n, x, i; static uint8_t b; static uint16_t u; static int a[3]; static struct etimer et;'
 FUNCTIONS = '''static int f(int k) { printf("%d", k); return k + 1; }
 static void show(uint8_t v) { if(v) printf("%u", v); }
-static int later(void) { return 7; }'''
+static int later(void) { return 7; }
+static int *best(void) { return 0; }'''
 # Statements of C, and the lines of the body.
 FORMS = (
     ('n++; n += 2; n = n * 3 - 1; b++; u--;', '''
@@ -171,7 +172,19 @@ REFUSALS = (
     ('packetbuf_copyfrom();', '`packetbuf_copyfrom` needs 1 argument'), ('process_start();', 'needs 1 argument'),
     ('x = sht11_sensor.value(0);', 'A mote has no sensors'), ('SENSORS_ACTIVATE(b);', 'no sensors and no buttons'),
     ('int *q = (int *)data; PROCESS_YIELD(); x = *q;', '`q` isn\'t the address of a variable'),
-    ('if(x { }', 'A `)` is expected here, not `{`.'),
+    ('if(x { }', 'A `)` is expected here, not `{`.'), ('etimer_set(&et, 5;', 'A `)` is expected here, not `;`.'),
+    ('n = 3', 'A `;` is missing at the end of this line.'), ('else n = 2;', 'There is no `if` for this `else`'),
+    ('whlie(n) { }', '`whlie` is no statement of C that has a block'), ('case 3: n = 4;', 'A `case` is in the block'),
+    ('printf("%d, n);', 'A text has no end in this line: a `"` is missing.'), ("n = 'ab';", 'isn\'t one character'),
+    ('n = n & & 3;', 'Behind the sign `&` for an address, there is a variable.'),
+    ('if(ev == sensors_event) n = 1;', 'A mote has no sensors'), ('if(ev == tcpip) n = 1;', 'has no `tcpip`'),
+    ('memcpy(&u, bytes, 2);', 'have other sizes'), ('u = *(uint16_t *)bytes;', '`bytes` is read with another type'),
+    ('memset(bytes, 0, n);', 'The number of the bytes is a constant'),
+    ('memset(a, 0, 3);', 'These 3 bytes aren\'t whole'), ('int *q = a; n = *q++;', 'use an index, such as `q[i]`'),
+    ('int *q; for(q = a; q < &a[3]; q++) n = 1;', 'use an index, such as `q[i]`'),
+    ('int *q = best(); n = *q;', 'let `best` return the index of a member'),
+    ('void (*g)(void) = later; g();', 'A pointer to a function is called here'),
+    ('later(1);', '`later` has 0 parameters.'), ('f();', '`f` has 1 parameter.'),
 )
 
 
@@ -225,7 +238,10 @@ class Forms(unittest.TestCase):
                              ('etimer_set(&et, CLOCK_SECOND); etimer_set(&et, 100);', 128),
                              ('u = 100; etimer_set(&et, u); u = CLOCK_SECOND;', 128),
                              ('etimer_set(&et, CLOCK_SECOND); if(clock_time() > 300) u = 1;', 128),
-                             ('u = 7; etimer_set(&et, CLOCK_SECOND / u);', 128)):
+                             ('u = 7; etimer_set(&et, CLOCK_SECOND / u);', 128),
+                             ('u = CLOCK_SECOND; u /= 4; etimer_set(&et, u);', 128),
+                             ('u = CLOCK_SECOND; etimer_set(&et, u >> 2);', 128),
+                             ('u = clock_time() + CLOCK_SECOND; u = u / CLOCK_SECOND;', 10)):
             found = translated(in_process('  ' + body, '', VARIABLES))
             self.assertEqual(found.second, second, body)
             self.assertEqual(any('128 moments' in it.text for it in found.remarks), second == 128)
@@ -248,12 +264,26 @@ class Refusals(unittest.TestCase):
     def test_a_refusal_names_the_line_and_the_reason(self) -> None:
         for body, reason in REFUSALS:
             with self.subTest(body):
-                source = in_process('  n = 1;\n  ' + body, 'static struct pt_sem s;', VARIABLES)
+                above = 'static struct pt_sem s; static uint8_t bytes[2];\n' + FUNCTIONS
+                source = in_process('  n = 1;\n  ' + body, above, VARIABLES)
                 line = source.split('\n').index('  ' + body) + 1
                 with self.assertRaises(Refusal) as found:
                     translated(source)
                 self.assertIn(reason, found.exception.reason)
                 self.assertEqual(found.exception.line, line)
+
+    def test_a_missing_brace_is_named_at_a_line_that_it_concerns(self) -> None:
+        source = in_process('  while(n) {\n    n++;\n  }', FUNCTIONS, VARIABLES)
+        for old, new, wanted in (
+                ('  }\n', '', 'This `{` has no `}`'), ('while(n) {', 'while(n)', 'This line is outside of all fun'),
+                ('  PROCESS_END();\n}', '  PROCESS_END();\n}\n}', 'This line is outside of all functions'),
+                ('return 7; }', 'return 7;', 'Functions aren\'t inside of others: above `best`, a `}` is missing'),
+                ('return 0; }', 'return 0;', 'Functions aren\'t inside of others: above `PROCESS_THREAD`'),
+                ('show(uint8_t v)', 'show(v) uint8_t v;', 'The type of the parameter `v` is expected here'),
+                ('#include "contiki.h"', '#ifdef A', 'This `#if` has no `#endif`.')):
+            with self.subTest(old):
+                self.assertIn(old, source)
+                self.assertIn(wanted, translation(source.replace(old, new))[1])
 
     def test_processes_share_no_variables(self) -> None:
         source = '''PROCESS(a, "a");
@@ -306,12 +336,32 @@ class Remarks(unittest.TestCase):
     def test_numbers_of_32_bits_wrap(self) -> None:
         self.assertIn('above 65,535 wrap', self.remarks('l = 70000;', '', '  static uint32_t l;'))
 
+    def test_products_that_have_32_bits_in_c_are_named(self) -> None:
+        for body, is_named in (('u = u * 1000L / 128; u++;', True), ('u = b * 10L;', False),
+                               ('u = (clock_time() - u) * 1000 / CLOCK_SECOND;', True),
+                               ('etimer_set(&et, 2L * CLOCK_SECOND);', False),
+                               ('u = clock_time() - u;', False), ('u *= 1000UL; u++;', True)):
+            with self.subTest(body):
+                found = self.remarks('u = b; u += 65000;\n' + body, '', VARIABLES)
+                self.assertEqual('above 65,535 wrap' in found, is_named)
+
+    def test_a_char_that_may_be_below_0_is_named(self) -> None:
+        for body, is_named in (('c = 200; if(c > 100) x = 1;', True), ("c = 'a'; if(c == 97) x = 1;", False)):
+            found = self.remarks(body, '', VARIABLES + ' char c;')
+            self.assertEqual('depends on the compiler' in found, is_named)
+
     def test_a_value_that_a_wait_loses_is_named(self) -> None:
         lost = '`l` isn\'t static'
         self.assertIn(lost, self.remarks('l = 3; PROCESS_YIELD(); printf("%d", l);', '', '  int l;'))
         self.assertNotIn(lost, self.remarks('l = 3; printf("%d", l); PROCESS_YIELD(); l = 4; printf("%d", l);', '',
                                             '  int l;'))
         self.assertNotIn(lost, self.remarks('l = 3; PROCESS_YIELD(); printf("%d", l);', '', '  static int l;'))
+
+    def test_a_parameter_of_a_protothread_has_its_value_after_a_wait(self) -> None:
+        thread = ('static struct pt pt;\nstatic PT_THREAD(sub(struct pt *pt, int k)) { PT_BEGIN(pt); PT_YIELD(pt); %s '
+                  'PT_END(pt); }')
+        found = self.remarks('PROCESS_PT_SPAWN(&pt, sub(&pt, 3));', thread % 'printf("%d", k);')
+        self.assertNotIn('isn\'t static', found)
 
     def test_each_cause_has_one_remark(self) -> None:
         self.assertEqual(self.remarks('leds_on(1); leds_on(2); leds_off(1);').count('LEDs'), 1)

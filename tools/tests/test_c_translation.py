@@ -34,6 +34,29 @@ VALUES = (
      '4 255 0 1'),
     ('int x = 2; switch(x) { case 1: x = 10; case 2: x += 1; case 3: x += 1; if(x > 3) break; x = 0; default: x = 7; }'
      ' printf("%d", x);', '4'),
+    ('uint8_t a = 1, b = 3, c = 2; uint16_t u; u = a | b | c; printf("%u %u", u, (a ^ b) | c);', '3 2'),
+    ('int x = -64, k = 3; x = ((x << 1) / 3) | 1; printf("%d", x); x = 48; x = ((x << k) >> k) | 16; printf("%d", x);',
+     '65495 48'),
+    ('int8_t s = -128; int i, n = -20; for(i = 0; i < 3; i++) printf("%d", s >> i); n >>= i; printf("%d", n);',
+     '65408 65472 65504 65533'),
+    ('const char *names[] = {"off", "on"}; int i = 1; printf("%s %d %s", names[i], i, i ? "yes" : "no");', '1'),
+    ('int x = -7; printf("%d %d %d", x / -2, 7 / -2, 7 % -4);', '3 65533 3'),
+    ("char c = '\\x41'; printf(\"%d %d %d %d\", c, '\\012', '\\0', '\\'');", '65 10 0 39'),
+    ('static const int m[][2] = {1, 2, 3, 4}; static struct { int a; uint8_t b[2]; } s[2] = {1, 2, 3, {4, {5, 6}}};'
+     ' printf("%d %d %d %d %d", m[1][0], m[1][1], s[0].b[1], s[1].a, s[1].b[1]);', '3 4 3 4 6'),
+    ('int q[3] = {1, 2, 3}, r[3]; memcpy(r, q, 4); memset(&q[1], 0, 4); memset(&q[0], 0xff, sizeof(int));'
+     ' printf("%d %d %d %d", q[0], q[2], r[1], r[2]);', '65535 0 2 0'),
+    ('static linkaddr_t none; static const rimeaddr_t all[2] = {{{3, 0}}, {{0, 0}}}; rimeaddr_t one = {{5, 0}};'
+     ' printf("%d %d", rimeaddr_cmp(&none, &linkaddr_null), rimeaddr_cmp(&all[1], &rimeaddr_node_addr));'
+     ' printf("%d %d", all[0].u8[0], one.u8[0]);', '1 1 3 5'),
+)
+# Macros, and what the numbers that a program prints with them are.
+MACROS = (
+    ('#define LOG(fmt, ...) printf(fmt, ##__VA_ARGS__)', 'LOG("x"); LOG("%d", 3); LOG("%d %d", 4, 5);', '1 3 4 5'),
+    ('#define LOG(fmt, args...) printf(fmt, ##args)', 'LOG("x"); LOG("%d", 3); LOG("%d %d", 4, 5);', '1 3 4 5'),
+    ('#define LOG(...) do { } while(0)', 'LOG("x"); LOG(); printf("%d", 2);', '2'),
+    ('#define CAT(a, b) a##b\n#define XCAT(a, b) CAT(a, b)\n#define N 4', 'int n4 = 6; printf("%d %d %d", XCAT(n, N), '
+     'CAT(, n4), CAT(1, 2));', '6 6 12'),
 )
 # Programs of students that aren't translated: they schedule protothreads themselves, have a pointer to timers, start a
 # process with a value, or have callbacks for two connections.
@@ -71,9 +94,9 @@ class Values(unittest.TestCase):
 
     def test_values_have_the_types_of_c(self) -> None:
         need_program(self)
-        for body, wanted in VALUES:
+        for above, body, wanted in (*(('', *it) for it in VALUES), *MACROS):
             with self.subTest(body):
-                text, notes = translation(in_process('  ' + body))
+                text, notes = translation(in_process('  ' + body, above))
                 self.assertIsNotNone(text, notes)
                 report = Report.parse(answer((SCENARIO % (END, text)).encode()).report)
                 self.assertEqual(' '.join(str(it.value) for it in report.lines('print') if it.mote == 0), wanted, text)

@@ -91,6 +91,8 @@ class Calls(Expressions):
 
     def unknown(self, it: Expression) -> Exception:
         advice = ''
+        if it.variable is not None:
+            return self.refuse(it.line, 'A pointer to a function is called here: call the function by its name.')
         if it.text.startswith(('runicast_', 'simple_udp')):
             advice = ' ' + RUNICAST
         elif it.text.startswith(('mesh_', 'collect_', 'netflood_', 'trickle_', 'multihop_')):

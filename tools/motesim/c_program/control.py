@@ -183,6 +183,11 @@ class Control(Radio):
 
     # Jumps.
 
+    def of_case(self, it: Statement) -> Flow:
+        raise self.refuse(it.line, 'A `%s` is in the block of a `switch`, not in an inner block.' % it.kind)
+
+    of_default = of_case
+
     def of_break(self, it: Statement) -> Flow:
         return self.jump(it, ('break', 'switch'))
 

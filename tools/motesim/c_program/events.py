@@ -6,6 +6,7 @@ from motesim.c_program.places import OF_ADDRESS, Places, Pointer
 from motesim.c_program.tree import Expression, Variable
 from motesim.c_program.types import INT
 from motesim.c_program.values import NOTHING, Value, both, compared, negated, number
+from motesim.from_c.absent import NO_SENSORS
 
 KERNEL = {129: 'init', 130: 'poll', 131: 'exit', 133: 'continue', 134: 'msg', 135: 'exited', 136: 'timer', 137: 'com'}
 NO_EVENT = ('The event of a call is compared with events here: `ev == PROCESS_EVENT_TIMER`, or an event of the '
@@ -38,6 +39,9 @@ class Events(Places):
                 raise self.refuse(it.line, NO_EVENT)
             return self.program.events['variable ' + it.variable.name]
         value = constant_of(it)
+        if value is None and it.kind == 'name' and it.variable is None:
+            is_sensor = 'sensor' in it.text or 'button' in it.text
+            raise self.refuse(it.line, 'motesim has no `%s`.%s' % (it.text, ' ' + NO_SENSORS if is_sensor else ''))
         if value is None:
             raise self.refuse(it.line, NO_EVENT)
         if value in KERNEL:

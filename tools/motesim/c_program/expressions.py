@@ -5,7 +5,7 @@ from motesim.c_program import bits
 from motesim.c_program.base import OF_LONG, joined_limits
 from motesim.c_program.constants import EVENT_NUMBERS, NUMBERS
 from motesim.c_program.events import Events
-from motesim.c_program.places import ADDRESSES, OF_ADDRESS, TEXTS, Place
+from motesim.c_program.places import ADDRESSES, OF_ADDRESS, OF_CHANGE, TEXTS, Place
 from motesim.c_program.seconds import SECOND
 from motesim.c_program.tree import Expression
 from motesim.c_program.types import INT, UNSIGNED, Type, size_of
@@ -174,13 +174,29 @@ class Expressions(Events):
             special = self.of_events(it)
             if special is not None:
                 return special
+            pointers = [one.text for one in it.parts if one.kind == 'name' and self.type_of(one).kind == 'pointer']
+            if pointers and it.text not in ('==', '!='):
+                raise self.refuse(it.line, OF_CHANGE % pointers[0])
         left, right = self.two(it.parts[0], it.parts[1])
         if it.text in COMPARES:
             for one, other in ((it.parts[0], right), (it.parts[1], left)):
                 if one.kind == 'number' and one.number > 32_767 and other.is_negative:
                     self.remark(it.line, OF_LONG)
             return compared(it.text, left, right)
+        if self.is_long(it) and exceeds(it.text, left, right):
+            self.remark(it.line, OF_LONG)
         return self.operation(it.text, left, right, it.line)
+
+    def is_long(self, it: Expression) -> bool:
+        """Returns whether C calculates a value with 32 bits."""
+        if it.kind == 'binary':
+            return any(map(self.is_long, it.parts)) and it.text not in (*COMPARES, '&&', '||')
+        if it.kind in ('unary', 'choice') and it.text != '*':
+            return any(map(self.is_long, it.parts))
+        if it.kind == 'call':
+            return it.text in ('clock_time', 'clock_seconds')
+        its = self.type_of(it)
+        return its.bits > 16 and its.kind == 'int' or its.name == 'clock_time_t'
 
     def two(self, first: Expression, second: Expression) -> tuple[Value, Value]:
         """Two operands; the first one is kept in a variable if the second one changes what it reads."""
@@ -204,6 +220,9 @@ class Expressions(Events):
             return added(left, right, sign)
         if sign == '*':
             return multiplied(left, right)
+        if sign in '/%' and right.constant is not None and right.low < 0 and common(left, right).signed:
+            found = self.operation(sign, left, number(-right.low), line)
+            return added(number(0), found, '-') if sign == '/' else found
         if sign in '/%':
             return divided(left, right, sign) or self.signed_division(left, right, sign, line)
         if sign in ('<<', '>>'):
@@ -222,21 +241,22 @@ class Expressions(Events):
         self.out.append(If(compared('<', kept, number(0)), [*block], [*other]))
         low = left.low if sign == '/' else max(left.low, -(right.high - 1))
         high = max(left.high, 0) if sign == '/' else max(min(left.high, right.high - 1), 0)
-        return kept._replace(type=INT, low=low, high=high)
+        return kept._replace(type=INT, low=low, high=high, zeros=0)
 
     def shift(self, sign: str, left: Value, right: Value, line: int) -> Value:
         if right.constant is not None:
             return (bits.shifted_left if sign == '<<' else bits.shifted_right)(left, right.low)
-        if self.is_wait_test or sign == '>>' and left.is_negative:
+        if self.is_wait_test:
             raise self.refuse(line, NO_BITS)
         kept, count = self.temporary(left), self.temporary(right)
-        step = '*' if sign == '<<' else '/'
-        body: Block = [Line('%s = (%s %s 2);' % (kept.text, kept.text, step)),
+        once = bits.shifted_left(kept, 1) if sign == '<<' else bits.shifted_right(kept, 1)
+        body: Block = [Line('%s = %s;' % (kept.text, once.text)),
                        Line('%s = (%s - 1);' % (count.text, count.text))]
         self.out.append(While(count, body))
         its = common(left, left)
-        high = left.high if sign == '>>' else its.highest
-        return kept._replace(type=its, low=0 if left.low >= 0 else its.lowest, high=high)
+        if sign == '>>':
+            return kept._replace(type=its, low=min(left.low, 0), high=max(left.high, -1), zeros=0)
+        return kept._replace(type=its, low=its.lowest if left.low < 0 else 0, high=its.highest, zeros=0)
 
     def with_bits(self, sign: str, left: Value, right: Value, line: int) -> Value:
         """`&`, `|` or `^`."""
@@ -266,7 +286,7 @@ class Expressions(Events):
         self.out.append(While(bit, body))
         is_small = 0 <= min(left.low, right.low)
         high = (1 << max(left.high, right.high).bit_length()) - 1 if is_small else MOST
-        return found._replace(low=0 if is_small else -HALF, high=high, type=INT)
+        return found._replace(low=0 if is_small else -HALF, high=high, type=INT, zeros=0)
 
     # Tests that aren't evaluated always.
 
@@ -393,7 +413,10 @@ class Expressions(Events):
         if place.chosen is None and sign in '|&' and self.one_bit(sign, place, value, line):
             return
         if place.chosen is None:
-            self.write(place, self.operation(sign, promoted(self.read(place, line)), value, line), line)
+            old = promoted(self.read(place, line))
+            if self.is_long(it.parts[1]) and exceeds(sign, old, value):
+                self.remark(line, OF_LONG)
+            self.write(place, self.operation(sign, old, value, line), line)
             return
         kept = value if value.is_simple else self.temporary(value)
         known, blocks = dict(self.known), list[Block]()
@@ -564,3 +587,11 @@ class Expressions(Events):
         """Returns whether all variables of an expression are in a `sizeof`."""
         return it.kind in ('sizeof', 'number') or it.kind == 'binary' and all(self.is_size(one) for one in it.parts)
 
+
+def exceeds(sign: str, left: Value, right: Value) -> bool:
+    """Returns whether a product of two values, or a value that is shifted, may have more than 16 bits. (Times are
+    added and subtracted in both sizes, because only their differences count.)"""
+    if left.constant is not None and right.constant is not None:
+        return False
+    most = max(abs(left.low), left.high) * max(abs(right.low), right.high) if sign == '*' else 0
+    return most > MOST or sign == '<<' and left.high << max(min(right.high, 32), 0) > MOST

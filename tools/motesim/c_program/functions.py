@@ -7,7 +7,7 @@ from contextlib import contextmanager
 from motesim.c_program.base import Unit
 from motesim.c_program.constants import constant_of
 from motesim.c_program.control import ENDS, FALLS, Control, Flow, has_wait
-from motesim.c_program.places import OF_ADDRESS, Path, Place, Pointer
+from motesim.c_program.places import NO_MOTE, OF_ADDRESS, OF_RESULT, Path, Place, Pointer
 from motesim.c_program.refusal import Refusal
 from motesim.c_program.tree import Expression, Function, Statement, Variable
 from motesim.c_program.types import INT, Type, leaves_of
@@ -51,8 +51,11 @@ class Functions(Control):
     def initial(self, variable: Variable, path: Path) -> int:
         """The first value of a part of a variable."""
         it, its = variable.initial, variable.type
-        if it is None or not variable.is_static:
+        if not variable.is_static:
             return 0
+        if it is None:
+            leaf = dict(leaves_of(its)).get(path)
+            return NO_MOTE if leaf and leaf.kind == 'address' else 0
         for step in path:
             if it.kind == 'text':
                 return self.character(it, step)
@@ -60,7 +63,7 @@ class Functions(Control):
             at = fields.index(step) if isinstance(step, str) and step in fields else step
             named = next((one.parts[0] for one in it.parts if one.kind == 'field' and one.text == step), None)
             if named is None and (not isinstance(at, int) or at >= len(it.parts) or it.parts[at].kind == 'field'):
-                return 0
+                return NO_MOTE if dict(leaves_of(variable.type))[path].kind == 'address' else 0
             it = named if named is not None else it.parts[at] if isinstance(at, int) else it
             its = dict(its.fields)[step] if isinstance(step, str) else its.of or its
         return self.first_value(variable, it, its)
@@ -70,6 +73,8 @@ class Functions(Control):
 
     def first_value(self, variable: Variable, it: Expression, its: Type) -> int:
         value = constant_of(it, self.program.second)
+        if its.kind == 'address':
+            self.remark(variable.line, OF_ADDRESS)
         if value is None:
             raise self.refuse(variable.line, NO_STATIC % variable.name)
         return converted(number(value), its).low % 65_536 if its.is_number else value % 65_536
@@ -92,7 +97,8 @@ class Functions(Control):
         place = Place('variable', variable.type, variable)
         target = Expression('name', variable.name, line=line, variable=variable)
         if initial.kind in ('list', 'text'):
-            for path, its in leaves_of(variable.type):
+            numbers = [(path, its) for path, its in leaves_of(variable.type) if its.kind != 'pointer']
+            for path, its in numbers:
                 value = self.list_value(initial, path, variable.type)
                 one = place._replace(type=its, paths=(path,))
                 self.write(one, self.operand(value) if value else number(0), line)
@@ -149,6 +155,8 @@ class Functions(Control):
                 source = value if value.kind != 'unary' else value.parts[0]
                 self.write(self.place(target), self.address(source), it.line)
                 return True
+        if its.kind == 'struct' and value.kind == 'call':
+            raise self.refuse(it.line, OF_RESULT % value.text)
         if its.kind == 'struct':
             self.copy_parts(self.place(target), self.place(value), it.line)
             return True
@@ -178,7 +186,7 @@ class Functions(Control):
         it = place.variable
         is_own = it is not None and it.function == self.unit.function.name and not it.is_static
         if it is not None and is_own and self.unit.may_wait and self.waits_in(self.unit.function) \
-                and it not in self.fresh and self.unit.function.kind != 'function':
+                and it not in self.fresh and self.unit.function.kind != 'function' and not it.is_parameter:
             self.remark(line, LOST % it.name)
 
     def waits_in(self, function: Function) -> bool:
@@ -195,7 +203,8 @@ class Functions(Control):
         if is_value and function.result.kind == 'void':
             raise self.refuse(it.line, NO_RESULT % it.text)
         if len(it.parts) != len(function.parameters):
-            raise self.refuse(it.line, '`%s` has %d parameters.' % (it.text, len(function.parameters)))
+            count = len(function.parameters)
+            raise self.refuse(it.line, '`%s` has %d parameter%s.' % (it.text, count, 's' * (count != 1)))
         direct = self.as_expression(function, it)
         if direct is not None:
             return direct

@@ -12,6 +12,8 @@ from motesim.c_program.types import (
 )
 
 QUALIFIERS = ('static', 'const', 'volatile', 'extern', 'inline', 'register', 'auto', '__inline', 'CC_INLINE')
+OF_PARAMETERS = 'The type of the parameter `%s` is expected here, in front of its name.'
+NO_END = 'Functions aren\'t inside of others: above `%s`, a `}` is missing.'
 WORDS = ('unsigned', 'signed', 'short', 'long', 'int', 'char', 'void', 'float', 'double')
 
 
@@ -164,6 +166,8 @@ class Declarations(Expressions):
         while not self.accept(')'):
             if self.token.text == '...':
                 raise Refusal(self.token.line, 'A function has a fixed number of parameters here.')
+            if self.token.kind == 'name' and not self.is_type():
+                raise Refusal(self.token.line, OF_PARAMETERS % self.token.text)
             its, _ = self.specifiers()
             one = self.declarator(its)
             kind = pointer_to(one.type.of) if one.type.kind == 'array' and one.type.of else one.type
@@ -178,6 +182,8 @@ class Declarations(Expressions):
     def initial(self, its: Type) -> tuple[Expression, Type]:
         """The initial value of a variable, and its type: an array gets its size from this value."""
         found = self.values() if self.is_sign('{') else self.assignment()
+        if found.kind == 'list':
+            found = with_braces(found, its)
         if its.kind == 'array' and not its.size:
             size = len(found.parts) if found.kind == 'list' else len(found.text) + 1
             its = its._replace(size=size)
@@ -224,8 +230,46 @@ class Declarations(Expressions):
                 self.scopes[-1][one.name] = one.type
             elif one.parameters is None:
                 yield self.declare(one._replace(type=kind), qualifiers, initial)
+            elif self.is_sign('{'):
+                raise Refusal(self.token.line, NO_END % one.name)
+            self.next_declared()
+
+    def next_declared(self) -> None:
+        """Steps over the comma between two names that are declared."""
+        if not self.accept(','):
             if not self.is_sign(';'):
-                self.need(',')
+                self.need(';' if self.token.first else ',')
+
+
+def with_braces(it: Expression, its: Type) -> Expression:
+    """A list of values in which each inner array and structure has braces of its own, which C lets out."""
+    values, parts = [*it.parts], list[Expression]()
+    if its.kind == 'address' and values:
+        # (an address is the number in its first byte)
+        first = values[0].parts[0] if values[0].kind == 'field' else values[0]
+        return with_braces(first, its) if first.kind == 'list' else first
+    if any(one.kind == 'field' for one in values) or its.kind not in ('array', 'struct'):
+        return it
+    kinds = [field for _, field in its.fields]
+    while values:
+        kind = its.of if its.kind == 'array' else kinds[len(parts)] if len(parts) < len(kinds) else None
+        parts.append(next_value(values, kind) if kind else values.pop(0))
+    return it._replace(parts=tuple(parts))
+
+
+def next_value(values: list[Expression], its: Type) -> Expression:
+    """Removes the value of a type from the beginning of a list: several values if it is an array or a structure."""
+    first = values[0]
+    is_copy = its.kind == 'struct' and first.variable is not None and first.variable.type.kind == 'struct'
+    is_whole = first.kind in ('list', 'text') or is_copy and first.kind == 'name'
+    if its.kind not in ('array', 'struct') or is_whole:
+        one = values.pop(0)
+        return with_braces(one, its) if one.kind == 'list' else one
+    parts, line = list[Expression](), values[0].line
+    for kind in [its.of] * its.size if its.kind == 'array' else [field for _, field in its.fields]:
+        if values and kind:
+            parts.append(next_value(values, kind))
+    return Expression('list', '{', tuple(parts), line)
 
 
 def of_words(words: list[str]) -> Type:

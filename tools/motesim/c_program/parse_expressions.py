@@ -1,6 +1,7 @@
 """Reads expressions of C."""
 from __future__ import annotations
 
+import re
 from collections.abc import Sequence
 
 from motesim.c_program.constants import NotConstant, value_of
@@ -13,8 +14,22 @@ from motesim.from_c.absent import OF_READING
 ASSIGNS = ('=', '+=', '-=', '*=', '/=', '%=', '&=', '|=', '^=', '<<=', '>>=')
 LEVELS = (('||',), ('&&',), ('|',), ('^',), ('&',), ('==', '!='), ('<', '<=', '>', '>='), ('<<', '>>'), ('+', '-'),
           ('*', '/', '%'))
-ESCAPES = {'n': 10, 't': 9, 'r': 13, '0': 0, 'a': 7, 'b': 8, 'f': 12, 'v': 11}
+ESCAPES = {'n': 10, 't': 9, 'r': 13, 'a': 7, 'b': 8, 'f': 12, 'v': 11}
 LONG = Type('int', 32)
+NO_SEMICOLON = 'A `;` is missing at the end of this line.'
+OF_CHARACTER = 'This isn\'t one character: %s.'
+
+
+def character(it: Token) -> int:
+    """The number of a character in quotes."""
+    inner = it.text[1:-1]
+    if len(inner) == 1:
+        return ord(inner)
+    found = re.fullmatch(r'\\(?:x([0-9A-Fa-f]{1,2})|([0-7]{1,3})|(.))', inner)
+    if found is None:
+        raise Refusal(it.line, OF_CHARACTER % it.text)
+    value = int(found[1], 16) if found[1] else int(found[2], 8) if found[2] else ESCAPES.get(found[3], ord(found[3]))
+    return value - 256 if 127 < value < 256 else value
 
 
 class Expressions:
@@ -45,6 +60,8 @@ class Expressions:
 
     def need(self, sign: str) -> None:
         if not self.accept(sign):
+            if sign == ';' and self.at and self.token.line > self.tokens[self.at - 1].line:
+                raise Refusal(self.tokens[self.at - 1].line, NO_SEMICOLON)
             found = '`%s`' % self.token.text if self.token.text else 'the end of the file'
             raise Refusal(self.token.line, 'A `%s` is expected here, not %s.' % (sign, found))
 
@@ -148,8 +165,10 @@ class Expressions:
         line, parts = self.step().line, list[Expression]()
         while not self.is_sign(')'):
             parts.append(self.assignment())
-            if not self.is_sign(')'):
+            if not self.is_sign(')', ';', '{', '}'):
                 self.need(',')
+            elif not self.is_sign(')'):
+                self.need(')')
         self.need(')')
         if function.parts and function.parts[0].text.endswith('_sensor'):
             raise Refusal(line, OF_READING)
@@ -163,8 +182,7 @@ class Expressions:
             return self.number(self.step())
         if it.kind == 'char':
             self.step()
-            inner = it.text[1:-1]
-            value = ESCAPES.get(inner[1], ord(inner[1])) if inner[0] == '\\' and len(inner) == 2 else ord(inner[0])
+            value = character(it)
             return Expression('number', it.text, line=it.line, number=value, type=INT, origin=it.origin)
         if it.kind == 'text':
             texts = [self.step().text[1:-1]]
@@ -198,7 +216,7 @@ class Expressions:
             raise Refusal(it.line, 'Numbers are whole here, with 16 bits: `%s` isn\'t.' % it.text) from None
         is_plain = plain.isdigit() and not is_octal
         its = UNSIGNED if 'u' in suffix or 32767 < value <= 65535 and not is_plain else INT
-        if value > (65535 if its == UNSIGNED else 32767) or 'l' in suffix and value > 65535:
+        if value > (65535 if its == UNSIGNED else 32767) or 'l' in suffix:
             its = LONG
         return Expression('number', it.text, line=it.line, number=value, type=its, origin=it.origin)
 

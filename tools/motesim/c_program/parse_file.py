@@ -4,7 +4,7 @@ from __future__ import annotations
 from collections.abc import Sequence
 
 from motesim.c_program.constants import constant_of
-from motesim.c_program.parse_declarations import Declarations, Declared
+from motesim.c_program.parse_declarations import NO_END, Declarations, Declared
 from motesim.c_program.parse_expressions import Expressions
 from motesim.c_program.preprocess import Preprocessor
 from motesim.c_program.refusal import Refusal
@@ -16,6 +16,10 @@ from motesim.c_program.types import DATA, EVENT, VOID, Type, pointer_to
 STATEMENTS = ('PROCESS_BEGIN', 'PROCESS_END', 'PT_BEGIN', 'PT_END', 'PROCESS_YIELD', 'PROCESS_WAIT_EVENT',
               'PROCESS_PAUSE', 'PROCESS_EXIT', 'PROCESS_WAIT_EVENT_UNTIL', 'PROCESS_WAIT_UNTIL')
 HANDLERS = {'PROCESS_POLLHANDLER': 'onpoll', 'PROCESS_EXITHANDLER': 'onexit'}
+OUTSIDE = 'This line is outside of all functions: above it, a `}` is too much, or a `{` is missing.'
+NO_BRACE = 'This `{` has no `}`, or another `{` in its block has none.'
+NO_IF = 'There is no `if` for this `else`: in front of it, there is one statement, or a block in `{ .. }`.'
+NO_STATEMENT = '`%s` is no statement of C that has a block: in front of a `{` there is, for example, an `if`.'
 NO_GOTO = 'There is no `goto`, and no labels: use a `while` with a flag, or an `if`.'
 
 
@@ -48,7 +52,9 @@ class FileReader(Declarations):
             return
         self.at = at
         if self.ahead(1).text == '(' and it.kind == 'name' and not self.is_type():
-            raise Refusal(it.line, 'motesim has no `%s`.' % it.text)
+            raise Refusal(it.line, OUTSIDE if it.text in (*STATEMENTS, *KEYWORDS) else 'motesim has no `%s`.' % it.text)
+        if it.text == '}':
+            raise Refusal(it.line, OUTSIDE)
         self.declaration(comments)
 
     def of_processes(self) -> None:
@@ -83,8 +89,7 @@ class FileReader(Declarations):
                 self.scopes[-1][one.name] = one.type
             elif one.parameters is None and not (one.type.kind == 'process' or 'extern' in qualifiers):
                 self.file.variables.append(self.declare(one._replace(type=kind), qualifiers, initial))
-            if not self.is_sign(';'):
-                self.need(',')
+            self.next_declared()
 
     def define(self, one: Declared, comments: tuple[str, ...]) -> None:
         """A function with its body."""
@@ -135,12 +140,13 @@ class FileReader(Declarations):
 
     def block(self) -> tuple[Statement, ...]:
         """The statements between braces."""
+        line = self.token.line
         self.need('{')
         self.scopes.append({})
         found = list[Statement]()
         while not self.is_sign('}'):
             if self.token.kind == 'end':
-                self.need('}')
+                raise Refusal(line, NO_BRACE)
             found += self.statement()
         last = self.step()
         if last.comments:
@@ -162,12 +168,18 @@ class FileReader(Declarations):
             return [found._replace(line=it.line, comments=it.comments)]
         if it.text in HANDLERS:
             return [self.handler(HANDLERS[it.text])]
+        if it.text == 'else':
+            raise Refusal(it.line, NO_IF)
+        if it.text in ('PROCESS_THREAD', 'PT_THREAD', 'AUTOSTART_PROCESSES'):
+            raise Refusal(it.line, NO_END % it.text)
         if it.text == 'goto' or it.kind == 'name' and self.ahead(1).text == ':' and it.text != 'default':
             raise Refusal(it.line, NO_GOTO)
         if self.is_type() or it.text == 'typedef':
             found_all = [Statement('declare', it.line, (), (), (), (), one) for one in self.declared_variables()]
             return [one._replace(comments=it.comments if not at else ()) for at, one in enumerate(found_all)]
         value = self.expression()
+        if value.kind == 'call' and self.is_sign('{'):
+            raise Refusal(it.line, NO_STATEMENT % value.text)
         if value.text not in STATEMENTS or value.kind not in ('call', 'name') or self.is_sign(';'):
             self.need(';')
         return [Statement('expression', it.line, it.comments, (value,))]

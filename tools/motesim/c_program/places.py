@@ -20,7 +20,15 @@ OF_PACKET = ('A packet is one number of 16 bits, so it has one value or two fiel
              'fit. Send a packet for each value.')
 NO_PACKET = 'The packet is known only in the function that is called for packets: keep its value in a variable.'
 OF_ADDRESS = 'An address is one number: the motes are numbered from 0, in the order of the scenario.'
-OF_NULL = 'The address that no mote has is 255 here.'
+NO_MOTE = 255
+OF_NULL = 'The address that no mote has is %d here.' % NO_MOTE
+OF_CAST = ('`%s` is read with another type than it has: calculate the value instead, as by `x & 0xff`, `x >> 8`, or '
+           '`low | (high << 8)`.')
+OF_CHARACTER = ('Whether a `char` may be below 0 depends on the compiler of C: it is one of -128 to 127 here. `int8_t` '
+                'and `uint8_t` are the same with all compilers.')
+OF_RESULT = ('A function has a number as its result here, not a pointer or a structure: let `%s` return the index of '
+             'a member, and -1 for none.')
+OF_CHANGE = 'There are no pointers that change here: use an index, such as `%s[i]`.'
 TEXTS = 'There are no texts here: a program prints numbers.'
 OF_DATA = ('The event has the value of the variable at the time of the `process_post`, also if the variable changes '
            'before the event arrives.')
@@ -124,7 +132,11 @@ class Places(Base):
             raise self.refuse(it.line, NO_POINTER % (it.text or 'this'))
         place = pointer.place
         if place.type.kind == 'array' and not is_array and place.type.of:
-            return place._replace(type=place.type.of, paths=tuple((*path, 0) for path in place.paths))
+            place = place._replace(type=place.type.of, paths=tuple((*path, 0) for path in place.paths))
+        own = place.type.of if place.type.kind == 'array' and place.type.of else place.type
+        if its.kind == own.kind == 'int' and (its.bits, its.signed) != (own.bits, own.signed):
+            name = place.variable.name if place.variable else 'x'
+            raise self.refuse(it.line, OF_CAST % name)
         return place
 
     # Pointers.
@@ -149,12 +161,18 @@ class Places(Base):
             return Pointer('sender')
         if it.kind == 'name':
             return self.named_pointer(it)
+        if it.text in ('++', '--'):
+            raise self.refuse(it.line, OF_CHANGE % (it.parts[0].text or 'p'))
+        if it.kind == 'call' and it.text in self.file.functions:
+            raise self.refuse(it.line, OF_RESULT % it.text)
         its = self.type_of(it)
         if its.kind == 'array':
             return Pointer('place', self.place(it))
         if it.kind == 'binary' and it.text == '+':
             return Pointer('place', self.member(Expression('index', '[', it.parts, it.line)))
-        raise self.refuse(it.line, NO_POINTER % (it.text or 'this'))
+        if it.kind == 'choice' and all(self.pointer(one).kind == 'text' for one in it.parts[1:]):
+            return Pointer('text')
+        raise self.refuse(it.line, NO_POINTER % (it.text if it.kind == 'call' else 'this'))
 
     def named_pointer(self, it: Expression) -> Pointer:
         """The target of a pointer with a name."""
@@ -181,6 +199,8 @@ class Places(Base):
         """The pointer to what an expression names."""
         if it.kind == 'name' and it.variable is None:
             return self.named_pointer(it)
+        if it.kind not in ('name', 'index', 'member', 'arrow', 'unary', 'cast'):
+            raise self.refuse(it.line, 'Behind the sign `&` for an address, there is a variable.')
         its = self.type_of(it)
         kind = {'process': 'process', 'etimer': 'timer', 'ctimer': 'timer', 'timer': 'timer', 'stimer': 'timer',
                 'rtimer': 'timer', 'connection': 'connection', 'callbacks': 'connection', 'pt': 'connection',
@@ -198,7 +218,7 @@ class Places(Base):
     def own_address(self, it: Expression) -> Value:
         if it.text.endswith('_null'):
             self.remark(it.line, OF_NULL)
-            return number(255, ADDRESS)
+            return number(NO_MOTE, ADDRESS)
         return Value('self', ADDRESS, 0, 65_535)
 
     def address(self, it: Expression) -> Value:
@@ -314,6 +334,8 @@ class Places(Base):
         if place.source != 'variable':
             raise self.refuse(line, 'A packet that has arrived can\'t be changed: use a variable.')
         self.note_written(place)
+        if place.type.name == 'char' and (value.low < 0 or value.high > 127):
+            self.remark(line, OF_CHARACTER)
         if place.chosen is None:
             self.assign(self.leaf(place, place.paths[0], line), value, place.type)
             return

@@ -23,7 +23,8 @@ class Preprocessor:
     def __init__(self, text: str, evaluate: Callable[[Sequence[Token]], int]):
         self.tokens, self.evaluate = tokens_of(text), evaluate
         self.macros: dict[str, Macro] = {}
-        # For each `#if` around: whether its lines are read, and whether one of its branches was.
+        # For each `#if` around: whether its lines are read, and whether one of its branches was; and its line.
+        self.opened: list[int] = []
         self.branches: list[tuple[bool, bool]] = []
         self.found: list[Token] = []
 
@@ -41,6 +42,8 @@ class Preprocessor:
                 plain.append(self.tokens[at])
             at += 1
         self.flush(plain)
+        if self.branches:
+            raise Refusal(self.opened[-1], 'This `#if` has no `#endif`.')
         return [*self.found, self.tokens[-1]]
 
     def flush(self, plain: list[Token]) -> None:
@@ -61,11 +64,14 @@ class Preprocessor:
         if word in ('if', 'ifdef', 'ifndef'):
             is_true = self.is_read() and self.test(word, rest, number)
             self.branches.append((is_true, is_true))
+            self.opened.append(number)
         elif word in ('elif', 'else', 'endif'):
             if not self.branches:
                 raise Refusal(number, 'There is no `#if` for this `#%s`.' % word)
             _, was = self.branches.pop()
-            if word != 'endif':
+            if word == 'endif':
+                self.opened.pop()
+            else:
                 is_true = not was and self.is_read() and (word == 'else' or self.test('if', rest, number))
                 self.branches.append((is_true, was or is_true))
         elif not self.is_read():
@@ -107,7 +113,12 @@ class Preprocessor:
             return
         end = next((at for at, it in enumerate(rest) if it.text == ')'), 0)
         parameters = tuple('__VA_ARGS__' if it.text == '...' else it.text for it in rest[1:end] if it.text != ',')
-        self.macros[name] = Macro(parameters, tuple(rest[end + 1:]))
+        body = rest[end + 1:]
+        if end > 2 and rest[end - 1].text == '...' and rest[end - 2].kind == 'name':
+            # (GCC lets the further arguments have a name)
+            own, parameters = rest[end - 2].text, (*parameters[:-2], '__VA_ARGS__')
+            body = [it._replace(text='__VA_ARGS__') if it.text == own else it for it in body]
+        self.macros[name] = Macro(parameters, tuple(body))
 
     def expanded(self, tokens: Sequence[Token], hidden: frozenset[str]) -> list[Token]:
         """Tokens with all macros expanded, except those that are hidden because they are being expanded."""
@@ -136,31 +147,39 @@ class Preprocessor:
                     ) -> list[Token]:
         """The tokens of a macro with its arguments."""
         names = macro.parameters or ()
-        if len(arguments) > len(names) and names and names[-1] == '__VA_ARGS__':
-            rest = [part for it in arguments[len(names) - 1:] for part in (use._replace(kind='sign', text=','), *it)]
-            arguments = [*arguments[:len(names) - 1], rest[1:]]
         values = dict(zip(names, arguments))
+        if names and names[-1] == '__VA_ARGS__':
+            rest = [part for it in arguments[len(names) - 1:] for part in (use._replace(kind='sign', text=','), *it)]
+            values['__VA_ARGS__'] = rest[1:]
         found, at = list[Token](), 0
         while at < len(macro.tokens):
             it = macro.tokens[at]._replace(line=use.line, comments=(), first=False)
+            following = macro.tokens[at + 1] if at + 1 < len(macro.tokens) else it
             at += 1
-            if it.text == '##' and found and at < len(macro.tokens):
-                following = macro.tokens[at]
-                pasted = values.get(following.text, [following])
+            if it.text == '##' and at < len(macro.tokens):
                 at += 1
-                if it.kind == 'sign' and not pasted:
-                    continue
-                found[-1] = found[-1]._replace(text=found[-1].text + pasted[0].text)
-                found += pasted[1:]
-            elif it.text == '#' and at < len(macro.tokens) and macro.tokens[at].text in values:
-                text = ' '.join(part.text for part in values[macro.tokens[at].text])
+                self.paste(found, values.get(following.text, [following]), following.text == '__VA_ARGS__')
+            elif it.text == '#' and following.text in values:
+                text = ' '.join(part.text for part in values[following.text])
                 found.append(it._replace(kind='text', text='"%s"' % text.replace('"', '')))
                 at += 1
             elif it.kind == 'name' and it.text in values:
-                found += [part._replace(line=use.line) for part in self.expanded(values[it.text], hidden)]
+                own = values[it.text]
+                its = own if following.text == '##' else self.expanded(own, hidden)
+                found += [part._replace(line=use.line) for part in its] or [it._replace(kind='', text='')]
             else:
                 found.append(it)
-        return found
+        return [it for it in found if it.kind]
+
+    def paste(self, found: list[Token], behind: list[Token], is_rest: bool) -> None:
+        """Joins the last token with those behind a `##`. A comma is left out if no further arguments follow it."""
+        if is_rest and found and found[-1].text == ',':
+            found[-1:] = [found[-1], *behind] if behind else []
+        elif behind and found:
+            joined = tokens_of(found[-1].text + behind[0].text)[0]
+            found[-1:] = [found[-1]._replace(kind=joined.kind, text=found[-1].text + behind[0].text), *behind[1:]]
+        else:
+            found += behind
 
 
 def arguments_of(tokens: Sequence[Token], at: int, use: Token) -> tuple[list[list[Token]], int]:

@@ -2,7 +2,7 @@
 from __future__ import annotations
 
 from motesim.c_program.calls import Calls
-from motesim.c_program.places import OF_PACKET, Place
+from motesim.c_program.places import NO_MOTE, OF_PACKET, Place
 from motesim.c_program.tree import Expression, Statement
 from motesim.c_program.types import UNSIGNED, leaves_of, size_of
 from motesim.c_program.values import MOST, Value, added, as_type, multiplied, number
@@ -15,6 +15,8 @@ OF_ONE_MOTE = ('A packet goes to all motes that hear it: its upper 8 bits say fo
                'bits are its value, which is at most 255. The motes are numbered from 0.')
 OF_SENT = 'In Contiki, `%s` is called when the send has ended. Here, its statements follow the `send`.'
 TOO_LARGE = 'A packet to one mote has 8 bits for its value: this one has more.'
+OF_BYTES = 'These %d bytes aren\'t whole variables: assign the values one by one.'
+OF_TYPES = 'The values that are copied here have other sizes than those they are copied to: assign them one by one.'
 SIZES = 'The packets of this program have several sizes, and none of them is known here.'
 
 
@@ -157,7 +159,7 @@ class Radio(Calls):
         self.copy(self.first(it), Place('packet', UNSIGNED), it.line)
 
     def call_memcpy(self, it: Expression) -> None:
-        target, source, _ = self.arguments(it, 3)
+        target, source, size = self.arguments(it, 3)
         pointer = self.pointer(source)
         if pointer.kind in ('packet', 'data'):
             self.copy(target, Place(pointer.kind, UNSIGNED), it.line)
@@ -167,15 +169,44 @@ class Radio(Calls):
             raise self.refuse(it.line, 'Use `packetbuf_copyfrom` to fill a packet.')
         if pointer.place is None or to.place is None:
             raise self.refuse(it.line, 'The addresses of two variables are expected here.')
-        self.copy_parts(to.place, pointer.place, it.line)
+        parts, others = self.span(to.place, size, it.line), self.span(pointer.place, size, it.line)
+        if [size_of(one.type) for one in parts] != [size_of(one.type) for one in others]:
+            raise self.refuse(it.line, OF_TYPES)
+        for one, other in zip(parts, others):
+            self.write(one, self.read(other, it.line), it.line)
 
     def call_memset(self, it: Expression) -> None:
-        target, value, _ = self.arguments(it, 3)
-        place = self.pointer(target).place
-        if place is None or self.evaluate(value).constant != 0:
-            raise self.refuse(it.line, '`memset` sets a variable to 0 here.')
-        for path, its in leaves_of(place.type):
-            self.write(place._replace(type=its, paths=tuple((*one, *path) for one in place.paths)), number(0), it.line)
+        target, value, size = self.arguments(it, 3)
+        place, byte = self.pointer(target).place, self.evaluate(value).constant
+        if place is None or byte is None:
+            raise self.refuse(it.line, '`memset` sets a variable to a constant here.')
+        for one in self.span(place, size, it.line):
+            # (an address whose bytes are 0 is the one that no mote has)
+            whole = byte % 256 * (257 if size_of(one.type) == 2 else 1)
+            self.write(one, number(NO_MOTE if one.type.kind == 'address' and not whole else whole), it.line)
+
+    def span(self, place: Place, size: Expression, line: int) -> list[Place]:
+        """The variables and the members in some bytes from a place on."""
+        count = self.evaluate(size).constant
+        if count is None:
+            raise self.refuse(line, 'The number of the bytes is a constant here.')
+        if count == size_of(place.type):
+            return [place._replace(type=its, paths=tuple((*one, *path) for one in place.paths))
+                    for path, its in leaves_of(place.type)]
+        if place.variable is None or place.chosen is not None:
+            raise self.refuse(line, OF_BYTES % count)
+        start, found, bytes_found = place.paths[0], list[Place](), 0
+        parts = leaves_of(place.variable.type)
+        first = next(at for at, (path, _) in enumerate(parts) if path[:len(start)] == start)
+        for path, its in parts[first:]:
+            bytes_found += bytes_found % 2 if size_of(its) > 1 else 0
+            if bytes_found >= count:
+                break
+            found.append(place._replace(type=its, paths=(path,)))
+            bytes_found += size_of(its)
+        if bytes_found != count:
+            raise self.refuse(line, OF_BYTES % count)
+        return found
 
     def copy(self, target: Expression, source: Place, line: int) -> None:
         """Copies a packet or the data of an event into a variable."""

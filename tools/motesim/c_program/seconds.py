@@ -5,7 +5,7 @@ from collections.abc import Iterator
 
 from motesim.c_program.constants import constant_of
 from motesim.c_program.tree import Expression, File, Variable
-from motesim.c_program.walk import all_parts, base_of, expressions_in, parts_of
+from motesim.c_program.walk import all_parts, base_of, declared_in, expressions_in, parts_of
 
 # The moments of a second in short runs, and the ticks of a second on nodes such as the Tmote Sky.
 SECOND, TICKS = 10, 128
@@ -17,8 +17,10 @@ COMPARED = ('<', '<=', '>', '>=', '==', '!=')
 def second_of(file: File) -> int:
     """The moments of a second for the program of a file."""
     its = list(expressions_of(file))
-    has_seconds = any(map(names_second, its))
-    return TICKS if has_seconds and (any(map(is_rounded, its)) or any(map(Times(file).is_in_ticks, its))) else SECOND
+    if not any(map(names_second, its)):
+        return SECOND
+    times = Times(file)
+    return TICKS if any(is_rounded(it) or times.is_in_ticks(it) or times.is_divided(it) for it in its) else SECOND
 
 
 def expressions_of(file: File) -> Iterator[Expression]:
@@ -26,6 +28,13 @@ def expressions_of(file: File) -> Iterator[Expression]:
     yield from (it.initial for it in file.variables if it.initial)
     for one in (*file.functions.values(), *file.bodies.values()):
         yield from expressions_in(one.body)
+
+
+def variables_of(file: File) -> Iterator[Variable]:
+    """All variables of a file."""
+    yield from file.variables
+    for one in (*file.functions.values(), *file.bodies.values()):
+        yield from (it.variable for it in declared_in(one.body) if it.variable)
 
 
 def names_second(it: Expression) -> bool:
@@ -44,14 +53,26 @@ def is_rounded(it: Expression) -> bool:
 
 
 class Times:
-    """Finds times in ticks: numbers without `CLOCK_SECOND`."""
+    """Finds times in ticks: numbers without `CLOCK_SECOND`; and variables with a number of seconds that are divided."""
 
     def __init__(self, file: File):
         self.ticks: set[Variable] = set()
+        # (a time from `clock_time()` is no number of seconds)
+        self.seconds = {it for it in variables_of(file) if it.initial and names_second(it.initial)}
         for one in (*file.functions.values(), *file.bodies.values()):
             for it in all_parts(one.body):
                 if it.kind == 'assign' and it.text == '=' and is_number(it.parts[1]):
                     self.ticks.update(filter(None, [base_of(it.parts[0])]))
+                if it.kind == 'assign' and it.text == '=' and names_second(it.parts[1]) \
+                        and not any(part.kind == 'call' for part in parts_of(it)):
+                    self.seconds.update(filter(None, [base_of(it.parts[0])]))
+
+    def is_divided(self, it: Expression) -> bool:
+        """Returns whether a variable with a number of seconds is divided by something else than a second."""
+        return any(part.kind in ('binary', 'assign') and part.text in ('/', '>>', '/=', '>>=')
+                   and not names_second(part.parts[1]) and any(
+                       one.kind == 'name' and one.variable in self.seconds for one in parts_of(part.parts[0]))
+                   for part in parts_of(it))
 
     def is_in_ticks(self, it: Expression) -> bool:
         """Returns whether a part of an expression sets a timer to a time in ticks, or compares the time with one."""

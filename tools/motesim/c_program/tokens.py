@@ -42,7 +42,9 @@ def tokens_of(text: str) -> list[Token]:
         it = TOKEN.match(text, at)
         kind = it.lastgroup if it else None
         if it is None or kind is None or it[0] in '"\'\\' and kind == 'sign':
-            raise Refusal(line, 'This text isn\'t C: a quote or a sign is wrong.')
+            quote = it[0] if it and it[0] in '"\'' else ''
+            raise Refusal(line, 'A text has no end in this line: a `%s` is missing.' % quote if quote else
+                          'This text isn\'t C: a sign is wrong.')
         if kind == 'newline':
             first = True
         elif kind == 'comment':

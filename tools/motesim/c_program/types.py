@@ -47,6 +47,8 @@ BYTE, SIGNED_BYTE = Type('int', 8, False), Type('int', 8)
 VOID, REAL, BOOL = Type('void'), Type('real'), Type('bool', 8, False)
 EVENT, DATA, ADDRESS = Type('event', 8, False), Type('data'), Type('address', 16, False)
 CHARACTER = Type('int', 8, True, name='char')
+# (a time has 32 bits in Contiki since 2.6)
+CLOCK = Type('int', 16, False, name='clock_time_t')
 
 # The names of types that need no declaration.
 NAMED = {
@@ -54,7 +56,7 @@ NAMED = {
     'int32_t': Type('int', 32), 'uint32_t': Type('int', 32, False), 'u32_t': Type('int', 32, False),
     'int64_t': Type('int', 64), 'uint64_t': Type('int', 64, False), 'bool': BOOL, '_Bool': BOOL, 'size_t': UNSIGNED,
     'uint_fast8_t': UNSIGNED, 'uint_least8_t': BYTE, 'uintptr_t': UNSIGNED, 'intptr_t': INT,
-    'clock_time_t': UNSIGNED, 'rtimer_clock_t': UNSIGNED, 'process_event_t': EVENT, 'process_data_t': DATA,
+    'clock_time_t': CLOCK, 'rtimer_clock_t': UNSIGNED, 'process_event_t': EVENT, 'process_data_t': DATA,
     'rimeaddr_t': ADDRESS, 'linkaddr_t': ADDRESS, 'uip_ipaddr_t': ADDRESS, 'radio_value_t': INT,
     'packetbuf_attr_t': UNSIGNED, 'leds_num_t': BYTE, 'leds_mask_t': BYTE,
 }
