@@ -876,8 +876,12 @@ program = "flood.mote"
             with contextlib.redirect_stderr(shown):
                 progress = Progress()
                 progress.every = 0
-                progress.show_shrinking('small_1.toml', 2, 1234)
-            self.assertEqual(shown.getvalue(), 'small_1.toml: 2 steps, 1,234 runs\n')
+                for bounds in Bounds(), Bounds(runs=5000), Bounds(runs=5000, seconds=60.0):
+                    allowance = Allowance(Search(Known([], 0), bounds, Kept()), Break())
+                    allowance.runs = 1000
+                    progress.show_shrinking('small_1.toml', 2, 1234, allowance.limit())
+            self.assertEqual(shown.getvalue().splitlines(), ['small_1.toml: 2 steps, 1,234 runs (%s)' % it for it in (
+                'no limit: --most-runs sets one', 'at most 4,000 runs', 'at most 4,000 runs and 60 seconds')])
 
     def test_sample_is_called_one(self) -> None:
         with folder_with() as folder:

@@ -20,8 +20,9 @@ from motesim.judge.sentences import Names, motes_named, names_of, read_sentence
 from motesim.report.report import Report
 from motesim.runner.run import answer, program_path
 from motesim.scenario.scenario import Scenario
-from motesim.search.faults import FaultyPart
+from motesim.search.faults import EFFECTS, FaultyPart
 from motesim.search.following import follow
+from motesim.search.forms import FORMS, form_of
 from motesim.search.found import Found
 from motesim.search.net import loss_steps, mote_steps, net_of, number_steps, parts, program_steps
 from motesim.search.one_program import Limits, OneProgram
@@ -323,14 +324,23 @@ class Shrinks(unittest.TestCase):
             # (the file of an earlier result remains)
             self.assertTrue(small.exists())
 
+    def test_help_and_page_list_the_forms_of_a_fault(self) -> None:
+        page = (TOOLS.parent / 'docs/use/SEARCH.md').read_text().replace('`', '')
+        self.assertEqual({*FORMS, 'parameter'}, {*EFFECTS})
+        for tool in 'search', 'shrink':
+            done = subprocess.run([sys.executable, '-B', str(TOOLS / tool), '--help'], capture_output=True, text=True)
+            for name, (_, words) in FORMS.items():
+                self.assertRegex(done.stdout, '\n  %s +%s\n' % (form_of(name), words))
+                self.assertIn('\n| %s | %s |\n' % (form_of(name), words), page)
+
     def test_the_progress_is_shown_if_standard_error_is_a_file(self) -> None:
         with folder_with() as folder:
             source = SOURCE % 'from motesim.search import progress\nprogress.ELSEWHERE = 0\n'
             done = subprocess.run([sys.executable, '-B', '-c', source, 'diamond.toml', REACHED, '--fault', 'silent 0'],
                                   cwd=folder, capture_output=True, text=True)
             self.assertEqual(done.returncode, 0, done.stderr)
-            self.assertRegex(done.stderr, r'^diamond.small.toml: 0 steps, 2 runs\n')
-            self.assertRegex(done.stderr, r'\ndiamond.small.toml: [1-9]\d* steps, \d+ runs\n$')
+            self.assertRegex(done.stderr, r'^diamond.small.toml: 0 steps, 2 runs \(no limit: --most-runs sets one\)\n')
+            self.assertRegex(done.stderr, r'\ndiamond.small.toml: [1-9]\d* steps, \d+ runs \(no limit.*\)\n$')
 
     def interrupted(self, folder: Path, source: str, *words: str) -> tuple[int, str, str, float]:
         """Sends Ctrl-C as soon as the command prints `now`; the status, the output, and the seconds to its end."""

@@ -32,6 +32,7 @@ import argparse
 import os
 
 from motesim.faults import command
+from motesim.search.forms import with_forms
 from motesim.words import words_of
 
 # The limits of a run: those of motesim.search.one_program.
@@ -39,7 +40,7 @@ SECONDS, BYTES = 10.0, 16_000_000
 
 
 def arguments() -> argparse.ArgumentParser:
-    words = words_of(__doc__)
+    words = words_of(with_forms(__doc__))
     words.add_argument('scenario', nargs='?', metavar='SCENARIO', help='a scenario, NAME.toml, or a plan')
     words.add_argument('expectations', nargs='?', metavar='EXPECTATIONS',
                        help='the sentences (NAME.expect.toml next to the scenario)')

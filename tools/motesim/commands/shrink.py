@@ -28,6 +28,7 @@ import signal
 from types import FrameType
 
 from motesim.faults import INTERRUPTED, command
+from motesim.search.forms import with_forms
 from motesim.words import words_of
 
 # The limit of a run: that of motesim.search.one_program.
@@ -42,7 +43,7 @@ def end_at_once(number: int, frame: FrameType | None) -> None:
 
 @command('shrink')
 def main() -> int:
-    words = words_of(__doc__)
+    words = words_of(with_forms(__doc__))
     words.add_argument('scenario', metavar='SCENARIO', help='a scenario, NAME.toml')
     words.add_argument('expectation', nargs='?', metavar='EXPECTATION',
                        help='a sentence of tools/expect, or a file of sentences')
@@ -50,8 +51,8 @@ def main() -> int:
     words.add_argument('--keep', action='append', default=[], metavar='SENTENCE',
                        help='a sentence that has to hold after each step')
     words.add_argument('--fault', action='append', default=[], metavar='FAULT',
-                       help='add this fault to the scenario, such as `lose 0 1 1`; the expectation has to hold '
-                            'without the fault, and to be broken with it')
+                       help='add this fault to the scenario, such as `lose 0 1 1` (the forms are above); the '
+                            'expectation has to hold without the fault, and to be broken with it')
     words.add_argument('--keep-programs', action='store_true',
                        help='change no program; only remove motes, losses, and programs that no mote runs, and make '
                             'numbers outside the programs smaller')

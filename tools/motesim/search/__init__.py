@@ -5,6 +5,7 @@
     search.py          the search itself: what it covered, and what it found
     sets.py            sets of faults, the smaller ones first, without sets that are decided already
     faults.py          the faults of each kind that a scenario can have
+    forms.py           the forms of a fault, as in the option --fault of tools/shrink
     change.py          the changes that faults make to a scenario, and the changed text
     added.py           the process that makes a mote fail, or start late
     prepare.py         the checks before a search

@@ -13,6 +13,7 @@ from motesim.faults import Fault
 from motesim.plan.tables import Value, text_of_value
 from motesim.search.added import DIES, LATE
 from motesim.search.change import Base, CannotChange, Change
+from motesim.search.forms import FORMS, form_of
 
 # For each kind, its names in the help and in the lines about the coverage: in the singular, and in the plural.
 KINDS: dict[str, tuple[str, str]] = {
@@ -110,19 +111,12 @@ def put_into(change: Change, base: Base, effects: Iterable[Effect]) -> None:
         EFFECTS[str(effect[0])](change, base, *effect[1:])
 
 
-# For each effect, the words that follow its first one.
-PARTS_OF = {'lose': 'SENDER RECEIVER EVERY', 'apart': 'MOTE MOTE', 'silent': 'MOTE', 'fails': 'MOTE MOMENT',
-            'late': 'MOTE MOMENT', 'collide': '', 'queue': 'PROGRAM LENGTH', 'number': 'NAME NUMBER',
-            'move': 'MOTE X Y'}
-
-
 def effect_of(words: str, motes: int) -> Effect:
     """The effect that words such as `lose 0 1 1` denote."""
     name, *rest = words.split() or ['']
-    wanted = PARTS_OF.get(name)
-    if wanted is None:
-        raise Fault('there is no fault `%s`; allowed are: %s' % (words, ', '.join(
-            ' '.join([it, parts]).strip() for it, parts in PARTS_OF.items())))
+    if name not in FORMS:
+        raise Fault('there is no fault `%s`; allowed are: %s' % (words, ', '.join(map(form_of, FORMS))))
+    wanted = FORMS[name][0]
     found: list[str | int] = [name]
     for part, word in zip(wanted.split(), rest):
         is_number = word.lstrip('-').isdecimal()

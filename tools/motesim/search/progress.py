@@ -56,8 +56,9 @@ class Progress:
             write_over('%.1f seconds, %d runs per second\n' % (
                 search.seconds, search.runs / max(search.seconds, 0.001)))
 
-    def show_shrinking(self, name: str, steps: int, runs: int) -> None:
-        """The progress of making a counter-example small: the steps that were taken, and the runs that were made."""
+    def show_shrinking(self, name: str, steps: int, runs: int, limit: str) -> None:
+        """The progress of making a counter-example small: the steps that were taken, and the runs that were made, with
+        their limit in words."""
         now = time.monotonic()
         if now - self.last < self.every:
             return
@@ -65,7 +66,7 @@ class Progress:
         if self.as_json:
             print(json.dumps({'small': name, 'steps': steps, 'runs': runs}), file=sys.stderr, flush=True)
             return
-        text = '%s: %s steps, %s runs' % (name, '{:,}'.format(steps), '{:,}'.format(runs))
+        text = '%s: %s steps, %s runs (%s)' % (name, '{:,}'.format(steps), '{:,}'.format(runs), limit)
         write_over(text) if self.is_terminal else print(text, file=sys.stderr, flush=True)
 
     def end_shrinking(self) -> None:

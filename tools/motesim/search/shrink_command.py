@@ -88,6 +88,13 @@ def why_over(is_stopped: bool, seconds: tuple[float, float | None], runs: tuple[
     return ''
 
 
+def limit_in_words(seconds: float | None, runs: int | None) -> str:
+    """The limits of making a scenario small, for a line about its progress."""
+    limits = [] if runs is None else ['{:,} runs'.format(runs)]
+    limits += [] if seconds is None else ['%g seconds' % seconds]
+    return 'at most %s' % ' and '.join(limits) if limits else 'no limit: --most-runs sets one'
+
+
 class BreakOfRun(Break):
     """Handles Ctrl-C as `Break` does, and also ends the present run."""
 
@@ -117,7 +124,8 @@ class Work:
 
     def is_over(self, shrinking: Shrinking) -> bool:
         """Shows the progress; returns whether the next step can't be tried."""
-        self.progress.show_shrinking(self.output.name, len(shrinking.taken), shrinking.runs)
+        limit = limit_in_words(self.asked.most_seconds, self.asked.most_runs)
+        self.progress.show_shrinking(self.output.name, len(shrinking.taken), shrinking.runs, limit)
         return bool(self.why_over(shrinking.runs + runs_of(shrinking.case)))
 
     def need_runs(self, ran: int, why: str) -> None:

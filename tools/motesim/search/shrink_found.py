@@ -12,7 +12,7 @@ from motesim.search.one_program import OneProgram
 from motesim.search.progress import Progress
 from motesim.search.search import Search
 from motesim.search.shrink import Case, Shrinking, case_of
-from motesim.search.shrink_command import runs_of, sizes, why_over, write_result
+from motesim.search.shrink_command import limit_in_words, runs_of, sizes, why_over, write_result
 
 
 class Allowance:
@@ -28,9 +28,14 @@ class Allowance:
         return why_over(self.stop.is_asked, (search.seconds, bounds.seconds), (search.given + self.runs + runs,
                                                                                bounds.runs))
 
+    def limit(self) -> str:
+        """The limits of the counter-example that is made small now, in words: the runs before it don't count."""
+        bounds, before = self.search.bounds, self.search.given + self.runs
+        return limit_in_words(bounds.seconds, None if bounds.runs is None else bounds.runs - before)
+
     def is_over(self, shrinking: Shrinking, progress: Progress, name: str) -> bool:
         """Shows the progress; returns whether the next step can't be tried."""
-        progress.show_shrinking(name, len(shrinking.taken), shrinking.runs)
+        progress.show_shrinking(name, len(shrinking.taken), shrinking.runs, self.limit())
         return bool(self.why_over(shrinking.runs + runs_of(shrinking.case)))
 
 
