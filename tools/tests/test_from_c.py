@@ -497,6 +497,24 @@ class BelowTheProcesses(unittest.TestCase):
             thread = words + '(work(struct pt *pt))\n{\n  PT_BEGIN(pt);\n  PT_YIELD(pt);\n  PT_END(pt);\n}'
             self.assertEqual(self.corrected(thread), ('', (11, 'thread work { yield; }')))
 
+    def test_a_protothread_with_a_variable_belongs_below_a_timer_that_is_there(self) -> None:
+        lines = ['process a;', 'autostart a;', 'static PT_THREAD(work(struct pt *pt))', '{', '  static int k;',
+                 '  PT_BEGIN(pt);', '  for(k = 0; k < 5; k++) {', '    PT_YIELD(pt);', '    m++;', '  }',
+                 '  PT_END(pt);', '}', 'code a {', '  var m = 0;', '  ctimer c { print 1; }', '  body {',
+                 '    spawn work;', '  }', '}']
+        source = '\n'.join(lines)
+        fault = find_fault(source)
+        assert fault
+        found = correction(source, fault)
+        assert found
+        self.assertEqual(found.above, (14, 'var k = 0;'))
+        self.assertIsNone(find_fault(found.applied(source)))
+        its = advice(source, fault)
+        assert its
+        self.assertEqual(its.shown(source, 0)[:3], ['Insert below line 15:', '    thread work {', '      k = 0;'])
+        self.assertEqual(its.shown(source, 0)[-3:], [
+            'insert below line 14:', '    var k = 0;', 'and leave lines 3 to 12 out.'])
+
 
 class OtherWords(unittest.TestCase):
     """Words of other languages, for which the line or the hint says what the author meant."""

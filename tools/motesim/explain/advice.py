@@ -115,8 +115,10 @@ def _edited(source: str, edit: Edit, offset: int | None) -> list[str]:
     # (if the next line closes a block, the inserted line is the last one in this block)
     rows = source.split('\n')
     below = next((it for it in range(edit.first, len(rows)) if rows[it - 1].strip()), edit.first)
-    return ['and insert below %s:' % _which(edit.last, edit.last, offset),
-            '  ' * rows[below - 1].lstrip().startswith('}') + _indented(source, below, edit.line)]
+    place = 'and insert below %s:' % _which(edit.last, edit.last, offset)
+    if edit.line.startswith('thread '):
+        return [place, *_all_indented(source, below, in_lines(edit.line))]
+    return [place, '  ' * rows[below - 1].lstrip().startswith('}') + _indented(source, below, edit.line)]
 
 
 def _all_indented(source: str, number: int, lines: str) -> list[str]:

@@ -5,7 +5,7 @@ A correction is shown only if it helps: with it the text has no fault, or its fi
 from __future__ import annotations
 
 import re
-from collections.abc import Iterator
+from collections.abc import Collection, Iterator
 from dataclasses import replace
 from typing import NamedTuple
 
@@ -30,6 +30,8 @@ from motesim.notation.faults import ProgramError, find_fault, tokens_of
 
 MOST_LINES = 6
 INCLUDES = re.compile(r'[ \t]*#[ \t]*include\b')
+# A timer of a code, at the beginning of its line.
+TIMER = re.compile(r'^[ \t]*[ec]timer\b', re.M)
 OF_COMMENT = 'A comment begins with `//` and ends with its line, so each line of a long one needs its own `//`.'
 STEPS_TWICE = ('The block has `%s` already, and the `for` adds the same step once more: if you have written it for the '
                '`for`, leave one of both out.')
@@ -218,8 +220,9 @@ def _is_only_named(text: str, fault: ProgramError) -> bool:
     return fault.kind == 3 and at is not None and tokens[at + 1].text not in ('(', '[', '=')
 
 
-def _insertions(text: str, source: str, reader: Statements) -> list[tuple[int, str] | None]:
-    """The lines that may be inserted with a reading of some lines, the best one first."""
+def _insertions(text: str, source: str, reader: Statements, apart: Collection[str]) -> list[tuple[int, str] | None]:
+    """The lines that may be inserted with a reading of some lines, the best one first. `apart`: declarations that are
+    inserted elsewhere."""
     if reader.moved:
         head = head_for(text, 'thread ' + reader.moved)
         # (an empty line would end the lines that a message shows)
@@ -234,8 +237,23 @@ def _insertions(text: str, source: str, reader: Statements) -> list[tuple[int, s
     named = 'var %s' % reader.user if reader.user else reader.declares[0]
     head = head_for(text, named, code) if is_top or is_lower else reader.place.head
     between = '\n' if any('//' in it for it in reader.declares) else ' '
-    declared = head, between.join(sorted(reader.declares, key=lambda it: ORDER.index(it.split()[0])))
+    upper = [it for it in reader.declares if it not in apart]
+    declared = head, between.join(sorted(upper, key=lambda it: ORDER.index(it.split()[0])))
     return [declared, None] if is_top and head else [None if is_top else declared]
+
+
+def _below_timers(text: str, reader: Statements) -> dict[str, int]:
+    """The threads that belong below timers that the code has already, if the same lines declare a variable, too, which
+    belongs above the timers; each with the line (from 1) below which it is inserted."""
+    if reader.moved or reader.events or not any(it.startswith('var') for it in reader.declares):
+        return {}
+    upper = next(it for it in reader.declares if it.startswith('var'))
+    head, found = head_for(text, upper, reader.place.code), {}
+    for it in reader.declares:
+        line = head_for(text, it, reader.place.code) if it.startswith('thread') else 0
+        if 0 < head < line and TIMER.search('\n'.join(text.split('\n')[head:line])):
+            found[it] = line
+    return found
 
 
 def correction(text: str, fault: ProgramError) -> Correction | None:
@@ -300,8 +318,10 @@ def _correction(text: str, fault: ProgramError) -> Correction | None:
             reasons = reasons_with(bool(seed) or MIXED in text, reader.writer.shown())
             heads = [reader.head_of_loop] if reader.head_of_loop else []
             below = with_renamed(text, renamed, (*seed, *recounted(text, reader.counts), *heads, *below))
-            made = Correction(first, last, written, reasons, below=below)
-            for above in _insertions(text, source, reader):
+            apart = _below_timers(text, reader)
+            threads = tuple(Edit(line + 1, line, it) for it, line in apart.items())
+            made = Correction(first, last, written, reasons, below=(*below, *threads))
+            for above in _insertions(text, source, reader, apart):
                 made = made._replace(above=above)
                 found.append((0 if _same(source, written) else _rank(text, made), made))
         best = max(found, key=lambda it: it[0], default=None)
