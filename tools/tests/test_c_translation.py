@@ -39,6 +39,8 @@ VALUES = (
      '65495 48'),
     ('int8_t s = -128; int i, n = -20; for(i = 0; i < 3; i++) printf("%d", s >> i); n >>= i; printf("%d", n);',
      '65408 65472 65504 65533'),
+    ('int v[3] = {4, 9, 2}, i, best = -1; for(i = 0; i < 3; i++) if(best == -1 || v[i] > v[best]) best = i;'
+     ' printf("%d %d", best, v[best]);', '1 9'),
     ('const char *names[] = {"off", "on"}; int i = 1; printf("%s %d %s", names[i], i, i ? "yes" : "no");', '1'),
     ('int x = -7; printf("%d %d %d", x / -2, 7 / -2, 7 % -4);', '3 65533 3'),
     ("char c = '\\x41'; printf(\"%d %d %d %d\", c, '\\012', '\\0', '\\'');", '65 10 0 39'),

@@ -29,6 +29,8 @@ class Program:
     semaphores: dict[Variable, str] = field(default_factory=dict)
     counts: dict[Variable, int] = field(default_factory=dict)
     remarks: dict[str, tuple[int, str]] = field(default_factory=dict)
+    # Refusals that hold only if the limits of values are settled.
+    refusals: list[Refusal] = field(default_factory=list)
 
     def remark(self, line: int, text: str) -> None:
         """Notes what differs from C, once for each cause."""

@@ -11,7 +11,7 @@ from motesim.c_program.tree import Expression
 from motesim.c_program.types import INT, UNSIGNED
 from motesim.c_program.values import MOST, NOTHING, Value, added, as_type, compared, number
 from motesim.c_program.written import Block, If, Line
-from motesim.from_c.absent import MULTIHOP, NO_SENSORS, RUNICAST
+from motesim.from_c.absent import MULTIHOP, NO_LISTS, NO_SENSORS, RUNICAST
 from motesim.from_c.expressions import DRAWN, STEP
 
 NO_CALL = 'motesim has no `%s`.'
@@ -99,6 +99,10 @@ class Calls(Expressions):
             advice = ' ' + MULTIHOP
         elif 'sensor' in it.text.lower():
             advice = ' ' + NO_SENSORS
+        elif it.text.startswith(('list_', 'memb_', 'queuebuf_')):
+            advice = ' ' + NO_LISTS
+        elif it.text == 'packetbuf_attr':
+            advice = ' All packets arrive with the same strength: use a constant instead.'
         return self.refuse(it.line, NO_CALL % it.text + advice)
 
     def own_call(self, it: Expression, is_value: bool) -> Value:

@@ -11,6 +11,7 @@ from motesim.c_program.refusal import Refusal
 from motesim.c_program.tokens import Token
 from motesim.c_program.tree import Expression, File, Function, Statement, Variable
 from motesim.c_program.types import DATA, EVENT, VOID, Type, pointer_to
+from motesim.from_c.absent import NO_LISTS
 
 # Macros of Contiki that are statements, also without a `;`.
 STATEMENTS = ('PROCESS_BEGIN', 'PROCESS_END', 'PT_BEGIN', 'PT_END', 'PROCESS_YIELD', 'PROCESS_WAIT_EVENT',
@@ -52,7 +53,9 @@ class FileReader(Declarations):
             return
         self.at = at
         if self.ahead(1).text == '(' and it.kind == 'name' and not self.is_type():
-            raise Refusal(it.line, OUTSIDE if it.text in (*STATEMENTS, *KEYWORDS) else 'motesim has no `%s`.' % it.text)
+            advice = ' ' + NO_LISTS if it.text in ('MEMB', 'LIST') else ''
+            absent = 'motesim has no `%s`.%s' % (it.text, advice)
+            raise Refusal(it.line, OUTSIDE if it.text in (*STATEMENTS, *KEYWORDS) else absent)
         if it.text == '}':
             raise Refusal(it.line, OUTSIDE)
         self.declaration(comments)

@@ -106,9 +106,9 @@ class Places(Base):
                 raise self.refuse(it.line, NO_POINTER % (array.text or 'this'))
         size, of = base.type.size, base.type.of
         assert of is not None
-        if index.low == index.high:
-            if not 0 <= index.low < size:
-                raise self.refuse(it.line, NO_INDEX % (array.text, size - 1, index.low))
+        if index.low == index.high and not 0 <= index.low < size:
+            self.program.refusals.append(self.refuse(it.line, NO_INDEX % (array.text, size - 1, index.low)))
+        elif index.low == index.high:
             return base._replace(type=of, paths=tuple((*path, index.low) for path in base.paths))
         if not index.is_simple:
             index = self.temporary(index, 'at')

@@ -98,6 +98,8 @@ def settled(file: File, second: int) -> tuple[Program, list[str]]:
         program = Program(file, usage, knowledge, second)
         lines = written(program)
         if knowledge.settle():
+            if program.refusals:
+                raise program.refusals[0]
             return program, lines
     raise Refusal(1, 'The values of this program can\'t be followed.')
 

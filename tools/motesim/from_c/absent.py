@@ -6,6 +6,7 @@ from __future__ import annotations
 READING = '(20 + (((now / 10) + self) % 13))'
 NO_SENSORS = ('A mote has no sensors and no buttons. A program computes its values, such as `%s`, and waits for a '
               'timer instead of a button: `set t 50; yield_until fired(t);`.' % READING)
+NO_LISTS = 'Use an array of structures, with a field that says which ones are in use.'
 NO_ACTIVATION = 'A mote has no sensors, so nothing is activated: leave this line out.'
 OF_READING = ('A mote has no sensors: choose a value, such as `%s`, which is 20 to 32, changes every 10 moments, and '
               'differs between neighbouring motes. (A timer of 130 moments would always read the same value.)' % READING)
