@@ -69,7 +69,7 @@ code example_broadcas {
   var dice = 1;
   etimer et;
   thread broadcast_recv {
-    print from; print 0; print data;
+    print from; print 0;
   }
   body {
     dice = ((self * 257) + 1); dice = (dice * ((2 * dice) + 1));

@@ -83,7 +83,7 @@ class SmallPrograms(unittest.TestCase):
                          '(f(2, 3)) "A(1, 2)" // A(1, 2)')
 
     def test_a_function_that_keeps_its_calls(self) -> None:
-        self.assertIsNone(inlined('{ f(0); }', 'f', 'int x = 1;'))
+        self.assertEqual(inlined('{ f(0); }', 'f', 'int x = 1;'), '{ int x = 1; }')
         self.assertEqual(inlined('void f(void *p);\n{ if(a) f(0); }', 'f', 'x++;\ny++;'),
                          'void f(void *p);\n{ if(a) { x++; y++; } }')
 
