@@ -16,6 +16,7 @@ from motesim.explain.event import FOR_TIMER, SETS
 from motesim.explain.moments import bursts
 from motesim.explain.resonance import all_at_once, resonances
 from motesim.from_c.scope import BELOW
+from motesim.notation.blocks import end_of_block
 from motesim.notation.faults import OPERATORS, WAITS, Token, tokens_of
 from motesim.report import Report
 from motesim.scenario import Scenario
@@ -146,12 +147,7 @@ class Program:
 
     def end_of_block(self, at: int) -> int:
         """The place of the brace that closes the one at a place."""
-        level = 0
-        for behind in range(at, len(self.words)):
-            level += (self.words[behind] == '{') - (self.words[behind] == '}')
-            if level == 0:
-                return behind
-        return len(self.words) - 1
+        return end_of_block(self.words, at)
 
     def endless_loops(self) -> Iterator[tuple[str, Token]]:
         """Each loop that may turn without end, with the warning: a `while 1` in which no statement waits, exits or

@@ -7,6 +7,7 @@ from collections.abc import Callable, Iterator, Sequence
 
 from motesim.explain.differences import shown
 from motesim.from_c.below import operands, split
+from motesim.notation.blocks import end_of_block
 from motesim.notation.faults import Token
 
 MOST = 65_535
@@ -77,16 +78,6 @@ def _never_above(words: list[str], tokens: list[Token], at: int, values: dict[st
         end = end_of_block(words, block)
         if all(block < it < end for it in assignments(words, *code, least[0])):
             yield NEVER_ABOVE % (least[0], MOST, least[0], MOST), tokens[at]
-
-
-def end_of_block(words: Sequence[str], begin: int) -> int:
-    """The place of the brace that closes the one at a place."""
-    level = 0
-    for at in range(begin, len(words)):
-        level += (words[at] == '{') - (words[at] == '}')
-        if not level:
-            return at
-    return len(words)
 
 
 def for_minus_1(words: Sequence[str], at: int) -> str:

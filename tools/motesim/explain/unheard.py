@@ -9,6 +9,7 @@ from __future__ import annotations
 from collections.abc import Iterator, Sequence
 
 from motesim.from_c.packets import with_packets
+from motesim.notation.blocks import end_of_block
 from motesim.notation.faults import Token
 
 UNHEARD = ('the process ignores a packet that arrives during this wait, although it handles packets at line %d of the '
@@ -24,7 +25,7 @@ def warnings(words: Sequence[str], tokens: Sequence[Token]) -> Iterator[tuple[st
     receivers = [words[at + 1] for at, word in enumerate(words) if word == 'receiver']
     for begin, word in enumerate(words):
         if word == 'code' and words[begin + 1] in receivers:
-            code = range(begin, _end(words, begin + 2))
+            code = range(begin, end_of_block(words, begin + 2))
             found = _with_blocks(words, code) or _in_loops(words, code)
             if found:
                 wait, handled = found
@@ -43,7 +44,7 @@ def _in_loops(words: Sequence[str], code: range) -> tuple[int, int] | None:
     for at in code:
         if words[at] == 'while':
             begin = words.index('{', at)
-            waits = [it for it in range(begin, _end(words, begin)) if words[it] in WAITS]
+            waits = [it for it in range(begin, end_of_block(words, begin)) if words[it] in WAITS]
             heard = [it for it in waits if 'packet' in _test(words, it)]
             others = [it for it in waits if it not in heard and TIMERS.intersection(_test(words, it))]
             if heard and others:
@@ -65,13 +66,3 @@ def _warning(words: Sequence[str], wait: int, handled: int, process: str, line: 
 def _test(words: Sequence[str], at: int) -> Sequence[str]:
     """The words of a wait, without the first one."""
     return words[at + 1:words.index(';', at)]
-
-
-def _end(words: Sequence[str], at: int) -> int:
-    """The place of the brace that closes the one at a place."""
-    depth = 0
-    for behind in range(at, len(words)):
-        depth += (words[behind] == '{') - (words[behind] == '}')
-        if not depth:
-            return behind
-    return len(words)

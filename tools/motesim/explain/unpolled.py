@@ -9,6 +9,7 @@ from collections.abc import Iterator, Sequence
 from typing import NamedTuple
 
 from motesim.explain.event import SETS
+from motesim.notation.blocks import end_of_block
 from motesim.notation.faults import WAITS, Token
 
 UNPOLLED = ('`signal %s` posts no event, and %s calls the process `%s`, which waits for this semaphore: write `poll '
@@ -49,20 +50,10 @@ def warnings(words: Sequence[str], tokens: Sequence[Token]) -> Iterator[tuple[st
 def _codes(words: Sequence[str]) -> Iterator[Code]:
     for at, word in enumerate(words):
         if word == 'code':
-            places = range(at, _end(words, at + 2) + 1)
-            parts = [(words[it], range(it, _end(words, words.index('{', it)) + 1)) for it in places
+            places = range(at, end_of_block(words, at + 2) + 1)
+            parts = [(words[it], range(it, end_of_block(words, words.index('{', it)) + 1)) for it in places
                      if words[it] in PARTS]
             yield Code(words[at + 1], places, parts)
-
-
-def _end(words: Sequence[str], at: int) -> int:
-    """The place of the brace that closes the one at a place."""
-    depth = 0
-    for here in range(at, len(words)):
-        depth += (words[here] == '{') - (words[here] == '}')
-        if not depth:
-            return here
-    return len(words) - 1
 
 
 def _lost_signal(words: Sequence[str], codes: Sequence[Code], waiter: Code, name: str) -> int | None:
@@ -105,7 +96,7 @@ def _is_called(words: Sequence[str], waiter: Code) -> bool:
 
 def _is_later(words: Sequence[str], code: Code, at: int) -> bool:
     """Returns whether a `signal` is behind a wait of its process, and its process waits again after it."""
-    loops = [range(it, _end(words, words.index('{', it))) for it in code.body if words[it] == 'while']
+    loops = [range(it, end_of_block(words, words.index('{', it))) for it in code.body if words[it] == 'while']
     waiting = [it for it in loops if _has_wait(words, it)]
     kind = code.part_of(at)
     if kind != 'body':
@@ -125,5 +116,5 @@ def _may_exit(words: Sequence[str], code: Code) -> bool:
                  for at, word in enumerate(words))
     # (the last statement is an endless loop if its brace is the last one in the body)
     loops = [it for it in code.body if words[it] == 'while' and words[it + 1].isdigit() and words[it + 1] != '0'
-             and _end(words, it + 2) == code.body.stop - 2]
+             and end_of_block(words, it + 2) == code.body.stop - 2]
     return killed or 'exit' in body or not loops
