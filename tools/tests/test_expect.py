@@ -430,6 +430,44 @@ class Files(unittest.TestCase):
         self.scenario.write_text(self.scenario.read_text().replace('print 1;', 'send 1;'))
         self.assertEqual(len(self.said('expect = ["mote 0 never sends 77"]')[0].splitlines()), 2)
 
+    def test_remarks_on_the_order_of_an_event_that_does_not_occur(self) -> None:
+        program = 'process flood, hears; code flood { body { send 1; print 1; } } code hears { body { print 2; } }'
+        self.scenario.write_text(re.sub("(?m)^p = .*$", "p = '%s'" % program, SCENARIO))
+        seen = '          `%s` doesn\'t occur in this run, so this sentence checks no order'
+        for sentence, event in (
+                ('no mote sends after mote 2 halts', 'mote 2 halts'),
+                ('mote 1 never sends after mote 2 halts', 'mote 2 halts'),
+                ('mote 0 sends at most 9 within 5 of receiving 7', 'receiving 7'),
+                ('mote 1 prints flood 1 before mote 2 halts', 'mote 2 halts'),
+                ('motes 0 to 3 together never send after motes 0 to 2 together halt', 'motes 0 to 2 together halt'),
+                ('no mote sends after mote 3 halts', None), ('mote 1 never sends after mote 3 halts', None),
+                ('mote 1 prints flood 1 before mote 3 halts', None),
+                ('no mote sends within 1 of receiving 2', 'receiving 2'), ('no mote sends 9 after receiving 1', None)):
+            with self.subTest(sentence):
+                out = self.said('expect = ["%s"]' % sentence)[0].splitlines()
+                self.assertEqual(out, ['holds   ' + sentence, *([seen % event] if event else []),
+                                       '1 passed, 0 failed'])
+
+    def test_remarks_on_copies_that_cannot_have_an_outcome(self) -> None:
+        text = re.sub("(?m)^p = .*$", "p = 'process flood, hears;'", SCENARIO)
+        collisions = 'the scenario has no `collide = true`, so no copy collides in any run'
+        for scenario, sentence, remark in (
+                (text, 'no copy collides at mote 2', ''),
+                (text.replace('collide = true', 'collide = false'), 'no copy collides at mote 2', collisions),
+                (text.replace('version = 2', 'version = 1').replace('collide = true\n', ''),
+                 'at most 5 copies collide', collisions),
+                (text, 'no copy is lost at mote 1', ''),
+                (text.partition('[[loss]]')[0], 'no copy is lost at mote 1',
+                 'no link of the scenario loses a packet, so no copy is lost in any run'),
+                (text, 'every copy arrives at mote 0', ''),
+                (text.replace('end = 100', 'end = 20  # not end = 100'), 'every copy arrives at mote 0',
+                 'no copy was due in this run, so this sentence checks nothing')):
+            with self.subTest(sentence):
+                self.scenario.write_text(scenario)
+                out = self.said('expect = ["%s"]' % sentence)[0].splitlines()
+                self.assertEqual(out, ['holds   ' + sentence, *['          ' + remark] * bool(remark),
+                                       '1 passed, 0 failed'])
+
     def test_a_run_that_meets_a_limit_is_told_of_the_scenario(self) -> None:
         with mock.patch.object(Runner, 'answer', side_effect=LimitMet('report', Limits())):
             out, err, code = self.said('expect = ["no mote halts"]')

@@ -432,14 +432,17 @@ class Judge:
 
     def part_of_copies(self, it: Copies) -> Broken | None:
         """Checks which share of the copies that were due has an outcome."""
-        motes = set(range(len(self.report.motes)) if it.motes is None else it.motes)
-        log, end = self.report.log, self.scenario.end
-        due = sum(at == LOST or at <= end for to, at in zip(log.to, log.arrival) if to in motes)
-        found = self.count_copies(it)
+        due, found = self.due(it), self.count_copies(it)
         if it.count.admits(found, due):
             return None
         part = ' (%.1f %%)' % (100 * found / due) if due else ''
         return Broken('%d of %d copies that were due do%s; wanted: %s' % (found, due, part, it.count))
+
+    def due(self, it: Copies) -> int:
+        """The number of copies to the motes of a sentence that the medium lost, or that arrived by the end."""
+        motes = set(range(len(self.report.motes)) if it.motes is None else it.motes)
+        log, end = self.report.log, self.scenario.end
+        return sum(at == LOST or at <= end for to, at in zip(log.to, log.arrival) if to in motes)
 
     def count_copies(self, it: Copies) -> int:
         """The number of copies with this outcome, at any moment."""

@@ -1,6 +1,7 @@
 """Remarks on sentences that hold, but say less than a reader may think: about a time after the end of the run, about
-lines that the programs can't write, or about an exact number of lines that a mote has more often; and on sentences
-about no mote at all, or about a number of motes that is always right, or never."""
+lines that the programs can't write, about the order of an event that doesn't occur, about copies that can't collide or
+don't exist, or about an exact number of lines that a mote has more often; and on sentences about no mote at all, or
+about a number of motes that is always right, or never."""
 from __future__ import annotations
 
 import re
@@ -15,6 +16,10 @@ NO_STATEMENT = '%s no %s, so this sentence holds in every run'
 MORE = 'mote %d has %d such lines: this sentence is only about the exact number, `%s`'
 OF_MOTES = 'this sentence is about %s, so `%s` is %s true'
 OF_NO_MOTE = 'this sentence is about no mote, because `but` leaves out all of its motes, so it is %s in every run'
+NO_EVENT = '`%s` doesn\'t occur in this run, so this sentence checks no order'
+NO_COLLISIONS = 'the scenario has no `collide = true`, so no copy collides in any run'
+NO_LOSSES = 'no link of the scenario loses a packet, so no copy is lost in any run'
+NO_COPIES = 'no copy was due in this run, so this sentence checks nothing'
 OF_COPIES = 'a share is 0 to 100 %%, so `%s` is %s true'
 # The forms of an exact number in sentences.
 EXACTLY = re.compile(r'\b(?:exactly )?(?:once|twice)\b|\bexactly (\d+)(?: times?)?\b')
@@ -30,9 +35,37 @@ def remark_on(text: str, sentence: Sentence, judge: Judge) -> str:
     if isinstance(sentence, (Does, Copies, Packets)) and sentence.window.begin > judge.scenario.end:
         return AFTER_THE_END % (judge.scenario.end, sentence.window.begin)
     certain = of_certain(sentence, judge)
-    if certain or not isinstance(sentence, Does):
+    if certain or not isinstance(sentence, (Does, Copies)):
         return certain
-    return of_programs(sentence, judge) or of_number(text, sentence, judge)
+    if isinstance(sentence, Copies):
+        return of_copies(sentence, judge)
+    return of_programs(sentence, judge) or of_events(sentence, judge) or of_number(text, sentence, judge)
+
+
+def of_copies(it: Copies, judge: Judge) -> str:
+    """The remark that no copy can have the outcome of a sentence, or that a share is one of no copies."""
+    if it.outcome == 'collided' and not judge.scenario.collide:
+        return NO_COLLISIONS
+    if it.outcome == 'lost' and not judge.scenario.losses:
+        return NO_LOSSES
+    return NO_COPIES if it.count.is_part and not judge.due(it) else ''
+
+
+def of_events(it: Does, judge: Judge) -> str:
+    """The remark that the run has no event with which a sentence compares the order of its lines."""
+    motes = judge.chosen(it.motes)
+    units = [motes] if it.motes.kind == 'together' else [(mote,) for mote in motes]
+    if not it.relation or any(events_of(it, judge, unit) for unit in units):
+        return ''
+    return NO_EVENT % it.relation.words
+
+
+def events_of(it: Does, judge: Judge, motes: tuple[int, ...]) -> bool:
+    """True if the event of a sentence occurs for these motes."""
+    try:
+        return bool(judge.compared(it, motes))
+    except Apart:
+        return False
 
 
 def of_certain(sentence: Sentence, judge: Judge) -> str:
