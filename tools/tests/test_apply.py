@@ -142,8 +142,8 @@ class Command(unittest.TestCase):
         source = C.replace('#define PERIOD 10', '#define PERIOD (5 * CLOCK_SECOND)')
         status, out, _ = self.run_on(self.written('b.c', source), '--apply', str(self.folder / 'b.toml'))
         self.assertEqual(status, 0)
-        self.assertIn('b.c, line 11: A second has 10 moments here', out)
-        self.assertIn('set et 50;', (self.folder / 'b.toml').read_text())
+        self.assertIn('b.c, line 11: A second has 128 moments here', out)
+        self.assertIn('set et 640;', (self.folder / 'b.toml').read_text())
 
     def test_a_program_in_c_that_is_not_translated_is_explained_and_nothing_is_written(self) -> None:
         source = C.replace('n++;', 'n = strlen("abc");')

@@ -186,6 +186,8 @@ REFUSALS = (
     ('list_init(&s);', 'Use an array of structures'), ('n = packetbuf_attr(3);', 'use a constant instead'),
     ('int *q = best(); n = *q;', 'let `best` return the index of a member'),
     ('void (*g)(void) = later; g();', 'A pointer to a function is called here'),
+    ('x = (1000UL * u) / 65536UL;', 'so `/` with 65536 isn\'t translated'), ('u /= 70000;', '`/` with 70000'),
+    ('uint32_t l = 1; n = l >> 16;', '`>>` with 16'), ('if(clock_time() > 100000UL) n = 1;', '`>` with 100000'),
     ('later(1);', '`later` has 0 parameters.'), ('f();', '`f` has 1 parameter.'),
 )
 
@@ -234,19 +236,30 @@ class Forms(unittest.TestCase):
         self.assertIsNotNone(text, notes)
         self.assertIn('if (c_calls == 0) {\n      print 1;\n      set c 3;\n      c_calls = 1;', text or '')
 
-    def test_a_second_has_128_moments_if_10_would_change_the_ratio_of_times(self) -> None:
-        for body, second in (('etimer_set(&et, CLOCK_SECOND * 3);', 10), ('etimer_set(&et, CLOCK_SECOND / 2);', 10),
-                             ('etimer_set(&et, 25);', 10), ('etimer_set(&et, CLOCK_SECOND / 4);', 128),
-                             ('etimer_set(&et, CLOCK_SECOND); etimer_set(&et, 100);', 128),
-                             ('u = 100; etimer_set(&et, u); u = CLOCK_SECOND;', 128),
-                             ('etimer_set(&et, CLOCK_SECOND); if(clock_time() > 300) u = 1;', 128),
-                             ('u = 7; etimer_set(&et, CLOCK_SECOND / u);', 128),
-                             ('u = CLOCK_SECOND; u /= 4; etimer_set(&et, u);', 128),
-                             ('u = CLOCK_SECOND; etimer_set(&et, u >> 2);', 128),
-                             ('u = clock_time() + CLOCK_SECOND; u = u / CLOCK_SECOND;', 10)):
-            found = translated(in_process('  ' + body, '', VARIABLES))
-            self.assertEqual(found.second, second, body)
-            self.assertEqual(any('128 moments' in it.text for it in found.remarks), second == 128)
+    def test_a_second_has_128_moments_unless_another_number_is_named(self) -> None:
+        body = '  etimer_set(&et, CLOCK_SECOND / 8); etimer_set(&et, 6 * (n + 1)); etimer_set(&et, 3 * CLOCK_SECOND);'
+        text, notes = translation(in_process(body, '', VARIABLES))
+        self.assertEqual(body_of(text), ['set et 16;', 'set et (6 * (n + 1));', 'set et 384;'])
+        self.assertIn('A second has 128 moments here, so `CLOCK_SECOND` is 128, as on the Tmote Sky.', notes)
+        text, notes = translation(in_process(body, '', VARIABLES), 10)
+        self.assertEqual(body_of(text), ['set et 1;', 'set et (6 * (n + 1));', 'set et 30;'])
+        self.assertIn('A second has 10 moments here, so `CLOCK_SECOND` is 10. `end`', notes)
+
+    def test_a_random_number_has_16_bits_unless_8_are_enough(self) -> None:
+        step = 'dice = ((dice * 25173) + 13849);'
+        for drawn, lines in (
+                ('random_rand() % 8', [step, 'u = ((dice / 256) % 8);']),
+                ('random_rand() & 0x7f', [step, 'u = ((dice / 256) % 128);']),
+                ('random_rand() % CLOCK_SECOND', [step, 'u = ((dice / 256) % 128);']),
+                ('random_rand() % 1000', [step, 't = (dice / 256);', step, 'u = (((t * 256) + (dice / 256)) % 1000);']),
+                ('random_rand()', [step, 't = (dice / 256);', step, 'u = ((t * 256) + (dice / 256));']),
+                ('rand() % 100', [step, 't = (dice / 256);', step,
+                                  'u = ((((t * 256) + (dice / 256)) % 32768) % 100);']),
+                ('random_rand() < RANDOM_RAND_MAX / 4', [step, 't = (dice / 256);', step,
+                                                         'u = (((t * 256) + (dice / 256)) < 16383);'])):
+            with self.subTest(drawn):
+                text, _ = translation(in_process('  u = %s;' % drawn, '', VARIABLES))
+                self.assertEqual(body_of(text)[-len(lines):], lines)
 
     def test_a_semaphore_may_be_declared_in_a_process(self) -> None:
         body = '  PT_SEM_INIT(&s, 2); PT_SEM_WAIT(process_pt, &s); n = PT_SEM_COUNT(&s);'
@@ -254,12 +267,6 @@ class Forms(unittest.TestCase):
         self.assertIsNotNone(text, notes)
         self.assertIn('semaphore s = 2;', text or '')
         self.assertEqual(body_of(text), ['acquire s;', 'n = count(s);'])
-
-    def test_a_second_has_128_moments_if_a_time_would_be_0(self) -> None:
-        text, notes = translation(in_process('  etimer_set(&et, CLOCK_SECOND / 32); etimer_set(&et, CLOCK_SECOND);', '',
-                                             VARIABLES))
-        self.assertEqual(body_of(text), ['set et 4;', 'set et 128;'])
-        self.assertIn('A second has 128 moments here', notes)
 
 
 class Refusals(unittest.TestCase):
@@ -311,6 +318,64 @@ PROCESS_THREAD(b, ev, data) { PROCESS_BEGIN(); printf("%d", shared + limit); PRO
                       'static void g(void);\nstatic int f(int n) { g(); return n; }\nstatic void g(void) { f(1); }'):
             self.assertIn('calls itself', translation(in_process('  f(3);', above))[1])
 
+    def test_a_packet_to_one_mote_has_8_bits(self) -> None:
+        source = '''struct msg { uint8_t type; uint8_t seq; };
+static struct unicast_conn uc;
+PROCESS(p, "p");
+AUTOSTART_PROCESSES(&p);
+static void recv(struct unicast_conn *c, const rimeaddr_t *from)
+{
+  struct msg *m = packetbuf_dataptr();
+  printf("%d", m->type);
+}
+static const struct unicast_callbacks callbacks = { recv };
+PROCESS_THREAD(p, ev, data)
+{
+  static struct msg m;
+  static rimeaddr_t a;
+  PROCESS_BEGIN();
+  unicast_open(&uc, 146, &callbacks);
+  packetbuf_copyfrom(&m, sizeof(m));
+  unicast_send(&uc, &a);
+  PROCESS_END();
+}
+'''
+        text, notes = translation(source)
+        self.assertIsNone(text)
+        self.assertTrue(notes.startswith('line 18: `unicast_send` needs 8 of the 16 bits of a packet'), notes)
+        self.assertIn('but `msg` has two fields', notes)
+        self.assertIsNotNone(translation(source.replace('unicast_send(&uc, &a)', 'broadcast_send(&uc)').replace(
+            'unicast', 'broadcast'))[0])
+
+    def test_the_ctimers_of_a_callback_for_packets_run_in_a_process_of_the_radio(self) -> None:
+        source = '''static struct etimer et;
+static struct ctimer ct;
+static struct broadcast_conn bc;
+PROCESS(p, "p");
+AUTOSTART_PROCESSES(&p);
+static void late(void *v) { %s }
+static void recv(struct broadcast_conn *c, const rimeaddr_t *from) { ctimer_set(&ct, 5, late, NULL); }
+static const struct broadcast_callbacks callbacks = { recv };
+PROCESS_THREAD(p, ev, data)
+{
+  PROCESS_BEGIN();
+  broadcast_open(&bc, 129, &callbacks);
+  PROCESS_YIELD();
+  PROCESS_END();
+}
+'''
+        in_radio = 'So the event of `et`, which is set here, goes to the process of the radio.'
+        text, notes = translation(source % 'etimer_set(&et, 3);')
+        self.assertIsNotNone(text)
+        self.assertIn('line 6: In Contiki, the function that is called for packets', notes)
+        self.assertIn(in_radio, notes)
+        text, notes = translation(source % 'process_post(PROCESS_CURRENT(), PROCESS_EVENT_MSG, NULL);')
+        self.assertIsNone(text)
+        self.assertIn('the current process is one of the radio', notes)
+        other = source.replace('ctimer_set(&ct, 5, late, NULL);', '').replace(
+            '  PROCESS_YIELD();', '  ctimer_set(&ct, 5, late, NULL); PROCESS_YIELD();')
+        self.assertNotIn(in_radio, translation(other % 'etimer_set(&et, 3);')[1])
+
     def test_a_file_without_a_process_is_refused(self) -> None:
         for source in ('int main(void) { return 0; }', 'static int n;', ''):
             self.assertIn('No process is here', translation(source)[1])
@@ -330,8 +395,8 @@ class Remarks(unittest.TestCase):
     def test_a_remark_says_what_differs_from_c(self) -> None:
         for body, wanted in (
                 ('printf("hello");', 'There are no texts'), ('leds_on(1);', 'A mote has no LEDs'),
-                ('x = -1; printf("%d", x);', 'may be below 0'), ('u = random_rand();', 'the value of `random_rand()`'),
-                ('u = CLOCK_SECOND;', '`CLOCK_SECOND` is 10'), ('if(node_id == 1) x = 1;', 'numbered from 0')):
+                ('x = -1; printf("%d", x);', 'may be below 0'), ('u = random_rand();', 'a value of `random_rand()`'),
+                ('u = CLOCK_SECOND;', '`CLOCK_SECOND` is 128'), ('if(node_id == 1) x = 1;', 'numbered from 0')):
             with self.subTest(body):
                 self.assertIn(wanted, self.remarks(body))
 

@@ -6,8 +6,8 @@ from pathlib import Path
 
 from c_programs import CProgram
 from contiki_callbacks import CallbackProgram
-from contiki_programs import ContikiProgram
-from motesim.c_program.seconds import SECOND
+from contiki_programs import SECOND, ContikiProgram
+
 from motesim.report import Report
 from motesim.runner.run import answer
 from skips import need_command, need_program
@@ -102,6 +102,17 @@ class Values(unittest.TestCase):
                 self.assertIsNotNone(text, notes)
                 report = Report.parse(answer((SCENARIO % (END, text)).encode()).report)
                 self.assertEqual(' '.join(str(it.value) for it in report.lines('print') if it.mote == 0), wanted, text)
+
+    def test_random_numbers_are_spread_over_their_range(self) -> None:
+        need_program(self)
+        body = ('  for(u = 0; u < 200; u++) { for(i = 0; i < 20; i++) { n = random_rand() % 1000; if(n < 300) low++;'
+                ' if(n >= 900) high++; } PROCESS_PAUSE(); } printf("%d %d", low, high);')
+        text, notes = translation(in_process(body, 'static uint16_t low, high, u, n, i;'))
+        self.assertIsNotNone(text, notes)
+        report = Report.parse(answer((SCENARIO % (END, text)).encode()).report)
+        low, high = [it.value or 0 for it in report.lines('print') if it.mote == 0]
+        # (of 4,000 draws, 1,200 and 400 on average; four standard deviations are 116 and 76)
+        self.assertTrue(1_084 < low < 1_316 and 324 < high < 476, (low, high))
 
 
 class Random(OnHost):

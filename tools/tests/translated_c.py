@@ -1,6 +1,7 @@
 """Programs in C, translated by `motesim.c_program`, in scenarios for the tests."""
 from __future__ import annotations
 
+from motesim.c_program.constants import SECOND
 from motesim.c_program.program import translated
 from motesim.c_program.refusal import Refusal
 
@@ -23,7 +24,7 @@ def in_process(body: str, above: str = '', inside: str = '') -> str:
     return PROCESS % (above, inside, body)
 
 
-def translation(source: str, second: int | None = None) -> tuple[str | None, str]:
+def translation(source: str, second: int = SECOND) -> tuple[str | None, str]:
     """A translated program, or None; and its remarks, or the refusal. `second`: the moments of a second."""
     try:
         found = translated(source, second)

@@ -44,7 +44,10 @@ class Unit:
     function: Function
     may_wait: bool = True
     may_spawn: bool = True
+    # True for the function that is called for packets, and for functions that it calls.
     is_callback: bool = False
+    # True if it runs in a process of the radio in Contiki.
+    of_radio: bool = False
     temporaries: int = 0
     flags: int = 0
 

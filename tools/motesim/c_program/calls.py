@@ -9,7 +9,7 @@ from motesim.c_program.expressions import Expressions
 from motesim.c_program.places import OF_DATA, Pointer
 from motesim.c_program.tree import Expression
 from motesim.c_program.types import INT, UNSIGNED
-from motesim.c_program.values import MOST, NOTHING, Value, added, as_type, compared, number
+from motesim.c_program.values import HALF, MOST, NOTHING, Value, added, as_type, compared, divided, multiplied, number
 from motesim.c_program.written import Block, If, Line
 from motesim.from_c.absent import MULTIHOP, NO_LISTS, NO_SENSORS, RUNICAST
 from motesim.from_c.expressions import DRAWN, STEP
@@ -30,16 +30,24 @@ OF_ITSELF = 'A process ends itself by `PROCESS_EXIT()`: `process_exit` of the cu
 TO_ITSELF = 'The event `%s` can\'t be posted: only the kernel posts it.'
 OF_SYNCH = '`process_post_synch` can\'t reach all processes here.'
 OF_CHANCE = ('A mote has no random numbers: each run is the same. `dice` is a generator whose seed differs by mote, '
-             'for at most 255 motes, and `(dice / 256)`, one of 0 to 255, is the value of `random_rand()`. '
-             'docs/use/LOSSES.md has a pattern for packets that are lost by chance.')
+             'for at most 255 motes. Each of its steps makes 8 random bits, `(dice / 256)`, so a value of '
+             '`random_rand()` needs two steps if 8 bits aren\'t enough. docs/use/LOSSES.md has a pattern for packets '
+             'that are lost by chance.')
 OF_STRUCT_TIMER = ('A `struct timer` and a `struct stimer` post no event when they expire, so `%s` has two variables '
                    'here, and a wait for it ends only if another event arrives.')
-TOO_LONG = 'A timer is set to at most 65,535 moments: wait for it several times.'
-OF_RADIO_TIMER = ('In Contiki, the function that is called for packets runs in a process of the radio. So if it sets '
-                  '`%s`, the event of this timer goes to the process of the radio. Here, `%s` gets the event.')
+TOO_LONG = ('A timer is set to at most 65,535 moments, and a second has %d: wait for it several times, or translate '
+            'with fewer moments, such as `--clock-second 10`.')
+OF_RADIO_TIMER = ('In Contiki, the function that is called for packets, and the functions of the ctimers that it sets, '
+                  'run in a process of the radio. So the event of `%s`, which is set here, goes to the process of the '
+                  'radio. In the translation, `%s` gets the event.')
 NO_CLOSE = 'A connection isn\'t closed here: `%s` runs for each packet up to the end.'
 NOT_OPEN = 'A connection isn\'t opened here: `%s` runs for each packet from the start.'
 OF_RECEIVER = 'In Contiki, `%s` still runs for packets after this process has ended.'
+
+
+def is_draw(it: Expression) -> bool:
+    """Returns whether an expression is a call for a random number."""
+    return it.kind == 'call' and it.text in ('random_rand', 'rand')
 
 
 class Calls(Expressions):
@@ -235,17 +243,13 @@ class Calls(Expressions):
             self.code.etimers.append(name)
         if place.type.kind == 'ctimer':
             self.code.ctimers.setdefault(name, [])
-        if place.type.kind == 'etimer' and self.unit.is_callback:
-            self.in_callback.setdefault(name, it.line)
         return name
-
-    in_callback: dict[str, int]
 
     def interval(self, it: Expression) -> str:
         """The time to which a timer is set."""
         exact = constant_of(it, self.program.second)
         if exact is not None and exact > MOST:
-            raise self.refuse(it.line, TOO_LONG)
+            raise self.refuse(it.line, TOO_LONG % self.program.second)
         value = self.operand(it)
         if value.is_negative:
             value = as_type(value, UNSIGNED)
@@ -261,7 +265,7 @@ class Calls(Expressions):
         self.emit('set %s %s;' % (name, self.interval(interval)))
 
     def note_callback_timer(self, name: str, line: int) -> None:
-        if self.unit.is_callback:
+        if self.unit.of_radio:
             self.remark(line, OF_RADIO_TIMER % (name, self.code.name))
 
     def changed_timer(self, it: Expression, word: str, *kinds: str) -> None:
@@ -435,16 +439,43 @@ class Calls(Expressions):
     def call_putchar(self, it: Expression) -> None:
         self.call_puts(it)
 
+    # Random numbers.
+
+    # Whether 8 random bits are enough for the expression that is translated next.
+    needs_byte = False
+
+    def _binary(self, it: Expression) -> Value:
+        self.needs_byte = is_draw(self.without_casts(it.parts[0])) and self.keeps_byte(it)
+        return super()._binary(it)
+
+    def keeps_byte(self, it: Expression) -> bool:
+        """Returns whether the upper 8 bits of the left side don't change the result."""
+        number_right = constant_of(it.parts[1], self.program.second)
+        if number_right is None or number_right < 1:
+            return False
+        return it.text == '%' and 256 % number_right == 0 or it.text == '&' and number_right < 256
+
     def value_random_rand(self, it: Expression) -> Value:
+        """A random number of 16 bits, or of 8 bits if these are enough."""
         self.remark(it.line, OF_CHANCE)
         self.code.is_random = True
         name = self.declare(self.extra.setdefault('dice', self.extra.get('dice') or self.new_name('dice')), 1)
+        needs_byte, self.needs_byte = self.needs_byte, False
+        if needs_byte:
+            return self.random_byte(name)
+        upper = self.temporary(self.random_byte(name))
+        return added(multiplied(upper._replace(type=UNSIGNED), number(256, UNSIGNED)), self.random_byte(name), '+')
+
+    def random_byte(self, name: str) -> Value:
+        """The upper 8 bits of the generator after one step."""
         self.emit(STEP.replace('dice', name))
         self.log.append(name)
         return Value(DRAWN.replace('dice', name), UNSIGNED, 0, 255, frozenset([name]))
 
     def value_rand(self, it: Expression) -> Value:
-        return self.value_random_rand(it)
+        """A random number of 15 bits."""
+        found = self.value_random_rand(it)
+        return found if found.high < 256 else (divided(found, number(HALF, UNSIGNED), '%') or found)._replace(type=INT)
 
     def value_rimeaddr_cmp(self, it: Expression) -> Value:
         one, other = self.arguments(it, 2)

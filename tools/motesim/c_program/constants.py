@@ -6,12 +6,14 @@ from collections.abc import Callable
 from motesim.c_program.tree import Expression
 from motesim.c_program.types import size_of
 
+# The moments of a second, unless the user names another number: `CLOCK_SECOND` of nodes such as the Tmote Sky.
+SECOND = 128
 # Numbers that Contiki and C's library name.
 NUMBERS = {
     'NULL': 0, 'TRUE': 1, 'FALSE': 0, 'true': 1, 'false': 0, 'PROCESS_ERR_OK': 0, 'PROCESS_ERR_FULL': 1,
     'LEDS_GREEN': 1, 'LEDS_YELLOW': 2, 'LEDS_BLUE': 2, 'LEDS_RED': 4, 'LEDS_ALL': 7, 'UINT8_MAX': 255,
     'INT8_MAX': 127, 'UINT16_MAX': 65535, 'INT16_MAX': 32767, 'INT16_MIN': -32768, 'INT8_MIN': -128,
-    'INT_MAX': 32767, 'UINT_MAX': 65535, 'INT_MIN': -32768, 'RAND_MAX': 255, 'RANDOM_RAND_MAX': 255,
+    'INT_MAX': 32767, 'UINT_MAX': 65535, 'INT_MIN': -32768, 'RAND_MAX': 32767, 'RANDOM_RAND_MAX': 65535,
     'MAC_TX_OK': 0, 'LINKADDR_SIZE': 2, 'RIMEADDR_SIZE': 2, 'PACKETBUF_SIZE': 2,
 }
 EVENT_NUMBERS = {

@@ -1,12 +1,13 @@
 """Translates expressions: values, tests, assignments and their effects."""
 from __future__ import annotations
 
+from collections.abc import Sequence
+
 from motesim.c_program import bits
 from motesim.c_program.base import OF_LONG, joined_limits
-from motesim.c_program.constants import EVENT_NUMBERS, NUMBERS
+from motesim.c_program.constants import EVENT_NUMBERS, NUMBERS, SECOND, constant_of
 from motesim.c_program.events import Events
 from motesim.c_program.places import ADDRESSES, OF_ADDRESS, OF_CHANGE, TEXTS, Place
-from motesim.c_program.seconds import SECOND
 from motesim.c_program.tree import Expression
 from motesim.c_program.types import INT, UNSIGNED, Type, size_of
 from motesim.c_program.values import (
@@ -18,9 +19,12 @@ from motesim.c_program.written import Block, If, Line, While
 COMPARES = ('==', '!=', '<', '<=', '>', '>=')
 NO_SIGNED_DIVISION = ('`%s` of a value that may be below 0 isn\'t translated here: divide a value without a sign, or '
                       'use an `if`.')
+NO_LONG = ('Values have 16 bits here, so `%s` with %d isn\'t translated: use smaller units, or a value without the '
+           'lower bits.')
 NO_BITS = 'This operation on bits needs statements of its own: write it above, into a variable.'
 NO_NAME = 'motesim has no `%s`.'
-OF_SECONDS = 'A second has 10 moments here, so `CLOCK_SECOND` is 10. `end` of the scenario is in moments, too.'
+OF_SECOND = ('A second has %d moments here, so `CLOCK_SECOND` is %d%s. `end` of the scenario is in moments, too, and '
+             'so are the delays of packets.')
 
 
 class Expressions(Events):
@@ -80,9 +84,10 @@ class Expressions(Events):
     def named_number(self, it: Expression) -> Value:
         """A number that Contiki or C's library names."""
         if it.text == 'CLOCK_SECOND':
-            if self.program.second == SECOND:
-                self.remark(it.line, OF_SECONDS)
-            return number(self.program.second, UNSIGNED)
+            second = self.program.second
+            usual = ', as on the Tmote Sky' if second == SECOND else ''
+            self.remark(it.line, OF_SECOND % (second, second, usual))
+            return number(second, UNSIGNED)
         if it.text == 'node_id':
             self.remark(it.line, OF_ADDRESS)
             return Value('self', UNSIGNED, 0, MOST)
@@ -177,6 +182,7 @@ class Expressions(Events):
             pointers = [one.text for one in it.parts if one.kind == 'name' and self.type_of(one).kind == 'pointer']
             if pointers and it.text not in ('==', '!='):
                 raise self.refuse(it.line, OF_CHANGE % pointers[0])
+        self.check_size(it.text, it.parts, it.line)
         left, right = self.two(it.parts[0], it.parts[1])
         if it.text in COMPARES:
             for one, other in ((it.parts[0], right), (it.parts[1], left)):
@@ -186,6 +192,16 @@ class Expressions(Events):
         if self.is_long(it) and exceeds(it.text, left, right):
             self.remark(it.line, OF_LONG)
         return self.operation(it.text, left, right, it.line)
+
+    def check_size(self, sign: str, parts: Sequence[Expression], line: int) -> None:
+        """Refuses an operation whose result depends on more than the lower 16 bits of its operands."""
+        if sign in ('/', '%', *COMPARES):
+            sizes = [constant_of(it, self.program.second) or 0 for it in parts]
+            if max(sizes) > MOST:
+                raise self.refuse(line, NO_LONG % (sign, max(sizes)))
+        shift = constant_of(parts[1], self.program.second) or 0
+        if sign == '>>' and shift > 15 and self.is_long(parts[0]):
+            raise self.refuse(line, NO_LONG % (sign, shift))
 
     def is_long(self, it: Expression) -> bool:
         """Returns whether C calculates a value with 32 bits."""
@@ -408,6 +424,7 @@ class Expressions(Events):
     def compound(self, it: Expression, target: Expression) -> None:
         """`x += 2;` and the like."""
         sign, line = it.text[:-1], it.line
+        self.check_size(sign, it.parts, line)
         value = self.operand(it.parts[1])
         place = self.place(target)
         if place.chosen is None and sign in '|&' and self.one_bit(sign, place, value, line):

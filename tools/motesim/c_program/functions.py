@@ -38,7 +38,6 @@ class Functions(Control):
         super().__init__(*arguments)
         self.aliases = {}
         self.values = {}
-        self.in_callback = {}
         self.threads: dict[str, str] = {}
         self.effects: dict[str, set[str]] = {}
         self.inlined: set[str] = set()
@@ -316,7 +315,8 @@ class Functions(Control):
         if function.name not in self.threads:
             name = self.new_name(function.name)
             unit = Unit(function.name, function, may_wait=function.kind == 'thread',
-                        is_callback=self.unit.is_callback and function.kind != 'thread')
+                        is_callback=self.unit.is_callback and function.kind != 'thread',
+                        of_radio=self.unit.of_radio and function.kind != 'thread')
             with self.unit_of(unit), self.into([]) as block:
                 self.body_of(function)
             self.threads[function.name] = name

@@ -9,6 +9,7 @@ from motesim.c_program.types import (
     ADDRESS, BYTE, INT, UNSIGNED, Type, leaves_of, pointer_to, size_of,
 )
 from motesim.c_program.values import Value, added, compared, converted, multiplied, number
+from motesim.c_program.walk import all_parts
 from motesim.c_program.written import Block, If, Line
 
 Path = tuple[str | int, ...]
@@ -16,6 +17,9 @@ NO_POINTER = 'There are no pointers here: `%s` isn\'t the address of a variable 
 NO_PLACE = 'A value can\'t be assigned to this.'
 NO_INDEX = 'The array `%s` has the members 0 to %d: there is no member %d.'
 NO_FIELD = 'There is no field `%s` here.'
+NO_ROOM = ('`unicast_send` needs 8 of the 16 bits of a packet for the number of the receiver. So 8 bits are left for '
+           'the value, but `%s` has two fields. Send one field, put both into 8 bits, such as `type * 64 + seq %% 64`, '
+           'or use `broadcast_send`.')
 OF_PACKET = ('A packet is one number of 16 bits, so it has one value or two fields that are at most 255: `%s` doesn\'t '
              'fit. Send a packet for each value.')
 NO_PACKET = 'The packet is known only in the function that is called for packets: keep its value in a variable.'
@@ -154,7 +158,7 @@ class Places(Base):
         if it.kind == 'call' and it.text == 'packetbuf_dataptr':
             return Pointer('packet')
         if it.kind == 'call' and it.text == 'PROCESS_CURRENT':
-            if self.unit.is_callback:
+            if self.unit.of_radio:
                 raise self.refuse(it.line, 'In Contiki, the current process is one of the radio here: name a process.')
             return Pointer('process', None, self.process)
         if it.kind == 'call' and it.text == 'packetbuf_addr':
@@ -297,11 +301,17 @@ class Places(Base):
         if len(parts) != 2 or any(size_of(it) != 1 for _, it in parts):
             raise self.refuse(line, OF_PACKET % (its.name or 'this'))
         if place.source == 'packet' and self.is_to_one:
-            raise self.refuse(line, OF_PACKET % (its.name or 'this'))
+            raise self.refuse(self.first_call('unicast_send') or line, NO_ROOM % (its.name or 'the structure'))
         # (the first of two fields is the upper byte, but the first byte of a value of 16 bits is its lower one)
         is_upper = bool(at) == (place.source == 'packet' and 'word' in self.program.knowledge.forms)
         text = '(%s %s 256)' % (whole.text, '/' if is_upper else '%')
         return converted(Value(text, UNSIGNED, 0, 255), place.type)
+
+    def first_call(self, name: str) -> int:
+        """The first line of the program that calls a function; 0 if no line does."""
+        units = (*self.file.functions.values(), *self.file.bodies.values())
+        return min((it.line for one in units for it in all_parts(one.body) if it.kind == 'call' and it.text == name),
+                   default=0)
 
     def single(self, whole: Value, place: Place, line: int) -> Value:
         """The only value of a packet or of an event."""

@@ -163,7 +163,7 @@ class ProcessWriter(Functions):
         self.receiving = self.new_name(function.name)
         self.threads[function.name] = self.receiving
         self.bind_callback(function)
-        unit = Unit('receive', function, may_wait=False, is_callback=True)
+        unit = Unit('receive', function, may_wait=False, is_callback=True, of_radio=True)
         with self.unit_of(unit), self.into([]) as block:
             if self.is_to_one:
                 self.emit(IF_OTHER)
@@ -239,7 +239,7 @@ class ProcessWriter(Functions):
         """The block of a function that a ctimer calls."""
         for variable in function.parameters:
             self.bind_pointer(variable, self.without_casts(pointer))
-        unit = Unit('ctimer ' + name, function, may_wait=False, may_spawn=False)
+        unit = Unit('ctimer ' + name, function, may_wait=False, may_spawn=False, of_radio=self.unit.of_radio)
         with self.unit_of(unit), self.into([]) as block:
             self.jumps = [self.target('return')]
             self.run(function.body)

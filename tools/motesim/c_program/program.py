@@ -11,21 +11,18 @@ from __future__ import annotations
 from typing import NamedTuple
 
 from motesim.c_program.base import Program
-from motesim.c_program.constants import EVENT_NUMBERS, constant_of
+from motesim.c_program.constants import EVENT_NUMBERS, SECOND, constant_of
 from motesim.c_program.knowledge import Knowledge
 from motesim.c_program.names import fresh
 from motesim.c_program.parse_file import read_file
 from motesim.c_program.process import ProcessWriter
 from motesim.c_program.refusal import Refusal
-from motesim.c_program.seconds import TICKS, second_of
 from motesim.c_program.tree import Expression, File, Statement
 from motesim.c_program.usage import usage_of
 from motesim.c_program.walk import all_parts, declared_in
 from motesim.notation.faults import ProgramError, find_fault
 
 MOST_ROUNDS = 40
-OF_TICKS = ('A second has 128 moments here, as `CLOCK_SECOND` on the Tmote Sky, because this program has parts of a '
-            'second or times in ticks. `end` of the scenario is in moments, too.')
 NO_PROCESS = 'No process is here: a program for Contiki has at least one `PROCESS` with its `PROCESS_THREAD`.'
 NO_BODY = 'The process `%s` has no `PROCESS_THREAD(%s, ev, data)` in this file.'
 TOO_LARGE = 'The program is too large for a mote: %s'
@@ -40,22 +37,17 @@ class Remark(NamedTuple):
 
 
 class Translation(NamedTuple):
-    """A program in the notation, what differs from C, and the moments of a second."""
+    """A program in the notation, and what differs from C."""
     text: str
     remarks: tuple[Remark, ...]
-    second: int
 
 
-def translated(text: str, second: int | None = None) -> Translation:
-    """A program in C in the notation. Raises a Refusal if it isn't translated. `second`: the moments of a second, which
-    depend on the program if they aren't given."""
+def translated(text: str, second: int = SECOND) -> Translation:
+    """A program in C in the notation. Raises a Refusal if it isn't translated. `second`: the moments of a second."""
     try:
         file = read_file(text)
         check_processes(file)
-        second = second or second_of(file)
         program, lines = settled(file, second)
-        if second == TICKS:
-            program.remark(first_second(file), OF_TICKS)
     except RecursionError:
         raise Refusal(1, TOO_LARGE % LIMITS[7]) from None
     found = '\n'.join(lines) + '\n'
@@ -63,7 +55,7 @@ def translated(text: str, second: int | None = None) -> Translation:
     if fault is not None:
         raise Refusal(*of_fault(fault, file))
     remarks = sorted(Remark(*it) for it in program.remarks.values())
-    return Translation(found, tuple(remarks), second)
+    return Translation(found, tuple(remarks))
 
 
 def of_fault(fault: ProgramError, file: File) -> tuple[int, str]:
@@ -83,12 +75,6 @@ def check_processes(file: File) -> None:
     for name in file.autostart:
         if name not in file.processes:
             raise Refusal(file.autostart_line, NO_BODY % (name, name))
-
-
-def first_second(file: File) -> int:
-    lines = [it.line for one in (*file.functions.values(), *file.bodies.values()) for it in all_parts(one.body)
-             if it.text == 'CLOCK_SECOND']
-    return min(lines, default=1)
 
 
 def settled(file: File, second: int) -> tuple[Program, list[str]]:

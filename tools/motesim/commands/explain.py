@@ -19,8 +19,19 @@ variable MOTESIM.
 """
 from __future__ import annotations
 
+import argparse
+import re
+
+from motesim.c_program.constants import SECOND
 from motesim.faults import command
 from motesim.words import Once, add_limits, words_of
+
+
+def moments(word: str) -> int:
+    """A number of moments, 1 to 65,535."""
+    if not re.fullmatch('[0-9]{1,5}', word) or not 1 <= int(word) <= 65_535:
+        raise argparse.ArgumentTypeError('a second has 1 to 65535 moments, not %r' % word)
+    return int(word)
 
 
 @command('explain')
@@ -29,11 +40,13 @@ def main() -> int:
     words.add_argument('file', metavar='FILE', help='a scenario, or with --apply also a program; - is standard input')
     words.add_argument('--apply', metavar='OUTPUT', action=Once,
                        help='write the scenario with the corrected lines, or with the translated program, to this file')
+    words.add_argument('--clock-second', metavar='N', type=moments, default=SECOND, action=Once,
+                       help='the moments of a second in a program in C (%d, as on the Tmote Sky)' % SECOND)
     add_limits(words)
     asked = words.parse_args()
     from motesim.explain.applied import apply
     from motesim.explain.explanation import explain
     from motesim.explain.within import runs_within
     if asked.apply is not None:
-        return apply(asked.file, asked.apply, runs_within(asked.apply, asked))
+        return apply(asked.file, asked.apply, runs_within(asked.apply, asked), asked.clock_second)
     return explain(asked.file, runs_within(asked.file, asked))

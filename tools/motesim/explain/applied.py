@@ -14,7 +14,7 @@ from typing import NamedTuple
 
 from motesim.c_program.program import translated
 from motesim.c_program.refusal import Refusal
-from motesim.c_program.seconds import SECOND
+from motesim.c_program.constants import SECOND
 from motesim.explain.explanation import CONTROL, explanation, shown_explanation, tables_or_none, wrapped
 from motesim.explain.followed import followed
 from motesim.explain.lint import TRANSLATED
@@ -27,7 +27,9 @@ from motesim.terminal import one_line
 from motesim.toml import MARK
 
 MOST_CHANGES = 1_000
-# The last moment, if a second has 10 moments.
+# The length of a run in seconds of a program in C.
+SECONDS = 100
+# The last moment for a program in the notation.
 END = 1_000
 # The net for a file that has only a program: two motes that hear each other.
 NET = '''version = 2
@@ -95,7 +97,7 @@ def in_net(name: str, source: str, end: int = END) -> str:
     return NET % (end, program, program, program, source if source.endswith('\n') else source + '\n')
 
 
-def apply(name: str, output: str, run: Callable[[bytes], Answer]) -> int:
+def apply(name: str, output: str, run: Callable[[bytes], Answer], second: int = SECOND) -> int:
     """Writes the corrected scenario to a file, and prints the changes and the explanation of this file; returns the
     status of tools/explain for it."""
     refuse_inputs(output, [name], '--apply')
@@ -109,8 +111,8 @@ def apply(name: str, output: str, run: Callable[[bytes], Answer]) -> int:
         text = in_net(name, text)
         print(IN_NET % (one_line(name), one_line(output)))
     elif is_c_file(name, data):
-        return translate(name, text, output, run)
-    text = with_translations(text)
+        return translate(name, text, output, run, second)
+    text = with_translations(text, second)
     known, number = set[str](), 0
     for number, (change, text) in enumerate(changes(text), 1):
         print('\n'.join(change.shown(number, known)))
@@ -123,7 +125,7 @@ def apply(name: str, output: str, run: Callable[[bytes], Answer]) -> int:
     return shown_explanation(output, text.encode(), run)
 
 
-def with_translations(text: str) -> str:
+def with_translations(text: str, second: int) -> str:
     """A scenario whose programs in C are translated, and what differs from C is printed. If a program can't be
     translated as a whole, the reason is printed, and the program stays."""
     programs = (tables_or_none(text) or {}).get('programs')
@@ -131,7 +133,7 @@ def with_translations(text: str) -> str:
         if not is_program_in_c(source) or text.count(source) != 1:
             continue
         try:
-            found = translated(source)
+            found = translated(source, second)
         except Refusal as refusal:
             print('\n'.join(wrapped(LINE_BY_LINE % (name, refusal.line, refusal.reason))))
             continue
@@ -147,16 +149,16 @@ def is_c_file(name: str, data: bytes) -> bool:
     return name.endswith('.c') or begins_as_c(data) and not begins_as_scenario(data)
 
 
-def translate(name: str, text: str, output: str, run: Callable[[bytes], Answer]) -> int:
+def translate(name: str, text: str, output: str, run: Callable[[bytes], Answer], second: int) -> int:
     """Writes a scenario with a program in C, and prints what differs from C; returns the status of tools/explain. If a
     line of the program isn't translated, nothing is written."""
     try:
-        found = translated(text)
+        found = translated(text, second)
     except Refusal as refusal:
         print('\n'.join(refused(name, text, refusal)))
         return 1
     source = '%s%s\n%s' % (TRANSLATED, one_line(Path(name).name), found.text)
-    data = in_net(name, source, END * found.second // SECOND).encode()
+    data = in_net(name, source, SECONDS * second).encode()
     write_whole(output, [data])
     print(IN_NET % (one_line(name), one_line(output)))
     for it in found.remarks:
