@@ -94,6 +94,27 @@ class Values(unittest.TestCase):
         report = Report.parse(answer((SCENARIO % (END, text)).encode()).report)
         self.assertEqual([(it.at, it.value) for it in report.lines('print') if it.mote == 0], [(8, 2)], text)
 
+    def test_an_early_return_ends_only_this_call_of_a_function(self) -> None:
+        need_program(self)
+        above = '''static int n, m; static struct ctimer c;
+static void tick(void *p) {
+  n++;
+  if(n > 6) return;
+  ctimer_set(&c, 3, tick, NULL);
+  if(n % 2 == 0) { m = 0; if(m == 0) return; }
+  printf("%d", n);
+}'''
+        head = '''  PROCESS_POLLHANDLER(m++; if(m % 2) { if(m > 1) return; } printf("%d", 100 + m););
+  static struct etimer et;'''
+        body = ('  ctimer_set(&c, 3, tick, NULL); for(m = 10; m < 14;) { etimer_set(&et, 30); process_poll(&p); '
+                'PROCESS_WAIT_EVENT_UNTIL(etimer_expired(&et)); }')
+        for inside, statements, wanted in (
+                ('', '  ctimer_set(&c, 3, tick, NULL);', [1, 3, 5]), (head, body.replace('tick', 'idle'), [112, 114])):
+            text, notes = translation(in_process(statements, above + '\nstatic void idle(void *p) { }', inside))
+            self.assertIsNotNone(text, notes)
+            report = Report.parse(answer((SCENARIO % (END, text)).encode()).report)
+            self.assertEqual([it.value for it in report.lines('print') if it.mote == 0], wanted, text)
+
     def test_values_have_the_types_of_c(self) -> None:
         need_program(self)
         for above, body, wanted in (*(('', *it) for it in VALUES), *MACROS):

@@ -2,6 +2,7 @@
 from __future__ import annotations
 
 import re
+from collections.abc import Sequence
 
 from motesim.c_program.base import OF_LONG, Program, Unit
 from motesim.c_program.functions import Functions, without_last_exit
@@ -11,7 +12,7 @@ from motesim.c_program.types import INT, Type, leaves_of
 from motesim.c_program.usage import GLOBAL
 from motesim.c_program.values import Limits, Value, compared, number, united
 from motesim.c_program.walk import all_parts
-from motesim.c_program.written import Block, If, Line, lines_of
+from motesim.c_program.written import Block, Flag, If, Line, lines_of
 from motesim.from_c.expressions import MIXED
 from motesim.from_c.packets import IF_OTHER, OF_ORDER
 
@@ -151,10 +152,16 @@ class ProcessWriter(Functions):
         """A block that runs when the process is polled, or when it exits."""
         unit = Unit(it.name, self.file.bodies[self.process], may_wait=False, may_spawn=False)
         with self.unit_of(unit), self.into([]) as block:
-            self.jumps = [self.target('return')]
-            self.run(it.body)
-        if block:
+            self.run_to_return(it.body)
+        if lines_of(block, ''):
             self.code.handlers[it.name] = block
+
+    def run_to_return(self, statements: Sequence[Statement]) -> None:
+        """The statements of a block of the notation: a `return` jumps to its end."""
+        target = self.target('return')
+        self.out.append(Flag(target, 0))
+        self.jumps = [target]
+        self.run(statements)
 
     def translate_receiver(self) -> None:
         """The thread that runs for each packet."""
@@ -241,8 +248,7 @@ class ProcessWriter(Functions):
             self.bind_pointer(variable, self.without_casts(pointer))
         unit = Unit('ctimer ' + name, function, may_wait=False, may_spawn=False, of_radio=self.unit.of_radio)
         with self.unit_of(unit), self.into([]) as block:
-            self.jumps = [self.target('return')]
-            self.run(function.body)
+            self.run_to_return(function.body)
         return [*self.heading(function), *block]
 
     def bind_pointer(self, variable: Variable, it: Expression) -> None:
