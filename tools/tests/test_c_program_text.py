@@ -430,6 +430,32 @@ class Remarks(unittest.TestCase):
         found = self.remarks('PROCESS_PT_SPAWN(&pt, sub(&pt, 3));', thread % 'printf("%d", k);')
         self.assertNotIn('isn\'t static', found)
 
+    def test_a_post_before_the_allocation_of_its_event_has_a_remark(self) -> None:
+        source = '''PROCESS(app, "app"); PROCESS(mac, "mac");
+AUTOSTART_PROCESSES(&app, &mac);
+static process_event_t ready;
+static void tell(void) { process_post(&mac, ready, NULL); }
+PROCESS_THREAD(app, ev, data) { PROCESS_BEGIN();
+  tell();
+  PROCESS_END(); }
+PROCESS_THREAD(mac, ev, data) { PROCESS_BEGIN();
+  ready = process_alloc_event();
+  while(1) { PROCESS_WAIT_EVENT_UNTIL(ev == ready); printf("%d", 1); process_post(&app, ready, NULL); }
+  PROCESS_END(); }
+'''
+        early = 'In Contiki, `ready` has no number of its own until `mac` calls `process_alloc_event()`.'
+        for old, new, line in (
+                ('', '', 4), ('&app, &mac);', '&mac, &app);', None), ('  tell();', '  PROCESS_PAUSE(); tell();', None),
+                ('&app, &mac);', '&app);', 4), ('ready = p', 'process_post(&mac, ready, NULL); ready = p', 4),
+                ('  tell();\n', '  \n', None)):
+            with self.subTest(new):
+                notes = translation(source.replace(old, new))[1]
+                self.assertEqual(early in notes, line is not None, notes)
+                self.assertTrue(line is None or 'line %d: %s' % (line, early) in notes, notes)
+        notes = translation(source.replace('  tell();\n', '').replace(
+            'ready = p', 'process_post(&mac, ready, NULL);\n ready = p'))[1]
+        self.assertIn('line 8: ' + early, notes)
+
     def test_each_cause_has_one_remark(self) -> None:
         self.assertEqual(self.remarks('leds_on(1); leds_on(2); leds_off(1);').count('LEDs'), 1)
 

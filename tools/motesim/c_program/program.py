@@ -10,6 +10,7 @@ from __future__ import annotations
 
 from typing import NamedTuple
 
+from motesim.c_program.allocation import early_posts
 from motesim.c_program.base import Program
 from motesim.c_program.constants import EVENT_NUMBERS, SECOND, constant_of
 from motesim.c_program.knowledge import Knowledge
@@ -48,6 +49,8 @@ def translated(text: str, second: int = SECOND) -> Translation:
         file = read_file(text)
         check_processes(file)
         program, lines = settled(file, second)
+        for it in early_posts(file):
+            program.remark(it.line, it.remark())
     except RecursionError:
         raise Refusal(1, TOO_LARGE % LIMITS[7]) from None
     found = '\n'.join(lines) + '\n'

@@ -1,0 +1,68 @@
+"""Posts of events that have no number yet: in Contiki, an event has none before `process_alloc_event()`."""
+from __future__ import annotations
+
+from collections.abc import Iterable, Iterator
+from itertools import takewhile
+from typing import NamedTuple
+
+from motesim.c_program.control import WAITS
+from motesim.c_program.tree import Expression, File, Statement, Variable
+from motesim.c_program.walk import all_parts
+
+ALLOCATE = 'process_alloc_event'
+POSTS = ('process_post', 'process_post_synch')
+EARLY = ('In Contiki, `%s` has no number of its own until `%s` calls `process_alloc_event()`. This statement runs '
+         'before that: it posts the event 0, so `ev == %s` isn\'t true. In the translation, the event exists from the '
+         'start.')
+
+
+class Early(NamedTuple):
+    """A post of an event before its allocation."""
+    line: int
+    event: str
+    allocator: str
+
+    def remark(self) -> str:
+        return EARLY % (self.event, self.allocator, self.event)
+
+
+def early_posts(file: File) -> Iterator[Early]:
+    """The posts that run before the process that allocates their event has allocated it."""
+    started = [it for it in file.autostart if it in file.bodies]
+    for allocator, body in file.bodies.items():
+        at_start = list(at_start_of(file, body.body))
+        for event in allocated(all_parts(body.body)):
+            is_at_start = event in allocated(at_start)
+            before = started[:started.index(allocator)] if is_at_start and allocator in started else started
+            for poster in before:
+                if poster != allocator:
+                    yield from posts_of(at_start_of(file, file.bodies[poster].body), event, allocator)
+            yield from posts_of(until_allocated(at_start, event), event, allocator)
+
+
+def at_start_of(file: File, statements: Iterable[Statement]) -> Iterator[Expression]:
+    """The expressions that run before the first wait, with those of the functions that are called there."""
+    for it in all_parts(statements):
+        if it.kind == 'call' and it.text in WAITS:
+            return
+        yield it
+        if it.kind == 'call' and it.text in file.functions:
+            yield from at_start_of(file, file.functions[it.text].body)
+
+
+def allocated(parts: Iterable[Expression]) -> set[Variable]:
+    """The events that get their number in some expressions."""
+    return {it.parts[0].variable for it in parts if it.kind == 'assign' and it.parts[0].variable
+            and it.parts[1].kind == 'call' and it.parts[1].text == ALLOCATE}
+
+
+def until_allocated(parts: Iterable[Expression], event: Variable) -> Iterator[Expression]:
+    """The expressions before the one in which an event gets its number."""
+    return takewhile(lambda it: event not in allocated([it]), parts)
+
+
+def posts_of(parts: Iterable[Expression], event: Variable, allocator: str) -> Iterator[Early]:
+    """The posts of an event in some expressions."""
+    for it in parts:
+        if it.kind == 'call' and it.text in POSTS and len(it.parts) == 3 and it.parts[1].variable is event:
+            yield Early(it.line, event.name, allocator)
