@@ -4,9 +4,9 @@
   bench/coverage.py 400 lognormal
 
 Each sweep has 5 to 30 runs, whose shares are drawn from a distribution near 1 with a known mean. The draws have fixed
-seeds, so the same number of sweeps yields the same table. docs/use/PLOTS.md has the numbers of 400 sweeps, in a row for
-each distribution. 400 sweeps of all distributions need about 15 minutes of processor time; 40 sweeps, which are the
-default, need a tenth of it.
+seeds, so the same number of sweeps yields the same table. docs/use/INTERVALS.md has the numbers of 400 sweeps, in a
+row for each distribution. 400 sweeps of all distributions need about 15 minutes of processor time; 40 sweeps, which
+are the default, need a tenth of it.
 
 Sweeps whose runs are all equal have no interval, and don't count; the column `none` has their share. The column
 `Wilson` has the share of the intervals by bootstrap-t that have an end of Wilson's score interval. The column `width`

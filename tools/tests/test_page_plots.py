@@ -1,5 +1,5 @@
-"""Results by chance: tools/plot has the numbers that a second program computes, which was written from the page
-alone."""
+"""Results by chance: tools/plot has the numbers that a second program computes, which was written from the pages
+only."""
 import contextlib
 import csv
 import io

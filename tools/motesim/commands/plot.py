@@ -20,7 +20,8 @@ the runs with this seed.
 The ending of a picture's name selects its format: SVG, PDF or PNG. Next to the picture the tool writes the picture's
 table, NAME.table.csv, and its origin, NAME.origin.csv: the command, and digests of the results, the plan, the measures,
 motesim and the tools. Pictures need matplotlib (on Debian: apt-get install python3-matplotlib). Without matplotlib the
-tool prints a table instead of a picture, and says so. docs/use/PLOTS.md explains all options with examples.
+tool prints a table instead of a picture, and says so. docs/use/PLOTS.md explains all options with examples,
+and docs/use/INTERVALS.md explains all intervals.
 
 The tool ends with status 0, with 1 if it printed a table because matplotlib is missing, or with 2 after an error.
 """
