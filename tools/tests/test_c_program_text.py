@@ -261,6 +261,17 @@ class Forms(unittest.TestCase):
                 text, _ = translation(in_process('  u = %s;' % drawn, '', VARIABLES))
                 self.assertEqual(body_of(text)[-len(lines):], lines)
 
+    def test_the_data_of_an_event_may_be_a_parameter_of_any_pointer_type(self) -> None:
+        for its in 'process_data_t', 'void *':
+            above = ('static struct etimer e;\nstatic void handle(process_event_t ev, %s data) {\n'
+                     '  if(ev == PROCESS_EVENT_TIMER && data == &e) x = 1;\n  if(data == NULL) x = 2;\n'
+                     '  if(ev == PROCESS_EVENT_EXITED && &p == data) x = 3;\n}' % its)
+            text, notes = translation(in_process('  etimer_set(&e, 3); PROCESS_YIELD(); handle(ev, data);',
+                                                 'static int x;\n' + above))
+            self.assertIsNotNone(text, notes)
+            for test in 'if fired(e) {', 'if (data == 0) {', 'if gone(p) {':
+                self.assertIn(test, text or '')
+
     def test_a_semaphore_may_be_declared_in_a_process(self) -> None:
         body = '  PT_SEM_INIT(&s, 2); PT_SEM_WAIT(process_pt, &s); n = PT_SEM_COUNT(&s);'
         text, notes = translation(in_process(body, '', VARIABLES + ' static struct pt_sem s;'))

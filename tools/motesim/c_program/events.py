@@ -71,10 +71,13 @@ class Events(Places):
         return None
 
     def is_data(self, it: Expression) -> bool:
-        """Returns whether an expression is the data of the event, as a pointer."""
+        """Returns whether an expression is the data of the event, as a pointer: `data`, or a parameter that got it."""
         while it.kind == 'cast' and it.type and it.type.kind in ('pointer', 'data'):
             it = it.parts[0]
-        return it.kind == 'name' and it.variable is not None and it.variable.type.kind == 'data'
+        if it.kind != 'name' or it.variable is None:
+            return False
+        alias = self.aliases.get(it.variable) if it.variable.is_parameter else None
+        return it.variable.type.kind == 'data' or alias is not None and alias.kind == 'data'
 
     def of_data(self, one: Expression, other: Expression) -> Value | None:
         """A comparison of data with the address of a timer, of a process, or with NULL; or of a pointer with NULL."""
