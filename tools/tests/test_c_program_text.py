@@ -269,7 +269,7 @@ class Forms(unittest.TestCase):
             text, notes = translation(in_process('  etimer_set(&e, 3); PROCESS_YIELD(); handle(ev, data);',
                                                  'static int x;\n' + above))
             self.assertIsNotNone(text, notes)
-            for test in 'if fired(e) {', 'if (data == 0) {', 'if gone(p) {':
+            for test in 'if fired(e) {', 'if ((data == 0) && !(is(timer) || is(exited))) {', 'if gone(p) {':
                 self.assertIn(test, text or '')
 
     def test_a_semaphore_may_be_declared_in_a_process(self) -> None:
