@@ -3,9 +3,13 @@ waits of the process are for flags, polls, events and timers. Another mote sends
 from __future__ import annotations
 
 import subprocess
+from collections import Counter
 from pathlib import Path
 
 from contiki_programs import ABOVE, END, HOST, ContikiProgram
+from motesim.report import Report
+
+MOTE = '[[mote]]\nx = %d\ny = 0\nprogram = "%s"\n'
 
 # The peer's first packet, the time between two of its packets, and the time of a packet on its way.
 FIRST, PERIOD, DELAY = 3, 7, 1
@@ -258,3 +262,11 @@ class CallbackProgram(ContikiProgram):
                     'etimer_expired(&ty)', 'etimer_expired(&ty) || ev == PROCESS_EVENT_MSG'), '    y++;', '    printf("%u\\n", y);',
                 '    etimer_set(&ty, 8);', *('    ' + it for it in [self.chance.choice(wakes)] if it), '  }',
                 '  PROCESS_END();', '}']
+
+
+def first_meeting(report: Report) -> int:
+    """The first moment at which mote 0 gets a packet and the event of a timer, or several packets: Contiki may run the
+    callback before, and the packet of motesim is an event among others."""
+    counts = Counter(it.at for it in report.lines('recv') if it.mote == 0)
+    timers = {it.at for it in report.lines('post') if it.mote == 0 and it.event == 'timer'}
+    return min((at for at, count in counts.items() if count > 1 or at in timers), default=1 << 30)

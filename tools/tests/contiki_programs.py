@@ -1,16 +1,37 @@
-"""Random programs for Contiki 2.x in C, as students type them: one or two processes that wait, post and print."""
+"""Random programs for Contiki 2.x in C, as students type them: one or two processes that wait, post and print. And what
+tests need that compile programs for the host of Contiki's kernel."""
 from __future__ import annotations
 
+import shutil
 import subprocess
+import tempfile
+import unittest
 from pathlib import Path
 
 from c_programs import LARGEST, MOST_PRINTS, CProgram
 from here import TOOLS
+from skips import need_command, need_program
 
 HOST = TOOLS / 'contiki_host'
 NAMES = (('hello', 'other'), ('blink_process', 'sink_process'), ('main_process', 'worker'))
 # A program's prints are compared up to this moment; a second has the length that the messages assume.
 END, SECOND = 60, 10
+# A scenario with a program in the notation on mote 0.
+TEXT = """version = 1
+end = %d
+[medium]
+range = 10
+base = 1
+per = 100
+[programs]
+p = '''
+%%s
+'''
+[[mote]]
+x = 0
+y = 0
+program = 'p'
+""" % END
 ABOVE = r"""#include <stdio.h>
 #include "contiki.h"
 #include "host.h"
@@ -226,3 +247,20 @@ class ContikiProgram(CProgram):
         self.statics.append('static int %s = %d;' % (name, self.chance.randrange(1, 4)))
         step = '%s  %s--;' % (edge, name)
         return ['%swhile(%s > 0) {' % (edge, name), step, *self._counted(scope, name, edge), edge + '}']
+
+
+class OnHost(unittest.TestCase):
+    """Tests that compile programs for the host of Contiki's kernel."""
+
+    def setUp(self) -> None:
+        need_program(self)
+        need_command(self, 'tcc', 'tcc')
+        self.folder = Path(tempfile.mkdtemp())
+        self.addCleanup(shutil.rmtree, self.folder)
+
+    def kernel(self) -> list[str]:
+        """The compiled files of the host, without its main function."""
+        found = [(it, self.folder / (it.stem + '.o')) for it in HOST.glob('*.c') if it.name != 'main.c']
+        for source, compiled in found:
+            subprocess.run(['tcc', '-c', '-I%s' % HOST, '-o', compiled, source], check=True)
+        return [str(it) for _, it in found]

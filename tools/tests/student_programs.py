@@ -1,18 +1,15 @@
 """Programs for Contiki 2.x as students write them, on three motes in a row: their lines on the host of Contiki's kernel,
-and their lines in motesim after the corrections of tools/explain.
+and their lines in motesim.
 
 A line is a mote, a moment and a printed number. The files are in student_programs/.
 """
 from __future__ import annotations
 
-import re
 import subprocess
 from collections.abc import Sequence
 from pathlib import Path
 
 from here import TOOLS
-from motesim.explain.applied import changes
-from motesim.explain.explanation import all_warnings
 from motesim.report import Report
 from motesim.runner.run import answer
 from motesim.scenario.faults import find_fault
@@ -53,30 +50,9 @@ def lines_on_host(source: str, folder: Path, kernel: Sequence[str]) -> list[str]
     return sorted(done.stdout.splitlines(), key=lambda it: int(it.split()[0]))
 
 
-def corrected(source: str) -> tuple[str, str]:
-    """A scenario with a program in C as the messages of tools/explain correct it line by line, and all hints in one
-    text."""
-    text, hints = SCENARIO % (END, source), list[str]()
-    for change, text in changes(text):
-        hints.append(change.hint)
-    return text, '\n'.join(hints)
-
-
 def lines_in_motesim(text: str) -> list[str] | None:
-    """The lines of a corrected scenario; None if it still has an error."""
+    """The lines of a scenario; None if it has an error."""
     if find_fault(text.encode()):
         return None
     report = Report.parse(answer(text.encode()).report)
     return ['%s %s print %s' % (it.mote, it.at, it.value) for it in report.lines('print')]
-
-
-def warnings(text: str) -> str:
-    """The warnings of tools/explain about a corrected scenario, in one line."""
-    data = text.encode()
-    return ' '.join(' '.join(all_warnings('x', data, answer(data).report)).split())
-
-
-def title(source: str) -> str:
-    """The first comment of a program."""
-    found = re.match(r'/\*(.*?)\*/', source, re.S)
-    return ' '.join(found[1].replace('*', ' ').split()) if found else ''

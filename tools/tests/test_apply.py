@@ -41,11 +41,10 @@ PROCESS_THREAD(blink, ev, data)
 
 class Changes(unittest.TestCase):
     def test_each_message_is_followed(self) -> None:
-        text = in_net('blink.c', C)
+        text = in_net('p', 'process a;\nautostart a;\ncode a {\n  var n = 0;\n  body {\n    PROCESS_BEGIN();\n'
+                           '    n++;\n    printf("%d\\n", n);\n    PROCESS_END();\n  }\n}\n')
         made = list(changes(text))
         self.assertIsNone(find_fault(made[-1][1].encode()))
-        self.assertEqual(made[0][0].gone, ('#include "contiki.h"',))
-        self.assertEqual(made[0][0].new, ())
         change = next(it for it, _ in made if it.new == ('    n = (n + 1);',))
         self.assertEqual((change.gone, change.hint), (('    n++;',), 'There is no `++`.'))
 
@@ -109,14 +108,14 @@ class Command(unittest.TestCase):
         status, out, _ = self.run_on(self.written('net.toml', in_net('p', C)), '--apply', str(output))
         self.assertEqual(status, 0)
         self.assertIn('Program p is in C: it is translated as a whole.\n', out)
-        self.assertIn('No line was changed: the text has no other error.\n', out)
+        self.assertIn('whole.toml: 1 change\n', out)
         self.assertIn("p = \'\'\'\n// Translated from C\nprocess blink;\n", output.read_text())
-        # (what can't be translated is corrected line by line)
+        # (a line that can't be translated is explained, and no line is changed)
         source = C.replace('n++;', 'goto out;')
         status, out, _ = self.run_on(self.written('net.toml', in_net('p', source)), '--apply', str(output))
-        self.assertEqual(status, 1)
-        self.assertIn("Program p is in C, but it can't be translated as a whole (line 14 of the program: ", out)
-        self.assertIn('Change 1\n', out)
+        self.assertEqual((status, output.read_text()), (1, in_net('p', source)))
+        self.assertIn('No line was changed: the first error has no corrected line.\n', out)
+        self.assertIn('whole.toml, line 20, which is line 14 of program p:\n  goto out;\n', out)
 
     def test_the_input_is_kept(self) -> None:
         name = self.written('net.toml', in_net('p', C))

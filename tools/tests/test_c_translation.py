@@ -5,15 +5,12 @@ import unittest
 from pathlib import Path
 
 from c_programs import CProgram
-from contiki_callbacks import CallbackProgram
-from contiki_programs import SECOND, ContikiProgram
-
+from contiki_callbacks import MOTE, CallbackProgram, first_meeting
+from contiki_programs import SECOND, TEXT, ContikiProgram, OnHost
 from motesim.report import Report
 from motesim.runner.run import answer
 from skips import need_command, need_program
 from student_programs import END, PROGRAMS, SCENARIO, kernel_in, lines_in_motesim, lines_on_host
-from test_contiki_callbacks import MOTE, first_meeting
-from test_contiki_programs import TEXT, OnHost
 from translated_c import in_process, translation
 
 # The seeds of the random programs that are compared, and the least number that has to be translated.

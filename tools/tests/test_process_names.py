@@ -32,25 +32,6 @@ code my_long_sensor_proc2 {
   body { yield_until is(go); print data; kill my_long_sensor_process; }
 }
 """
-CONTIKI = r"""#include "contiki.h"
-PROCESS(temperature_sensor_process, "Sensor");
-PROCESS(temperature_sensor_process2, "Sensor");
-AUTOSTART_PROCESSES(&temperature_sensor_process, &temperature_sensor_process2);
-PROCESS_THREAD(temperature_sensor_process, ev, data)
-{
-  PROCESS_BEGIN();
-  process_post(&temperature_sensor_process2, PROCESS_EVENT_MSG, NULL);
-  PROCESS_END();
-}
-PROCESS_THREAD(temperature_sensor_process2, ev, data)
-{
-  PROCESS_BEGIN();
-  PROCESS_WAIT_EVENT_UNTIL(ev == PROCESS_EVENT_MSG);
-  process_poll(&temperature_sensor_process);
-  printf("%d\\n", 3);
-  PROCESS_END();
-}
-"""
 
 
 class ProcessNames(unittest.TestCase):
@@ -99,13 +80,6 @@ class ProcessNames(unittest.TestCase):
         said = ' '.join(it[1] for it in found)
         self.assertIn('The name is `my_sink` here.', said)
         self.assertNotIn('written `sink`', said)
-
-    def test_names_in_the_macros_of_contiki(self) -> None:
-        found = self.steps(CONTIKI)
-        self.assertNotIn('temperature_sensor', found[1][0])
-        self.assertIn('PROCESS_THREAD(temp_sens_proc2, ev, data)', found[1][0])
-        self.assertIn('code temp_sens_proc2 {', found[-1][0])
-        self.assertIn('autostart temp_sens_proc, temp_sens_proc2;', found[-1][0])
 
     def test_words_of_the_notation_keep_their_meaning_elsewhere(self) -> None:
         program = ('process %(name)s;\nautostart %(name)s;\nreceiver %(name)s;\ncode %(name)s {\n'

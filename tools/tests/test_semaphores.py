@@ -5,14 +5,7 @@ from here import TOOLS  # noqa: F401
 from motesim.explain.advice import advice
 from motesim.from_c.side_by_side import side_by_side
 from motesim.notation.faults import find_fault
-from motesim.report import Report
-from motesim.runner.run import answer
-from skips import need_program
-from test_c_programs import SCENARIO as OF_PROCESS
-from test_contiki_programs import corrected
 from test_shared_variables import followed
-
-SCENARIO = OF_PROCESS.replace('process p;\nautostart p;\ncode p {\n%s\n  body {\n%s\n  }\n}\n', '%s\n')
 
 COUNTS = """#define SIZE 8
 static struct pt_sem empty, full;
@@ -50,11 +43,6 @@ class Counts(unittest.TestCase):
         assert found
         self.assertIsNone(found.line)
         self.assertIn('choose the number n for `(n + 1)`, write `semaphore full = n;`', found.hint)
-
-
-def prints(text: str) -> list[int | None]:
-    """The numbers that the motes of a scenario print."""
-    return [it.value for it in Report.parse(answer(text.encode()).report).lines('print')]
 
 
 def buffered(loop: str, first: str = '', variable: str = '') -> str:
@@ -131,27 +119,6 @@ BOTH = 'PT_SCHEDULE(producer(&p));\n    PT_SCHEDULE(consumer(&c));\n    '
 
 
 class SideBySide(unittest.TestCase):
-    def test_two_protothreads_become_two_processes(self) -> None:
-        need_program(self)
-        for wait in 'PROCESS_PAUSE();', 'PROCESS_YIELD();', 'PROCESS_WAIT_EVENT();':
-            with self.subTest(wait):
-                text = corrected(SCENARIO % buffered(BOTH + wait))
-                assert text
-                self.assertIn('semaphore empty = 2;\nsemaphore full = 0;\nprocess producer, consumer;\n'
-                              'autostart producer, consumer;\n', text)
-                self.assertNotIn('main_process', text)
-                self.assertEqual(prints(text), [5, 6, 7])
-
-    def test_a_process_with_other_statements_starts_them(self) -> None:
-        need_program(self)
-        for posted, wanted in ('process_post(&main_process, PROCESS_EVENT_CONTINUE, NULL);', [77, 5, 6, 7]), ('', [77]):
-            first = 'printf("%d\\n", 77);\n' + posted
-            text = corrected(SCENARIO % buffered('PROCESS_WAIT_EVENT();\n    ' + BOTH, first))
-            assert text
-            self.assertIn('process producer, consumer, main_process;\nautostart main_process;\n', text)
-            self.assertIn('if running(producer) { poll producer; } else { start producer; }', text)
-            self.assertEqual(prints(text), wanted)
-
     def test_the_example_of_the_paper(self) -> None:
         driver = ('static PT_THREAD(driver_thread(struct pt *pt))\n{\n  static struct pt a, b;\n  PT_BEGIN(pt);\n'
                   '  PT_SEM_INIT(&empty, 0);\n  PT_SEM_INIT(&full, COUNT);\n  PT_INIT(&a);\n'
@@ -186,18 +153,6 @@ class SideBySide(unittest.TestCase):
         assert found
         self.assertEqual(found.edits, ())
         self.assertIn('So write a process for each of them', found.reasons[0])
-
-    def test_one_protothread_stays_a_thread(self) -> None:
-        need_program(self)
-        self.assertIsNone(side_by_side(buffered('PT_SCHEDULE(producer(&p));')))
-        for loop, wanted in (('while(PT_SCHEDULE(work(&w))) {\n    PROCESS_YIELD();\n  }', [0, 1, 9]),
-                             ('while(PT_SCHEDULE(work(&w)));', [0, 1, 9]),
-                             ('PT_SCHEDULE(work(&w));\n  printf("%d\\n", 8);', [0, 1, 8, 9])):
-            with self.subTest(loop):
-                text = corrected(SCENARIO % (ONE % loop))
-                assert text
-                self.assertIn('spawn work;', text)
-                self.assertEqual(prints(text), wanted)
 
     def test_the_hint_on_one_protothread_names_the_difference(self) -> None:
         for loop, wanted in (('while(PT_SCHEDULE(work(&w))) {\n    PROCESS_PAUSE();\n  }', 'write `pause;` instead of'),

@@ -3,10 +3,7 @@ import unittest
 
 from follow import followed
 from motesim.explain.explanation import explanation
-from motesim.report import Report
-from motesim.runner.run import answer
 from motesim.scenario.faults import find_fault
-from skips import need_program
 
 SCENARIO = """version = 1
 end = 60
@@ -26,42 +23,6 @@ x = 10
 y = 0
 program = "p"
 """
-PAIR = r"""struct msg {
-  uint8_t value; /* of a sensor */
-  uint8_t serial;
-};
-static struct broadcast_conn bc;
-static struct msg m;
-PROCESS(relay_process, "Relay");
-AUTOSTART_PROCESSES(&relay_process);
-static void recv(struct broadcast_conn *c, const rimeaddr_t *from)
-{
-  struct msg *in = packetbuf_dataptr();
-  printf("%u %u\n", in->value, in->serial);
-}
-static const struct broadcast_callbacks cb = {recv};
-PROCESS_THREAD(relay_process, ev, data)
-{
-  static struct etimer t;
-  PROCESS_BEGIN();
-  broadcast_open(&bc, 129, &cb);
-  m.serial = 3;
-  while(1) {
-    etimer_set(&t, 20 + 10 * linkaddr_node_addr.u8[0]);
-    PROCESS_WAIT_EVENT_UNTIL(etimer_expired(&t));
-    m.value = 7;
-    m.serial++;
-    packetbuf_copyfrom(&m, sizeof(m));
-    broadcast_send(&bc);
-  }
-  PROCESS_END();
-}
-"""
-TYPE = (PAIR.replace('struct msg {', 'typedef struct {', 1).replace('};', '} msg_t;', 1)
-        .replace('static struct msg m;', 'static msg_t m;')
-        .replace('struct msg *in = packetbuf_dataptr();',
-                 'msg_t in;\n  memcpy(&in, packetbuf_dataptr(), sizeof(msg_t));')
-        .replace('in->', 'in.'))
 LINES = """process relay, other;
 autostart relay;
 code relay {
@@ -91,18 +52,6 @@ def by_messages(program: str) -> tuple[str, str]:
 
 
 class Structures(unittest.TestCase):
-    def printed(self, program: str) -> list[int | None]:
-        """What the motes print, after all messages."""
-        text, _ = by_messages(program)
-        self.assertIsNone(find_fault(text.encode()), text)
-        need_program(self)
-        return [it.value for it in Report.parse(answer(text.encode()).report).lines('print')]
-
-    def test_two_small_fields_are_one_packet(self) -> None:
-        for program in (PAIR, TYPE):
-            with self.subTest(program):
-                self.assertEqual(self.printed(program)[:6], [7, 4, 7, 4, 7, 5])
-
     def test_a_field_is_a_variable_with_and_without_its_declaration(self) -> None:
         sent = '    m.value = 7;\n    packetbuf_copyfrom(&m, sizeof(m));\n    broadcast_send(&bc);'
         for declared in ('  var m_value = 0;', ''):
@@ -113,12 +62,9 @@ class Structures(unittest.TestCase):
 
     def test_fields_that_do_not_fit_into_a_packet_have_no_line(self) -> None:
         three = '    m.a = 7;\n    m.b = 8;\n    m.c = 9;\n    packetbuf_copyfrom(&m, sizeof(m));'
-        for program in (LINES % ('', three), PAIR.replace('uint8_t', 'uint16_t')):
-            with self.subTest(program):
-                text, messages = by_messages(program)
-                self.assertIn('packetbuf_copyfrom(&m, sizeof(m));' if 'm.a' in program else '*in = packetbuf', text)
-                self.assertIn('but `m` has the fields `m_a`, `m_b`, `m_c`' if 'm.a' in program else
-                              'at most two fields', messages)
+        text, messages = by_messages(LINES % ('', three))
+        self.assertIn('packetbuf_copyfrom(&m, sizeof(m));', text)
+        self.assertIn('but `m` has the fields `m_a`, `m_b`, `m_c`', messages)
 
     def test_a_copy_of_a_structure_copies_its_fields(self) -> None:
         text, _ = by_messages(LINES % ('', '    a.u = 1;\n    a.v = 2;\n    b = a;\n    b.u++;\n    b.v++;'))

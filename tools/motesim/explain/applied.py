@@ -12,17 +12,17 @@ from collections.abc import Callable, Iterator, Sequence
 from pathlib import Path
 from typing import NamedTuple
 
-from motesim.c_program.program import translated
+from motesim.c_program.program import Translation, translated
 from motesim.c_program.refusal import Refusal
 from motesim.c_program.constants import SECOND
-from motesim.explain.explanation import CONTROL, explanation, shown_explanation, tables_or_none, wrapped
+from motesim.explain.explanation import CONTROL, explanation, shown_explanation, wrapped
 from motesim.explain.followed import followed
-from motesim.explain.lint import TRANSLATED
+from motesim.explain.whole import in_c, remarks_of, translation_of, with_comment, with_translation
 from motesim.faults import Fault
 from motesim.files import refuse_inputs, write_whole
 from motesim.runner.run import Answer, read_file
-from motesim.scenario.faults import find_fault
-from motesim.scenario.kinds import begins_as_c, begins_as_scenario, is_program_file, is_program_in_c
+from motesim.scenario.faults import ScenarioError, find_fault
+from motesim.scenario.kinds import begins_as_c, begins_as_scenario, is_program_file
 from motesim.terminal import one_line
 from motesim.toml import MARK
 
@@ -44,36 +44,53 @@ NOT_TRANSLATED = '%s, line %d: %s'
 NO_FILE = 'No file is written: tools/explain translates a program in C only if it can do so as a whole.'
 IN_NET = '%s is a program: %s has it in a net of two motes that hear each other.'
 IN_C = 'Program %s is in C: it is translated as a whole.'
-LINE_BY_LINE = ('Program %s is in C, but it can\'t be translated as a whole (line %d of the program: %s) So its lines '
-                'are corrected one after the other.')
 NO_CHANGE = 'No line was changed: the %s.'
 QUOTES = "%s has three single quotes in a row, which end the text of a program in a scenario: leave them out."
 
 
 class Change(NamedTuple):
-    """A change of a scenario: the hint, the lines that are gone, and those that are new."""
+    """A change of a scenario: the hint, the lines that are gone, and those that are new. `whole` is about a program
+    that is translated as a whole, whose lines aren't shown."""
     hint: str
     gone: tuple[str, ...]
     new: tuple[str, ...]
+    whole: tuple[str, ...] = ()
 
     def shown(self, number: int, known: set[str]) -> list[str]:
         """The change; its hint only if it isn't known."""
-        hint = [] if self.hint in known else wrapped(self.hint)
+        hint = [line for it in self.whole for line in wrapped(it)] if self.whole else (
+            [] if self.hint in known else wrapped(self.hint))
         return ['', 'Change %d' % number, *('- ' + CONTROL.sub('\ufffd', it) for it in self.gone),
                 *('+ ' + CONTROL.sub('\ufffd', it) for it in self.new), *hint]
 
 
-def changes(text: str) -> Iterator[tuple[Change, str]]:
+def changes(text: str, second: int = SECOND) -> Iterator[tuple[Change, str]]:
     """Yields each change that the messages of tools/explain show, with the text that has it, up to the first error
     without a corrected line."""
     for _ in range(MOST_CHANGES):
         fault = find_fault(text.encode())
         message = explanation('x', text.encode(), 'motesim: ' + fault.message) if fault else []
-        new = followed(text, message)
+        new = corrected(text, fault, message, second)
         if new is None or new == text:
             return
-        yield _change(text, new, message), new
+        program = str(fault.path[1]) if fault and fault.program else None
+        is_whole = program is not None and in_c(text, program) is not None
+        yield _translation(text, program, second) if program and is_whole else _change(text, new, message), new
         text = new
+
+
+def corrected(text: str, fault: ScenarioError | None, message: Sequence[str], second: int = SECOND) -> str | None:
+    """A scenario with the lines that the message about its first fault shows, or with the program in C translated that
+    the message is about; None if the message shows no lines."""
+    program = str(fault.path[1]) if fault and fault.program else None
+    return program and with_translation(text, program, second) or followed(text, message)
+
+
+def _translation(text: str, program: str, second: int) -> Change:
+    """The change of a program in C that is translated."""
+    made = translation_of(in_c(text, program) or '', second)
+    remarks = remarks_of('program %s' % program, made) if isinstance(made, Translation) else []
+    return Change('', (), (), (IN_C % one_line(program), *remarks))
 
 
 def _change(old: str, new: str, message: Sequence[str]) -> Change:
@@ -112,9 +129,8 @@ def apply(name: str, output: str, run: Callable[[bytes], Answer], second: int = 
         print(IN_NET % (one_line(name), one_line(output)))
     elif is_c_file(name, data):
         return translate(name, text, output, run, second)
-    text = with_translations(text, second)
     known, number = set[str](), 0
-    for number, (change, text) in enumerate(changes(text), 1):
+    for number, (change, text) in enumerate(changes(text, second), 1):
         print('\n'.join(change.shown(number, known)))
         known.add(change.hint)
     write_whole(output, [text.encode()])
@@ -123,25 +139,6 @@ def apply(name: str, output: str, run: Callable[[bytes], Answer], second: int = 
     print('\n%s' % ('%s: %d change%s' % (one_line(output), number, 's' * (number != 1)) if number
                     else NO_CHANGE % no_change))
     return shown_explanation(output, text.encode(), run)
-
-
-def with_translations(text: str, second: int) -> str:
-    """A scenario whose programs in C are translated, and what differs from C is printed. If a program can't be
-    translated as a whole, the reason is printed, and the program stays."""
-    programs = (tables_or_none(text) or {}).get('programs')
-    for name, source in programs.items() if isinstance(programs, dict) else ():
-        if not is_program_in_c(source) or text.count(source) != 1:
-            continue
-        try:
-            found = translated(source, second)
-        except Refusal as refusal:
-            print('\n'.join(wrapped(LINE_BY_LINE % (name, refusal.line, refusal.reason))))
-            continue
-        text = text.replace(source, '%sC\n%s' % (TRANSLATED, found.text))
-        print(IN_C % name)
-        for it in found.remarks:
-            print('\n'.join(['', *wrapped('Line %d of program %s: %s' % (it.line, name, it.text))]))
-    return text
 
 
 def is_c_file(name: str, data: bytes) -> bool:
@@ -157,7 +154,7 @@ def translate(name: str, text: str, output: str, run: Callable[[bytes], Answer],
     except Refusal as refusal:
         print('\n'.join(refused(name, text, refusal)))
         return 1
-    source = '%s%s\n%s' % (TRANSLATED, one_line(Path(name).name), found.text)
+    source = with_comment(found.text, one_line(Path(name).name))
     data = in_net(name, source, SECONDS * second).encode()
     write_whole(output, [data])
     print(IN_NET % (one_line(name), one_line(output)))

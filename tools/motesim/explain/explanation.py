@@ -6,11 +6,13 @@ import textwrap
 from collections.abc import Callable
 from typing import Any
 
-from motesim.explain import hints, missing, synonyms
+from motesim.explain import hints, missing, synonyms, whole
 from motesim.explain.advice import advice
 from motesim.explain.repair import Repair, repair
 from motesim.faults import Fault, tried
 from motesim.notation import faults as program_faults
+from motesim.c_program.program import Translation
+from motesim.c_program.refusal import Refusal
 from motesim.scenario import encodings
 from motesim.scenario import faults as scenario_faults
 from motesim.explain.lint import Warned, warnings
@@ -26,7 +28,6 @@ WIDTH = 112
 # (characters that a terminal would mistake for a command)
 CONTROL = re.compile(r'[\x00-\x08\x0b-\x1f\x7f-\x9f]')
 OF_REPORT = 'This is a report, not a scenario: tools/summary, tools/compare and tools/timeline read it.'
-OF_WHOLE_C = 'This program is in C: tools/explain %s --apply NEW.toml translates all of it.'
 PROGRAM = re.compile(r'program (\S+) fault (\d+) line (\d+)')
 
 
@@ -101,7 +102,12 @@ def place_of_fault(data: bytes, line: str) -> Place | None:
         return None
     if not fault.program:
         return place_of_scenario(text, fault)
-    found = place_of_token(text, str(fault.path[1]), fault.program.token)
+    program = str(fault.path[1])
+    source = whole.in_c(text, program)
+    made = whole.translation_of(source) if source is not None else None
+    if isinstance(made, Refusal):
+        return whole.place_of_line(text, program, made.line)
+    found = place_of_token(text, program, fault.program.token)
     return found or scenario_faults.place_of(text, fault.path)
 
 
@@ -119,13 +125,56 @@ def wrapped(text: str) -> list[str]:
 
 def of_program(name: str, text: str, program: str, its: program_faults.ProgramError) -> list[str]:
     """The lines about a fault in a program's text, with its place."""
+    return tried(lambda: in_c(name, text, program), failed) or of_notation(name, text, program, its)
+
+
+def of_notation(name: str, text: str, program: str, its: program_faults.ProgramError) -> list[str]:
+    """The lines about a fault in a program that isn't a whole program in C."""
     source: str = tables_of(text)['programs'][program]
-    lines = shown_program(name, text, program, its.token) + rule_and_advice(source, its, offset_of(text, program))
-    return lines + (wrapped(OF_WHOLE_C % one_line(name)) if is_program_in_c(source) else [])
+    return shown_program(name, text, program, its.token) + rule_and_advice(source, its, offset_of(text, program))
+
+
+def in_c(name: str, text: str, program: str) -> list[str]:
+    """The lines about a program of a scenario that is in C: the program in the notation, or the line that can't be
+    translated. Nothing if it isn't in C."""
+    source, what = whole.in_c(text, program), 'program %s' % one_line(program)
+    if source is None:
+        return []
+    made = whole.translation_of(source)
+    if isinstance(made, Translation):
+        return translation(what, name, made)
+    place = whole.place_of_line(text, program, made.line)
+    row = 'line %d, which is ' % place.line if place else ''
+    return refusal(what, '%s, %sline %d of %s:' % (one_line(name), row, made.line, what), source, made)
+
+
+def in_c_file(name: str, source: str) -> list[str]:
+    """The lines about a file with a whole program in C. Nothing if it has another text."""
+    if not is_program_in_c(source):
+        return []
+    made = whole.translation_of(source)
+    if isinstance(made, Translation):
+        return translation(one_line(name), name, made)
+    return refusal(one_line(name), '%s, line %d:' % (one_line(name), made.line), source, made)
+
+
+def translation(what: str, name: str, made: Translation) -> list[str]:
+    """The lines that show a program in the notation, below them what differs from C."""
+    return whole.shown(what, one_line(name), made) + [
+        line for it in whole.remarks_of(what, made) for line in wrapped(it)]
+
+
+def refusal(what: str, where: str, source: str, made: Refusal) -> list[str]:
+    """The lines about a line of C that isn't translated."""
+    line = CONTROL.sub('\ufffd', whole.line_at(source, made.line))
+    return [where, '  ' + line, *wrapped(whole.refused(what, made)), *wrapped(whole.INSTEAD)]
 
 
 def of_program_file(name: str, source: str, its: program_faults.ProgramError) -> list[str]:
     """The lines about a fault in a file that has only a program."""
+    found = tried(lambda: in_c_file(name, source), failed)
+    if found:
+        return found
     line = source.split('\n')[its.token.line - 1].rstrip('\r')
     where = '%s, line %d:' % (one_line(name), its.token.line)
     return [where, *marked(line, its.token.column, len(its.token.text)), *rule_and_advice(source, its, 0)]
@@ -199,7 +248,8 @@ def whole_explanation(name: str, data: bytes, line: str) -> list[str]:
         return program_instead(name, data)
     text = data.decode('utf-8', 'replace')
     if begins_as_c(data) and tables_or_none(text) is None:
-        return ['%s is a program in C, not a scenario.' % one_line(name), *hinted(hints.OF_C)]
+        its_file = tried(lambda: in_c_file(name, text.removeprefix(MARK)), failed)
+        return its_file or ['%s is a program in C, not a scenario.' % one_line(name), *hinted(hints.OF_C)]
     if fault.program:
         return of_program(name, text, str(fault.path[1]), fault.program)
     encoding = encodings.encoding_of(data) if fault.line else None
@@ -269,6 +319,8 @@ def program_instead(name: str, data: bytes) -> list[str]:
     """The lines about a file with a program instead of a scenario: how to write it into a scenario, and its error."""
     source = data.decode('utf-8', 'replace').removeprefix(MARK)
     its = program_faults.find_fault(source)
+    if is_program_in_c(source) and its:
+        return of_program_file(name, source, its)
     lines = ['%s is the text of a program, not a scenario.' % one_line(name), *hinted(hints.OF_PROGRAM)]
     if its is None:
         return ['%s has no error.' % one_line(name), *lines]
@@ -284,7 +336,8 @@ def refused(name: str, data: bytes, fault: NoReport) -> Fault:
 def explain(name: str, run: Callable[[bytes], Answer] | None = None) -> int:
     """Prints the explanation of a file, as tools/explain does; returns the status. `run` runs the scenario."""
     data = read_file(name)
-    if is_program_file(name, data):
+    if is_program_file(name, data) or is_program_in_c(data.decode('utf-8', 'replace')) and tables_or_none(
+            data.decode('utf-8', 'replace')) is None:
         print('\n'.join(program_instead(name, data)))
         return 1
     return shown_explanation(name, data, run or answer)

@@ -50,7 +50,7 @@ BINARY = 'the file is binary: it has bytes that no text has'
 OF_C = 'its program is in C'
 NOT_NOTATION = ', not in the notation of mote programs (%s)' % TRANSLATES
 # The most lines of an error, and the most warnings, that are shown.
-MOST_LINES, MOST_WARNED = 40, 3
+MOST_LINES, MOST_WARNED = 60, 3
 
 # The causes of warnings about a net: those that depend on a solution's packets, and the others.
 OF_PACKETS, OF_OWN_NET = ('step', 'together', 'seeds'), ('range', 'loss')

@@ -17,6 +17,12 @@ C = re.compile(rb'(?:\xef\xbb\xbf)?(?:\s|//[^\n]*+\n|/\*(?s:.*?)\*/)*+'
                rb'(?:#[ \t]*(?:include|define)\b|(?:PROCESS|PROCESS_NAME|PROCESS_THREAD|AUTOSTART_PROCESSES)[ \t]*\(|'
                rb'(?:static|const|extern|struct|int|void|unsigned|u?int(?:8|16|32)_t)\s+\w)')
 
+# A comment of C or of the notation; a process in C, and a process in the notation.
+COMMENT = re.compile(r'//[^\n]*+|/\*(?s:.*?)(?:\*/|\Z)')
+OF_CONTIKI = re.compile(r'^[ \t]*(?:static[ \t]+)?PROCESS_THREAD[ \t]*\(', re.M)
+OF_NOTATION = re.compile(r'^[ \t]*(?:(?:process|autostart|receiver)[ \t]+[a-z]\w*[ \t]*[,;]|'
+                         r'code[ \t]+[a-z]\w*\s*\{|body\s*\{)', re.M)
+
 # A plan has places, and neither a version nor motes. The first line of results has the columns of a sweep.
 PLACES = re.compile(rb'^[ \t]*(?:\[\[?[ \t]*places[ \t]*\]|places[ \t]*=)', re.M)
 OF_SCENARIO = re.compile(rb'^[ \t]*(?:\[\[?[ \t]*mote[ \t]*\]|(?:mote|version)[ \t]*=)', re.M)
@@ -59,8 +65,12 @@ def begins_as_c(data: bytes) -> bool:
 
 
 def is_program_in_c(source: object) -> bool:
-    """Returns whether the text of a program is a whole program in C for Contiki."""
-    return isinstance(source, str) and 'PROCESS_THREAD' in source and begins_as_c(source.encode('utf-8', 'replace'))
+    """Returns whether the text of a program is a whole program in C for Contiki: it has a process in C, and none in the
+    notation."""
+    if not isinstance(source, str) or 'PROCESS_THREAD' not in source:
+        return False
+    text = COMMENT.sub(' ', source)
+    return OF_CONTIKI.search(text) is not None and OF_NOTATION.search(text) is None
 
 
 def begins_as_scenario(data: bytes) -> bool:
