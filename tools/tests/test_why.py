@@ -776,6 +776,34 @@ code p { var n = 0; etimer t; body { set t 30; while 1 {
                          'line 20: `if (is(packet) && (data == (newest + 1)))` was false each time')
         self.assertRegex(said[2], r'^4 copies did not reach a process here; ')
 
+    def test_an_event_of_a_callback_timer_that_ran_no_block(self) -> None:
+        text = '''version = 2
+end = 30
+medium = { range = 10, base = 1, per = 100, collide = false }
+mote = [{ x = 0, y = 0, program = "a" }, { x = 5, y = 0, program = "b" }]
+[programs]
+a = """process a; autostart a; code a { etimer t; body { set t 9; yield_until fired(t); send 7; } }"""
+b = """process b; autostart b; receiver b;
+code b {
+  ctimer c { print 1; }
+  body {
+    set c 10;
+    while 1 { yield_until is(packet); %s }
+  }
+}"""
+'''
+        for statements, wanted in (
+                ('set c 5;', 'ctimer took the event of c at 15, but did not run its block: an older event of c had run '
+                 'it at 10, after line 6: `set c 5`'),
+                ('stop c;', 'ctimer took the event of c at 10, but did not run its block: c was stopped at 10'),
+                ('', None)):
+            report = answer((text % statements).encode()).report
+            asker = Asker(Source('test', report, Scenario.parse(text % statements)))
+            missing = asker.about('mote 1 prints b between 12 and 20')
+            assert isinstance(missing, Missing)
+            found = [it.words for it in misses(asker, missing)[0][1] if it.kind == 'timer']
+            self.assertEqual(found, [wanted] if wanted else [])
+
     def test_a_timer_whose_event_did_not_end_a_wait_for_a_packet(self) -> None:
         """The wait tests only packets, and `if fired(t)` after it is reached only with a packet."""
         text = '''version = 2

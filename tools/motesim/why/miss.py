@@ -260,11 +260,24 @@ class _Misses:
         wait."""
         if self.kind not in ('print', 'send') or not any(' timer ' in line for line in self.lines):
             return
+        yield from self.callbacks()
         replay, found = self.replayed(), dict[tuple[int, str], list[Ignored]]()
         for it in ignored_timers(replay, self.processes(self.program()), self.end):
             found.setdefault((it.wait, it.timer), []).append(it)
         for its in sorted(found.values(), key=lambda its: its[-1].at)[-MOST_OTHERS:]:
             yield Miss('timer', ignored_in_one_wait(replay, its), self.source.traces.row(At(self.mote, its[-1].line)))
+
+    def callbacks(self) -> Iterator[Miss]:
+        """Events of callback timers that ran no block: the last one of each timer."""
+        program, replay = self.program(), self.replayed()
+        its = {it.timer: it for it in replay.idle_events if it.at <= self.end
+               and program.timers[it.timer].process in self.processes(program)}
+        for it in sorted(its.values(), key=lambda it: it.at)[-MOST_OTHERS:]:
+            name = program.timers[it.timer].name
+            reason = '%s was stopped at %d' % (name, it.stopped) if it.stopped >= 0 else (
+                'an older event of %s had run it at %d, after %s' % (name, it.ran, in_words(program, it.row)))
+            yield Miss('timer', 'ctimer took the event of %s at %d, but did not run its block: %s' % (
+                name, it.at, reason), self.source.traces.row(At(self.mote, it.line)))
 
     def silent(self) -> Iterator[Miss]:
         """Neighbours from which nothing arrived, because they sent nothing."""

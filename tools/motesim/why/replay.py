@@ -84,6 +84,24 @@ class Change(NamedTuple):
     row: int
 
 
+class IdleEvent(NamedTuple):
+    """An event of a callback timer that ran no block.
+
+    timer    its number
+    at       the moment at which ctimer took the event
+    line     the line of the trace that shows this
+    ran      the moment at which an older event ran the block after the timer was set
+    stopped  the moment at which the timer was stopped after it was set; -1 if it wasn't
+    row      the statement that set the timer last, by its number from 1
+    """
+    timer: int
+    at: int
+    line: int
+    ran: int
+    stopped: int
+    row: int
+
+
 class Called(NamedTuple):
     """A call of a process began, or ended, after this many lines of the trace.
 
@@ -118,6 +136,9 @@ class Timer:
     row: int = 0
     since: int = 0
     statement: str = ''
+    # For a callback timer: the last moment at which its block ran, or at which it was stopped.
+    ran: int = -1
+    stopped: int = -1
 
     @property
     def due(self) -> int:
@@ -151,6 +172,7 @@ class Replay:
         self.links: list[Link] = []
         self.changes: list[Change] = []
         self.calls: list[Called] = []
+        self.idle_events: list[IdleEvent] = []
         self.reached: list[Reached] = []
         self.now = self.clock = self.units = 0
         self.variables = [list(it.first) for it in program.processes]
@@ -403,7 +425,9 @@ class Replay:
         self.timers[number].owner = None
         if number in self.timer_list:
             self.timer_list.remove(number)
-        self.callbacks.discard(number)
+        if number in self.callbacks:
+            self.callbacks.remove(number)
+            self.timers[number].stopped = self.now
 
     # The processes of the system
 
@@ -437,16 +461,21 @@ class Replay:
 
     def call_back(self, number: int, frame: Frame) -> None:
         """ctimer runs the block of a callback timer in the name of the timer's process."""
-        if number >= len(self.timers) or number not in self.callbacks:
+        if number >= len(self.timers):
+            return
+        timer = self.timers[number]
+        if number not in self.callbacks:
+            self.idle_events.append(IdleEvent(number, self.now, frame.line, timer.ran, timer.stopped, timer.row))
             return
         self.callbacks.remove(number)
-        timer = self.program.timers[number]
-        assert timer.callback
+        timer.ran, timer.stopped = self.now, -1
+        its = self.program.timers[number]
+        assert its.callback
         before, current = self.frame, self.current
-        self.frame = called = Frame(timer.process, 'timer', number, 0, 'callback', frame.line, frame)
-        self.current = timer.process
+        self.frame = called = Frame(its.process, 'timer', number, 0, 'callback', frame.line, frame)
+        self.current = its.process
         self.calls.append(Called(self.lines, self.now, called, False))
-        timer.callback(self, 'timer', number, 0)
+        its.callback(self, 'timer', number, 0)
         self.calls.append(Called(self.lines, self.now, called, True))
         self.frame, self.current = before, current
 
