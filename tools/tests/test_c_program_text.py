@@ -141,6 +141,14 @@ FORMS = (
        x = 2;
      }
      x = data;'''),
+    ('printf("sent %d of %u packets.\\n", n, u); printf("%s: %d\\n", "on", x); printf("%d\\n", x); '
+     'printf("done\\n"); puts("end");', '''
+     print n; // sent
+     print u; // of packets
+     print x;
+     print x;
+     print 1; // done
+     print 1; // end'''),
     ('a[n] = 2; a[n] += x; n = 2; a[n] = 3;', '''
      if (n == 0) {
        a = 2;
@@ -188,6 +196,8 @@ REFUSALS = (
     ('void (*g)(void) = later; g();', 'A pointer to a function is called here'),
     ('x = (1000UL * u) / 65536UL;', 'so `/` with 65536 isn\'t translated'), ('u /= 70000;', '`/` with 70000'),
     ('uint32_t l = 1; n = l >> 16;', '`>>` with 16'), ('if(clock_time() > 100000UL) n = 1;', '`>` with 100000'),
+    ('x = &n;', '`&n` is an address, but a number is expected'), ('x = a;', '`a` is an address, but a number'),
+    ('*(uint16_t *)packetbuf_dataptr() = 3;', 'A packet is filled by a copy of a variable'),
     ('later(1);', '`later` has 0 parameters.'), ('f();', '`f` has 1 parameter.'),
 )
 
@@ -292,6 +302,21 @@ class Refusals(unittest.TestCase):
                 self.assertIn(reason, found.exception.reason)
                 self.assertEqual(found.exception.line, line)
 
+    def test_packets_that_are_too_large_are_named(self) -> None:
+        for declared, copied, wanted in (
+                ('uint8_t bytes[3];', 'packetbuf_copyto(bytes);', 'this array of 3 values doesn\'t fit'),
+                ('uint8_t *d = packetbuf_dataptr();', 'printf("%d", d[2]);', 'at most two bytes, `d[0]` and `d[1]`'),
+                ('message *d = packetbuf_dataptr();', 'printf("%d", d->b);', '`message` doesn\'t fit')):
+            above = ('typedef struct { uint8_t a, b, c; } message;\n'
+                     'static void recv(struct broadcast_conn *c, const rimeaddr_t *from) { %s %s }\n'
+                     'static struct broadcast_conn bc;\nstatic const struct broadcast_callbacks calls = {recv};')
+            above %= declared, copied
+            with self.subTest(copied):
+                text, notes = translation(in_process('  broadcast_open(&bc, 129, &calls);', above))
+                self.assertIsNone(text)
+                self.assertIn('line 5: A packet is one number of 16 bits', notes)
+                self.assertIn(wanted, notes)
+
     def test_a_missing_brace_is_named_at_a_line_that_it_concerns(self) -> None:
         source = in_process('  while(n) {\n    n++;\n  }', FUNCTIONS, VARIABLES)
         for old, new, wanted in (
@@ -318,6 +343,16 @@ PROCESS_THREAD(b, ev, data) { PROCESS_BEGIN(); printf("%d", shared + limit); PRO
         self.assertIsNone(text)
         self.assertTrue(notes.startswith('line 7: Several processes use `shared`: `a` and `b`.'), notes)
         self.assertIsNotNone(translation(source.replace('shared = limit', ''))[0])
+
+    def test_a_static_variable_of_a_function_belongs_to_one_process(self) -> None:
+        source = '''PROCESS(a, "a");
+PROCESS(b, "b");
+AUTOSTART_PROCESSES(&a, &b);
+static int next(void) { static int last; return ++last; }
+PROCESS_THREAD(a, ev, data) { PROCESS_BEGIN(); printf("%d", next()); PROCESS_END(); }
+PROCESS_THREAD(b, ev, data) { PROCESS_BEGIN(); printf("%d", next()); PROCESS_END(); }
+'''
+        self.assertIn('`last`, a static variable of `next`: `a` and `b`.', translation(source)[1])
 
     def test_ctimers_that_set_each_other_are_refused(self) -> None:
         above = ('static struct ctimer one, two;\nstatic void b(void *p) { ctimer_stop(&one); }\n'
@@ -410,6 +445,27 @@ class Remarks(unittest.TestCase):
                 ('u = CLOCK_SECOND;', '`CLOCK_SECOND` is 128'), ('if(node_id == 1) x = 1;', 'numbered from 0')):
             with self.subTest(body):
                 self.assertIn(wanted, self.remarks(body))
+
+    def test_names_that_change_are_listed_once(self) -> None:
+        above = 'static int numberOfPacketsReceived, Total, plain, set, table[2];'
+        notes = self.remarks('Total = numberOfPacketsReceived + plain + set + table[1];', above)
+        wanted = '`Total` is `total`, `numberOfPacketsReceived` is `numberofpackived`, `set` is `my_set`.'
+        self.assertEqual(notes, 'line 4: A name has at most 16 small letters, digits and `_` here, and isn\'t a '
+                         'keyword: ' + wanted)
+        many = ', '.join('N%d' % at for at in range(11))
+        self.assertIn('`N7` is `n7`, and 3 more.', self.remarks('plain = N0 + %s;' % many.replace(', ', ' + '), above
+                                                               + ' static int %s;' % many))
+
+    def test_a_text_that_depends_on_a_value_is_named(self) -> None:
+        above = 'static const char *names[] = {"a", "b"};'
+        for body in 'printf("%s", n ? "on" : "off");', 'printf("%s %d", names[n], x);':
+            self.assertIn('depends on `n`, but texts aren\'t printed', self.remarks(body, above))
+        for body in 'printf("%s", names[1]);', 'printf("%s", "on");':
+            self.assertNotIn('depends', self.remarks(body, above))
+
+    def test_a_timer_that_is_not_static_is_named(self) -> None:
+        self.assertIn('`local` isn\'t static, so its memory has other values after a wait',
+                      self.remarks('etimer_set(&local, 3); PROCESS_YIELD();', '', '  struct etimer local;'))
 
     def test_numbers_of_32_bits_wrap(self) -> None:
         self.assertIn('above 65,535 wrap', self.remarks('l = 70000;', '', '  static uint32_t l;'))

@@ -57,9 +57,9 @@ MACROS = (
     ('#define CAT(a, b) a##b\n#define XCAT(a, b) CAT(a, b)\n#define N 4', 'int n4 = 6; printf("%d %d %d", XCAT(n, N), '
      'CAT(, n4), CAT(1, 2));', '6 6 12'),
 )
-# Programs of students that aren't translated: they schedule protothreads themselves, have a pointer to timers, start a
-# process with a value, or have callbacks for two connections.
-REFUSED = frozenset({'callback_pointer', 'shared_item', 'side_by_side', 'start_value', 'two_connections'})
+# Programs of students that aren't translated: they schedule protothreads themselves, start a process with a value, or
+# have callbacks for two connections.
+REFUSED = frozenset({'shared_item', 'side_by_side', 'start_value', 'two_connections'})
 
 
 class Students(unittest.TestCase):

@@ -6,7 +6,7 @@ from contextlib import contextmanager
 from dataclasses import dataclass, field
 
 from motesim.c_program.knowledge import Knowledge, LoopLimits
-from motesim.c_program.names import fresh
+from motesim.c_program.names import fresh, is_changed
 from motesim.c_program.refusal import Refusal
 from motesim.c_program.tree import File, Function, Variable
 from motesim.c_program.types import INT, Type
@@ -32,9 +32,17 @@ class Program:
     # Refusals that hold only if the limits of values are settled.
     refusals: list[Refusal] = field(default_factory=list)
 
+    # The names of C that the notation can't have, with their lines and the names here.
+    renamed: dict[str, tuple[int, str]] = field(default_factory=dict)
+
     def remark(self, line: int, text: str) -> None:
         """Notes what differs from C, once for each cause."""
         self.remarks.setdefault(text, (line, text))
+
+    def note_name(self, name: str, found: str, line: int) -> None:
+        """Notes that a name of C isn't one of the notation."""
+        if line and is_changed(name):
+            self.renamed.setdefault(name, (line, found))
 
 
 @dataclass
@@ -98,9 +106,10 @@ class Base:
 
     # Names.
 
-    def new_name(self, name: str) -> str:
+    def new_name(self, name: str, line: int = 0) -> str:
         found = fresh(name, self.code.names)
         self.code.names.add(found)
+        self.program.note_name(name, found, line)
         return found
 
     def declare(self, name: str, initial: int = 0) -> str:
@@ -108,12 +117,13 @@ class Base:
         return name
 
     def named(self, variable: Variable, path: tuple[str | int, ...], initial: int = 0) -> str:
-        """The name of a part of a variable in this process: `a`, `a1` for `a[1]`, `p_x` for `p.x`."""
+        """The name of a part of a variable in this process: `a`, `a1` for `a[1]`, `m_1_0` for `m[1][0]`, `p_x` for
+        `p.x`."""
         key = variable, path
         if key not in self.own_names:
-            parts = ['_' + it if isinstance(it, str) else str(it or '') for it in path]
-            name = variable.name + ''.join(parts)
-            self.own_names[key] = self.new_name(name)
+            is_table = sum(isinstance(it, int) for it in path) > 1
+            parts = ['_%s' % it if is_table or isinstance(it, str) else str(it or '') for it in path]
+            self.own_names[key] = self.new_name(variable.name + ''.join(parts), variable.line)
         return self.own_names[key]
 
     # Statements.

@@ -2,11 +2,11 @@
 from __future__ import annotations
 
 import re
-from collections.abc import Callable
+from collections.abc import Callable, Sequence
 
 from motesim.c_program.constants import constant_of
 from motesim.c_program.expressions import Expressions
-from motesim.c_program.places import OF_DATA, Pointer
+from motesim.c_program.places import OF_DATA, Place, Pointer
 from motesim.c_program.tree import Expression
 from motesim.c_program.types import INT, UNSIGNED
 from motesim.c_program.values import HALF, MOST, NOTHING, Value, added, as_type, compared, divided, multiplied, number
@@ -22,7 +22,12 @@ IGNORED = ('broadcast_open', 'unicast_open', 'abc_open', 'random_init', 'leds_in
            'packetbuf_set_datalen')
 LEDS = ('leds_on', 'leds_off', 'leds_toggle', 'leds_blink', 'leds_invert')
 OF_LEDS = 'A mote has no LEDs: a `print` shows the moment in the report.'
-OF_TEXT = 'There are no texts: a `printf` without a number prints 1, and each number of a `printf` has a `print`.'
+OF_TEXT = ('There are no texts: each number of a `printf` has a `print`, whose comment has the text, and a `printf` '
+           'without a number prints 1. A line of the report shows the process and the number, but not which `printf` it '
+           'is from: if this matters, print numbers that differ, such as `1000 + n`.')
+OF_CHOSEN_TEXT = ('Which text this `printf` prints depends on `%s`, but texts aren\'t printed here: print the number '
+                  '`%s`, too.')
+LONGEST_LABEL = 40
 OF_BELOW = 'This value may be below 0. Then it is printed as a number that is 65,536 above it.'
 NO_DATA = ('`process_start` passes no value here: post the value to `%s` after the start, and let it wait for this '
            'event.')
@@ -152,13 +157,16 @@ class Calls(Expressions):
                 return number(0)
             if pointer.kind == 'data':
                 return self.whole('data')
-            if pointer.kind in ('place', 'packet') and pointer.place is not None:
+            if pointer.kind == 'packet':
+                return self.whole('packet')
+            if pointer.kind == 'place' and pointer.place is not None:
                 self.remark(line, OF_DATA)
-                return self.packed(pointer.place, line)
+                return self.data_of(pointer.place, line)
             raise self.refuse(line, 'The data of an event is a number here, or the address of a variable.')
         return self.operand(it)
 
-    def packed(self, place: object, line: int) -> Value:
+    def data_of(self, place: Place, line: int) -> Value:
+        """The value that an event has for a variable whose address is given."""
         raise NotImplementedError
 
     def call_process_post(self, it: Expression) -> None:
@@ -401,40 +409,49 @@ class Calls(Expressions):
         """Each number of a text is a line; a text without a number is the number 1."""
         if not it.parts or it.parts[0].kind != 'text':
             raise self.refuse(it.line, 'The first argument of `printf` is a text in quotes.')
-        kinds = [found[1] for found in CONVERSION.finditer(it.parts[0].text) if found[1]]
+        found = [one for one in CONVERSION.finditer(it.parts[0].text) if one[1]]
+        kinds, labels = [one[1] for one in found], labels_of(it.parts[0].text, found)
+        if any(labels):
+            self.remark(it.line, OF_TEXT)
         if len(kinds) > len(it.parts) - 1:
             raise self.refuse(it.line, 'The text of this `printf` has %d values, but %d are given.' % (
                 len(kinds), len(it.parts) - 1))
-        count = 0
-        for kind, part in zip(kinds, it.parts[1:]):
+        for kind, part, label in zip(kinds, it.parts[1:], labels):
             if kind in 'sp':
                 self.skip_text(part)
                 continue
             if kind in 'feg':
                 raise self.refuse(it.line, 'Numbers are whole here, with 16 bits.')
-            count += 1
-            self.printed(part, kind in 'di')
+            self.printed(part, kind in 'di', label)
         for part in it.parts[len(kinds) + 1:]:
             self.effect(part)
-        if not count:
-            self.remark(it.line, OF_TEXT)
-            self.emit('print 1;')
+        if all(kind in 'sp' for kind in kinds):
+            self.print_text(it)
+
+    def print_text(self, it: Expression) -> None:
+        """A text without a number is the number 1."""
+        self.remark(it.line, OF_TEXT)
+        text = it.parts[0].text if it.parts and it.parts[0].kind == 'text' else ''
+        self.emit('print 1;' + comment_of(label_of(text)))
 
     def skip_text(self, it: Expression) -> None:
         """Skips a text that is printed: it has no effects."""
         if any(part.kind in ('call', 'assign', 'postfix') and part.text != 'packetbuf_dataptr'
                for part in self.all_in(it)):
             raise self.refuse(it.line, 'There are no texts here: a program prints numbers.')
+        chosen = it.parts[0] if it.kind == 'choice' else it.parts[1] if it.kind == 'index' else None
+        names = [part.text for part in self.all_in(chosen) if part.kind == 'name'] if chosen else []
+        if chosen and names and constant_of(chosen) is None:
+            self.remark(it.line, OF_CHOSEN_TEXT % (names[0], names[0]))
 
-    def printed(self, it: Expression, is_signed: bool) -> None:
+    def printed(self, it: Expression, is_signed: bool, label: str) -> None:
         value = self.operand(it)
         if is_signed and value.is_negative:
             self.remark(it.line, OF_BELOW)
-        self.emit('print %s;' % value.text)
+        self.emit('print %s;%s' % (value.text, comment_of(label)))
 
     def call_puts(self, it: Expression) -> None:
-        self.remark(it.line, OF_TEXT)
-        self.emit('print 1;')
+        self.print_text(it)
 
     def call_putchar(self, it: Expression) -> None:
         self.call_puts(it)
@@ -512,3 +529,21 @@ class Calls(Expressions):
         self.out.append(If(compared('<', kept, number(0)), [Line('%s = (0 - %s);' % (kept.text, kept.text))], []))
         return kept._replace(low=0, high=max(-value.low, value.high))
 
+
+def labels_of(text: str, found: Sequence[re.Match[str]]) -> list[str]:
+    """The words of the text of a `printf` about each of its values: those in front of it; of the last one, also those
+    behind it."""
+    edges = [0, *(one.end() for one in found)]
+    labels = [label_of(text[edge:one.start()]) for edge, one in zip(edges, found)]
+    return [*labels[:-1], ' '.join(filter(None, (labels[-1], label_of(text[edges[-1]:]))))] if labels else []
+
+
+def label_of(text: str) -> str:
+    """The words of a text, for a comment."""
+    plain = ' '.join(re.sub(r'\\[a-z]', ' ', text).replace('\\', '').replace("'''", '"').split())
+    found = plain.strip(' :=,;.-()[]<>\'"')
+    return found[:LONGEST_LABEL - 2] + '..' if len(found) > LONGEST_LABEL else found
+
+
+def comment_of(label: str) -> str:
+    return ' // ' + label if label else ''

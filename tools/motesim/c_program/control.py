@@ -130,7 +130,7 @@ class Control(Radio):
         test = it.expressions[0]
         assert test is not None
         temporaries, flags = self.unit.temporaries, self.unit.flags
-        if test.text == '&&' and test.kind == 'binary' and not it.others and self.needs_statements(test.parts[1]):
+        if test.text == '&&' and test.kind == 'binary' and not it.others and self.needs_statements(*test.parts):
             inner = it._replace(expressions=(test.parts[1],), comments=())
             it, test = it._replace(body=(inner,)), test.parts[0]
         value = self.settled_test(test)
@@ -147,12 +147,15 @@ class Control(Radio):
         self.out.append(If(value, then, other))
         return self.behind(both_ends, rest)
 
-    def needs_statements(self, it: Expression) -> bool:
-        """Returns whether a value needs statements of its own."""
+    def needs_statements(self, above: Expression, it: Expression) -> bool:
+        """Returns whether the right side of an `&&` needs statements of its own."""
         known, posts, log = dict(self.known), self.posts, len(self.log)
         self.posts = []
         with self.statement_of(), self.into([]) as block:
-            self.test(it)
+            is_reached = self.test(above).constant != 0
+            del block[:], self.posts[:]
+            if is_reached:
+                self.test(it)
         found = bool(block or self.posts)
         self.known, self.posts = known, posts
         del self.log[log:]

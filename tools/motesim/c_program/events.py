@@ -83,13 +83,18 @@ class Events(Places):
         """A comparison of data with the address of a timer, of a process, or with NULL; or of a pointer with NULL."""
         if self.is_data(one):
             return self.data_is(other)
-        is_pointer = self.type_of(one).kind == 'pointer' and one.kind in ('name', 'unary')
-        if is_pointer and constant_of(other) == 0:
-            return negated(self.of_pointer_test(one))
-        return None
+        if not self.is_pointer(one):
+            return None
+        if constant_of(other) == 0:
+            return number(int(self.pointer(one).kind == 'null'))
+        if not self.is_pointer(other):
+            return None
+        targets = [self.pointer(it) for it in (one, other)]
+        is_known = all(it.kind == 'null' or it.kind == 'timer' and it.place and not it.place.chosen for it in targets)
+        return number(int(targets[0] == targets[1])) if is_known else None
 
-    def of_pointer_test(self, it: Expression) -> Value:
-        return number(int(self.pointer(it).kind != 'null'))
+    def is_pointer(self, it: Expression) -> bool:
+        raise NotImplementedError
 
     def data_is(self, other: Expression) -> Value:
         """A test whether the data of the event is the address of something."""

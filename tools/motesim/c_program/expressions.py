@@ -21,6 +21,8 @@ NO_SIGNED_DIVISION = ('`%s` of a value that may be below 0 isn\'t translated her
                       'use an `if`.')
 NO_LONG = ('Values have 16 bits here, so `%s` with %d isn\'t translated: use smaller units, or a value without the '
            'lower bits.')
+OF_NUMBER = ('`%s` is an address, but a number is expected here: write the name of a variable without `&`, or a member '
+             'of an array such as `a[0]`.')
 NO_BITS = 'This operation on bits needs statements of its own: write it above, into a variable.'
 NO_NAME = 'motesim has no `%s`.'
 OF_SECOND = ('A second has %d moments here, so `CLOCK_SECOND` is %d%s. `end` of the scenario is in moments, too, and '
@@ -43,7 +45,15 @@ class Expressions(Events):
         """The value of an expression as a test: a pointer is true if it isn't NULL."""
         if it.kind in ('name', 'cast') and self.is_data(it):
             return negated(self.data_is(Expression('name', 'NULL', line=it.line)))
-        return self.evaluate(it)
+        return self.of_pointer(it, True) if self.is_pointer(it) else self.evaluate(it)
+
+    def is_pointer(self, it: Expression) -> bool:
+        """Returns whether an expression is an address, not a number."""
+        if it.kind == 'unary':
+            return it.text == '&'
+        variable = it.variable
+        return it.kind == 'name' and variable is not None and variable not in self.values and (
+            variable.type.kind in ('pointer', 'array') or variable in self.aliases)
 
     # Values.
 
@@ -66,19 +76,19 @@ class Expressions(Events):
             return self.values[variable]
         if variable.type.kind == 'data' and variable not in self.aliases:
             return self.whole('data')
-        if variable.type.kind == 'pointer' or variable in self.aliases:
-            return self.of_pointer(it)
-        if variable.type.kind == 'array' and variable.type.of and variable.type.of.name == 'char':
-            raise self.refuse(it.line, TEXTS)
+        if self.is_pointer(it):
+            return self.of_pointer(it, False)
         return self.read(self.place(it), it.line)
 
-    def of_pointer(self, it: Expression) -> Value:
-        """A pointer as a test: whether it isn't NULL."""
+    def of_pointer(self, it: Expression, is_test: bool) -> Value:
+        """The value of a pointer; as a test, whether it isn't NULL."""
         pointer = self.pointer(it)
         if pointer.kind == 'data':
             return self.whole('data')
         if pointer.kind == 'place' and it.variable and it.variable.type.kind not in ('pointer', 'array'):
             return self.read(self.place(it), it.line)
+        if not is_test and pointer.kind != 'null':
+            raise self.refuse(it.line, OF_NUMBER % (it.text if it.kind == 'name' else '&' + it.parts[0].text))
         return number(int(pointer.kind != 'null'))
 
     def named_number(self, it: Expression) -> Value:
@@ -144,7 +154,7 @@ class Expressions(Events):
         if it.text == '*':
             return self.read(self.place(it), it.line)
         if it.text == '&':
-            return self.of_pointer(it)
+            return self.of_pointer(it, False)
         if it.text in ('++', '--'):
             return self.stepped(it, True)
         if it.text == '!':
@@ -312,6 +322,8 @@ class Expressions(Events):
         if event is not None:
             return event
         left = self.test(it.parts[0])
+        if left.constant is not None and bool(left.low) == (it.text == '||'):
+            return number(int(left.low != 0))
         if self.posts:
             left = self.temporary(is_true(left))
             self.flush()

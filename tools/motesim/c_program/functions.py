@@ -16,12 +16,14 @@ from motesim.c_program.walk import all_parts
 from motesim.c_program.written import Block, Comment, Flag, If, Line, While
 from motesim.from_c.packets import OF_END
 
+LOST_TIMER = ('In C, `%s` isn\'t static, so its memory has other values after a wait, and its event may never come. '
+              'Here, it comes: declare it as `static`.')
 LOST = ('In C, `%s` isn\'t static, so it loses its value when its process waits. Here, it keeps it: declare it as '
         '`static`.')
 NO_WAIT = 'This function doesn\'t belong to a process, so it can\'t wait.'
 NO_RESULT = 'The function `%s` has no result.'
 NO_STATIC = '`%s` needs a constant as its first value.'
-OF_POINTERS = ('The parameter `%s` is a pointer that changes: use an index, or the variable itself.')
+OF_POINTERS = ('`%s` is a pointer that changes: use an index, or the variable itself.')
 OF_EVENT = 'A function gets the event and the data of the call here, `ev` and `data`, not others.'
 SCHEDULE = ('`PT_SCHEDULE` is translated only if a process waits for the end of one protothread, as `PT_SPAWN` does. '
             'Write a process for each protothread instead.')
@@ -82,7 +84,11 @@ class Functions(Control):
         """A declaration inside of a function: a variable with a value is an assignment, unless it is static."""
         variable = it.variable
         assert variable is not None
-        if variable.type.kind == 'pointer' and variable.initial is not None:
+        if variable.type.kind in ('etimer', 'ctimer', 'timer', 'stimer') and not variable.is_static:
+            self.remark(it.line, LOST_TIMER % variable.name)
+        elif variable.type.kind == 'pointer' and variable.initial is not None:
+            # (if the statements of a function are written at each call, they begin with the declaration)
+            self.aliases.pop(variable, None)
             self.point(variable, variable.initial, it.line)
         elif not variable.is_static and variable.initial is not None:
             self.start(variable, it.line)
@@ -313,7 +319,7 @@ class Functions(Control):
     def thread(self, function: Function) -> str:
         """The thread for a function, which is translated when it is used first."""
         if function.name not in self.threads:
-            name = self.new_name(function.name)
+            name = self.new_name(function.name, function.line)
             unit = Unit(function.name, function, may_wait=function.kind == 'thread',
                         is_callback=self.unit.is_callback and function.kind != 'thread',
                         of_radio=self.unit.of_radio and function.kind != 'thread')

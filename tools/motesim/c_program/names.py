@@ -18,7 +18,15 @@ def fresh(name: str, taken: Iterable[str]) -> str:
     """A name that isn't taken: with a number, if it is."""
     taken, first = set(taken), similar(name)
     count, found = 1, first
+    # (`a1_2` isn't a member of an array `a1`)
+    between = '_' if first[-1].isdigit() else ''
     while found in taken or found in RESERVED:
         count += 1
-        found = first[:LONGEST - len(str(count))].rstrip('_') + str(count)
+        end = between + str(count)
+        found = first[:LONGEST - len(end)].rstrip('_') + end
     return found
+
+
+def is_changed(name: str) -> bool:
+    """Returns whether a name of C can't be a name of the notation."""
+    return similar(name) != name

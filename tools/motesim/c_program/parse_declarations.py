@@ -227,12 +227,18 @@ class Declarations(Expressions):
             one = self.declarator(its)
             initial, kind = (self.initial(one.type) if self.accept('=') else (None, one.type))
             if is_typedef:
-                self.scopes[-1][one.name] = one.type
+                self.define_type(one)
             elif one.parameters is None:
                 yield self.declare(one._replace(type=kind), qualifiers, initial)
             elif self.is_sign('{'):
                 raise Refusal(self.token.line, NO_END % one.name)
             self.next_declared()
+
+    def define_type(self, one: Declared) -> None:
+        """A `typedef`: a structure without a name gets this one."""
+        its = one.type
+        is_nameless = its.kind == 'struct' and not its.name
+        self.scopes[-1][one.name] = its._replace(name=one.name) if is_nameless else its
 
     def next_declared(self) -> None:
         """Steps over the comma between two names that are declared."""

@@ -89,7 +89,7 @@ class FileReader(Declarations):
                 return
             initial, kind = (self.initial(one.type) if self.accept('=') else (None, one.type))
             if is_typedef:
-                self.scopes[-1][one.name] = one.type
+                self.define_type(one)
             elif one.parameters is None and not (one.type.kind == 'process' or 'extern' in qualifiers):
                 self.file.variables.append(self.declare(one._replace(type=kind), qualifiers, initial))
             self.next_declared()

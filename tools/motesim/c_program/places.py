@@ -20,8 +20,14 @@ NO_FIELD = 'There is no field `%s` here.'
 NO_ROOM = ('`unicast_send` needs 8 of the 16 bits of a packet for the number of the receiver. So 8 bits are left for '
            'the value, but `%s` has two fields. Send one field, put both into 8 bits, such as `type * 64 + seq %% 64`, '
            'or use `broadcast_send`.')
-OF_PACKET = ('A packet is one number of 16 bits, so it has one value or two fields that are at most 255: `%s` doesn\'t '
+OF_PACKET = ('A packet is one number of 16 bits, so it has one value or two fields that are at most 255: %s doesn\'t '
              'fit. Send a packet for each value.')
+OF_INDEX = ('A packet is one number of 16 bits, so it has at most two bytes, `%s[0]` and `%s[1]`: send a packet for '
+            'each value.')
+ONLY_BYTE = 'The packets of this program have one byte: there is no byte %d.'
+TO_FILL = ('A packet is filled by a copy of a variable here: write the value into a variable `x`, and then '
+           '`packetbuf_copyfrom(&x, sizeof(x));`.')
+NO_CHANGE = 'A packet that has arrived can\'t be changed: use a variable.'
 NO_PACKET = 'The packet is known only in the function that is called for packets: keep its value in a variable.'
 OF_ADDRESS = 'An address is one number: the motes are numbered from 0, in the order of the scenario.'
 NO_MOTE = 255
@@ -101,10 +107,9 @@ class Places(Base):
         base = self.place(array) if its.kind == 'array' and not self.is_alias(array) else self.pointed(array, True)
         index = self.evaluate(it.parts[1])
         if base.type.kind != 'array' or not base.type.of:
-            if base.source != 'variable' and index.constant in (0, 1):
-                wide = Type('array', of=base.type, size=2)
-                base = base._replace(type=wide, root=wide if base.root == base.type else base.root)
-            elif index.constant == 0:
+            if base.source != 'variable' and base.root == base.type:
+                return self.member_of_packet(base, index, it)
+            if index.constant == 0:
                 return base
             else:
                 raise self.refuse(it.line, NO_POINTER % (array.text or 'this'))
@@ -119,6 +124,28 @@ class Places(Base):
         paths = tuple((*path, at) for path in base.paths for at in range(size))
         whole = index if base.chosen is None else added(multiplied(base.chosen, number(size)), index, '+')
         return base._replace(type=of, paths=paths, chosen=whole)
+
+    def member_of_packet(self, base: Place, index: Value, it: Expression) -> Place:
+        """A member of the values from the beginning of a packet, or of the data of an event."""
+        name, at = it.parts[0].text or 'd', index.constant
+        if at == 0 and (size_of(base.type) == 2 or self.has_one_byte(base.source)):
+            return base
+        if at not in (0, 1) or size_of(base.type) != 1:
+            raise self.refuse(it.line, OF_INDEX % (name, name))
+        if self.has_one_byte(base.source):
+            raise self.refuse(it.line, ONLY_BYTE % at)
+        wide = Type('array', of=base.type, size=2)
+        return base._replace(type=base.type, root=wide, paths=((at,),))
+
+    def has_one_byte(self, source: str) -> bool:
+        """Returns whether all packets, or all data of events, are one byte."""
+        forms = self.forms(source)
+        return source == 'packet' and self.is_to_one or 'byte' in forms and not forms & {'pair', 'word'}
+
+    def forms(self, source: str) -> set[str]:
+        """The forms of the packets, or of the data of events: byte, word or pair."""
+        known = (it.split() for it in self.program.knowledge.forms)
+        return {form for its, form in known if its == source}
 
     def is_alias(self, it: Expression) -> bool:
         return it.kind == 'name' and it.variable is not None and it.variable in self.aliases
@@ -293,17 +320,18 @@ class Places(Base):
         parts = leaves_of(its)
         path = place.paths[0]
         if place.chosen is not None or place.type.kind in ('struct', 'array', 'pointer'):
-            raise self.refuse(line, OF_PACKET % 'this')
+            raise self.refuse(line, OF_PACKET % shown_type(place.root))
         at = next((at for at, (known, _) in enumerate(parts) if known == path), 0)
         whole = self.whole(place.source)
         if len(parts) == 1:
             return self.single(whole, place, line)
         if len(parts) != 2 or any(size_of(it) != 1 for _, it in parts):
-            raise self.refuse(line, OF_PACKET % (its.name or 'this'))
+            raise self.refuse(line, OF_PACKET % shown_type(its))
         if place.source == 'packet' and self.is_to_one:
             raise self.refuse(self.first_call('unicast_send') or line, NO_ROOM % (its.name or 'the structure'))
         # (the first of two fields is the upper byte, but the first byte of a value of 16 bits is its lower one)
-        is_upper = bool(at) == (place.source == 'packet' and 'word' in self.program.knowledge.forms)
+        forms = self.forms(place.source)
+        is_upper = bool(at) == bool(forms and 'pair' not in forms)
         text = '(%s %s 256)' % (whole.text, '/' if is_upper else '%')
         return converted(Value(text, UNSIGNED, 0, 255), place.type)
 
@@ -315,10 +343,9 @@ class Places(Base):
 
     def single(self, whole: Value, place: Place, line: int) -> Value:
         """The only value of a packet or of an event."""
-        forms = self.program.knowledge.forms
-        if place.source == 'packet' and 'pair' in forms and size_of(place.type) == 1:
+        if 'pair' in self.forms(place.source) and size_of(place.type) == 1:
             whole = Value('(%s / 256)' % whole.text, UNSIGNED, 0, 255)
-        elif place.source == 'packet' and 'pair' in forms:
+        elif 'pair' in self.forms(place.source):
             raise self.refuse(line, 'The packets of this program have two fields: read each field by itself.')
         elif place.source == 'packet' and place.type.signed and whole.high > 255:
             # (a packet of another program is taken to have a value of the same kind)
@@ -342,7 +369,8 @@ class Places(Base):
     def write(self, place: Place, value: Value, line: int) -> None:
         """Writes a value to a place."""
         if place.source != 'variable':
-            raise self.refuse(line, 'A packet that has arrived can\'t be changed: use a variable.')
+            is_own = place.source == 'packet' and not self.unit.is_callback
+            raise self.refuse(line, TO_FILL if is_own else NO_CHANGE)
         self.note_written(place)
         if place.type.name == 'char' and (value.low < 0 or value.high > 127):
             self.remark(line, OF_CHARACTER)
@@ -405,6 +433,13 @@ class Places(Base):
         if it.kind == 'unary' and it.text == '&':
             return pointer_to(self.type_of(it.parts[0]))
         return it.type or INT
+
+
+def shown_type(its: Type) -> str:
+    """A type that doesn't fit into a packet, in a message."""
+    if its.kind == 'array':
+        return 'this array of %d values' % its.size
+    return '`%s`' % its.name if its.name else 'this structure'
 
 
 ADDRESSES = ('rimeaddr_node_addr', 'linkaddr_node_addr', 'rimeaddr_null', 'linkaddr_null')

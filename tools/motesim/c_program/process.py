@@ -167,7 +167,7 @@ class ProcessWriter(Functions):
         """The thread that runs for each packet."""
         function = self.program.usage.callback
         assert function is not None
-        self.receiving = self.new_name(function.name)
+        self.receiving = self.new_name(function.name, function.line)
         self.threads[function.name] = self.receiving
         self.bind_callback(function)
         unit = Unit('receive', function, may_wait=False, is_callback=True, of_radio=True)
@@ -268,7 +268,8 @@ class ProcessWriter(Functions):
 
     def ordered_ctimers(self) -> list[str]:
         """The ctimers, in an order in which each one is declared before the blocks that use it."""
-        texts = {name: '\n'.join(lines_of(block, '')) for name, block in self.code.ctimers.items()}
+        texts = {name: '\n'.join(it.partition('//')[0] for it in lines_of(block, ''))
+                 for name, block in self.code.ctimers.items()}
         uses = {name: {other for other in texts if other != name and re.search(r'\b%s\b' % other, text)}
                 for name, text in texts.items()}
         found = list[str]()

@@ -24,6 +24,8 @@ from motesim.c_program.walk import all_parts, declared_in
 from motesim.notation.faults import ProgramError, find_fault
 
 MOST_ROUNDS = 40
+MOST_NAMES = 8
+OF_NAMES = 'A name has at most 16 small letters, digits and `_` here, and isn\'t a keyword: %s.'
 NO_PROCESS = 'No process is here: a program for Contiki has at least one `PROCESS` with its `PROCESS_THREAD`.'
 NO_BODY = 'The process `%s` has no `PROCESS_THREAD(%s, ev, data)` in this file.'
 TOO_LARGE = 'The program is too large for a mote: %s'
@@ -51,6 +53,7 @@ def translated(text: str, second: int = SECOND) -> Translation:
         program, lines = settled(file, second)
         for it in early_posts(file):
             program.remark(it.line, it.remark())
+        remark_names(program)
     except RecursionError:
         raise Refusal(1, TOO_LARGE % LIMITS[7]) from None
     found = '\n'.join(lines) + '\n'
@@ -59,6 +62,15 @@ def translated(text: str, second: int = SECOND) -> Translation:
         raise Refusal(*of_fault(fault, file))
     remarks = sorted(Remark(*it) for it in program.remarks.values())
     return Translation(found, tuple(remarks))
+
+
+def remark_names(program: Program) -> None:
+    """Notes the names that the notation can't have."""
+    ordered = sorted((line, at, name, found) for at, (name, (line, found)) in enumerate(program.renamed.items()))
+    names = ['`%s` is `%s`' % it[2:] for it in ordered]
+    if names:
+        more = ['and %d more' % (len(names) - MOST_NAMES)] if len(names) > MOST_NAMES else []
+        program.remark(ordered[0][0], OF_NAMES % ', '.join([*names[:MOST_NAMES], *more]))
 
 
 def of_fault(fault: ProgramError, file: File) -> tuple[int, str]:
@@ -119,19 +131,20 @@ def name_all(program: Program) -> None:
     """Names the processes, the events and the semaphores."""
     taken = set[str]()
 
-    def new(name: str) -> str:
+    def new(name: str, line: int = 0) -> str:
         found = fresh(name, taken)
         taken.add(found)
+        program.note_name(name, found, line)
         return found
     file = program.file
-    program.names = {it: new(it) for it in file.processes}
+    program.names = {it: new(it, line) for it, line in file.processes.items()}
     functions = (*file.functions.values(), *file.bodies.values())
     inner = [it.variable for one in functions for it in declared_in(one.body) if it.variable and it.variable.is_static]
     for variable in (*file.variables, *inner):
         if variable.type.kind == 'event':
-            program.events.setdefault('variable ' + variable.name, new(variable.name))
+            program.events.setdefault('variable ' + variable.name, new(variable.name, variable.line))
         elif variable.type.kind == 'semaphore':
-            program.semaphores[variable] = new(variable.name)
+            program.semaphores[variable] = new(variable.name, variable.line)
     for value, name in event_numbers(file).items():
         program.events['number %d' % value] = new(name)
 

@@ -1,8 +1,10 @@
 """Translates packets: the buffer, sends, and the wait of the process that gets packets."""
 from __future__ import annotations
 
+from collections.abc import Sequence
+
 from motesim.c_program.calls import Calls
-from motesim.c_program.places import NO_MOTE, OF_PACKET, Place
+from motesim.c_program.places import NO_MOTE, OF_PACKET, Place, shown_type
 from motesim.c_program.tree import Expression, Statement
 from motesim.c_program.types import UNSIGNED, leaves_of, size_of
 from motesim.c_program.values import MOST, Value, added, as_type, multiplied, number
@@ -32,19 +34,10 @@ class Radio(Calls):
 
     # The value of a packet.
 
-    def packed(self, place: object, line: int) -> Value:
-        """The value of a variable, or of a structure with two small fields, in one number."""
-        assert isinstance(place, Place)
-        if place.source != 'variable':
-            return self.whole(place.source)
-        parts = leaves_of(place.type)
-        places = [place._replace(type=its, paths=tuple((*path, *inner) for path in place.paths))
-                  for inner, its in parts]
-        if len(parts) == 1:
+    def packed(self, places: Sequence[Place], line: int) -> Value:
+        """The value of a variable, or of two small variables, in one number."""
+        if len(places) == 1:
             return self.read(places[0], line)
-        name = place.variable.name if place.variable else 'this'
-        if len(parts) != 2 or any(size_of(its) != 1 for _, its in parts):
-            raise self.refuse(line, OF_PACKET % name)
         first, second = (self.read(it, line) for it in places)
         values = [it if it.low >= 0 else Value('(%s %% 256)' % it.text, UNSIGNED, 0, 255, it.reads)
                   for it in (first, second)]
@@ -52,12 +45,27 @@ class Radio(Calls):
         return added(multiplied(as_type(values[0], UNSIGNED)._replace(type=UNSIGNED), number(256, UNSIGNED)), values[1],
                      '+')
 
-    def form_of(self, place: Place) -> str:
-        """The form of a packet: byte, word or pair."""
-        if place.source != 'variable':
-            return ''
-        parts = leaves_of(place.type)
-        return 'pair' if len(parts) == 2 else 'byte' if size_of(parts[0][1]) == 1 else 'word'
+    def parts_of_packet(self, place: Place, size: Expression | None, line: int) -> list[Place]:
+        """The variables whose values a packet has, or the data of an event."""
+        count = self.evaluate(size).constant if size else None
+        if count is None or place.variable is None or place.chosen is not None:
+            count = size_of(place.type)
+        places = self.bytes_from(place, count, line)
+        if len(places) > 2 or len(places) == 2 and any(size_of(it.type) != 1 for it in places):
+            name = place.variable.name if place.variable else ''
+            raise self.refuse(line, OF_PACKET % ('`%s`' % name if name else shown_type(place.type)))
+        return places
+
+    def note_form(self, source: str, places: Sequence[Place]) -> str:
+        """Notes the form of a packet, or of the data of an event: byte, word or pair."""
+        form = 'pair' if len(places) == 2 else 'byte' if size_of(places[0].type) == 1 else 'word'
+        self.program.knowledge.new_forms.add('%s %s' % (source, form))
+        return form
+
+    def data_of(self, place: Place, line: int) -> Value:
+        places = self.parts_of_packet(place, None, line)
+        self.note_form('data', places)
+        return self.packed(places, line)
 
     def call_packetbuf_copyfrom(self, it: Expression) -> None:
         source = self.without_casts(self.first(it))
@@ -71,20 +79,15 @@ class Radio(Calls):
             return
         if pointer.kind != 'place' or pointer.place is None:
             raise self.refuse(it.line, 'The address of a variable is expected here.')
-        place = pointer.place
-        if place.type.kind == 'array' and place.type.of and len(it.parts) > 1:
-            size = self.evaluate(it.parts[1]).constant
-            if size is not None and size == size_of(place.type.of):
-                place = place._replace(type=place.type.of, paths=tuple((*path, 0) for path in place.paths))
-        form = self.form_of(place)
-        self.program.knowledge.new_forms.add(form)
-        if {'pair', 'word'} <= self.program.knowledge.forms:
+        places = self.parts_of_packet(pointer.place, it.parts[1] if len(it.parts) > 1 else None, it.line)
+        form = self.note_form('packet', places)
+        if {'pair', 'word'} <= self.forms('packet'):
             raise self.refuse(it.line, TWO_FORMS)
-        self.fill(self.packed(place, it.line), it, form)
+        self.fill(self.packed(places, it.line), it, form)
 
     def fill(self, value: Value, it: Expression, form: str = '') -> None:
         """Fills the buffer: the value is kept up to the send, unless this is the next statement."""
-        if form == 'byte' and 'pair' in self.program.knowledge.forms:
+        if form == 'byte' and 'pair' in self.forms('packet'):
             value = multiplied(as_type(value, UNSIGNED), number(256, UNSIGNED))
         self.flush()
         if self.next_sends:
@@ -142,7 +145,7 @@ class Radio(Calls):
         value, address = self.sent_value(), self.address(target)
         self.remark(it.line, OF_ONE_MOTE)
         if value.low < 0 or value.high > 255:
-            if 'pair' in self.program.knowledge.forms:
+            if 'pair' in self.forms('packet'):
                 raise self.refuse(it.line, TOO_LARGE)
             value = Value('(%s %% 256)' % value.text, UNSIGNED, 0, 255, value.reads)
         self.note_packet(value)
@@ -150,7 +153,7 @@ class Radio(Calls):
         self.send(it, whole)
 
     def value_packetbuf_datalen(self, it: Expression) -> Value:
-        sizes = {{'byte': 1}.get(form, 2) for form in self.program.knowledge.forms if form}
+        sizes = {{'byte': 1}.get(form, 2) for form in self.forms('packet')}
         if len(sizes) > 1:
             raise self.refuse(it.line, SIZES)
         return number(min(sizes, default=2), UNSIGNED)
@@ -190,6 +193,10 @@ class Radio(Calls):
         count = self.evaluate(size).constant
         if count is None:
             raise self.refuse(line, 'The number of the bytes is a constant here.')
+        return self.bytes_from(place, count, line)
+
+    def bytes_from(self, place: Place, count: int, line: int) -> list[Place]:
+        """The variables and the members in a number of bytes."""
         if count == size_of(place.type):
             return [place._replace(type=its, paths=tuple((*one, *path) for one in place.paths))
                     for path, its in leaves_of(place.type)]

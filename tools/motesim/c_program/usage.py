@@ -11,6 +11,9 @@ from motesim.c_program.walk import all_parts, assigned_in, variables_in
 GLOBAL = ('event', 'semaphore', 'process', 'connection', 'callbacks', 'pt', 'data')
 SHARED = ('Several processes use `%s`: %s. Processes share no variables here. Let one process have it, and post its '
           'value to the other one by `process_post(&p, EVENT, (process_data_t)%s)`.')
+SHARED_LOCAL = ('Several processes call functions that use `%s`, a static variable of `%s`: %s. Processes share no '
+                'variables here. Let only one process call `%s`, and let the others post their values to it by '
+                '`process_post(&p, EVENT, (process_data_t)value)`.')
 IN_CIRCLE = 'The function `%s` calls itself, which a thread can\'t do: use a loop.'
 TWO_CONNECTIONS = ('The program has callbacks for several connections, %s. A packet is one number for all motes that '
                    'hear it, and a program has one receiver: use one connection, and a field of the packet that says '
@@ -158,4 +161,7 @@ def check_shared(usage: Usage) -> None:
         if len(names) > 1 and variable.is_static and belongs(variable, usage):
             line = usage.uses[names[1]].variables[variable]
             listed = ' and '.join('`%s`' % it for it in names)
+            if variable.function and variable.function not in usage.uses:
+                raise Refusal(line, SHARED_LOCAL % (
+                    variable.name, variable.function, listed, variable.function))
             raise Refusal(line, SHARED % (variable.name, listed, variable.name))
