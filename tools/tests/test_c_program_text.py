@@ -193,6 +193,9 @@ REFUSALS = (
     ('int *q; for(q = a; q < &a[3]; q++) n = 1;', 'use an index, such as `q[i]`'),
     ('list_init(&s);', 'Use an array of structures'), ('n = packetbuf_attr(3);', 'use a constant instead'),
     ('int *q = best(); n = *q;', 'let `best` return the index of a member'),
+    ('sprintf(bytes, "%d", n);', 'a packet is a number: send the number itself'),
+    ('void (*g[2])(void) = {later};', 'An array of functions has no counterpart'),
+    ('static int k[] = {[70] = 1};', 'There is no member 70.'),
     ('void (*g)(void) = later; g();', 'A pointer to a function is called here'),
     ('x = (1000UL * u) / 65536UL;', 'so `/` with 65536 isn\'t translated'), ('u /= 70000;', '`/` with 70000'),
     ('uint32_t l = 1; n = l >> 16;', '`>>` with 16'), ('if(clock_time() > 100000UL) n = 1;', '`>` with 100000'),
@@ -462,6 +465,11 @@ class Remarks(unittest.TestCase):
             self.assertIn('depends on `n`, but texts aren\'t printed', self.remarks(body, above))
         for body in 'printf("%s", names[1]);', 'printf("%s", "on");':
             self.assertNotIn('depends', self.remarks(body, above))
+
+    def test_an_index_that_is_one_too_far_is_named(self) -> None:
+        wanted = 'The array `a` has the members 0 to 2, but `i` may be 3 here'
+        self.assertIn(wanted, self.remarks('for(i = 0; i <= 3; i++) n += a[i];'))
+        self.assertNotIn('members 0 to 2', self.remarks('for(i = 0; i < 3; i++) n += a[i]; if(i > 0) a[i - 1] = 1;'))
 
     def test_a_timer_that_is_not_static_is_named(self) -> None:
         self.assertIn('`local` isn\'t static, so its memory has other values after a wait',

@@ -43,6 +43,8 @@ VALUES = (
     ("char c = '\\x41'; printf(\"%d %d %d %d\", c, '\\012', '\\0', '\\'');", '65 10 0 39'),
     ('static const int m[][2] = {1, 2, 3, 4}; static struct { int a; uint8_t b[2]; } s[2] = {1, 2, 3, {4, {5, 6}}};'
      ' printf("%d %d %d %d %d", m[1][0], m[1][1], s[0].b[1], s[1].a, s[1].b[1]);', '3 4 3 4 6'),
+    ('static const int k[] = {[2] = 5, 6, [0] = 1}; static struct { int a, b; } s[2] = {[1] = {3, 4}};'
+     ' printf("%d %d %d %d %d %d", k[0], k[1], k[2], k[3], s[0].b, s[1].b);', '1 0 5 6 0 4'),
     ('int q[3] = {1, 2, 3}, r[3]; memcpy(r, q, 4); memset(&q[1], 0, 4); memset(&q[0], 0xff, sizeof(int));'
      ' printf("%d %d %d %d", q[0], q[2], r[1], r[2]);', '65535 0 2 0'),
     ('static linkaddr_t none; static const rimeaddr_t all[2] = {{{3, 0}}, {{0, 0}}}; rimeaddr_t one = {{5, 0}};'

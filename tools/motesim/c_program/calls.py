@@ -27,6 +27,7 @@ OF_TEXT = ('There are no texts: each number of a `printf` has a `print`, whose c
            'is from: if this matters, print numbers that differ, such as `1000 + n`.')
 OF_CHOSEN_TEXT = ('Which text this `printf` prints depends on `%s`, but texts aren\'t printed here: print the number '
                   '`%s`, too.')
+OF_BUILT_TEXT = 'There are no texts here, and a packet is a number: send the number itself, such as `n`.'
 LONGEST_LABEL = 40
 OF_BELOW = 'This value may be below 0. Then it is printed as a number that is 65,536 above it.'
 NO_DATA = ('`process_start` passes no value here: post the value to `%s` after the start, and let it wait for this '
@@ -114,6 +115,8 @@ class Calls(Expressions):
             advice = ' ' + NO_SENSORS
         elif it.text.startswith(('list_', 'memb_', 'queuebuf_')):
             advice = ' ' + NO_LISTS
+        elif it.text in ('sprintf', 'snprintf') or it.text.startswith('str'):
+            advice = ' ' + OF_BUILT_TEXT
         elif it.text == 'packetbuf_attr':
             advice = ' All packets arrive with the same strength: use a constant instead.'
         return self.refuse(it.line, NO_CALL % it.text + advice)

@@ -14,6 +14,9 @@ from motesim.c_program.types import (
 QUALIFIERS = ('static', 'const', 'volatile', 'extern', 'inline', 'register', 'auto', '__inline', 'CC_INLINE')
 OF_PARAMETERS = 'The type of the parameter `%s` is expected here, in front of its name.'
 NO_END = 'Functions aren\'t inside of others: above `%s`, a `}` is missing.'
+OF_FUNCTIONS = 'An array of functions has no counterpart: call each function by its name, in a `switch`.'
+MOST_MEMBERS = 64
+ZERO = Expression('number', '0', number=0, type=INT)
 WORDS = ('unsigned', 'signed', 'short', 'long', 'int', 'char', 'void', 'float', 'double')
 
 
@@ -146,6 +149,8 @@ class Declarations(Expressions):
         self.step()
         self.step()
         it = self.step() if self.token.kind == 'name' else self.token._replace(text='')
+        if self.is_sign('['):
+            raise Refusal(it.line, OF_FUNCTIONS)
         self.need(')')
         self.parameters()
         return Declared(it.text, pointer_to(Type('function')), it.line)
@@ -197,13 +202,27 @@ class Declarations(Expressions):
                 self.accept('.')
                 name = self.step().text
                 self.need(':' if self.is_sign(':') else '=')
-            if self.is_sign('['):
-                raise Refusal(self.token.line, 'Write the members of this array in their order.')
+            at = self.index_of_value(len(parts))
             value = self.values() if self.is_sign('{') else self.assignment()
-            parts.append(Expression('field', name, (value,), value.line) if name else value)
+            # (members that are left out are 0)
+            none = Expression('list', '{', (), line) if value.kind == 'list' else ZERO
+            parts += [none] * (at - len(parts) + 1)
+            parts[at] = Expression('field', name, (value,), value.line) if name else value
             if not self.is_sign('}'):
                 self.need(',')
         return Expression('list', '{', tuple(parts), line)
+
+    def index_of_value(self, following: int) -> int:
+        """The index of a value in a list: that of `[2] = 5`, or the following one."""
+        line = self.token.line
+        if not self.accept('['):
+            return following
+        found = self.constant('The index of a value')
+        self.need(']')
+        self.need('=')
+        if not 0 <= found < MOST_MEMBERS:
+            raise Refusal(line, 'There is no member %d.' % found)
+        return found
 
     def declare(self, one: Declared, qualifiers: set[str], initial: Expression | None) -> Variable:
         """A new variable of the innermost scope."""
@@ -212,7 +231,7 @@ class Declarations(Expressions):
         if one.type.kind == 'struct' and not one.type.fields:
             raise Refusal(one.line, '`%s` has a type that motesim doesn\'t have: `struct %s`.' % (
                 one.name, one.type.name))
-        if len(leaves_of(one.type)) > 64 and one.type.of and one.type.of.name != 'char':
+        if len(leaves_of(one.type)) > MOST_MEMBERS and one.type.of and one.type.of.name != 'char':
             raise Refusal(one.line, 'A process has at most 64 variables, so `%s` has too many members.' % one.name)
         is_static = not self.function or 'static' in qualifiers
         found = Variable(one.name, one.type, one.line, self.function, is_static, 'const' in qualifiers, False, initial)

@@ -16,6 +16,8 @@ Path = tuple[str | int, ...]
 NO_POINTER = 'There are no pointers here: `%s` isn\'t the address of a variable that is known at this place.'
 NO_PLACE = 'A value can\'t be assigned to this.'
 NO_INDEX = 'The array `%s` has the members 0 to %d: there is no member %d.'
+NEXT_INDEX = ('The array `%s` has the members 0 to %d, but `%s` may be %d here: then, C reads or writes something '
+              'else. Here, such a member isn\'t written, and has an old value if it is read.')
 NO_FIELD = 'There is no field `%s` here.'
 NO_ROOM = ('`unicast_send` needs 8 of the 16 bits of a packet for the number of the receiver. So 8 bits are left for '
            'the value, but `%s` has two fields. Send one field, put both into 8 bits, such as `type * 64 + seq %% 64`, '
@@ -119,6 +121,8 @@ class Places(Base):
             self.program.refusals.append(self.refuse(it.line, NO_INDEX % (array.text, size - 1, index.low)))
         elif index.low == index.high:
             return base._replace(type=of, paths=tuple((*path, index.low) for path in base.paths))
+        if index.high == size and it.parts[1].kind == 'name':
+            self.remark(it.line, NEXT_INDEX % (array.text, size - 1, it.parts[1].text, size))
         if not index.is_simple:
             index = self.temporary(index, 'at')
         paths = tuple((*path, at) for path in base.paths for at in range(size))
