@@ -274,6 +274,26 @@ class Forms(unittest.TestCase):
                 text, _ = translation(in_process('  u = %s;' % drawn, '', VARIABLES))
                 self.assertEqual(body_of(text)[-len(lines):], lines)
 
+    def test_the_seed_of_a_program_is_kept(self) -> None:
+        mixed = ['dice = (dice * ((2 * dice) + 1));', 'dice = (dice + (dice / 256));',
+                 'dice = (dice * ((2 * dice) + 1));']
+        for seeded, first, is_same in (('', ['dice = ((self * 257) + 1);', *mixed], False),
+                                       ('random_init(42); ', ['dice = ((42 * 257) + 1);', *mixed], True),
+                                       ('random_init(node_id); ', ['dice = ((self * 257) + 1);', *mixed], False),
+                                       ('PROCESS_PAUSE(); random_init(7); ',
+                                        ['dice = ((self * 257) + 1);', *mixed, 'pause;', 'dice = ((7 * 257) + 1);'],
+                                        True)):
+            with self.subTest(seeded):
+                text, notes = translation(in_process('  %sn = random_rand() %% 4;' % seeded, '', VARIABLES))
+                self.assertEqual(body_of(text)[:len(first)], first)
+                self.assertEqual('The seed is the same on all motes' in notes, is_same, notes)
+        other = '''
+PROCESS(q, "q");
+PROCESS_THREAD(q, ev, data) { static int n; PROCESS_BEGIN(); n = random_rand(); printf("%d", n); PROCESS_END(); }'''
+        text, notes = translation(in_process('  random_init(3); n = 1;', other, VARIABLES))
+        self.assertEqual(body_of(text)[0], 'n = 1;')
+        self.assertIn('`random_init` sets only that of `p`', notes)
+
     def test_the_data_of_an_event_may_be_a_parameter_of_any_pointer_type(self) -> None:
         for its in 'process_data_t', 'void *':
             above = ('static struct etimer e;\nstatic void handle(process_event_t ev, %s data) {\n'

@@ -4,20 +4,19 @@ from __future__ import annotations
 import re
 from collections.abc import Callable, Sequence
 
+from motesim.c_program.chance import Chance
 from motesim.c_program.constants import constant_of
-from motesim.c_program.expressions import Expressions
 from motesim.c_program.places import OF_DATA, Place, Pointer
 from motesim.c_program.tree import Expression
 from motesim.c_program.types import INT, UNSIGNED
-from motesim.c_program.values import HALF, MOST, NOTHING, Value, added, as_type, compared, divided, multiplied, number
+from motesim.c_program.values import MOST, NOTHING, Value, added, as_type, compared, number
 from motesim.c_program.written import Block, If, Line
 from motesim.from_c.absent import MULTIHOP, NO_LISTS, NO_SENSORS, RUNICAST
-from motesim.from_c.expressions import DRAWN, STEP
 
 NO_CALL = 'motesim has no `%s`.'
 CONVERSION = re.compile(r'%(?:%|[-+ #0]*[0-9]*(?:\.[0-9*]+)?(?:hh|h|ll|l|z|j|t)?([a-zA-Z]))')
 # Calls that have no effect here.
-IGNORED = ('broadcast_open', 'unicast_open', 'abc_open', 'random_init', 'leds_init', 'packetbuf_set_attr', 'PT_INIT',
+IGNORED = ('broadcast_open', 'unicast_open', 'abc_open', 'leds_init', 'packetbuf_set_attr', 'PT_INIT',
            'PROCESS_BEGIN', 'PROCESS_END', 'PT_BEGIN', 'PT_END', 'watchdog_periodic', 'packetbuf_clear',
            'packetbuf_set_datalen')
 LEDS = ('leds_on', 'leds_off', 'leds_toggle', 'leds_blink', 'leds_invert')
@@ -35,10 +34,6 @@ NO_DATA = ('`process_start` passes no value here: post the value to `%s` after t
 OF_ITSELF = 'A process ends itself by `PROCESS_EXIT()`: `process_exit` of the current process is refused here.'
 TO_ITSELF = 'The event `%s` can\'t be posted: only the kernel posts it.'
 OF_SYNCH = '`process_post_synch` can\'t reach all processes here.'
-OF_CHANCE = ('A mote has no random numbers: each run is the same. `dice` is a generator whose seed differs by mote, '
-             'for at most 255 motes. Each of its steps makes 8 random bits, `(dice / 256)`, so a value of '
-             '`random_rand()` needs two steps if 8 bits aren\'t enough. docs/use/LOSSES.md has a pattern for packets '
-             'that are lost by chance.')
 OF_STRUCT_TIMER = ('A `struct timer` and a `struct stimer` post no event when they expire, so `%s` has two variables '
                    'here, and a wait for it ends only if another event arrives.')
 TOO_LONG = ('A timer is set to at most 65,535 moments, and a second has %d: wait for it several times, or translate '
@@ -51,12 +46,7 @@ NOT_OPEN = 'A connection isn\'t opened here: `%s` runs for each packet from the 
 OF_RECEIVER = 'In Contiki, `%s` still runs for packets after this process has ended.'
 
 
-def is_draw(it: Expression) -> bool:
-    """Returns whether an expression is a call for a random number."""
-    return it.kind == 'call' and it.text in ('random_rand', 'rand')
-
-
-class Calls(Expressions):
+class Calls(Chance):
     """Translates calls."""
 
     def _call(self, it: Expression) -> Value:
@@ -123,15 +113,6 @@ class Calls(Expressions):
 
     def own_call(self, it: Expression, is_value: bool) -> Value:
         raise NotImplementedError
-
-    def arguments(self, it: Expression, count: int) -> tuple[Expression, ...]:
-        if len(it.parts) != count:
-            raise self.refuse(it.line, '`%s` needs %d argument%s.' % (it.text, count, 's' * (count != 1)))
-        return it.parts
-
-    def first(self, it: Expression) -> Expression:
-        """The first argument of a call."""
-        return it.parts[0] if it.parts else self.arguments(it, 1)[0]
 
     # Processes and events.
 
@@ -233,11 +214,6 @@ class Calls(Expressions):
     def value_process_is_running(self, it: Expression) -> Value:
         name = self.target_process(self.arguments(it, 1)[0])
         return Value('running(%s)' % name, INT, 0, 1, NOTHING, ('!1', 'running', ''))
-
-    def without_casts(self, it: Expression) -> Expression:
-        while it.kind == 'cast':
-            it = it.parts[0]
-        return it
 
     # Timers.
 
@@ -458,44 +434,6 @@ class Calls(Expressions):
 
     def call_putchar(self, it: Expression) -> None:
         self.call_puts(it)
-
-    # Random numbers.
-
-    # Whether 8 random bits are enough for the expression that is translated next.
-    needs_byte = False
-
-    def _binary(self, it: Expression) -> Value:
-        self.needs_byte = is_draw(self.without_casts(it.parts[0])) and self.keeps_byte(it)
-        return super()._binary(it)
-
-    def keeps_byte(self, it: Expression) -> bool:
-        """Returns whether the upper 8 bits of the left side don't change the result."""
-        number_right = constant_of(it.parts[1], self.program.second)
-        if number_right is None or number_right < 1:
-            return False
-        return it.text == '%' and 256 % number_right == 0 or it.text == '&' and number_right < 256
-
-    def value_random_rand(self, it: Expression) -> Value:
-        """A random number of 16 bits, or of 8 bits if these are enough."""
-        self.remark(it.line, OF_CHANCE)
-        self.code.is_random = True
-        name = self.declare(self.extra.setdefault('dice', self.extra.get('dice') or self.new_name('dice')), 1)
-        needs_byte, self.needs_byte = self.needs_byte, False
-        if needs_byte:
-            return self.random_byte(name)
-        upper = self.temporary(self.random_byte(name))
-        return added(multiplied(upper._replace(type=UNSIGNED), number(256, UNSIGNED)), self.random_byte(name), '+')
-
-    def random_byte(self, name: str) -> Value:
-        """The upper 8 bits of the generator after one step."""
-        self.emit(STEP.replace('dice', name))
-        self.log.append(name)
-        return Value(DRAWN.replace('dice', name), UNSIGNED, 0, 255, frozenset([name]))
-
-    def value_rand(self, it: Expression) -> Value:
-        """A random number of 15 bits."""
-        found = self.value_random_rand(it)
-        return found if found.high < 256 else (divided(found, number(HALF, UNSIGNED), '%') or found)._replace(type=INT)
 
     def value_rimeaddr_cmp(self, it: Expression) -> Value:
         one, other = self.arguments(it, 2)

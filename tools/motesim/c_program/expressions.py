@@ -526,6 +526,20 @@ class Expressions(Events):
     def call_only(self, it: Expression) -> None:
         raise NotImplementedError
 
+    def arguments(self, it: Expression, count: int) -> tuple[Expression, ...]:
+        if len(it.parts) != count:
+            raise self.refuse(it.line, '`%s` needs %d argument%s.' % (it.text, count, 's' * (count != 1)))
+        return it.parts
+
+    def first(self, it: Expression) -> Expression:
+        """The first argument of a call."""
+        return it.parts[0] if it.parts else self.arguments(it, 1)[0]
+
+    def without_casts(self, it: Expression) -> Expression:
+        while it.kind == 'cast':
+            it = it.parts[0]
+        return it
+
     # Limits of variables that follow from tests.
 
     def refine(self, it: Expression, is_true_here: bool) -> None:

@@ -4,6 +4,7 @@ from __future__ import annotations
 import re
 from collections.abc import Sequence
 
+from motesim.c_program.allocation import at_start_of
 from motesim.c_program.base import OF_LONG, Program, Unit
 from motesim.c_program.functions import Functions, without_last_exit
 from motesim.c_program.places import Pointer
@@ -13,7 +14,6 @@ from motesim.c_program.usage import GLOBAL
 from motesim.c_program.values import Limits, Value, compared, number, united
 from motesim.c_program.walk import all_parts
 from motesim.c_program.written import Block, Flag, If, Line, lines_of
-from motesim.from_c.expressions import MIXED
 from motesim.from_c.packets import IF_OTHER, OF_ORDER
 
 NO_BEGIN = 'The process `%s` has no `PROCESS_BEGIN();` that isn\'t inside of another statement.'
@@ -99,9 +99,8 @@ class ProcessWriter(Functions):
                 self.ends_with_packets()
             self.code.body = self.out
         self.finish_ctimers()
-        if self.code.is_random:
-            text = MIXED.replace('dice', self.extra['dice'])
-            self.code.body[:0] = [Line(it.strip() + ';') for it in text.split(';') if it.strip()]
+        if self.code.is_random and not any(it.text == 'random_init' for it in at_start_of(self.file, rest)):
+            self.code.body[:0] = map(Line, self.seeding())
 
     def parts(self, function: Function) -> tuple[list[Statement], list[Statement]]:
         """The statements above PROCESS_BEGIN, and those between it and PROCESS_END."""
