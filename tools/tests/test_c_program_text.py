@@ -445,6 +445,74 @@ PROCESS_THREAD(p, ev, data)
             '  PROCESS_YIELD();', '  ctimer_set(&ct, 5, late, NULL); PROCESS_YIELD();')
         self.assertNotIn(in_radio, translation(other % 'etimer_set(&et, 3);')[1])
 
+    def test_the_end_of_a_process_with_a_callback_for_packets_is_refused(self) -> None:
+        source = '''PROCESS(sink, "sink"); PROCESS(boss, "boss");
+AUTOSTART_PROCESSES(&sink, &boss);
+static struct broadcast_conn bc;
+static void recv(struct broadcast_conn *c, const rimeaddr_t *from) { printf("%d", 1); }
+static const struct broadcast_callbacks callbacks = { recv };
+PROCESS_THREAD(sink, ev, data) { PROCESS_BEGIN(); broadcast_open(&bc, 129, &callbacks); PROCESS_END(); }
+PROCESS_THREAD(boss, ev, data) { PROCESS_BEGIN();
+  LINE
+  PROCESS_END(); }
+'''
+        for line, is_refused in (
+                ('PROCESS_WAIT_EVENT_UNTIL(ev == PROCESS_EVENT_EXITED && data == &sink);', True),
+                ('printf("%d", process_is_running(&sink));', True), ('process_start(&sink, NULL);', True),
+                ('process_post(&sink, PROCESS_EVENT_MSG, NULL);', False),
+                ('printf("%d", process_is_running(&boss));', False)):
+            text, notes = translation(source.replace('LINE', line))
+            self.assertEqual(text is None, is_refused, notes)
+            self.assertEqual(notes.startswith('line 8: `sink` ends in C, but its function `recv` still runs'),
+                             is_refused, notes)
+
+    def test_a_callback_for_packets_cannot_call_or_end_the_process_in_which_it_runs(self) -> None:
+        source = '''PROCESS(p, "p"); PROCESS(q, "q");
+AUTOSTART_PROCESSES(&p);
+static struct broadcast_conn bc;
+static int n;
+static void late(void *v) { LATE }
+static struct ctimer ct;
+static void recv(struct broadcast_conn *c, const rimeaddr_t *from) { n++; CALL }
+static const struct broadcast_callbacks callbacks = { recv };
+PROCESS_THREAD(p, ev, data) { PROCESS_EXITHANDLER(CLOSE) PROCESS_BEGIN(); broadcast_open(&bc, 129, &callbacks);
+  while(1) { PROCESS_YIELD(); printf("%d", n); OWN }
+  PROCESS_END(); }
+PROCESS_THREAD(q, ev, data) { PROCESS_BEGIN(); process_exit(&p); PROCESS_END(); }
+'''
+        late, synch, end = ('ctimer_set(&ct, 5, late, NULL);', 'process_post_synch(&p, PROCESS_EVENT_MSG, NULL);',
+                            'process_exit(&p);')
+        for texts, reason in (
+                ({'CALL': synch}, 'and calls `p` here'), ({'CALL': end}, 'and ends `p` here'),
+                ({'CALL': late, 'LATE': synch}, None), ({'CALL': late, 'LATE': end}, None),
+                ({'CALL': synch.replace('&p', '&q')}, None), ({'OWN': 'late(NULL);', 'LATE': end}, 'ends itself by')):
+            with self.subTest(texts):
+                own = source
+                for name in ('LATE', 'CALL', 'CLOSE', 'OWN'):
+                    own = own.replace(name, texts.get(name, ''), 1)
+                text, notes = translation(own)
+                self.assertEqual(text is None, reason is not None, notes)
+                self.assertIn(reason or '', notes)
+                self.assertEqual('still runs for packets after' in notes, reason is None)
+        for name in ('LATE', 'CALL', 'OWN'):
+            source = source.replace(name, '', 1)
+        self.assertNotIn('still runs for packets', translation(source.replace('CLOSE', 'broadcast_close(&bc);'))[1])
+
+    def test_a_receiver_that_is_not_started_has_a_remark(self) -> None:
+        source = '''PROCESS(opener, "opener"); PROCESS(app, "app");
+AUTOSTART_PROCESSES(&opener);
+static struct broadcast_conn bc;
+static int n;
+static void recv(struct broadcast_conn *c, const rimeaddr_t *from) { n++; }
+static const struct broadcast_callbacks callbacks = { recv };
+PROCESS_THREAD(opener, ev, data) { PROCESS_BEGIN(); broadcast_open(&bc, 129, &callbacks); process_start(&app, NULL);
+  PROCESS_END(); }
+PROCESS_THREAD(app, ev, data) { PROCESS_BEGIN(); while(1) { PROCESS_YIELD(); printf("%d", n); } PROCESS_END(); }
+'''
+        late = 'packets that arrive before `app` starts are dropped'
+        self.assertIn(late, translation(source)[1])
+        self.assertNotIn(late, translation(source.replace('&opener);', '&opener, &app);'))[1])
+
     def test_a_file_without_a_process_is_refused(self) -> None:
         for source in ('int main(void) { return 0; }', 'static int n;', ''):
             self.assertIn('No process is here', translation(source)[1])

@@ -29,6 +29,10 @@ class Program:
     semaphores: dict[Variable, str] = field(default_factory=dict)
     counts: dict[Variable, int] = field(default_factory=dict)
     remarks: dict[str, tuple[int, str]] = field(default_factory=dict)
+    # The processes that wait for packets instead of ending, each with its function for packets; and for each process
+    # the first line that depends on its end.
+    endless: dict[str, str] = field(default_factory=dict)
+    asks_for_end: dict[str, int] = field(default_factory=dict)
     # Refusals that hold only if the limits of values are settled.
     refusals: list[Refusal] = field(default_factory=list)
 

@@ -7,9 +7,10 @@ from collections.abc import Callable, Sequence
 from motesim.c_program.chance import Chance
 from motesim.c_program.constants import constant_of
 from motesim.c_program.places import OF_DATA, Place, Pointer
-from motesim.c_program.tree import Expression
+from motesim.c_program.tree import Expression, Function
 from motesim.c_program.types import INT, UNSIGNED
 from motesim.c_program.values import MOST, NOTHING, Value, added, as_type, compared, number
+from motesim.c_program.walk import all_parts
 from motesim.c_program.written import Block, If, Line
 from motesim.from_c.absent import MULTIHOP, NO_LISTS, NO_SENSORS, RUNICAST
 
@@ -33,6 +34,9 @@ NO_DATA = ('`process_start` passes no value here: post the value to `%s` after t
            'event.')
 OF_ITSELF = 'A process ends itself by `PROCESS_EXIT()`: `process_exit` of the current process is refused here.'
 TO_ITSELF = 'The event `%s` can\'t be posted: only the kernel posts it.'
+FROM_CALLBACK = ('In Contiki, the function that is called for packets runs in a process of the radio, and %s `%s` '
+                 'here. In the translation it runs in `%s`, which can\'t %s itself: post an event to `%s` by '
+                 '`process_post`.')
 OF_SYNCH = '`process_post_synch` can\'t reach all processes here.'
 OF_STRUCT_TIMER = ('A `struct timer` and a `struct stimer` post no event when they expire, so `%s` has two variables '
                    'here, and a wait for it ends only if another event arrives.')
@@ -44,6 +48,12 @@ OF_RADIO_TIMER = ('In Contiki, the function that is called for packets, and the 
 NO_CLOSE = 'A connection isn\'t closed here: `%s` runs for each packet up to the end.'
 NOT_OPEN = 'A connection isn\'t opened here: `%s` runs for each packet from the start.'
 OF_RECEIVER = 'In Contiki, `%s` still runs for packets after this process has ended.'
+
+
+def closes(process: Function) -> bool:
+    """Returns whether the exit handler of a process closes a connection."""
+    handlers = [it for it in process.body if it.kind == 'handler' and it.name == 'onexit']
+    return any(it.kind == 'call' and it.text.endswith('_close') for one in handlers for it in all_parts(one.body))
 
 
 class Calls(Chance):
@@ -192,6 +202,8 @@ class Calls(Chance):
         name, (event, value) = self.target_process(target), self.posted(it)
         if event == 'packet':
             raise self.refuse(it.line, TO_ITSELF % event)
+        if name == self.code.name and self.unit.is_callback:
+            raise self.refuse(it.line, FROM_CALLBACK % ('calls', name, name, 'call', name))
         self.emit('synch %s %s %s;' % (name, event, value))
 
     def call_process_poll(self, it: Expression) -> None:
@@ -201,18 +213,24 @@ class Calls(Chance):
         name = self.target_process(self.first(it))
         if len(it.parts) > 1 and constant_of(self.without_casts(it.parts[1])) != 0:
             raise self.refuse(it.line, NO_DATA % name)
+        if any(self.program.names[one] == name for one in self.file.autostart):
+            self.program.asks_for_end.setdefault(name, it.line)
         self.emit('start %s;' % name)
 
     def call_process_exit(self, it: Expression) -> None:
         name = self.target_process(self.arguments(it, 1)[0])
-        if name == self.code.name and self.unit.name in ('body', 'onpoll', 'onexit'):
+        if name == self.code.name and self.unit.is_callback:
+            raise self.refuse(it.line, FROM_CALLBACK % ('ends', name, name, 'end', name))
+        if name == self.code.name and not self.unit.name.startswith('ctimer '):
             raise self.refuse(it.line, OF_ITSELF)
-        if name == self.program.names.get(self.program.usage.receiver) and self.program.usage.callback:
-            self.remark(it.line, OF_RECEIVER % self.program.usage.callback.name)
+        receiver, callback = self.program.usage.receiver, self.program.usage.callback
+        if callback and name == self.program.names.get(receiver) and not closes(self.file.bodies[receiver]):
+            self.remark(it.line, OF_RECEIVER % callback.name)
         self.emit('kill %s;' % name)
 
     def value_process_is_running(self, it: Expression) -> Value:
         name = self.target_process(self.arguments(it, 1)[0])
+        self.program.asks_for_end.setdefault(name, it.line)
         return Value('running(%s)' % name, INT, 0, 1, NOTHING, ('!1', 'running', ''))
 
     # Timers.

@@ -113,6 +113,7 @@ class Events(Places):
             return self.fired(pointer, other.line)
         if pointer.kind == 'process':
             name = self.process_named(pointer, other.line)
+            self.program.asks_for_end.setdefault(name, other.line)
             return Value('gone(%s)' % name, INT, 0, 1, NOTHING, ('!1', 'gone', ''))
         raise self.refuse(other.line, NO_DATA)
 

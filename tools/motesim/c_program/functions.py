@@ -396,6 +396,7 @@ class Functions(Control):
 
     def ends_with_packets(self) -> None:
         self.remark(self.unit.function.line, OF_END % self.receiving)
+        self.program.endless[self.code.name] = self.receiving
         self.forever()
 
     # Waits.

@@ -23,6 +23,8 @@ EACH_CALL = ('In C, `%s` gets this value in each call of the process, because it
              'constant is translated there: assign the value at the place that needs it.')
 IN_CIRCLE = ('The functions of ctimers set each other. Here, a ctimer may set only those above it: let the process '
              'set them.')
+LATE_RECEIVER = ('In Contiki, `%s` runs for all packets after the connection was opened. Here, it runs in `%s`, whose '
+                 'variables it uses, and packets that arrive before `%s` starts are dropped.')
 NO_CALLBACK = 'The function of a ctimer is expected here.'
 OF_POINTER = 'The last value of `ctimer_set` is NULL, a constant, or the address of a variable here.'
 
@@ -166,6 +168,8 @@ class ProcessWriter(Functions):
         """The thread that runs for each packet."""
         function = self.program.usage.callback
         assert function is not None
+        if self.process != self.program.usage.opener and self.process not in self.file.autostart:
+            self.remark(function.line, LATE_RECEIVER % (function.name, self.code.name, self.code.name))
         self.receiving = self.new_name(function.name, function.line)
         self.threads[function.name] = self.receiving
         self.bind_callback(function)

@@ -28,6 +28,9 @@ MOST_NAMES = 8
 OF_NAMES = 'A name has at most 16 small letters, digits and `_` here, and isn\'t a keyword: %s.'
 NO_PROCESS = 'No process is here: a program for Contiki has at least one `PROCESS` with its `PROCESS_THREAD`.'
 NO_BODY = 'The process `%s` has no `PROCESS_THREAD(%s, ev, data)` in this file.'
+NO_END = ('`%s` ends in C, but its function `%s` still runs for packets. Here, a process that has ended gets no '
+          'packets. So `%s` waits for packets instead of ending, and this line depends on its end. Let a process that '
+          'doesn\'t end open the connection.')
 TOO_LARGE = 'The program is too large for a mote: %s'
 LIMITS = {7: 'blocks or brackets are nested more than 32 deep.',
           8: 'a process has at most 64 variables, 64 timers and 7 threads, and a program at most 4,096 statements.'}
@@ -51,6 +54,7 @@ def translated(text: str, second: int = SECOND) -> Translation:
         file = read_file(text)
         check_processes(file)
         program, lines = settled(file, second)
+        check_ends(program)
         for it in early_posts(file):
             program.remark(it.line, it.remark())
         remark_names(program)
@@ -90,6 +94,13 @@ def check_processes(file: File) -> None:
     for name in file.autostart:
         if name not in file.processes:
             raise Refusal(file.autostart_line, NO_BODY % (name, name))
+
+
+def check_ends(program: Program) -> None:
+    """Raises a Refusal for a line that depends on the end of a process that waits for packets instead."""
+    for name, line in program.asks_for_end.items():
+        if name in program.endless:
+            raise Refusal(line, NO_END % (name, program.endless[name], name))
 
 
 def settled(file: File, second: int) -> tuple[Program, list[str]]:
