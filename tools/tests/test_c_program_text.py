@@ -141,6 +141,29 @@ FORMS = (
        x = 2;
      }
      x = data;'''),
+    ('int *q; for(q = a; q < a + 3; q++) n += *q; q = n ? &a[1] : NULL; if(q && !x) n = q - a;', '''
+     q = 0;
+     while (q < 3) {
+       if (q == 0) {
+         member = a;
+       }
+       if (q == 1) {
+         member = a1;
+       }
+       if (q == 2) {
+         member = a2;
+       }
+       n = (n + member);
+       q = (q + 1);
+     }
+     if n {
+       q = 1;
+     } else {
+       q = (0 - 1);
+     }
+     if ((q != 65535) && !x) {
+       n = q;
+     }'''),
     ('printf("sent %d of %u packets.\\n", n, u); printf("%s: %d\\n", "on", x); printf("%d\\n", x); '
      'printf("done\\n"); puts("end");', '''
      print n; // sent
@@ -175,7 +198,7 @@ REFUSALS = (
     ('x = a[4];', 'the members 0 to 2'), ('n = -1; a[n] = 3;', 'the members 0 to 2'),
     ('x = ev;', 'is compared with events'), ('return;', '`return` in a process'),
     ('while(n) { PT_SEM_INIT(&s, 1); }', 'is set once'), ('x = ;', 'An expression is expected here, not `;`.'),
-    ('static int *q = &n; q = &x;', 'is a pointer that changes'),
+    ('static int *q = &n; q = &x;', 'or is NULL: use an index'),
     ('x = *(int *)packetbuf_dataptr();', 'The packet is known only in the function'),
     ('etimer_set(&et, 7000L * CLOCK_SECOND);', 'at most 65,535 moments'), ('x = strlen("a");', 'no `strlen`'),
     ('packetbuf_copyfrom();', '`packetbuf_copyfrom` needs 1 argument'), ('process_start();', 'needs 1 argument'),
@@ -189,8 +212,9 @@ REFUSALS = (
     ('if(ev == sensors_event) n = 1;', 'A mote has no sensors'), ('if(ev == tcpip) n = 1;', 'has no `tcpip`'),
     ('memcpy(&u, bytes, 2);', 'have other sizes'), ('u = *(uint16_t *)bytes;', '`bytes` is read with another type'),
     ('memset(bytes, 0, n);', 'The number of the bytes is a constant'),
-    ('memset(a, 0, 3);', 'These 3 bytes aren\'t whole'), ('int *q = a; n = *q++;', 'use an index, such as `q[i]`'),
-    ('int *q; for(q = a; q < &a[3]; q++) n = 1;', 'use an index, such as `q[i]`'),
+    ('memset(a, 0, 3);', 'These 3 bytes aren\'t whole'), ('int *q = &n; n = *q++;', 'or is NULL: use an index'),
+    ('int *q, *r; q = a; r = &n; q++; q = r; r = a;', 'or is NULL: use an index'),
+    ('static struct { int *next; } s; s.next = &n;', 'Only a variable is a pointer here, not `next`'),
     ('list_init(&s);', 'Use an array of structures'), ('n = packetbuf_attr(3);', 'use a constant instead'),
     ('int *q = best(); n = *q;', 'let `best` return the index of a member'),
     ('sprintf(bytes, "%d", n);', 'a packet is a number: send the number itself'),

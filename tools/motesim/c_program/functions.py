@@ -7,7 +7,7 @@ from contextlib import contextmanager
 from motesim.c_program.base import Unit
 from motesim.c_program.constants import constant_of
 from motesim.c_program.control import ENDS, FALLS, Control, Flow, has_wait
-from motesim.c_program.places import NO_MOTE, OF_ADDRESS, OF_RESULT, Path, Place, Pointer
+from motesim.c_program.places import NO_MOTE, OF_ADDRESS, OF_CHANGE, OF_RESULT, Path, Place, Pointer
 from motesim.c_program.refusal import Refusal
 from motesim.c_program.tree import Expression, Function, Statement, Variable
 from motesim.c_program.types import INT, Type, leaves_of
@@ -23,7 +23,7 @@ LOST = ('In C, `%s` isn\'t static, so it loses its value when its process waits.
 NO_WAIT = 'This function doesn\'t belong to a process, so it can\'t wait.'
 NO_RESULT = 'The function `%s` has no result.'
 NO_STATIC = '`%s` needs a constant as its first value.'
-OF_POINTERS = ('`%s` is a pointer that changes: use an index, or the variable itself.')
+OF_FIELD = 'Only a variable is a pointer here, not `%s`: let it be the index of a member of an array, and -1 for none.'
 OF_EVENT = 'A function gets the event and the data of the call here, `ev` and `data`, not others.'
 SCHEDULE = ('`PT_SCHEDULE` is translated only if a process waits for the end of one protothread, as `PT_SPAWN` does. '
             'Write a process for each protothread instead.')
@@ -131,7 +131,7 @@ class Functions(Control):
         pointer = self.with_own_index(variable, self.pointer(target))
         known = self.aliases.get(variable)
         if known is not None and known != pointer:
-            raise self.refuse(line, OF_POINTERS % variable.name)
+            raise self.refuse(line, OF_CHANGE % variable.name)
         self.aliases[variable] = pointer
 
     def with_own_index(self, variable: Variable, pointer: Pointer) -> Pointer:
@@ -155,6 +155,8 @@ class Functions(Control):
         if its.kind == 'pointer' and target.kind == 'name' and target.variable:
             self.point(target.variable, value, it.line)
             return True
+        if its.kind == 'pointer':
+            raise self.refuse(it.line, OF_FIELD % (target.text if target.kind in ('member', 'arrow') else 'this'))
         if its.kind == 'address':
             if value.kind in ('name', 'index', 'member', 'arrow', 'unary'):
                 source = value if value.kind != 'unary' else value.parts[0]

@@ -40,7 +40,8 @@ OF_CHARACTER = ('Whether a `char` may be below 0 depends on the compiler of C: i
                 'and `uint8_t` are the same with all compilers.')
 OF_RESULT = ('A function has a number as its result here, not a pointer or a structure: let `%s` return the index of '
              'a member, and -1 for none.')
-OF_CHANGE = 'There are no pointers that change here: use an index, such as `%s[i]`.'
+OF_CHANGE = ('A pointer that changes always points to a member of the same array here, or is NULL: use an index, such '
+             'as `%s[i]`.')
 TEXTS = 'There are no texts here: a program prints numbers.'
 OF_DATA = ('The event has the value of the variable at the time of the `process_post`, also if the variable changes '
            'before the event arrives.')
@@ -278,7 +279,8 @@ class Places(Base):
     def leaf(self, place: Place, path: Path, line: int) -> str:
         assert place.variable is not None
         if not place.type.is_number:
-            raise self.refuse(line, NO_POINTER % place.variable.name)
+            reason = OF_CHANGE if place.type.kind == 'pointer' else NO_POINTER
+            raise self.refuse(line, reason % place.variable.name)
         name = self.named(place.variable, path)
         return self.declare(name, self.initial(place.variable, path))
 

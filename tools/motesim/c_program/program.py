@@ -13,6 +13,7 @@ from typing import NamedTuple
 from motesim.c_program.allocation import early_posts
 from motesim.c_program.base import Program
 from motesim.c_program.constants import EVENT_NUMBERS, SECOND, constant_of
+from motesim.c_program.indexes import indexes_for_pointers
 from motesim.c_program.knowledge import Knowledge
 from motesim.c_program.names import fresh
 from motesim.c_program.parse_file import read_file
@@ -53,11 +54,14 @@ def translated(text: str, second: int = SECOND) -> Translation:
     try:
         file = read_file(text)
         check_processes(file)
+        indexes = indexes_for_pointers(file)
         program, lines = settled(file, second)
         check_ends(program)
         for it in early_posts(file):
             program.remark(it.line, it.remark())
         remark_names(program)
+        for line, remark in indexes:
+            program.remark(line, remark)
     except RecursionError:
         raise Refusal(1, TOO_LARGE % LIMITS[7]) from None
     found = '\n'.join(lines) + '\n'
