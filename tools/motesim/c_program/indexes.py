@@ -13,8 +13,8 @@ from motesim.c_program.walk import all_parts, declared_in, parts_of
 MEMBERS = ('int', 'bool', 'struct', 'address')
 TESTS = ('if', 'while', 'do', 'for')
 COMPARES = ('==', '!=', '<', '<=', '>', '>=')
-OF_SEVERAL = ('The parameter `%s` of `%s` gets a pointer that changes in one call, and another pointer in another call: '
-              'let it be an index of one array.')
+OF_SEVERAL = ('The parameter `%s` of `%s` gets a pointer that changes in one call, and another pointer in another '
+              'call: let it be an index of one array.')
 STEPS = ('++', '--')
 OF_INDEX = '`%s` is the index of a member of `%s` here, not a pointer, and 65535 if it is NULL.'
 
@@ -124,8 +124,8 @@ class Moving:
         if it.kind == 'name' and it.variable:
             kind = it.variable.type.kind
             if kind == 'pointer':
-                is_known = it.variable in self.sources and it.variable not in self.unknown and is_of_members(it.variable)
-                return self.bases.get(it.variable, set()) if is_known else {None}
+                is_known = it.variable in self.sources and it.variable not in self.unknown
+                return self.bases.get(it.variable, set()) if is_known and is_of_members(it.variable) else {None}
             return {it.variable if kind == 'array' and is_of_members(it.variable) else None}
         if it.kind == 'unary' and it.text == '&' and it.parts[0].kind == 'index':
             return self.arrays_of(it.parts[0].parts[0])
