@@ -137,6 +137,13 @@ class Command(unittest.TestCase):
         self.assertIn('No line was changed: the first error has no corrected line.', out)
         self.assertIn('o.toml, line 11, which is line 5 of program p:', out)
 
+    def test_a_translated_program_has_no_warnings_of_constants_that_wrap(self) -> None:
+        source = C.replace('n++;', 'n = ((1 << 15) >> 15) & 3;')
+        status, out, _ = self.run_on(self.written('b.c', source), '--apply', str(self.folder / 'b.toml'))
+        self.assertEqual(status, 0)
+        self.assertIn('(32768 + 32768)', (self.folder / 'b.toml').read_text())
+        self.assertNotIn('the greatest value is 65,535', out)
+
     def test_what_differs_from_c_is_shown_with_its_line(self) -> None:
         source = C.replace('#define PERIOD 10', '#define PERIOD (5 * CLOCK_SECOND)')
         status, out, _ = self.run_on(self.written('b.c', source), '--apply', str(self.folder / 'b.toml'))
@@ -148,7 +155,8 @@ class Command(unittest.TestCase):
         source = C.replace('n++;', 'n = strlen("abc");')
         status, out, err = self.run_on(self.written('b.c', source), '--apply', str(self.folder / 'b.toml'))
         self.assertEqual((status, err), (1, ''))
-        self.assertIn('b.c, line 14:\n  n = strlen("abc");\nmotesim has no `strlen`.\n\nNo file is written', out)
+        self.assertIn('b.c, line 14:\n  n = strlen("abc");\nmotesim has no `strlen`.', out)
+        self.assertIn('\n\nNo file is written', out)
         self.assertFalse((self.folder / 'b.toml').exists())
 
     def test_quotes_in_a_program_are_refused(self) -> None:

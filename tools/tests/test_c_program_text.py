@@ -329,6 +329,13 @@ PROCESS_THREAD(q, ev, data) { static int n; PROCESS_BEGIN(); n = random_rand(); 
             for test in 'if fired(e) {', 'if ((data == 0) && !(is(timer) || is(exited))) {', 'if gone(p) {':
                 self.assertIn(test, text or '')
 
+    def test_a_cast_of_a_constant_is_a_constant(self) -> None:
+        inside = '  static int8_t s = (int8_t)0xff; static uint8_t u = (uint8_t)300; static int n = (int)-4;'
+        text, notes = translation(in_process('  printf("%d %u %d", s, u, n);', '', inside))
+        self.assertIsNotNone(text, notes)
+        for first in 'var s = 65535;', 'var u = 44;', 'var n = 65532;':
+            self.assertIn(first, text or '')
+
     def test_a_semaphore_may_be_declared_in_a_process(self) -> None:
         body = '  PT_SEM_INIT(&s, 2); PT_SEM_WAIT(process_pt, &s); n = PT_SEM_COUNT(&s);'
         text, notes = translation(in_process(body, '', VARIABLES + ' static struct pt_sem s;'))

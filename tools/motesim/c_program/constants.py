@@ -4,7 +4,7 @@ from __future__ import annotations
 from collections.abc import Callable
 
 from motesim.c_program.tree import Expression
-from motesim.c_program.types import size_of
+from motesim.c_program.types import Type, size_of
 
 # The moments of a second, unless the user names another number: `CLOCK_SECOND` of nodes such as the Tmote Sky.
 SECOND = 128
@@ -47,6 +47,13 @@ SIGNS: dict[str, Callable[[int], int]] = {
 }
 
 
+def cast(value: int, its: Type) -> int:
+    """A constant as a type of 8 bits holds it; in larger types, it stays."""
+    if its.bits >= 16:
+        return value
+    return (value + 128) % 256 - 128 if its.signed else value % 256
+
+
 def value_of(it: Expression, second: int | None = None) -> int:
     """The value of a constant expression. `second`: the moments of a second, if they are known. Raises NotConstant."""
     if it.kind == 'number':
@@ -56,8 +63,8 @@ def value_of(it: Expression, second: int | None = None) -> int:
             return second
         if it.text in NUMBERS or it.text in EVENT_NUMBERS:
             return {**NUMBERS, **EVENT_NUMBERS}[it.text]
-    if it.kind == 'cast' and it.type and it.type.kind == 'int' and it.type.bits >= 16:
-        return value_of(it.parts[0], second)
+    if it.kind == 'cast' and it.type and it.type.kind == 'int':
+        return cast(value_of(it.parts[0], second), it.type)
     if it.kind == 'sizeof' and it.parts[0].variable:
         return size_of(it.parts[0].variable.type)
     if it.kind == 'unary' and it.text in SIGNS:

@@ -399,10 +399,11 @@ def of_program(program: Program, is_zero_given: bool) -> Iterator[Warned]:
         yield Warned(text, name, token)
     for text, token in (*program.tests_of_two_values(), *program.chains(), *program.endless_waits()):
         yield Warned(text, name, token)
-    # (a translated program has the results of C, also for values below 0)
+    # (a translated program has the results of C, also for values below 0 or above 65,535)
     for text, token in () if program.is_translated else (
             *(() if is_zero_given else differences.tests(program.words, program.tokens)),
-            *signed.tests(program.words, program.tokens, program.below)):
+            *signed.tests(program.words, program.tokens, program.below),
+            *wraps.warnings(program.words, program.tokens)):
         yield Warned(text, name, token)
     for token in program.waits_before_set():
         yield Warned(BEHIND % token.text, name, token)
@@ -410,7 +411,7 @@ def of_program(program: Program, is_zero_given: bool) -> Iterator[Warned]:
         yield Warned(text, name, token)
     its = program.words, program.tokens
     for text, token in (*event.mistaken(*its), *event.mistaken_timers(*its), *exclusive.warnings(*its),
-                        *unheard.warnings(*its), *unpolled.warnings(*its), *wraps.warnings(*its)):
+                        *unheard.warnings(*its), *unpolled.warnings(*its)):
         yield Warned(text, name, token)
 
 
