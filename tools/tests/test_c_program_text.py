@@ -217,6 +217,8 @@ REFUSALS = (
     ('static struct { int *next; } s; s.next = &n;', 'Only a variable is a pointer here, not `next`'),
     ('list_init(&s);', 'Use an array of structures'), ('n = packetbuf_attr(3);', 'use a constant instead'),
     ('int *q = best(); n = *q;', 'let `best` return the index of a member'),
+    ('x = latr();', 'motesim has no `latr`. Do you mean `later`?'), ('bt++;', 'motesim has no `bt`.'),
+    ('bytez[0] = 1;', 'Do you mean `bytes`?'), ('frobnicate(x);', 'motesim has no `frobnicate`.'),
     ('sprintf(bytes, "%d", n);', 'a packet is a number: send the number itself'),
     ('void (*g[2])(void) = {later};', 'An array of functions has no counterpart'),
     ('static int k[] = {[70] = 1};', 'There is no member 70.'),
@@ -370,6 +372,24 @@ class Refusals(unittest.TestCase):
                 self.assertIsNone(text)
                 self.assertIn('line 5: A packet is one number of 16 bits', notes)
                 self.assertIn(wanted, notes)
+
+    def test_a_wait_that_is_not_in_a_process_names_its_function(self) -> None:
+        waits = 'static void nap(void *p) {\n  PROCESS_YIELD(); }'
+        exits = waits.replace('YIELD', 'EXIT')
+        timer = 'static struct ctimer c;\n'
+        for above, body, inside, wanted in (
+                (waits, 'nap(NULL);', '', 'make `nap` a protothread, `PT_THREAD(nap(struct pt *pt))`'),
+                (timer + waits, 'ctimer_set(&c, 3, nap, NULL);', '', 'let it poll the process, `process_poll(&p);`'),
+                ('', '', '  PROCESS_POLLHANDLER(PROCESS_PAUSE(););', 'let it poll the process'),
+                (timer + exits, 'ctimer_set(&c, 3, nap, NULL);', '', 'use `return;` in `nap`')):
+            with self.subTest(wanted):
+                source = in_process('  ' + body, above, inside)
+                line = next(at for at, it in enumerate(source.split('\n'), 1) if 'YIELD' in it or 'PAUSE' in it
+                            or 'EXIT' in it)
+                text, notes = translation(source)
+                self.assertIsNone(text)
+                self.assertIn(wanted, notes)
+                self.assertTrue(notes.startswith('line %d: ' % line), notes)
 
     def test_a_missing_brace_is_named_at_a_line_that_it_concerns(self) -> None:
         source = in_process('  while(n) {\n    n++;\n  }', FUNCTIONS, VARIABLES)

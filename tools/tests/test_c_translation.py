@@ -55,6 +55,7 @@ VALUES = (
 MACROS = (
     ('#define LOG(fmt, ...) printf(fmt, ##__VA_ARGS__)', 'LOG("x"); LOG("%d", 3); LOG("%d %d", 4, 5);', '1 3 4 5'),
     ('#define LOG(fmt, args...) printf(fmt, ##args)', 'LOG("x"); LOG("%d", 3); LOG("%d %d", 4, 5);', '1 3 4 5'),
+    ('#define HERE printf("%s:%d", __func__, __LINE__)', 'HERE; HERE;', '9 9'),
     ('#define LOG(...) do { } while(0)', 'LOG("x"); LOG(); printf("%d", 2);', '2'),
     ('#define CAT(a, b) a##b\n#define XCAT(a, b) CAT(a, b)\n#define N 4', 'int n4 = 6; printf("%d %d %d", XCAT(n, N), '
      'CAT(, n4), CAT(1, 2));', '6 6 12'),

@@ -13,7 +13,10 @@ from motesim.c_program.types import INT, Type
 from motesim.c_program.usage import Usage
 from motesim.c_program.values import Limits, Value, converted, united
 from motesim.c_program.written import Block, Line, Target
+from motesim.from_c.scope import nearest
 
+NO_NAME = 'motesim has no `%s`.'
+LIKE = ' Do you mean `%s`?'
 OF_LONG = 'Values have 16 bits here: those of this type above 65,535 wrap.'
 
 
@@ -104,6 +107,14 @@ class Base:
 
     def refuse(self, line: int, reason: str) -> Refusal:
         return Refusal(line, reason)
+
+    def absent(self, name: str, line: int, advice: str = '') -> Refusal:
+        """A name that isn't declared, with a similar one that is."""
+        known = {it.lower(): it for it in (
+            *self.file.functions, *(it.name for it in (*self.file.variables, *self.use.variables)))
+            if it and it != name}
+        like = nearest(name, known)
+        return Refusal(line, NO_NAME % name + (advice or (LIKE % known[like] if like else '')))
 
     def remark(self, line: int, text: str) -> None:
         self.program.remark(line, text)

@@ -14,7 +14,6 @@ from motesim.c_program.walk import all_parts
 from motesim.c_program.written import Block, If, Line
 from motesim.from_c.absent import MULTIHOP, NO_LISTS, NO_SENSORS, RUNICAST
 
-NO_CALL = 'motesim has no `%s`.'
 CONVERSION = re.compile(r'%(?:%|[-+ #0]*[0-9]*(?:\.[0-9*]+)?(?:hh|h|ll|l|z|j|t)?([a-zA-Z]))')
 # Calls that have no effect here.
 IGNORED = ('broadcast_open', 'unicast_open', 'abc_open', 'leds_init', 'packetbuf_set_attr', 'PT_INIT',
@@ -119,7 +118,7 @@ class Calls(Chance):
             advice = ' ' + OF_BUILT_TEXT
         elif it.text == 'packetbuf_attr':
             advice = ' All packets arrive with the same strength: use a constant instead.'
-        return self.refuse(it.line, NO_CALL % it.text + advice)
+        return self.absent(it.text, it.line, advice)
 
     def own_call(self, it: Expression, is_value: bool) -> Value:
         raise NotImplementedError

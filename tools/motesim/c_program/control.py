@@ -101,7 +101,7 @@ class Control(Radio):
         expression = it.expressions[0]
         assert expression is not None
         if expression.kind == 'call' and expression.text in ('PROCESS_EXIT', 'PT_EXIT'):
-            return self.exits()
+            return self.exits(it.line)
         if expression.kind == 'call' and expression.text == 'PT_RESTART':
             self.emit('restart;')
             return ENDS
@@ -113,7 +113,7 @@ class Control(Radio):
     def spawn(self, it: Expression, call: Expression) -> None:
         raise NotImplementedError
 
-    def exits(self) -> Flow:
+    def exits(self, line: int) -> Flow:
         raise NotImplementedError
 
     def of_handler(self, it: Statement) -> Flow:

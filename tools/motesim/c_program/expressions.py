@@ -24,7 +24,6 @@ NO_LONG = ('Values have 16 bits here, so `%s` with %d isn\'t translated: use sma
 OF_NUMBER = ('`%s` is an address, but a number is expected here: write the name of a variable without `&`, or a member '
              'of an array such as `a[0]`.')
 NO_BITS = 'This operation on bits needs statements of its own: write it above, into a variable.'
-NO_NAME = 'motesim has no `%s`.'
 OF_SECOND = ('A second has %d moments here, so `CLOCK_SECOND` is %d%s. `end` of the scenario is in moments, too, and '
              'so are the delays of packets.')
 
@@ -107,7 +106,7 @@ class Expressions(Events):
             return number(NUMBERS[it.text], UNSIGNED if NUMBERS[it.text] > 32_767 else INT)
         if it.text in EVENT_NUMBERS:
             return number(EVENT_NUMBERS[it.text])
-        raise self.refuse(it.line, NO_NAME % it.text)
+        raise self.absent(it.text, it.line)
 
     def _index(self, it: Expression) -> Value:
         if it.parts[0].kind in ('member', 'arrow') and it.parts[0].text in ('u8', 'u16'):
@@ -500,7 +499,7 @@ class Expressions(Events):
             self.conditional_effect(it)
         elif it.kind != 'name' or it.variable is None or it.variable.type.is_number:
             if it.kind == 'name' and it.variable is None:
-                raise self.refuse(it.line, NO_NAME % it.text)
+                raise self.absent(it.text, it.line)
             self.evaluate(it)
         self.flush()
 

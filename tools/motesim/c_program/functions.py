@@ -20,7 +20,11 @@ LOST_TIMER = ('In C, `%s` isn\'t static, so its memory has other values after a 
               'Here, it comes: declare it as `static`.')
 LOST = ('In C, `%s` isn\'t static, so it loses its value when its process waits. Here, it keeps it: declare it as '
         '`static`.')
-NO_WAIT = 'This function doesn\'t belong to a process, so it can\'t wait.'
+NO_WAIT = ('Only a process and its protothreads can wait in Contiki: write this wait in the process, or make `%s` a '
+           'protothread, `PT_THREAD(%s(struct pt *pt))`, that the process runs by `PROCESS_PT_SPAWN(&pt, %s(&pt));`.')
+OF_CALLBACK = ('A callback and a handler can\'t wait in Contiki: let it poll the process, `process_poll(&%s);`, and '
+               'let the process wait.')
+NO_EXIT = 'Only a process and its protothreads can exit so: use `return;` in `%s`.'
 NO_RESULT = 'The function `%s` has no result.'
 NO_STATIC = '`%s` needs a constant as its first value.'
 OF_FIELD = 'Only a variable is a pointer here, not `%s`: let it be the index of a member of an array, and -1 for none.'
@@ -386,10 +390,10 @@ class Functions(Control):
             return
         self.assign(name, self.operand(value), function.result)
 
-    def exits(self) -> Flow:
+    def exits(self, line: int) -> Flow:
         """`PROCESS_EXIT();` or `PT_EXIT(pt);`."""
         if not self.unit.may_wait:
-            raise self.refuse(self.unit.function.line, NO_WAIT)
+            raise self.refuse(line, NO_EXIT % self.unit.function.name)
         if self.unit.name == 'body' and self.receives:
             self.ends_with_packets()
         else:
@@ -404,8 +408,10 @@ class Functions(Control):
     # Waits.
 
     def check_wait(self, it: Expression) -> None:
-        if not self.unit.may_wait:
-            raise self.refuse(it.line, NO_WAIT)
+        if not self.unit.may_wait or self.unit.function.kind == 'function':
+            is_called = self.unit.is_callback or self.unit.name in ('onpoll', 'onexit') or 'ctimer ' in self.unit.name
+            reason = OF_CALLBACK % self.process if is_called else NO_WAIT % ((self.unit.function.name,) * 3)
+            raise self.refuse(it.line, reason)
         self.is_first = False
         self.fresh = {one for one in self.fresh if one.is_static}
         self.buffer = None

@@ -15,6 +15,7 @@ QUALIFIERS = ('static', 'const', 'volatile', 'extern', 'inline', 'register', 'au
 OF_PARAMETERS = 'The type of the parameter `%s` is expected here, in front of its name.'
 NO_END = 'Functions aren\'t inside of others: above `%s`, a `}` is missing.'
 OF_FUNCTIONS = 'An array of functions has no counterpart: call each function by its name, in a `switch`.'
+OF_BITS = 'A field with a number of bits has no counterpart: use a field of the type `uint8_t`.'
 MOST_MEMBERS = 64
 ZERO = Expression('number', '0', number=0, type=INT)
 WORDS = ('unsigned', 'signed', 'short', 'long', 'int', 'char', 'void', 'float', 'double')
@@ -104,7 +105,7 @@ class Declarations(Expressions):
             while True:
                 one = self.declarator(its)
                 if self.is_sign(':'):
-                    raise Refusal(self.token.line, 'A field with a number of bits has no counterpart.')
+                    raise Refusal(self.token.line, OF_BITS)
                 fields.append((one.name, one.type))
                 if not self.accept(','):
                     break

@@ -101,6 +101,8 @@ class Places(Base):
             return base._replace(type=field, paths=tuple((*path, it.text) for path in base.paths))
         if it.kind == 'unary' and it.text == '*':
             return self.pointed(it.parts[0])
+        if it.kind == 'name':
+            raise self.absent(it.text, it.line)
         raise self.refuse(it.line, NO_PLACE)
 
     def member(self, it: Expression) -> Place:
@@ -220,7 +222,7 @@ class Places(Base):
                 return Pointer('function', None, it.text)
             if it.text in ADDRESSES:
                 return Pointer('address', value=self.own_address(it))
-            raise self.refuse(it.line, 'motesim has no `%s`.' % it.text)
+            raise self.absent(it.text, it.line)
         if variable in self.aliases:
             return self.aliases[variable]
         if variable.type.kind == 'data':

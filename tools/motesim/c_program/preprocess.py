@@ -127,6 +127,10 @@ class Preprocessor:
             it = tokens[at]
             macro = self.macros.get(it.text) if it.kind == 'name' and it.text not in hidden else None
             at += 1
+            if it.text == '__LINE__' and it.kind == 'name':
+                it = it._replace(kind='number', text=str(it.line))
+            if it.text in ('__FILE__', '__func__', '__FUNCTION__') and it.kind == 'name':
+                it = it._replace(kind='text', text='"%s"' % it.text)
             if macro is None:
                 found.append(it)
                 continue
