@@ -217,6 +217,10 @@ REFUSALS = (
     ('static struct { int *next; } s; s.next = &n;', 'Only a variable is a pointer here, not `next`'),
     ('list_init(&s);', 'Use an array of structures'), ('n = packetbuf_attr(3);', 'use a constant instead'),
     ('int *q = best(); n = *q;', 'let `best` return the index of a member'),
+    ('struct etimer *q = data; etimer_reset(q);', 'a timer is set only by its name'),
+    ('static process_event_t e; e = PROCESS_EVENT_MSG;', '`e` gets its event only by `process_alloc_event()`'),
+    ('clock_wait(5);', 'Let the process wait for an etimer'), ('printf("%d %d", n);', 'needs more values, 2 in all'),
+    ('char *str = "abc"; n = str[1];', 'There are no texts here'), ('exit(0);', 'motesim has no `exit`.'),
     ('x = latr();', 'motesim has no `latr`. Do you mean `later`?'), ('bt++;', 'motesim has no `bt`.'),
     ('bytez[0] = 1;', 'Do you mean `bytes`?'), ('frobnicate(x);', 'motesim has no `frobnicate`.'),
     ('sprintf(bytes, "%d", n);', 'a packet is a number: send the number itself'),
@@ -609,6 +613,11 @@ class Remarks(unittest.TestCase):
         wanted = 'The array `a` has the members 0 to 2, but `i` may be 3 here'
         self.assertIn(wanted, self.remarks('for(i = 0; i <= 3; i++) n += a[i];'))
         self.assertNotIn('members 0 to 2', self.remarks('for(i = 0; i < 3; i++) n += a[i]; if(i > 0) a[i - 1] = 1;'))
+
+    def test_a_second_byte_of_an_address_is_named(self) -> None:
+        for byte, is_named in (('0', False), ('5', True)):
+            notes = self.remarks('to.u8[0] = 1; to.u8[1] = %s;' % byte, 'static rimeaddr_t to;')
+            self.assertEqual('the other bytes are 0' in notes, is_named)
 
     def test_a_timer_that_is_not_static_is_named(self) -> None:
         self.assertIn('`local` isn\'t static, so its memory has other values after a wait',

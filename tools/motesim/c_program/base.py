@@ -28,7 +28,9 @@ class Program:
     knowledge: Knowledge
     second: int
     names: dict[str, str] = field(default_factory=dict)
-    events: dict[str, str] = field(default_factory=dict)
+    # The names of events, by their numbers, and by the variables that have them.
+    events: dict[int, str] = field(default_factory=dict)
+    event_variables: dict[Variable, str] = field(default_factory=dict)
     semaphores: dict[Variable, str] = field(default_factory=dict)
     counts: dict[Variable, int] = field(default_factory=dict)
     remarks: dict[str, tuple[int, str]] = field(default_factory=dict)
@@ -88,7 +90,8 @@ class Base:
         self.program, self.process = program, process
         self.use = program.usage.uses[process]
         self.code = Code(program.names[process])
-        self.code.names |= {*program.names.values(), *program.events.values(), *program.semaphores.values()}
+        self.code.names |= {*program.names.values(), *program.events.values(), *program.event_variables.values(),
+                            *program.semaphores.values()}
         self.unit = Unit('body', program.file.bodies[process])
         self.out: Block = []
         self.posts: list[Block] = []
@@ -108,13 +111,14 @@ class Base:
     def refuse(self, line: int, reason: str) -> Refusal:
         return Refusal(line, reason)
 
-    def absent(self, name: str, line: int, advice: str = '') -> Refusal:
+    def absent(self, name: str, line: int, names: Iterable[str], advice: str = '') -> Refusal:
         """A name that isn't declared, with a similar one that is."""
-        known = {it.lower(): it for it in (
-            *self.file.functions, *(it.name for it in (*self.file.variables, *self.use.variables)))
-            if it and it != name}
+        known = {it.lower(): it for it in names if it and it != name}
         like = nearest(name, known)
         return Refusal(line, NO_NAME % name + (advice or (LIKE % known[like] if like else '')))
+
+    def absent_variable(self, name: str, line: int) -> Refusal:
+        return self.absent(name, line, (it.name for it in (*self.file.variables, *self.use.variables)))
 
     def remark(self, line: int, text: str) -> None:
         self.program.remark(line, text)

@@ -27,7 +27,18 @@ OF_TEXT = ('There are no texts: each number of a `printf` has a `print`, whose c
 OF_CHOSEN_TEXT = ('Which text this `printf` prints depends on `%s`, but texts aren\'t printed here: print the number '
                   '`%s`, too.')
 OF_BUILT_TEXT = 'There are no texts here, and a packet is a number: send the number itself, such as `n`.'
+BY_NAME = 'The data of an event is compared with a timer here, but a timer is set only by its name, such as `&et`.'
 LONGEST_LABEL = 40
+# The beginnings of names of calls that motesim doesn't have, and advice.
+ADVICE = (
+    (('runicast_', 'simple_udp'), RUNICAST),
+    (('mesh_', 'collect_', 'netflood_', 'trickle_', 'multihop_'), MULTIHOP),
+    (('list_', 'memb_', 'queuebuf_'), NO_LISTS), (('sprintf', 'snprintf', 'str'), OF_BUILT_TEXT),
+    (('packetbuf_attr',), 'All packets arrive with the same strength: use a constant instead.'),
+    (('clock_delay', 'clock_wait'), 'Let the process wait for an etimer.'),
+    (('rtimer_',), 'Use a ctimer: `ctimer_set(&c, 10, f, NULL);` calls `f` after 10 ticks.'),
+    (('memcmp',), 'Compare the values one by one.'),
+)
 OF_BELOW = 'This value may be below 0. Then it is printed as a number that is 65,536 above it.'
 NO_DATA = ('`process_start` passes no value here: post the value to `%s` after the start, and let it wait for this '
            'event.')
@@ -103,22 +114,12 @@ class Calls(Chance):
     is_first = True
 
     def unknown(self, it: Expression) -> Exception:
-        advice = ''
         if it.variable is not None:
             return self.refuse(it.line, 'A pointer to a function is called here: call the function by its name.')
-        if it.text.startswith(('runicast_', 'simple_udp')):
-            advice = ' ' + RUNICAST
-        elif it.text.startswith(('mesh_', 'collect_', 'netflood_', 'trickle_', 'multihop_')):
-            advice = ' ' + MULTIHOP
-        elif 'sensor' in it.text.lower():
+        advice = next((' ' + text for names, text in ADVICE if it.text.startswith(names)), '')
+        if 'sensor' in it.text.lower():
             advice = ' ' + NO_SENSORS
-        elif it.text.startswith(('list_', 'memb_', 'queuebuf_')):
-            advice = ' ' + NO_LISTS
-        elif it.text in ('sprintf', 'snprintf') or it.text.startswith('str'):
-            advice = ' ' + OF_BUILT_TEXT
-        elif it.text == 'packetbuf_attr':
-            advice = ' All packets arrive with the same strength: use a constant instead.'
-        return self.absent(it.text, it.line, advice)
+        return self.absent(it.text, it.line, self.file.functions, advice)
 
     def own_call(self, it: Expression, is_value: bool) -> Value:
         raise NotImplementedError
@@ -237,6 +238,8 @@ class Calls(Chance):
     def timer(self, it: Expression, *kinds: str) -> str:
         """The name of an etimer or of a ctimer."""
         pointer = self.pointer(it)
+        if pointer.kind == 'data':
+            raise self.refuse(it.line, BY_NAME)
         if pointer.kind != 'timer' or pointer.place is None or pointer.place.type.kind not in kinds:
             raise self.refuse(it.line, 'The address of a `struct %s` is expected here.' % kinds[0])
         place = pointer.place
@@ -410,8 +413,7 @@ class Calls(Chance):
         if any(labels):
             self.remark(it.line, OF_TEXT)
         if len(kinds) > len(it.parts) - 1:
-            raise self.refuse(it.line, 'The text of this `printf` has %d values, but %d are given.' % (
-                len(kinds), len(it.parts) - 1))
+            raise self.refuse(it.line, 'The text of this `printf` needs more values, %d in all.' % len(kinds))
         for kind, part, label in zip(kinds, it.parts[1:], labels):
             if kind in 'sp':
                 self.skip_text(part)
@@ -498,8 +500,8 @@ def labels_of(text: str, found: Sequence[re.Match[str]]) -> list[str]:
 
 def label_of(text: str) -> str:
     """The words of a text, for a comment."""
-    plain = ' '.join(re.sub(r'\\[a-z]', ' ', text).replace('\\', '').replace("'''", '"').split())
-    found = plain.strip(' :=,;.-()[]<>\'"')
+    plain = ' '.join(re.sub(r'\\[a-z]', ' ', text).replace('\\', '').replace("'''", '"').replace('%%', '%').split())
+    found = plain.strip(' :=,;.-|/()[]<>\'"')
     return found[:LONGEST_LABEL - 2] + '..' if len(found) > LONGEST_LABEL else found
 
 

@@ -35,9 +35,9 @@ class Events(Places):
         """The name of an event: of the kernel, or of the program."""
         it = it.parts[0] if it.kind == 'cast' else it
         if it.kind == 'name' and it.variable and it.variable.type.kind == 'event' and not it.variable.is_parameter:
-            if it.variable.function:
+            if it.variable not in self.program.event_variables:
                 raise self.refuse(it.line, NO_EVENT)
-            return self.program.events['variable ' + it.variable.name]
+            return self.program.event_variables[it.variable]
         value = constant_of(it)
         if value is None and it.kind == 'name' and it.variable is None:
             is_sensor = 'sensor' in it.text or 'button' in it.text
@@ -48,7 +48,7 @@ class Events(Places):
             return KERNEL[value]
         if 128 <= value < EVENT_NUMBERS['PROCESS_EVENT_MAX']:
             raise self.refuse(it.line, NO_KERNEL_EVENT % value)
-        return self.program.events['number %d' % value]
+        return self.program.events[value]
 
     def is_of(self, event: str) -> Value:
         return Value('is(%s)' % event, INT, 0, 1, NOTHING, ('!1', 'is', ''))
@@ -71,12 +71,12 @@ class Events(Places):
         return None
 
     def is_data(self, it: Expression) -> bool:
-        """Returns whether an expression is the data of the event, as a pointer: `data`, or a parameter that got it."""
+        """Returns whether an expression is the data of the event, as a pointer: `data`, or a pointer to it."""
         while it.kind == 'cast' and it.type and it.type.kind in ('pointer', 'data'):
             it = it.parts[0]
         if it.kind != 'name' or it.variable is None:
             return False
-        alias = self.aliases.get(it.variable) if it.variable.is_parameter else None
+        alias = self.aliases.get(it.variable)
         return it.variable.type.kind == 'data' or alias is not None and alias.kind == 'data'
 
     def of_data(self, one: Expression, other: Expression) -> Value | None:

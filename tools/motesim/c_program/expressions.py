@@ -106,7 +106,7 @@ class Expressions(Events):
             return number(NUMBERS[it.text], UNSIGNED if NUMBERS[it.text] > 32_767 else INT)
         if it.text in EVENT_NUMBERS:
             return number(EVENT_NUMBERS[it.text])
-        raise self.absent(it.text, it.line)
+        raise self.absent_variable(it.text, it.line)
 
     def _index(self, it: Expression) -> Value:
         if it.parts[0].kind in ('member', 'arrow') and it.parts[0].text in ('u8', 'u16'):
@@ -499,7 +499,7 @@ class Expressions(Events):
             self.conditional_effect(it)
         elif it.kind != 'name' or it.variable is None or it.variable.type.is_number:
             if it.kind == 'name' and it.variable is None:
-                raise self.absent(it.text, it.line)
+                raise self.absent_variable(it.text, it.line)
             self.evaluate(it)
         self.flush()
 

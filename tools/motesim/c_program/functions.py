@@ -24,6 +24,9 @@ NO_WAIT = ('Only a process and its protothreads can wait in Contiki: write this 
            'protothread, `PT_THREAD(%s(struct pt *pt))`, that the process runs by `PROCESS_PT_SPAWN(&pt, %s(&pt));`.')
 OF_CALLBACK = ('A callback and a handler can\'t wait in Contiki: let it poll the process, `process_poll(&%s);`, and '
                'let the process wait.')
+ONE_BYTE = 'Only the first byte of an address, `u8[0]`, has a value here: the other bytes are 0, and aren\'t assigned.'
+OF_ALLOCATED = ('`%s` gets its event only by `process_alloc_event()` here: name another event at the place that needs '
+                'it.')
 NO_EXIT = 'Only a process and its protothreads can exit so: use `return;` in `%s`.'
 NO_RESULT = 'The function `%s` has no result.'
 NO_STATIC = '`%s` needs a constant as its first value.'
@@ -154,7 +157,9 @@ class Functions(Control):
         if it.text != '=' or its.is_number and its.kind != 'address':
             return self.byte_assigned(it)
         value = it.parts[1]
-        if its.kind == 'event' and value.kind == 'call' and value.text == 'process_alloc_event':
+        if its.kind == 'event':
+            if value.kind != 'call' or value.text != 'process_alloc_event':
+                raise self.refuse(it.line, OF_ALLOCATED % (target.text or 'this'))
             return True
         if its.kind == 'pointer' and target.kind == 'name' and target.variable:
             self.point(target.variable, value, it.line)
@@ -185,6 +190,8 @@ class Functions(Control):
         if index.constant == 0:
             self.remark(it.line, OF_ADDRESS)
             self.write(self.place(owner), value, it.line)
+        elif value.constant != 0:
+            self.remark(it.line, ONE_BYTE)
         return True
 
     # Values that a wait loses.

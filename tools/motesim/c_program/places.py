@@ -102,7 +102,7 @@ class Places(Base):
         if it.kind == 'unary' and it.text == '*':
             return self.pointed(it.parts[0])
         if it.kind == 'name':
-            raise self.absent(it.text, it.line)
+            raise self.absent_variable(it.text, it.line)
         raise self.refuse(it.line, NO_PLACE)
 
     def member(self, it: Expression) -> Place:
@@ -167,7 +167,7 @@ class Places(Base):
                 self.remark(it.line, OF_DATA)
             return Place(pointer.kind, its, None, ((),), None, its)
         if pointer.kind != 'place' or pointer.place is None:
-            raise self.refuse(it.line, NO_POINTER % (it.text or 'this'))
+            raise self.refuse(it.line, TEXTS if pointer.kind == 'text' else NO_POINTER % (it.text or 'this'))
         place = pointer.place
         if place.type.kind == 'array' and not is_array and place.type.of:
             place = place._replace(type=place.type.of, paths=tuple((*path, 0) for path in place.paths))
@@ -222,7 +222,7 @@ class Places(Base):
                 return Pointer('function', None, it.text)
             if it.text in ADDRESSES:
                 return Pointer('address', value=self.own_address(it))
-            raise self.absent(it.text, it.line)
+            raise self.absent_variable(it.text, it.line)
         if variable in self.aliases:
             return self.aliases[variable]
         if variable.type.kind == 'data':

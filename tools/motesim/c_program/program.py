@@ -130,7 +130,7 @@ def written(program: Program) -> list[str]:
         writer.translate()
         writers.append(writer)
     lines = ['// ' + it for it in file.comments if it]
-    lines += ['event %s;' % it for it in dict.fromkeys(program.events.values())]
+    lines += ['event %s;' % it for it in (*program.event_variables.values(), *program.events.values())]
     lines += ['semaphore %s = %d;' % (name, program.counts.get(it, 0)) for it, name in program.semaphores.items()]
     lines += ['process %s;' % ', '.join(program.names[it] for it in file.processes)]
     if file.autostart:
@@ -157,11 +157,11 @@ def name_all(program: Program) -> None:
     inner = [it.variable for one in functions for it in declared_in(one.body) if it.variable and it.variable.is_static]
     for variable in (*file.variables, *inner):
         if variable.type.kind == 'event':
-            program.events.setdefault('variable ' + variable.name, new(variable.name, variable.line))
+            program.event_variables[variable] = new(variable.name, variable.line)
         elif variable.type.kind == 'semaphore':
             program.semaphores[variable] = new(variable.name, variable.line)
     for value, name in event_numbers(file).items():
-        program.events['number %d' % value] = new(name)
+        program.events[value] = new(name)
 
 
 def event_numbers(file: File) -> dict[int, str]:
