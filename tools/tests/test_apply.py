@@ -98,9 +98,9 @@ class Command(unittest.TestCase):
         output = self.folder / 'below.toml'
         status, out, _ = self.run_on(self.written('below.c', source), '--apply', str(output))
         self.assertEqual((status, 'Warning' in out), (0, False), out)
-        self.assertIn("below = \'\'\'\n// Translated from below.c\n", output.read_text())
+        self.assertIn("blink = \'\'\'\n// Translated from C\n", output.read_text())
         # (without this comment, the program might be by somebody who doesn't know that no number is below 0)
-        (self.folder / 'own.toml').write_text(output.read_text().replace('// Translated from below.c\n', ''))
+        (self.folder / 'own.toml').write_text(output.read_text().replace('// Translated from C\n', ''))
         self.assertIn('no number is below 0', self.run_on(str(self.folder / 'own.toml'))[1])
 
     def test_a_program_in_c_within_a_scenario_is_translated_as_a_whole(self) -> None:
@@ -158,6 +158,20 @@ class Command(unittest.TestCase):
         self.assertIn('b.c, line 14:\n  n = strlen("abc");\nmotesim has no `strlen`.', out)
         self.assertIn('\n\nNo file is written', out)
         self.assertFalse((self.folder / 'b.toml').exists())
+
+    def test_a_file_in_another_encoding_is_refused_with_the_command_that_converts_it(self) -> None:
+        path = self.folder / 'latin.c'
+        path.write_bytes(('// \u00c4nderung von M\u00fcller\n' + C).encode('latin-1'))
+        status, _, err = self.run_on(str(path), '--apply', str(self.folder / 'latin.toml'))
+        self.assertEqual(status, 2)
+        self.assertIn('UTF-8', err)
+        self.assertIn('iconv -f', err)
+        self.assertFalse((self.folder / 'latin.toml').exists())
+
+    def test_the_name_of_the_file_is_not_in_the_scenario(self) -> None:
+        output = self.folder / 'solution.toml'
+        self.run_on(self.written('mueller.c', C), '--apply', str(output))
+        self.assertNotIn('mueller', output.read_text())
 
     def test_quotes_in_a_program_are_refused(self) -> None:
         name = self.written('q.mote', "process a; // '''\n")

@@ -539,7 +539,7 @@ PROCESS_THREAD(q, ev, data) { PROCESS_BEGIN(); process_exit(&p); PROCESS_END(); 
                             'process_exit(&p);')
         for texts, reason in (
                 ({'CALL': synch}, 'and calls `p` here'), ({'CALL': end}, 'and ends `p` here'),
-                ({'CALL': late, 'LATE': synch}, None), ({'CALL': late, 'LATE': end}, None),
+                ({'CALL': late, 'LATE': synch}, None), ({'CALL': late, 'LATE': end}, 'and ends `p` here'),
                 ({'CALL': synch.replace('&p', '&q')}, None), ({'OWN': 'late(NULL);', 'LATE': end}, 'ends itself by')):
             with self.subTest(texts):
                 own = source
@@ -552,6 +552,25 @@ PROCESS_THREAD(q, ev, data) { PROCESS_BEGIN(); process_exit(&p); PROCESS_END(); 
         for name in ('LATE', 'CALL', 'OWN'):
             source = source.replace(name, '', 1)
         self.assertNotIn('still runs for packets', translation(source.replace('CLOSE', 'broadcast_close(&bc);'))[1])
+
+    def test_a_callback_for_packets_cannot_end_a_process_for_whose_end_its_process_waits(self) -> None:
+        source = '''PROCESS(p, "p"); PROCESS(q, "q");
+AUTOSTART_PROCESSES(&p);
+static struct broadcast_conn bc;
+static void recv(struct broadcast_conn *c, const rimeaddr_t *from) { CALL(&q); }
+static const struct broadcast_callbacks callbacks = { recv };
+PROCESS_THREAD(p, ev, data) { PROCESS_BEGIN(); broadcast_open(&bc, 129, &callbacks);
+  while(1) { PROCESS_WAIT_EVENT_UNTIL(TEST); printf("%d", 1); }
+  PROCESS_END(); }
+PROCESS_THREAD(q, ev, data) { PROCESS_BEGIN(); PROCESS_END(); }
+'''
+        for call, test, is_refused in (
+                ('process_exit', 'ev == PROCESS_EVENT_EXITED && data == &q', True),
+                ('process_exit', 'ev == PROCESS_EVENT_EXITED', True), ('process_exit', 'data == NULL', False),
+                ('process_poll', 'ev == PROCESS_EVENT_EXITED', False)):
+            text, notes = translation(source.replace('CALL', call).replace('TEST', test))
+            self.assertEqual(text is None, is_refused, notes)
+            self.assertEqual('which misses this event' in notes, is_refused)
 
     def test_a_receiver_that_is_not_started_has_a_remark(self) -> None:
         source = '''PROCESS(opener, "opener"); PROCESS(app, "app");

@@ -38,6 +38,10 @@ class Program:
     # the first line that depends on its end.
     endless: dict[str, str] = field(default_factory=dict)
     asks_for_end: dict[str, int] = field(default_factory=dict)
+    # The processes that wait for the end of another one; and the lines of callbacks for packets after which another
+    # process may end, by the process in which the callback runs.
+    awaits_end: set[str] = field(default_factory=set)
+    ends_others: dict[str, int] = field(default_factory=dict)
     # Refusals that hold only if the limits of values are settled.
     refusals: list[Refusal] = field(default_factory=list)
 

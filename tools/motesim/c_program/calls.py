@@ -215,12 +215,19 @@ class Calls(Chance):
             raise self.refuse(it.line, NO_DATA % name)
         if any(self.program.names[one] == name for one in self.file.autostart):
             self.program.asks_for_end.setdefault(name, it.line)
+        self.note_end(it.line)
         self.emit('start %s;' % name)
+
+    def note_end(self, line: int) -> None:
+        """Notes that another process may end while a callback for packets runs."""
+        if self.unit.is_callback:
+            self.program.ends_others.setdefault(self.process, line)
 
     def call_process_exit(self, it: Expression) -> None:
         name = self.target_process(self.arguments(it, 1)[0])
-        if name == self.code.name and self.unit.is_callback:
+        if name == self.code.name and self.unit.of_radio:
             raise self.refuse(it.line, FROM_CALLBACK % ('ends', name, name, 'end', name))
+        self.note_end(it.line)
         if name == self.code.name and not self.unit.name.startswith('ctimer '):
             raise self.refuse(it.line, OF_ITSELF)
         receiver, callback = self.program.usage.receiver, self.program.usage.callback

@@ -51,6 +51,14 @@ class Events(Places):
         return self.program.events[value]
 
     def is_of(self, event: str) -> Value:
+        """The test of an event in the program."""
+        if event == 'exited':
+            self.program.awaits_end.add(self.process)
+        return self.event_test(event)
+
+    @staticmethod
+    def event_test(event: str) -> Value:
+        """The test of an event."""
         return Value('is(%s)' % event, INT, 0, 1, NOTHING, ('!1', 'is', ''))
 
     def of_events(self, it: Expression) -> Value | None:
@@ -104,7 +112,7 @@ class Events(Places):
             return compared('==', self.whole('data'), self.evaluate(other))
         if other.kind == 'name' and other.text == 'NULL':
             found = compared('==', self.whole('data'), number(0))
-            others = both(self.is_of('timer'), self.is_of('exited'), '||')
+            others = both(self.event_test('timer'), self.event_test('exited'), '||')
             return both(found, negated(others), '&&')
         if self.type_of(other).is_number and other.kind != 'unary':
             return compared('==', self.whole('data'), self.evaluate(other))
@@ -114,6 +122,7 @@ class Events(Places):
         if pointer.kind == 'process':
             name = self.process_named(pointer, other.line)
             self.program.asks_for_end.setdefault(name, other.line)
+            self.program.awaits_end.add(self.process)
             return Value('gone(%s)' % name, INT, 0, 1, NOTHING, ('!1', 'gone', ''))
         raise self.refuse(other.line, NO_DATA)
 

@@ -32,6 +32,9 @@ NO_BODY = 'The process `%s` has no `PROCESS_THREAD(%s, ev, data)` in this file.'
 NO_END = ('`%s` ends in C, but its function `%s` still runs for packets. Here, a process that has ended gets no '
           'packets. So `%s` waits for packets instead of ending, and this line depends on its end. Let a process that '
           'doesn\'t end open the connection.')
+NO_EXITED = ('In Contiki, the function that is called for packets runs in a process of the radio, so `%s` gets the '
+             'event that another process has ended. In the translation it runs in `%s`, which misses this event: post '
+             'an event to `%s`, and let it start or end the process.')
 TOO_LARGE = 'The program is too large for a mote: %s'
 LIMITS = {7: 'blocks or brackets are nested more than 32 deep.',
           8: 'a process has at most 64 variables, 64 timers and 7 threads, and a program at most 4,096 statements.'}
@@ -102,6 +105,10 @@ def check_processes(file: File) -> None:
 
 def check_ends(program: Program) -> None:
     """Raises a Refusal for a line that depends on the end of a process that waits for packets instead."""
+    for process, line in program.ends_others.items():
+        if process in program.awaits_end:
+            name = program.names[process]
+            raise Refusal(line, NO_EXITED % (name, name, name))
     for name, line in program.asks_for_end.items():
         if name in program.endless:
             raise Refusal(line, NO_END % (name, program.endless[name], name))

@@ -12,15 +12,16 @@ from collections.abc import Callable, Iterator, Sequence
 from pathlib import Path
 from typing import NamedTuple
 
+from motesim.c_program.constants import SECOND
 from motesim.c_program.program import Translation, translated
 from motesim.c_program.refusal import Refusal
-from motesim.c_program.constants import SECOND
 from motesim.explain.explanation import CONTROL, explanation, shown_explanation, wrapped
 from motesim.explain.followed import followed
 from motesim.explain.whole import in_c, remarks_of, translation_of, with_comment, with_translation
 from motesim.faults import Fault
 from motesim.files import refuse_inputs, write_whole
 from motesim.runner.run import Answer, read_file
+from motesim.scenario.encodings import decoded
 from motesim.scenario.faults import ScenarioError, find_fault
 from motesim.scenario.kinds import begins_as_c, begins_as_scenario, is_program_file
 from motesim.terminal import one_line
@@ -119,11 +120,7 @@ def apply(name: str, output: str, run: Callable[[bytes], Answer], second: int = 
     status of tools/explain for it."""
     refuse_inputs(output, [name], '--apply')
     data = read_file(name)
-    try:
-        text = data.decode().removeprefix(MARK)
-    except UnicodeDecodeError:
-        raise Fault('%s isn\'t a text in UTF-8: tools/explain %s has a hint' % (one_line(name), one_line(name))
-                    ) from None
+    text = decoded(one_line(name), data).removeprefix(MARK)
     if is_program_file(name, data):
         text = in_net(name, text)
         print(IN_NET % (one_line(name), one_line(output)))
@@ -154,14 +151,19 @@ def translate(name: str, text: str, output: str, run: Callable[[bytes], Answer],
     except Refusal as refusal:
         print('\n'.join(refused(name, text, refusal)))
         return 1
-    source = with_comment(found.text, one_line(Path(name).name))
-    data = in_net(name, source, SECONDS * second).encode()
+    data = in_net(first_process(found.text), with_comment(found.text, 'C'), SECONDS * second).encode()
     write_whole(output, [data])
     print(IN_NET % (one_line(name), one_line(output)))
     for it in found.remarks:
         print('\n'.join(['', *wrapped(NOT_TRANSLATED % (one_line(name), it.line, it.text))]))
     print()
     return shown_explanation(output, data, run)
+
+
+def first_process(program: str) -> str:
+    """The name of the first process of a program. (The file's name may be the name of its author.)"""
+    found = re.search(r'^process (\w+)', program, re.M)
+    return found[1] if found else 'p'
 
 
 def refused(name: str, text: str, refusal: Refusal) -> list[str]:

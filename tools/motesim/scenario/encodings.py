@@ -74,8 +74,10 @@ def decoded(file: str, data: bytes) -> str:
     refuse_encoding(file, data)
     try:
         return data.decode('utf-8')
-    except UnicodeDecodeError:
-        raise Fault('%s is not UTF-8: save it as UTF-8' % file) from None
+    except UnicodeDecodeError as fault:
+        line = data[:fault.start].count(b'\n') + 1
+        raise Fault('%s is not UTF-8, because of a character in line %d: save it as UTF-8. If it is Latin-1, this '
+                    'command converts it: iconv -f WINDOWS-1252 -t UTF-8 %s >NEW' % (file, line, file)) from None
 
 
 def hint_of_byte(data: bytes) -> str | None:
