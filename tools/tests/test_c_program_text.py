@@ -622,8 +622,9 @@ class Remarks(unittest.TestCase):
                                                                + ' static int %s;' % many))
 
     def test_a_text_that_depends_on_a_value_is_named(self) -> None:
-        above = 'static const char *names[] = {"a", "b"};'
-        for body in 'printf("%s", n ? "on" : "off");', 'printf("%s %d", names[n], x);':
+        above = ('static const char *names[] = {"a", "b"};\n'
+                 'static const char *name_of(int s) { return s ? names[0] : "none"; }')
+        for body in 'printf("%s", n ? "on" : "off");', 'printf("%s %d", names[n], x);', 'printf("%s", name_of(n));':
             self.assertIn('depends on `n`, but texts aren\'t printed', self.remarks(body, above))
         for body in 'printf("%s", names[1]);', 'printf("%s", "on");':
             self.assertNotIn('depends', self.remarks(body, above))

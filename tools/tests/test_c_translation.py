@@ -45,6 +45,8 @@ VALUES = (
      ' printf("%d %d %d %d %d", m[1][0], m[1][1], s[0].b[1], s[1].a, s[1].b[1]);', '3 4 3 4 6'),
     ('static const int k[] = {[2] = 5, 6, [0] = 1}; static struct { int a, b; } s[2] = {[1] = {3, 4}};'
      ' printf("%d %d %d %d %d %d", k[0], k[1], k[2], k[3], s[0].b, s[1].b);', '1 0 5 6 0 4'),
+    ('struct { int a; rimeaddr_t b[2]; } s = {.b = {{{4, 0}}}}; printf("%d %d", s.a, s.b[0].u8[0]);'
+     ' printf("%d", rimeaddr_cmp(&s.b[1], &rimeaddr_null));', '0 4 1'),
     ('int q[3] = {1, 2, 3}, r[3]; memcpy(r, q, 4); memset(&q[1], 0, 4); memset(&q[0], 0xff, sizeof(int));'
      ' printf("%d %d %d %d", q[0], q[2], r[1], r[2]);', '65535 0 2 0'),
     ('static linkaddr_t none; static const rimeaddr_t all[2] = {{{3, 0}}, {{0, 0}}}; rimeaddr_t one = {{5, 0}};'

@@ -6,11 +6,11 @@ from collections.abc import Callable, Sequence
 
 from motesim.c_program.chance import Chance
 from motesim.c_program.constants import constant_of
-from motesim.c_program.places import OF_DATA, Place, Pointer
+from motesim.c_program.places import OF_DATA, TEXTS, Place, Pointer, has_effects
 from motesim.c_program.tree import Expression, Function
 from motesim.c_program.types import INT, UNSIGNED
 from motesim.c_program.values import MOST, NOTHING, Value, added, as_type, compared, number
-from motesim.c_program.walk import all_parts
+from motesim.c_program.walk import all_parts, parts_of, without_casts
 from motesim.c_program.written import Block, If, Line
 from motesim.from_c.absent import MULTIHOP, NO_LISTS, NO_SENSORS, RUNICAST
 
@@ -211,7 +211,7 @@ class Calls(Chance):
 
     def call_process_start(self, it: Expression) -> None:
         name = self.target_process(self.first(it))
-        if len(it.parts) > 1 and constant_of(self.without_casts(it.parts[1])) != 0:
+        if len(it.parts) > 1 and constant_of(without_casts(it.parts[1])) != 0:
             raise self.refuse(it.line, NO_DATA % name)
         if any(self.program.names[one] == name for one in self.file.autostart):
             self.program.asks_for_end.setdefault(name, it.line)
@@ -268,9 +268,6 @@ class Calls(Chance):
         if value.is_negative:
             value = as_type(value, UNSIGNED)
         return value.text
-
-    def all_in(self, it: Expression) -> list[Expression]:
-        return [it, *(inner for part in it.parts for inner in self.all_in(part))]
 
     def call_etimer_set(self, it: Expression) -> None:
         timer, interval = self.arguments(it, 2)
@@ -441,11 +438,11 @@ class Calls(Chance):
 
     def skip_text(self, it: Expression) -> None:
         """Skips a text that is printed: it has no effects."""
-        if any(part.kind in ('call', 'assign', 'postfix') and part.text != 'packetbuf_dataptr'
-               for part in self.all_in(it)):
-            raise self.refuse(it.line, 'There are no texts here: a program prints numbers.')
-        chosen = it.parts[0] if it.kind == 'choice' else it.parts[1] if it.kind == 'index' else None
-        names = [part.text for part in self.all_in(chosen) if part.kind == 'name'] if chosen else []
+        if any(has_effects(part) and not self.is_of_text(part) for part in parts_of(it)):
+            raise self.refuse(it.line, TEXTS)
+        chosen = it if it.kind == 'call' else it.parts[0] if it.kind == 'choice' else it.parts[1] \
+            if it.kind == 'index' else None
+        names = [part.text for part in parts_of(chosen) if part.kind == 'name'] if chosen else []
         if chosen and names and constant_of(chosen) is None:
             self.remark(it.line, OF_CHOSEN_TEXT % (names[0], names[0]))
 

@@ -6,7 +6,7 @@ from motesim.c_program.expressions import Expressions
 from motesim.c_program.tree import Expression
 from motesim.c_program.types import INT, UNSIGNED
 from motesim.c_program.values import HALF, Value, added, divided, multiplied, number
-from motesim.c_program.walk import all_parts
+from motesim.c_program.walk import all_parts, without_casts
 from motesim.from_c.expressions import DRAWN, MIXED, STEP
 
 DRAWS = ('random_rand', 'rand')
@@ -31,7 +31,7 @@ class Chance(Expressions):
     needs_byte = False
 
     def _binary(self, it: Expression) -> Value:
-        self.needs_byte = is_draw(self.without_casts(it.parts[0])) and self.keeps_byte(it)
+        self.needs_byte = is_draw(without_casts(it.parts[0])) and self.keeps_byte(it)
         return super()._binary(it)
 
     def keeps_byte(self, it: Expression) -> bool:

@@ -14,6 +14,7 @@ from motesim.c_program.values import (
     HALF, MOST, OPPOSITE, Value, added, both, common, compared, converted, divided, is_true, multiplied, negated,
     number, promoted,
 )
+from motesim.c_program.walk import parts_of
 from motesim.c_program.written import Block, If, Line, While
 
 COMPARES = ('==', '!=', '<', '<=', '>', '>=')
@@ -534,16 +535,11 @@ class Expressions(Events):
         """The first argument of a call."""
         return it.parts[0] if it.parts else self.arguments(it, 1)[0]
 
-    def without_casts(self, it: Expression) -> Expression:
-        while it.kind == 'cast':
-            it = it.parts[0]
-        return it
-
     # Limits of variables that follow from tests.
 
     def refine(self, it: Expression, is_true_here: bool) -> None:
         """Notes the limits of variables that follow from a test, if the test itself changes none."""
-        parts = self.all_parts(it)
+        parts = [*parts_of(it)]
         is_step = any(one.kind == 'postfix' for one in parts)
         if any(one.kind in ('assign', 'comma') or one.kind == 'unary' and one.text in ('++', '--')
                or one.kind == 'call' and one.text in self.file.functions for one in parts):
@@ -551,9 +547,6 @@ class Expressions(Events):
         if is_step and (it.kind not in ('postfix', 'binary') or it.text in ('&&', '||')):
             return
         self.refined(it, is_true_here)
-
-    def all_parts(self, it: Expression) -> list[Expression]:
-        return [it, *(inner for part in it.parts for inner in self.all_parts(part))]
 
     def refined(self, it: Expression, is_true_here: bool) -> None:
         """Notes the limits of variables that follow from a test without effects."""
@@ -609,10 +602,10 @@ class Expressions(Events):
         name, its = self.plain_name(it)
         if name:
             return self.limits(name, its)
-        if any(one.variable and one.kind == 'name' and not self.is_size(it) for one in self.all_parts(it)):
+        if any(one.variable and one.kind == 'name' and not self.is_size(it) for one in parts_of(it)):
             return None
         if any(one.kind in ('call', 'text', 'name') and one.text != 'CLOCK_SECOND' and not self.is_size(it)
-               for one in self.all_parts(it)):
+               for one in parts_of(it)):
             return None
         with self.into([]):
             value = self.operand(it)

@@ -61,20 +61,11 @@ class Functions(Control):
         it, its = variable.initial, variable.type
         if not variable.is_static:
             return 0
-        if it is None:
-            leaf = dict(leaves_of(its)).get(path)
-            return NO_MOTE if leaf and leaf.kind == 'address' else 0
-        for step in path:
-            if it.kind == 'text':
-                return self.character(it, step)
-            fields = [name for name, _ in its.fields]
-            at = fields.index(step) if isinstance(step, str) and step in fields else step
-            named = next((one.parts[0] for one in it.parts if one.kind == 'field' and one.text == step), None)
-            if named is None and (not isinstance(at, int) or at >= len(it.parts) or it.parts[at].kind == 'field'):
-                return NO_MOTE if dict(leaves_of(variable.type))[path].kind == 'address' else 0
-            it = named if named is not None else it.parts[at] if isinstance(at, int) else it
-            its = dict(its.fields)[step] if isinstance(step, str) else its.of or its
-        return self.first_value(variable, it, its)
+        leaf = dict(leaves_of(its)).get(path, INT)
+        value = self.list_value(it, path, its) if it else None
+        if value is None:
+            return NO_MOTE if leaf.kind == 'address' else 0
+        return self.first_value(variable, value, leaf)
 
     def character(self, it: Expression, step: object) -> int:
         return ord(it.text[step]) if isinstance(step, int) and step < len(it.text) else 0
@@ -113,21 +104,23 @@ class Functions(Control):
             for path, its in numbers:
                 value = self.list_value(initial, path, variable.type)
                 one = place._replace(type=its, paths=(path,))
-                self.write(one, self.operand(value) if value else number(0), line)
+                self.write(one, self.operand(value) if value else number(NO_MOTE * (its.kind == 'address')), line)
             return
         if variable.type.kind == 'data':
             raise self.refuse(line, OF_EVENT)
         self.assigned(Expression('assign', '=', (target, initial), line))
 
     def list_value(self, it: Expression, path: Path, its: Type) -> Expression | None:
-        """The value that a list in braces has for a part of a variable."""
+        """The value that a list in braces has for a part of a variable; None if the list leaves it out."""
         for step in path:
-            fields = [name for name, _ in its.fields]
-            at = fields.index(step) if isinstance(step, str) else step
-            named = next((one.parts[0] for one in it.parts if one.kind == 'field' and one.text == step), None)
             if it.kind == 'text':
                 return Expression('number', '', number=self.character(it, step), type=INT)
-            if named is None and at >= len(it.parts):
+            fields = [name for name, _ in its.fields]
+            if step not in fields and isinstance(step, str):
+                return it
+            at = fields.index(step) if isinstance(step, str) else step
+            named = next((one.parts[0] for one in it.parts if one.kind == 'field' and one.text == step), None)
+            if named is None and (at >= len(it.parts) or it.parts[at].kind == 'field'):
                 return None
             it = named or it.parts[at]
             its = dict(its.fields)[step] if isinstance(step, str) else its.of or its

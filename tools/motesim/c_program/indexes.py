@@ -8,7 +8,7 @@ from motesim.c_program.constants import constant_of
 from motesim.c_program.refusal import Refusal
 from motesim.c_program.tree import Expression, File, Function, Statement, Variable
 from motesim.c_program.types import INT
-from motesim.c_program.walk import all_parts, declared_in, parts_of
+from motesim.c_program.walk import all_parts, declared_in, parts_of, without_casts
 
 MEMBERS = ('int', 'bool', 'struct', 'address')
 TESTS = ('if', 'while', 'do', 'for')
@@ -27,12 +27,6 @@ def indexes_for_pointers(file: File) -> list[tuple[int, str]]:
         return []
     Rewriter(file, arrays, moving.results).rewrite()
     return [(it.line, OF_INDEX % (it.name, array.name)) for it, array in arrays.items()]
-
-
-def without_casts(it: Expression) -> Expression:
-    while it.kind == 'cast':
-        it = it.parts[0]
-    return it
 
 
 def is_null(it: Expression) -> bool:

@@ -274,13 +274,21 @@ def with_braces(it: Expression, its: Type) -> Expression:
         # (an address is the number in its first byte)
         first = values[0].parts[0] if values[0].kind == 'field' else values[0]
         return with_braces(first, its) if first.kind == 'list' else first
-    if any(one.kind == 'field' for one in values) or its.kind not in ('array', 'struct'):
+    if its.kind not in ('array', 'struct'):
         return it
+    if any(one.kind == 'field' for one in values):
+        return it._replace(parts=tuple(with_own_braces(one, dict(its.fields)) for one in values))
     kinds = [field for _, field in its.fields]
     while values:
         kind = its.of if its.kind == 'array' else kinds[len(parts)] if len(parts) < len(kinds) else None
         parts.append(next_value(values, kind) if kind else values.pop(0))
     return it._replace(parts=tuple(parts))
+
+
+def with_own_braces(it: Expression, fields: dict[str, Type]) -> Expression:
+    """A value of a list that names its field."""
+    is_list = it.kind == 'field' and it.text in fields and it.parts[0].kind == 'list'
+    return it._replace(parts=(with_braces(it.parts[0], fields[it.text]),)) if is_list else it
 
 
 def next_value(values: list[Expression], its: Type) -> Expression:

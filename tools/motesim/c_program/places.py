@@ -201,6 +201,8 @@ class Places(Base):
             return self.named_pointer(it)
         if it.text in ('++', '--'):
             raise self.refuse(it.line, OF_CHANGE % (it.parts[0].text or 'p'))
+        if self.is_of_text(it):
+            return Pointer('text')
         if it.kind == 'call' and it.text in self.file.functions:
             raise self.refuse(it.line, OF_RESULT % it.text)
         its = self.type_of(it)
@@ -211,6 +213,13 @@ class Places(Base):
         if it.kind == 'choice' and all(self.pointer(one).kind == 'text' for one in it.parts[1:]):
             return Pointer('text')
         raise self.refuse(it.line, NO_POINTER % (it.text if it.kind == 'call' else 'this'))
+
+    def is_of_text(self, it: Expression) -> bool:
+        """Returns whether an expression is a call of a function that only chooses a text."""
+        function = self.file.functions.get(it.text) if it.kind == 'call' and it.variable is None else None
+        if function is None or not function.result.of or function.result.of.name != 'char':
+            return it.kind == 'call' and it.text == 'packetbuf_dataptr'
+        return not any(map(has_effects, all_parts(function.body)))
 
     def named_pointer(self, it: Expression) -> Pointer:
         """The target of a pointer with a name."""
@@ -441,6 +450,11 @@ class Places(Base):
         if it.kind == 'unary' and it.text == '&':
             return pointer_to(self.type_of(it.parts[0]))
         return it.type or INT
+
+
+def has_effects(it: Expression) -> bool:
+    """Returns whether an expression may change something, without the expressions in it."""
+    return it.kind in ('call', 'assign', 'postfix') or it.kind == 'unary' and it.text in ('++', '--')
 
 
 def shown_type(its: Type) -> str:

@@ -12,7 +12,7 @@ from motesim.c_program.tree import Expression, Function, Statement, Variable
 from motesim.c_program.types import INT, Type, leaves_of
 from motesim.c_program.usage import GLOBAL
 from motesim.c_program.values import Limits, Value, compared, number, united
-from motesim.c_program.walk import all_parts
+from motesim.c_program.walk import all_parts, without_casts
 from motesim.c_program.written import Block, Flag, If, Line, lines_of
 from motesim.from_c.packets import IF_OTHER, OF_ORDER
 
@@ -240,7 +240,7 @@ class ProcessWriter(Functions):
 
     def shown(self, it: Expression) -> str:
         """An expression as a text, to compare it with another one."""
-        it = self.without_casts(it)
+        it = without_casts(it)
         if it.kind == 'number':
             return str(it.number)
         return '%s(%s)' % (it.text, ','.join(self.shown(part) for part in it.parts))
@@ -248,7 +248,7 @@ class ProcessWriter(Functions):
     def callback_block(self, name: str, function: Function, pointer: Expression) -> Block:
         """The block of a function that a ctimer calls."""
         for variable in function.parameters:
-            self.bind_pointer(variable, self.without_casts(pointer))
+            self.bind_pointer(variable, without_casts(pointer))
         unit = Unit('ctimer ' + name, function, may_wait=False, may_spawn=False, of_radio=self.unit.of_radio)
         with self.unit_of(unit), self.into([]) as block:
             self.run_to_return(function.body)

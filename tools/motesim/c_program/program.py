@@ -21,7 +21,7 @@ from motesim.c_program.process import ProcessWriter
 from motesim.c_program.refusal import Refusal
 from motesim.c_program.tree import Expression, File, Statement
 from motesim.c_program.usage import usage_of
-from motesim.c_program.walk import all_parts, declared_in
+from motesim.c_program.walk import all_parts, declared_in, without_casts
 from motesim.notation.faults import ProgramError, find_fault
 
 MOST_ROUNDS = 40
@@ -188,11 +188,11 @@ def events_in(statements: tuple[Statement, ...]) -> list[Expression]:
     found = list[Expression]()
     for it in all_parts(statements):
         if it.kind == 'call' and it.text in ('process_post', 'process_post_synch') and len(it.parts) == 3:
-            found.append(without_cast(it.parts[1]))
+            found.append(without_casts(it.parts[1]))
         elif it.kind == 'binary' and it.text in ('==', '!='):
             for one, other in (it.parts, it.parts[::-1]):
                 if is_event(one):
-                    found.append(without_cast(other))
+                    found.append(without_casts(other))
     for one_statement in switches_in(statements):
         test = one_statement.expressions[0]
         if test is not None and is_event(test):
@@ -200,12 +200,8 @@ def events_in(statements: tuple[Statement, ...]) -> list[Expression]:
     return found
 
 
-def without_cast(it: Expression) -> Expression:
-    return it.parts[0] if it.kind == 'cast' else it
-
-
 def is_event(it: Expression) -> bool:
-    it = without_cast(it)
+    it = without_casts(it)
     return it.variable is not None and it.variable.type.kind == 'event' and it.variable.is_parameter
 
 

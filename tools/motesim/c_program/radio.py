@@ -8,6 +8,7 @@ from motesim.c_program.places import NO_MOTE, OF_PACKET, Place, shown_type
 from motesim.c_program.tree import Expression, Statement
 from motesim.c_program.types import UNSIGNED, leaves_of, size_of
 from motesim.c_program.values import MOST, Value, added, as_type, multiplied, number
+from motesim.c_program.walk import without_casts
 from motesim.c_program.written import Line, While
 from motesim.from_c.structures import OF_TWO
 
@@ -68,7 +69,7 @@ class Radio(Calls):
         return self.packed(places, line)
 
     def call_packetbuf_copyfrom(self, it: Expression) -> None:
-        source = self.without_casts(self.first(it))
+        source = without_casts(self.first(it))
         if source.kind == 'text' or self.pointer(source).kind == 'text':
             self.remark(it.line, OF_TEXT)
             self.fill(number(1, UNSIGNED), it)

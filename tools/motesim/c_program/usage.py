@@ -5,7 +5,7 @@ from dataclasses import dataclass, field
 
 from motesim.c_program.refusal import Refusal
 from motesim.c_program.tree import Expression, File, Function, Variable
-from motesim.c_program.walk import all_parts, assigned_in, variables_in
+from motesim.c_program.walk import all_parts, assigned_in, parts_of, variables_in
 
 # The types of variables that belong to no process.
 GLOBAL = ('event', 'semaphore', 'process', 'connection', 'callbacks', 'pt', 'data')
@@ -95,7 +95,7 @@ def find_receiver(file: File, usage: Usage) -> None:
         functions = (file.bodies[name], *usage.uses[name].functions.values())
         for it in (part for function in functions for part in all_parts(function.body)):
             if it.kind == 'call' and it.text.endswith('_open') and it.parts:
-                callbacks = next((part.variable for part in all_of(it.parts[-1])
+                callbacks = next((part.variable for part in parts_of(it.parts[-1])
                                   if part.variable and part.variable.type.kind == 'callbacks'), None)
                 if callbacks:
                     opened.setdefault(callbacks, (name, it))
@@ -105,10 +105,6 @@ def find_receiver(file: File, usage: Usage) -> None:
         usage.opener, usage.connection = name, call.text.removesuffix('_open')
         usage.callback, usage.sent = members_of(file, callbacks)
         usage.receiver = receiver_of(file, usage, name) if usage.callback else ''
-
-
-def all_of(it: Expression) -> list[Expression]:
-    return [it, *(inner for part in it.parts for inner in all_of(part))]
 
 
 def members_of(file: File, callbacks: Variable) -> tuple[Function | None, Function | None]:

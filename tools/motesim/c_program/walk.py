@@ -25,6 +25,13 @@ def parts_of(it: Expression) -> Iterator[Expression]:
         yield from parts_of(part)
 
 
+def without_casts(it: Expression) -> Expression:
+    """An expression without the casts in front of it."""
+    while it.kind == 'cast':
+        it = it.parts[0]
+    return it
+
+
 def all_parts(statements: Iterable[Statement]) -> Iterator[Expression]:
     """All expressions of some statements, and those in them."""
     for it in expressions_in(statements):
