@@ -78,7 +78,7 @@ class Idle(unittest.TestCase):
         far, other_way = near.replace('x = 5', 'x = 50'), near.replace('from = 0\nto = 1', 'from = 1\nto = 0')
         nothing = 'no packet was lost, though the scenario has losses: '
         self.assertEqual([idle_losses(Scenario.parse(text), three) for text in (near, far, other_way)], [
-            nothing + 'a loss with `every = N` loses the packet N of its sender, but no mote with losses sent more '
+            nothing + 'a loss with `every = N` loses each N-th packet of its sender, but no mote with losses sent more '
             'than 3 packets, and the least N is 4',
             nothing + 'each loss is between two motes that do not hear each other',
             nothing + 'a loss loses packets of its mote `from`, but the motes whose links have losses sent no packet'])

@@ -234,7 +234,7 @@ class Texts(unittest.TestCase):
                 (DIAMOND, ['mote 0 is silent'],
                  'cuts mote 0 off: no protocol can deliver from it; no other mote is cut off'),
                 (DIAMOND, ['mote 1 is silent', 'mote 2 is silent'], 'cuts mote 3 off: no protocol can deliver to it'),
-                (line, ['mote 1 is silent'], 'cuts the net: no path is left from mote 0 to motes 2, 3'),
+                (line, ['mote 1 is silent'], 'cuts the net: no path is left from mote 0 to motes 2, 3, or back'),
                 (DIAMOND, ['range is 5'], 'cuts mote 0 off: no protocol can deliver from it'),
                 (line, ['link 1 to 2 loses everything'], 'cuts the net: no path is left from mote 1 to motes 2, 3'),
                 (line, ['link 2 to 3 loses everything'], 'cuts mote 3 off: no protocol can deliver to it'),

@@ -638,7 +638,7 @@ class SweepTest(Bed):
         done = subprocess.run(command, cwd=self.folder, capture_output=True, text=True)
         self.assertEqual(done.stderr, (
             'sweep: 2 of 4 runs have a warning in the column note; the first (every = 4): no packet was lost, though '
-            'the scenario has losses: a loss with `every = N` loses the packet N of its sender, but no mote with '
+            'the scenario has losses: a loss with `every = N` loses each N-th packet of its sender, but no mote with '
             'losses sent more than 3 packets, and the least N is 4\n'), done)
         self.assertEqual([bool(row['note']) for row in self.rows()], [False, False, True, True])
 

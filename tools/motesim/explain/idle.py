@@ -30,5 +30,5 @@ def _reason(sent: Counter[int], links: dict[tuple[int, int], int]) -> str:
     most = max(sent[s] for s, _ in links)
     if not most:
         return 'a loss loses packets of its mote `from`, but the motes whose links have losses sent no packet'
-    return 'a loss with `every = N` loses the packet N of its sender, but no mote with losses sent more than %d ' \
+    return 'a loss with `every = N` loses each N-th packet of its sender, but no mote with losses sent more than %d ' \
            'packets, and the least N is %d' % (most, min(every for (s, _), every in links.items() if sent[s]))

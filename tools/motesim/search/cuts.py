@@ -33,18 +33,20 @@ def cut_of(faults: Sequence[FaultyPart], base: Base) -> str:
     for sender in dict.fromkeys([*changed, *near]):
         apart = before.hops_from(sender).keys() - faulty.hops_from(sender).keys()
         if apart and sender not in silent:
-            return _in_words(faulty, sender, apart)
+            return _in_words(before, faulty, sender, apart)
     return next((FROM % it + NO_OTHER for it in changed if it in silent), '')
 
 
-def _in_words(faulty: Scenario, sender: int, apart: set[int]) -> str:
+def _in_words(before: Scenario, faulty: Scenario, sender: int, apart: set[int]) -> str:
     """The cut between a mote and those that its packets no longer reach."""
     if not faulty.receivers(sender):
         return FROM % sender
     alone = [it for it in sorted(apart) if not any(it in faulty.receivers(near) for near in faulty.hearers(it))]
     if len(apart) == 1 and alone:
         return 'cuts mote %d off: no protocol can deliver to it' % alone[0]
-    return 'cuts the net: no path is left from mote %d to %s' % (sender, motes_in_words(apart))
+    is_cut_back = all(sender in before.hops_from(it) and sender not in faulty.hops_from(it) for it in apart)
+    return 'cuts the net: no path is left from mote %d to %s%s' % (
+        sender, motes_in_words(apart), ', or back' if is_cut_back else '')
 
 
 def motes_in_words(motes: Iterable[int]) -> str:
